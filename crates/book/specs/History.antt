@@ -1,0 +1,9 @@
+-- What a history holds.
+use Rattle.std.specs.Prelude.{ℕ, ◌+◌, List, [], ◌∷◌}
+use Rattle.book.specs.declared.history.Entry.{Entry}
+use Rattle.book.specs.declared.history.Entry.TheVariants.{Filed}
+
+-- how many claims were filed
+abbrev pub filed_in : List Entry → ℕ
+filed_in [] = 0
+filed_in (Filed seat claim ∷ entries) = 1 + filed_in entries

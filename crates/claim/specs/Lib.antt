@@ -1,0 +1,5 @@
+pub mod Errors
+pub mod Showing
+pub mod Judging
+pub mod Fitting
+pub mod Claims

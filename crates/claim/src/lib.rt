@@ -1,0 +1,17 @@
+// Claims on outputs, accepted before use.
+#![tactic(auto)]
+
+pub mod accepting;
+pub mod claims;
+pub mod errors;
+mod judging;
+pub mod parts;
+mod showing;
+#[cfg(test)]
+mod tests;
+
+pub use accepting::accept;
+pub use claims::Claim;
+pub use errors::AcceptError;
+pub use parts::{Key, Place, Shell, Slot, WitnessItem};
+pub use tx::OutPoint;

@@ -1,0 +1,3 @@
+pub mod Ripemd160
+pub mod Hash
+pub mod Hasher

@@ -1,0 +1,36 @@
+// The programs of a node operator: hashes a message, lists the ways through a script.
+#![tactic(auto)]
+
+mod answers;
+#[cfg(test)]
+mod tests;
+mod texts;
+mod words;
+
+use std::process::ExitCode;
+use std::{env, io};
+
+/// Runs the words that the program was called with. Words that are no text are wrong words.
+fn main(rt: HostRuntime) -> ExitCode {
+    let mut words = Vec::new(rt.alloc());
+    let all = match env::args(&rt) {
+        Ok(all) => all,
+        Err(error) if error.kind() == io::ErrorKind::OutOfMemory => {
+            return ExitCode::from(words::refuse_memory(&mut rt.stdout()));
+        }
+        Err(_) => return ExitCode::from(words::refuse_words(&mut rt.stderr())),
+    };
+    for word in all.skip(1) {
+        if words.push(word).is_err() {
+            return ExitCode::from(words::refuse_memory(&mut rt.stdout()));
+        }
+    }
+    let status = words::run_words(
+        rt.alloc(),
+        words.as_slice(),
+        &mut rt.stdin(),
+        &mut rt.stdout(),
+        &mut rt.stderr(),
+    );
+    ExitCode::from(status)
+}

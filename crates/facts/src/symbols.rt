@@ -1,0 +1,143 @@
+// Symbols and facts.
+
+ghost use Rattle.std.specs.Prelude.{◌≡◌, IfOk};
+
+use script::{Item, Row};
+use std::alloc::{AllocError, Global};
+
+/// Where a key comes from.
+#[derive(Debug, Drop)]
+pub enum KeySource {
+    /// The script pushes it.
+    Const(Item),
+    /// It is this slot of the witness.
+    Slot(usize),
+}
+
+/// What can be asked of a witness and a spend. Slots count from the top of the stack, from 0.
+#[derive(Debug, Drop)]
+pub enum Fact {
+    /// HASH160 of the slot is these 20 bytes.
+    Hash(usize, Item),
+    /// The slot has so many bytes.
+    Size(usize, u32),
+    /// The slot counts as true.
+    Truth(usize),
+    /// The slot is these bytes.
+    Is(usize, Item),
+    /// The slot has the form of a key.
+    KeyForm(usize),
+    /// The slot is empty or has the form of a token.
+    Form(usize),
+    /// The slot is the token of the key over the spend's digest.
+    Token(usize, KeySource),
+    /// The slots are tokens of an increasing choice of the keys, both lists deepest first.
+    Assigned(Row<usize>, Row<KeySource>),
+    /// CHECKLOCKTIMEVERIFY of this number passes (BIP 65).
+    Lock(u64),
+    /// CHECKSEQUENCEVERIFY of this number passes (BIP 112); of a number, the bits of 0x40ffff.
+    Age(u32),
+}
+
+/// A fact with its polarity: that it holds, or that it does not.
+#[derive(Debug, Drop)]
+pub struct Stated {
+    pub fact: Fact,
+    pub holds: bool,
+}
+
+/// What stands on a symbolic stack.
+#[derive(Debug, Drop)]
+pub enum Sym {
+    /// An item of the witness.
+    Slot(usize),
+    /// Known bytes.
+    Const(Item),
+    /// HASH160 of a slot.
+    HashOf(usize),
+    /// The length of a slot, as a number.
+    SizeOf(usize),
+    /// 1 where the fact holds, else the empty item.
+    Holds(Fact),
+}
+
+impl KeySource {
+    /// An equal one. The only error is want of memory.
+    pub fn copy(&self, alloc: Global) -> Result<Self, AllocError>
+        ensures { IfOk result (λ k. k ≡ self.now) }
+    {
+        match self {
+            KeySource::Const(item) => Ok(KeySource::Const(item.copy(alloc)?)),
+            KeySource::Slot(i) => Ok(KeySource::Slot(*i)),
+        }
+    }
+}
+
+impl Fact {
+    /// An equal one. The only error is want of memory.
+    pub fn copy(&self, alloc: Global) -> Result<Self, AllocError>
+        ensures { IfOk result (λ f. f ≡ self.now) }
+    {
+        match self {
+            Fact::Hash(i, hash) => Ok(Fact::Hash(*i, hash.copy(alloc)?)),
+            Fact::Size(i, n) => Ok(Fact::Size(*i, *n)),
+            Fact::Truth(i) => Ok(Fact::Truth(*i)),
+            Fact::Is(i, bytes) => Ok(Fact::Is(*i, bytes.copy(alloc)?)),
+            Fact::KeyForm(i) => Ok(Fact::KeyForm(*i)),
+            Fact::Form(i) => Ok(Fact::Form(*i)),
+            Fact::Token(i, key) => Ok(Fact::Token(*i, key.copy(alloc)?)),
+            Fact::Assigned(slots, keys) => {
+                let slots = Row::from_vec(copied_slots(alloc, slots.values())?);
+                let keys = Row::from_vec(copied_keys(alloc, keys.values())?);
+                Ok(Fact::Assigned(slots, keys))
+            }
+            Fact::Lock(n) => Ok(Fact::Lock(*n)),
+            Fact::Age(n) => Ok(Fact::Age(*n)),
+        }
+    }
+}
+
+// The same slots.
+fn copied_slots(alloc: Global, slots: &[usize]) -> Result<Vec<usize>, AllocError>
+    ensures { IfOk result (λ v. v.items ≡ slots.now) }
+{
+    Vec::from_slice(alloc, slots)
+}
+
+// Equal keys.
+fn copied_keys(alloc: Global, keys: &[KeySource]) -> Result<Vec<KeySource>, AllocError>
+    ensures { IfOk result (λ v. v.items ≡ keys.now) }
+{
+    let mut copies = Vec::new(alloc);
+    for key in keys {
+        copies.push(key.copy(alloc)?)?;
+    }
+    Ok(copies)
+}
+
+impl Stated {
+    /// An equal one. The only error is want of memory.
+    pub fn copy(&self, alloc: Global) -> Result<Self, AllocError>
+        ensures { IfOk result (λ s. s ≡ self.now) }
+    {
+        Ok(Stated {
+            fact: self.fact.copy(alloc)?,
+            holds: self.holds,
+        })
+    }
+}
+
+impl Sym {
+    /// An equal one. The only error is want of memory.
+    pub fn copy(&self, alloc: Global) -> Result<Self, AllocError>
+        ensures { IfOk result (λ s. s ≡ self.now) }
+    {
+        match self {
+            Sym::Slot(i) => Ok(Sym::Slot(*i)),
+            Sym::Const(item) => Ok(Sym::Const(item.copy(alloc)?)),
+            Sym::HashOf(i) => Ok(Sym::HashOf(*i)),
+            Sym::SizeOf(i) => Ok(Sym::SizeOf(*i)),
+            Sym::Holds(fact) => Ok(Sym::Holds(fact.copy(alloc)?)),
+        }
+    }
+}

@@ -1,0 +1,5 @@
+pub mod Starting
+pub mod Past
+pub mod Reversing
+pub mod MultiSigs
+pub mod Choosing

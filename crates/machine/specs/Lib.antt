@@ -1,0 +1,6 @@
+pub mod Outcomes
+pub mod Places
+pub mod Doings
+pub mod Passing
+pub mod Stopping
+pub mod MultiSig

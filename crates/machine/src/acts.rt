@@ -1,0 +1,245 @@
+//! What each opcode does that is run.
+
+ghost use Rattle.std.specs.Prelude.{◌≡◌, ◌≤◌, ◌+◌, true, false, [], ◌∷◌, IfOk, MatchResult};
+ghost use Rattle.script.specs.Step.{effect, flag as flag_of};
+ghost use Rattle.script.specs.declared.spending.Spend.{Spend as Spending};
+ghost use Rattle.machine.specs.Doings.{Does, IsEffect, IsKeyless};
+
+use crate::halts::Halt;
+use crate::locks::{is_age_reached, is_lock_reached, read_lock};
+use crate::multisig::check_multi_sig;
+use crate::sizes::size_item;
+use crate::skips::Course;
+use digest::hash160;
+use script::tokens::{has_key_form, has_signature_form, is_token_of};
+use script::truths::is_true;
+use script::{Cause, Item, Kind, Op, Pile, Spend};
+use std::alloc::{AllocError, Global};
+
+/// The greatest number of counted opcodes and keys.
+pub const MAX_OPS: usize = 201;
+
+/// What an opcode that was run gives beside the entries.
+#[derive(Clone, Copy, Debug, PartialEq, Eq)]
+pub struct Step {
+    /// Where the run goes.
+    pub course: Course,
+    /// The keys that it counted.
+    pub keys: usize,
+}
+
+/// Runs an opcode, where so many opcodes and keys are counted with it.
+#[tactic(auto, unfolding(script::specs::Step::effect))]
+pub fn act(
+    alloc: Global,
+    op: &Op,
+    spend: &Spend,
+    counted: usize,
+    stack: &mut Pile<Item>,
+) -> Result<Step, Halt>
+    requires { counted ≤ 201 }
+    ensures does { IsEffect (effect spend.now counted op.now stack.old) stack.new result }
+    ensures few { IfOk result (λ step. counted + step.keys ≤ 201) }
+{
+    if let Op::CheckMultiSig = op {
+        return check_multi_sig(alloc, spend, counted, stack);
+    }
+    let course = act_keyless(alloc, op, spend, stack)?;
+    Ok(Step { course, keys: 0 })
+}
+
+// Runs an opcode that counts no keys.
+#[tactic(auto, unfolding(script::specs::Step::effect))]
+fn act_keyless(
+    alloc: Global,
+    op: &Op,
+    spend: &Spend,
+    stack: &mut Pile<Item>,
+) -> Result<Course, Halt>
+    requires { IsKeyless op.now }
+    ensures { Does spend.now op.now stack.old stack.new result }
+{
+    match op {
+        Op::Push(item) => push(stack, item.copy(alloc)?),
+        Op::Number(n) => push(stack, Item::from_slice(alloc, &[*n])?),
+        Op::If => enter(stack, true),
+        Op::NotIf => enter(stack, false),
+        Op::Else => Ok(Course::BehindEnd),
+        Op::EndIf => Ok(Course::Next),
+        Op::Drop => discard(stack),
+        Op::Dup => duplicate(alloc, stack),
+        Op::Swap => swap(stack),
+        Op::Size => size(alloc, stack),
+        Op::Equal => equal(alloc, stack),
+        Op::EqualVerify => verify_equal(stack),
+        Op::Hash160 => hash(alloc, stack),
+        Op::CheckSig => check_sig(alloc, spend, stack),
+        Op::CheckMultiSig => unreachable!(),
+        Op::CheckLockTimeVerify => check_lock_time(spend, stack),
+        Op::CheckSequenceVerify => check_sequence(spend, stack),
+    }
+}
+
+/// The top of the stack, which is taken off.
+pub fn take(stack: &mut Pile<Item>) -> Result<Item, Halt>
+    ensures { MatchResult result
+        (λ x. stack.old ≡ x ∷ stack.new)
+        (λ h. (stack.old ≡ []) × (stack.new ≡ []) × (h ≡ Halt.Stop Cause.MissingOperand)) }
+{
+    stack.pop().ok_or(Halt::Stop(Cause::MissingOperand))
+}
+
+/// The item that a test pushes.
+pub fn flag(alloc: Global, is_true: bool) -> Result<Item, AllocError>
+    ensures { IfOk result (λ x. x ≡ flag_of is_true) }
+{
+    if is_true {
+        Item::from_slice(alloc, &[1])
+    } else {
+        Item::from_slice(alloc, &[])
+    }
+}
+
+// Puts an entry on top.
+fn push(stack: &mut Pile<Item>, item: Item) -> Result<Course, Halt>
+    ensures { MatchResult result
+        (λ course. (course ≡ Course.Next) × (stack.new ≡ item ∷ stack.old))
+        (λ h. h ≡ Halt.NoMemory) }
+{
+    stack.push(item)?;
+    Ok(Course::Next)
+}
+
+// IF, and NOTIF, which runs where the top is false.
+#[tactic(auto, unfolding(script::specs::Step::effect))]
+fn enter(stack: &mut Pile<Item>, wanted: bool) -> Result<Course, Halt>
+    ensures on_true { (spend : Spending) → wanted ≡ true → Does spend Op.If stack.old stack.new result }
+    ensures on_false { (spend : Spending) → wanted ≡ false → Does spend Op.NotIf stack.old stack.new result }
+{
+    let top = take(stack)?;
+    if is_true(top.bytes()) == wanted {
+        Ok(Course::Next)
+    } else {
+        Ok(Course::BehindElse)
+    }
+}
+
+// DROP
+#[tactic(auto, unfolding(script::specs::Step::effect))]
+fn discard(stack: &mut Pile<Item>) -> Result<Course, Halt>
+    ensures { (spend : Spending) → Does spend Op.Drop stack.old stack.new result }
+{
+    take(stack)?;
+    Ok(Course::Next)
+}
+
+// DUP
+#[tactic(auto, unfolding(script::specs::Step::effect))]
+fn duplicate(alloc: Global, stack: &mut Pile<Item>) -> Result<Course, Halt>
+    ensures { (spend : Spending) → Does spend Op.Dup stack.old stack.new result }
+{
+    let Some(top) = stack.top() else {
+        return Err(Halt::Stop(Cause::MissingOperand));
+    };
+    let item = top.copy(alloc)?;
+    push(stack, item)
+}
+
+// SWAP
+#[tactic(auto, unfolding(script::specs::Step::effect))]
+fn swap(stack: &mut Pile<Item>) -> Result<Course, Halt>
+    ensures { (spend : Spending) → Does spend Op.Swap stack.old stack.new result }
+{
+    let top = take(stack)?;
+    let second = take(stack)?;
+    stack.push(top)?;
+    push(stack, second)
+}
+
+// SIZE
+#[tactic(auto, unfolding(script::specs::Step::effect))]
+fn size(alloc: Global, stack: &mut Pile<Item>) -> Result<Course, Halt>
+    ensures { (spend : Spending) → Does spend Op.Size stack.old stack.new result }
+{
+    let Some(top) = stack.top() else {
+        return Err(Halt::Stop(Cause::MissingOperand));
+    };
+    let item = size_item(alloc, top.len())?;
+    push(stack, item)
+}
+
+// EQUAL
+#[tactic(auto, unfolding(script::specs::Step::effect))]
+fn equal(alloc: Global, stack: &mut Pile<Item>) -> Result<Course, Halt>
+    ensures { (spend : Spending) → Does spend Op.Equal stack.old stack.new result }
+{
+    let top = take(stack)?;
+    let second = take(stack)?;
+    push(stack, flag(alloc, top.equals(&second))?)
+}
+
+// EQUALVERIFY
+#[tactic(auto, unfolding(script::specs::Step::effect))]
+fn verify_equal(stack: &mut Pile<Item>) -> Result<Course, Halt>
+    ensures { (spend : Spending) → Does spend Op.EqualVerify stack.old stack.new result }
+{
+    let top = take(stack)?;
+    let second = take(stack)?;
+    if top.equals(&second) {
+        Ok(Course::Next)
+    } else {
+        Err(Halt::failed(Kind::Verify))
+    }
+}
+
+// HASH160
+#[tactic(auto, unfolding(script::specs::Step::effect))]
+fn hash(alloc: Global, stack: &mut Pile<Item>) -> Result<Course, Halt>
+    ensures { (spend : Spending) → Does spend Op.Hash160 stack.old stack.new result }
+{
+    let top = take(stack)?;
+    push(stack, Item::from_slice(alloc, &hash160(top.bytes()))?)
+}
+
+// CHECKSIG
+#[tactic(auto, unfolding(script::specs::Step::effect))]
+fn check_sig(alloc: Global, spend: &Spend, stack: &mut Pile<Item>) -> Result<Course, Halt>
+    ensures { Does spend.now Op.CheckSig stack.old stack.new result }
+{
+    let key = take(stack)?;
+    let sig = take(stack)?;
+    if !has_signature_form(sig.bytes()) {
+        return Err(Halt::failed(Kind::TokenForm));
+    }
+    if !has_key_form(key.bytes()) {
+        return Err(Halt::failed(Kind::KeyForm));
+    }
+    let valid = is_token_of(sig.bytes(), key.bytes(), &spend.digest);
+    push(stack, flag(alloc, valid)?)
+}
+
+// CHECKLOCKTIMEVERIFY
+#[tactic(auto, unfolding(script::specs::Step::effect))]
+fn check_lock_time(spend: &Spend, stack: &Pile<Item>) -> Result<Course, Halt>
+    ensures { Does spend.now Op.CheckLockTimeVerify stack.now stack.now result }
+{
+    let lock = read_lock(stack, Kind::LockTime)?;
+    if is_lock_reached(spend, lock) {
+        Ok(Course::Next)
+    } else {
+        Err(Halt::failed(Kind::LockTime))
+    }
+}
+
+// CHECKSEQUENCEVERIFY
+#[tactic(auto, unfolding(script::specs::Step::effect))]
+fn check_sequence(spend: &Spend, stack: &Pile<Item>) -> Result<Course, Halt>
+    ensures { Does spend.now Op.CheckSequenceVerify stack.now stack.now result }
+{
+    let age = read_lock(stack, Kind::Sequence)?;
+    if is_age_reached(spend, age) {
+        Ok(Course::Next)
+    } else {
+        Err(Halt::failed(Kind::Sequence))
+    }
+}

@@ -1,0 +1,50 @@
+//! How a run ends.
+
+ghost use Rattle.std.specs.Prelude.{◌≡◌};
+ghost use Rattle.machine.specs.Outcomes.{number_of_stop};
+ghost use Rattle.machine.specs.declared.ends.Stop.TheVariants.{NoMemory};
+
+use script::Cause;
+use std::alloc::AllocError;
+use thiserror::Error;
+
+/// How a clean run went.
+#[derive(Clone, Copy, Debug, PartialEq, Eq)]
+pub struct Run {
+    /// The counted opcodes: those of the whole script above 60 (in hexadecimal), and the keys of each CHECKMULTISIG that ran.
+    pub counted: usize,
+    /// The greatest number of entries that stood on the stack, at the start or behind an opcode.
+    pub height: usize,
+}
+
+/// Why a run has no clean end.
+#[derive(Clone, Copy, Debug, PartialEq, Eq, Error)]
+pub enum Stop {
+    /// Memory ran out.
+    #[error("NoMemory")]
+    NoMemory,
+    /// The cause, and the index of the opcode that the run stops at: 0 for an item that is too long, and the number of opcodes for a stop
+    /// at the end.
+    #[error("{0} {1}")]
+    At(Cause, usize),
+}
+
+impl Stop {
+    /// The number of the refusal: that of the cause, or 0 for want of memory.
+    pub fn number(&self) -> u8
+        ensures { result ≡ number_of_stop self.now }
+    {
+        match self {
+            Stop::NoMemory => 0,
+            Stop::At(cause, _) => cause.number(),
+        }
+    }
+}
+
+impl From<AllocError> for Stop {
+    ghost from_gives = { λ _ e. e ≡ NoMemory };
+
+    fn from(_error: AllocError) -> Stop {
+        Stop::NoMemory
+    }
+}

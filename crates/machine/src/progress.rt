@@ -1,0 +1,118 @@
+//! A run on its way.
+
+ghost use Rattle.std.specs.Prelude.{◌≡◌, ◌≤◌, ◌<◌, ◌+◌, max, length, OnOk, MatchResult};
+ghost use Rattle.script.specs.Run.{weight, opens};
+ghost use Rattle.machine.specs.Doings.{IfStop};
+ghost use Rattle.machine.specs.Places.{depth_of};
+ghost use Rattle.machine.specs.Passing.{IsPassed, IsRun};
+
+use crate::acts::{MAX_OPS, act};
+use crate::halts::Halt;
+use crate::skips::Skip;
+use script::{Cause, Item, Op, Pile, Spend};
+use std::alloc::Global;
+
+/// The greatest number of entries behind an opcode.
+const MAX_ENTRIES: usize = 1000;
+
+/// A run on its way.
+#[derive(Drop)]
+pub struct Machine {
+    /// The entries.
+    pub stack: Pile<Item>,
+    /// The IFs that stand open, each with whether its ELSE has come.
+    pub ifs: Pile<bool>,
+    /// The branch that is jumped over.
+    pub skip: Option<Skip>,
+    /// The opcodes and keys that are counted.
+    pub counted: usize,
+    /// The greatest number of entries so far.
+    pub height: usize,
+}
+
+impl Machine {
+    /// Passes one opcode.
+    pub fn pass(&mut self, alloc: Global, op: &Op, spend: &Spend) -> Result<(), Halt>
+        requires few { self.old.counted ≤ 201 }
+        requires shallow { depth_of self.old.skip ≤ self.old.counted }
+        ensures passed { IsPassed spend.now op.now self.old self.new result }
+        ensures still_few { OnOk result (self.new.counted ≤ 201) }
+        ensures still_shallow { OnOk result (depth_of self.new.skip ≤ self.new.counted) }
+    {
+        count(op, &mut self.counted)?;
+        open(op, &mut self.ifs)?;
+        match self.skip {
+            Some(skip) => {
+                self.skip = skip.past(op);
+                Ok(())
+            }
+            None => self.run_one(alloc, op, spend),
+        }
+    }
+
+    // Runs an opcode that is counted, and whose branch is entered or ended.
+    fn run_one(&mut self, alloc: Global, op: &Op, spend: &Spend) -> Result<(), Halt>
+        requires few { self.old.counted ≤ 201 }
+        ensures run { IsRun spend.now op.now self.old self.new result }
+        ensures still_few { OnOk result (self.new.counted ≤ 201) }
+        ensures still_shallow { OnOk result (depth_of self.new.skip ≤ self.new.counted) }
+    {
+        let step = act(alloc, op, spend, self.counted, &mut self.stack)?;
+        self.counted += step.keys;
+        self.skip = step.course.skip();
+        settle(self.stack.len(), &mut self.height)
+    }
+}
+
+// Counts an opcode.
+fn count(op: &Op, counted: &mut usize) -> Result<(), Halt>
+    requires { counted.old ≤ 201 }
+    ensures { MatchResult result
+        (λ _. (counted.new ≡ counted.old + weight op.now) × (counted.new ≤ 201))
+        (λ h. (h ≡ Halt.Stop Cause.TooManyOps) × (201 < counted.old + weight op.now)) }
+{
+    *counted += op.weight();
+    if *counted > MAX_OPS {
+        return Err(Halt::Stop(Cause::TooManyOps));
+    }
+    Ok(())
+}
+
+// Enters a branch, goes over to its ELSE, or ends it.
+fn open(op: &Op, ifs: &mut Pile<bool>) -> Result<(), Halt>
+    ensures { MatchResult result
+        (λ _. opens op.now ifs.old ≡ Ok ifs.new)
+        (λ h. IfStop h (λ c. opens op.now ifs.old ≡ Err c)) }
+{
+    match op {
+        Op::If | Op::NotIf => {
+            ifs.push(false)?;
+            Ok(())
+        }
+        Op::Else => match ifs.pop() {
+            Some(false) => {
+                ifs.push(true)?;
+                Ok(())
+            }
+            _ => Err(Halt::Stop(Cause::OpenBranch)),
+        },
+        Op::EndIf => match ifs.pop() {
+            Some(_) => Ok(()),
+            None => Err(Halt::Stop(Cause::OpenBranch)),
+        },
+        _ => Ok(()),
+    }
+}
+
+// Keeps the greatest number of entries.
+fn settle(entries: usize, height: &mut usize) -> Result<(), Halt>
+    ensures { MatchResult result
+        (λ _. (height.new ≡ max height.old entries) × (entries ≤ 1000))
+        (λ h. (h ≡ Halt.Stop Cause.StackTooTall) × (1000 < entries)) }
+{
+    if entries > MAX_ENTRIES {
+        return Err(Halt::Stop(Cause::StackTooTall));
+    }
+    *height = (*height).max(entries);
+    Ok(())
+}

@@ -1,0 +1,12 @@
+pub mod Examples
+pub mod WalkExamples
+pub mod RuleLists
+pub mod RulePops
+pub mod SoundWords
+pub mod SoundPops
+pub mod SoundNumbers
+pub mod SoundRules
+pub mod SoundMultisig
+pub mod SoundFollowed
+pub mod SoundWalk
+pub mod SoundListing

@@ -1,0 +1,13 @@
+-- What is left of a state by pops.
+use Rattle.std.proofs.Common.{◌≡◌, ℕ, suc, zero, List, [], ◌∷◌, ◌∙◌, refl}
+use Rattle.facts.specs.declared.symbols.Sym.{Sym}
+use Rattle.paths.specs.declared.state.State.{State}
+use Rattle.paths.specs.Rules.{pop_of, pop, pops}
+
+pub pop_keys : (stack : List Sym) (s : State) → (pop_of stack s).1.keys ≡ s.keys
+pop_keys [] s = refl
+pop_keys (x ∷ xs) s = refl
+
+pub pops_keys : (n : ℕ) (s : State) → (pops n s).1.keys ≡ s.keys
+pops_keys zero s = refl
+pops_keys (suc n) s = pops_keys n (pop s).1 ∙ pop_keys s.stack s

@@ -1,0 +1,15 @@
+-- What the functions do that stand below the table of opcodes.
+use Rattle.std.specs.Prelude.{◌≡◌, ℕ, ◌+◌, ◌≤◌, nat_le, Result, Ok}
+use Rattle.script.specs.Step.{checked}
+use Rattle.paths.specs.declared.state.State.{State}
+use Rattle.paths.specs.declared.state.Halt.{Halt}
+use Rattle.paths.specs.declared.state.Halt.TheVariants.{TooManyOps}
+
+-- at most so many slots more were reached, and no more keys were counted
+pub record IsNear (more : ℕ) (old : State) (new : State) : Type 0 where
+  pub slots : new.slots ≤ old.slots + more
+  pub keys : new.keys ≡ old.keys
+
+-- so many keys are counted, where the count stays low enough
+abbrev pub count_keys : ℕ → ℕ → State → Result State Halt
+count_keys counted more s = checked (nat_le (counted + (s.keys + more)) 201) TooManyOps (Ok (record s { keys = s.keys + more }))

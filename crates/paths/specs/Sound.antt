@@ -1,0 +1,16 @@
+-- What a listed path promises.
+use Rattle.std.specs.Prelude.{◌≡◌, ℕ, ◌≤◌, List}
+use Rattle.script.specs.declared.opcode.Op.{Op}
+use Rattle.script.specs.declared.spending.Spend.{Spend}
+use Rattle.script.specs.Run.{Clean, outcome}
+use Rattle.facts.specs.Meaning.{Meets}
+use Rattle.paths.specs.declared.state.Path.{Path}
+use Rattle.paths.specs.Listing.{lock_in, age_in}
+
+-- whatever meets the path runs clean, with exactly its counted opcodes and its height, at most 1,000; and its locks are those of its facts
+pub record IsSound (ops : List Op) (p : Path) : Type 0 where
+  pub clean : (spend : Spend) (witness : List (List ℕ)) → Meets spend witness p.arity p.facts → outcome spend ops witness ≡ Clean p.ops p.height
+  pub low : p.height ≤ 1000
+  pub few : p.ops ≤ 201
+  pub lock : p.lock ≡ lock_in p.facts
+  pub age : p.age ≡ age_in p.facts

@@ -1,0 +1,82 @@
+// The end of a path.
+
+ghost use Rattle.std.specs.Prelude.{◌≡◌, ◌≤◌, ◌+◌, ◌<◌, Ok, OnOk};
+ghost use Rattle.paths.specs.Listing.{halted, end_of, path_of as path_for, ended as ended_of, listed_with};
+ghost use Rattle.paths.specs.Following.{Leaves};
+ghost use Rattle.paths.specs.Walking.{Gives, IsEnded};
+
+use crate::errors::CheckError;
+use crate::locks::{greatest_age, greatest_lock};
+use crate::rules::{condition, insist, take};
+use crate::state::{Halt, Listed, Path, State};
+use facts::Sym;
+
+/// The refusal for a halt at this position; none where the path dies.
+pub fn refusal(at: usize, halt: Halt) -> Result<(), CheckError>
+    ensures { result ≡ halted at tt halt }
+{
+    match halt {
+        Halt::NoMemory => Err(CheckError::NoMemory),
+        Halt::Dead => Ok(()),
+        Halt::Undecided => Err(CheckError::Undecided(at)),
+        Halt::TooManyOps => Err(CheckError::TooManyOps),
+    }
+}
+
+/// Ends a path at this position, the number of opcodes, and lists it unless it dies there.
+pub fn end(counted: usize, at: usize, state: State, listed: &mut Listed) -> Result<(), CheckError>
+    requires slots { state.slots ≤ 1000 }
+    requires keys { counted + state.keys ≤ 201 }
+    ensures exact { Gives (listed_with listed.old (ended_of counted at state)) listed.new result }
+    ensures begun { OnOk result (listed.new.begun ≡ listed.old.begun) }
+{
+    if let Some(path) = ended(counted, at, state)? {
+        listed.paths.push(path)?;
+    }
+    Ok(())
+}
+
+// The path that ends, unless it dies.
+fn ended(counted: usize, at: usize, mut state: State) -> Result<Option<Path>, CheckError>
+    requires slots { state.slots ≤ 1000 }
+    requires keys { counted + state.keys ≤ 201 }
+    ensures { IsEnded (ended_of counted at state) result }
+{
+    let top = take(&mut state);
+    if let Err(halt) = decide(&mut state, top) {
+        refusal(at, halt)?;
+        return Ok(None);
+    }
+    if !state.is_low() {
+        return Err(CheckError::TooTall);
+    }
+    Ok(Some(path_of(counted, state)))
+}
+
+// Insists that the last entry, below which there are none, is true.
+fn decide(state: &mut State, top: Sym) -> Result<(), Halt>
+    ensures exact { Leaves (end_of state.old.stack top state.old) state.new result }
+    ensures keys { OnOk result (state.new.keys ≡ state.old.keys) }
+{
+    if !state.stack.is_empty() {
+        return Err(Halt::Dead);
+    }
+    let condition = condition(top)?;
+    insist(state, condition)
+}
+
+// The path of a state at the end.
+fn path_of(counted: usize, state: State) -> Path
+    requires low { state.slots + state.excess ≤ 1000 }
+    requires keys { counted + state.keys ≤ 201 }
+    ensures { result ≡ path_for counted state }
+{
+    Path {
+        arity: state.slots,
+        ops: counted + state.keys,
+        height: state.slots + state.excess,
+        lock: greatest_lock(state.facts.values()),
+        age: greatest_age(state.facts.values()),
+        facts: state.facts,
+    }
+}

@@ -1,0 +1,88 @@
+// What opcodes do to the symbols on the stack that ask for nothing, and the two steps that all opcodes are made of.
+
+ghost use Rattle.std.specs.Prelude.{◌≡◌, ◌<◌, ◌≤◌, OnOk};
+ghost use Rattle.paths.specs.Rules.{pop, push as pushed};
+ghost use Rattle.paths.specs.Following.{IsFollowed};
+ghost use Rattle.paths.specs.Doing.{IsNear};
+
+use crate::rules::take;
+use crate::state::{Halt, State, Turn};
+use facts::Sym;
+use script::{Item, Op};
+use std::alloc::{AllocError, Global};
+
+/// Takes the top symbol, which is the next slot where there is none.
+pub fn pull(state: &mut State) -> Sym
+    requires { state.old.slots < 2000 }
+    ensures top { result ≡ (pop state.old).0 }
+    ensures left { state.new ≡ (pop state.old).1 }
+    ensures near { IsNear 1 state.old state.new }
+{
+    take(state)
+}
+
+/// Puts a symbol on top. The only error is want of memory.
+pub fn put(state: &mut State, sym: Sym) -> Result<(), AllocError>
+    ensures put { OnOk result (state.new ≡ pushed sym state.old) }
+{
+    state.stack.push(sym)
+}
+
+/// A push.
+#[tactic(auto, unfolding(crate::specs::Rules::followed))]
+pub fn push_item(alloc: Global, item: &Item, state: &mut State) -> Result<Turn, Halt>
+    ensures exact { IsFollowed 0 (Op.Push item.now) state.old state.new result }
+    ensures near { OnOk result (IsNear 0 state.old state.new) }
+{
+    put(state, Sym::Const(item.copy(alloc)?))?;
+    Ok(Turn::Onward)
+}
+
+/// A push of a number from 1 to 16.
+#[tactic(auto, unfolding(crate::specs::Rules::followed))]
+pub fn push_number(alloc: Global, number: u8, state: &mut State) -> Result<Turn, Halt>
+    ensures exact { IsFollowed 0 (Op.Number number) state.old state.new result }
+    ensures near { OnOk result (IsNear 0 state.old state.new) }
+{
+    put(state, Sym::Const(Item::from_slice(alloc, &[number])?))?;
+    Ok(Turn::Onward)
+}
+
+/// DROP.
+#[tactic(auto, unfolding(crate::specs::Rules::followed))]
+pub fn discard(state: &mut State) -> Result<Turn, Halt>
+    requires { state.old.slots ≤ 1000 }
+    ensures exact { IsFollowed 0 Op.Drop state.old state.new result }
+    ensures near { OnOk result (IsNear 1 state.old state.new) }
+{
+    let _sym = pull(state);
+    Ok(Turn::Onward)
+}
+
+/// DUP.
+#[tactic(auto, unfolding(crate::specs::Rules::followed))]
+pub fn double(alloc: Global, state: &mut State) -> Result<Turn, Halt>
+    requires { state.old.slots ≤ 1000 }
+    ensures exact { IsFollowed 0 Op.Dup state.old state.new result }
+    ensures near { OnOk result (IsNear 1 state.old state.new) }
+{
+    let sym = pull(state);
+    let other = sym.copy(alloc)?;
+    put(state, sym)?;
+    put(state, other)?;
+    Ok(Turn::Onward)
+}
+
+/// SWAP.
+#[tactic(auto, unfolding(crate::specs::Rules::followed))]
+pub fn swap(state: &mut State) -> Result<Turn, Halt>
+    requires { state.old.slots ≤ 1000 }
+    ensures exact { IsFollowed 0 Op.Swap state.old state.new result }
+    ensures near { OnOk result (IsNear 2 state.old state.new) }
+{
+    let top = pull(state);
+    let second = pull(state);
+    put(state, top)?;
+    put(state, second)?;
+    Ok(Turn::Onward)
+}

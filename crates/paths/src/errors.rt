@@ -1,0 +1,64 @@
+// Why a script is not listed.
+
+ghost use Rattle.std.specs.Prelude.{◌≡◌};
+ghost use Rattle.paths.specs.Errors.{number_of};
+ghost use Rattle.paths.specs.declared.errors.CheckError.TheVariants.{NoMemory};
+
+use std::alloc::{AllocError, AllocFailed};
+use thiserror::Error;
+
+/// Why the ways through a script are not listed. The whole script is tested for `OpenBranch`, then for `TooManyOps`; then the paths are
+/// followed in the text order of their branches, and what is met first is named.
+#[derive(Clone, Copy, PartialEq, Eq, Debug, Error)]
+pub enum CheckError {
+    /// Memory ran out.
+    #[error("NoMemory")]
+    NoMemory,
+    /// An ELSE or ENDIF without its IF, a second ELSE of one IF, or an IF without its ENDIF.
+    #[error("OpenBranch")]
+    OpenBranch,
+    /// More than 201 opcodes count, with the keys of the CHECKMULTISIGs of a path.
+    #[error("TooManyOps")]
+    TooManyOps,
+    /// No rule decides the opcode at this index, or the end, where it is the number of opcodes.
+    #[error("Undecided {0}")]
+    Undecided(usize),
+    /// A 65th path begins.
+    #[error("TooManyPaths")]
+    TooManyPaths,
+    /// A path needs more than 1,000 entries.
+    #[error("TooTall")]
+    TooTall,
+}
+
+impl CheckError {
+    /// The number of the refusal; 0 is want of memory.
+    pub fn number(&self) -> u8
+        ensures { result ≡ number_of self.now }
+    {
+        match self {
+            CheckError::NoMemory => 0,
+            CheckError::OpenBranch => 1,
+            CheckError::TooManyOps => 2,
+            CheckError::Undecided(_) => 3,
+            CheckError::TooManyPaths => 4,
+            CheckError::TooTall => 5,
+        }
+    }
+}
+
+impl From<AllocError> for CheckError {
+    ghost from_gives = { λ _ e. e ≡ NoMemory };
+
+    fn from(_error: AllocError) -> CheckError {
+        CheckError::NoMemory
+    }
+}
+
+impl<T: Drop> From<AllocFailed<T>> for CheckError {
+    ghost from_gives = { λ _ e. e ≡ NoMemory };
+
+    fn from(_error: AllocFailed<T>) -> CheckError {
+        CheckError::NoMemory
+    }
+}

@@ -1,0 +1,95 @@
+// A script with all its paths.
+
+ghost use Rattle.std.specs.Prelude.{◌≡◌};
+ghost use Rattle.std.specs.Prelude.{All, IfOk};
+ghost use Rattle.paths.specs.Outcome.{IsListing};
+ghost use Rattle.paths.specs.Sound.{IsSound};
+
+use crate::balance::is_balanced;
+use crate::errors::CheckError;
+use crate::state::Path;
+use crate::walking::walk_all;
+use script::{Row, Script};
+use std::alloc::Global;
+use std::marker::Model;
+
+/// The most opcodes that may count, keys of CHECKMULTISIGs included.
+pub const MAX_OPS: usize = 201;
+
+/// A script with every way through it that runs clean. `check` alone makes one. A contract sees it as its opcodes and its paths.
+#[derive(Drop)]
+pub struct Checked {
+    script: Script,
+    paths: Row<Path>,
+}
+
+impl Model for Checked {
+    ghost use Rattle.std.specs.Prelude.{◌≡◌, List, Result, Ok};
+    ghost use Rattle.script.specs.declared.opcode.Op.{Op as Opcode};
+    ghost use Rattle.paths.specs.declared.state.Path.{Path as Way};
+    ghost use Rattle.paths.specs.Listing.{Ways, listing};
+
+    ghost Value = { Ways };
+
+    ghost view = { λ c. record { ops = c.script; paths = c.paths } };
+
+    ghost invariant = { λ c. listing c.script ≡ Ok c.paths };
+}
+
+impl Checked {
+    ghost use Rattle.std.specs.Prelude.{◌≡◌, All, Ok};
+    ghost use Rattle.paths.specs.Listing.{listing};
+    ghost use Rattle.paths.specs.Sound.{IsSound};
+
+    /// The script.
+    pub fn script(&self) -> &Script
+        ensures { result.now ≡ self.now.ops }
+    {
+        &self.script
+    }
+
+    /// Its paths, in the text order of their branches.
+    pub fn paths(&self) -> &[Path]
+        ensures value { result.now ≡ self.now.paths }
+        ensures listed { listing self.now.ops ≡ Ok self.now.paths }
+
+        // Whatever meets a path runs clean, as the path says.
+        ensures sound { All (IsSound self.now.ops) self.now.paths }
+    {
+        let _script = &self.script;
+        self.paths.values()
+    }
+}
+
+/// Lists every way through a script, in the text order of its branches: the second branch of a split begins once all paths through the
+/// first have ended. It takes at most as many steps as paths are begun times opcodes.
+///
+/// Refused are, first, branches of the whole script that do not close (`OpenBranch`), then more than 201 opcodes that count
+/// (`TooManyOps`), and then what the paths meet first: an opcode or an end that no rule decides (`Undecided`), keys of a CHECKMULTISIG
+/// that lift the count above 201 (`TooManyOps`), more than 1,000 entries (`TooTall`), or a 65th path that begins (`TooManyPaths`).
+/// `NoMemory` may come at any time.
+#[tactic(auto, using(crate::proofs::SoundListing::exact_sound))]
+pub fn check(alloc: Global, script: Script) -> Result<Checked, CheckError>
+    ensures exact { IsListing script result }
+
+    // Whatever witness meets a listed path runs clean, with exactly its counted opcodes and its height, at most 1,000.
+    ensures sound { IfOk result (λ c. All (IsSound c.ops) c.paths) }
+{
+    list(alloc, script)
+}
+
+// Lists the ways, as the definition has them.
+#[tactic(auto, unfolding(crate::specs::Listing::listing))]
+fn list(alloc: Global, script: Script) -> Result<Checked, CheckError>
+    ensures exact { IsListing script result }
+{
+    if !is_balanced(alloc, script.ops())? {
+        return Err(CheckError::OpenBranch);
+    }
+    let counted = script.counted();
+    if counted > MAX_OPS {
+        return Err(CheckError::TooManyOps);
+    }
+    let paths = walk_all(alloc, script.ops(), counted)?;
+    Ok(Checked { script, paths })
+}

@@ -1,0 +1,205 @@
+// CHECKMULTISIG.
+
+ghost use Rattle.std.specs.Prelude.{◌≡◌, ◌<◌, ◌≤◌, ◌+◌, reverse, IfOk, OnOk};
+ghost use Rattle.std.specs.List.{list_any};
+ghost use Rattle.paths.specs.Rules.{pops, count_of as count_for, is_bad_key as is_bad_key_of, is_bad_extra as is_bad_extra_of, slots_of as slots_for, sources_of as sources_for, ask_forms as forms_asked, ask_keys as keys_asked, ask_extra as extra_asked, answer_of as answer_for, check_sigs};
+ghost use Rattle.paths.specs.Following.{Answers, Leaves, IsFollowed};
+ghost use Rattle.paths.specs.Doing.{IsNear, count_keys as keys_counted};
+
+use crate::comparing::flag;
+use crate::entries::{pull, put};
+use crate::rules::ask;
+use crate::signing::{ask_key, is_bad_key, source_of};
+use crate::state::{Halt, State, Turn};
+use facts::{Fact, KeySource, Sym};
+use script::num::Limit;
+use script::{Item, Op, Pile, Row, num};
+use std::alloc::{AllocError, Global};
+
+/// The most counted opcodes and keys of a run.
+const MAX_OPS: usize = 201;
+
+/// CHECKMULTISIG, where so many opcodes of the whole script count.
+#[tactic(auto, unfolding(crate::specs::Rules::followed, crate::specs::Rules::check_multi_sig), using(crate::proofs::RulePops::pops_keys))]
+pub fn check_multi_sig(alloc: Global, counted: usize, state: &mut State) -> Result<Turn, Halt>
+    requires slots { state.old.slots ≤ 1000 }
+    requires keys { counted + state.old.keys ≤ 201 }
+    ensures exact { IsFollowed counted Op.CheckMultiSig state.old state.new result }
+    ensures slots_stay { OnOk result (state.new.slots ≤ 1100) }
+    ensures keys_stay { OnOk result (counted + state.new.keys ≤ 201) }
+{
+    let key_count = count_of(20, &pull(state))?;
+    count_keys(counted, key_count, state)?;
+    let keys = pull_many(alloc, key_count, state)?;
+    let signature_count = count_of(key_count, &pull(state))?;
+    let signatures = pull_many(alloc, signature_count, state)?;
+    let extra = pull(state);
+    check(alloc, state, keys, signatures, extra)?;
+    Ok(Turn::Onward)
+}
+
+// A count of keys or signatures, from 0 to a limit.
+fn count_of(limit: usize, sym: &Sym) -> Result<usize, Halt>
+    ensures exact { Answers (count_for limit sym.now) result }
+    ensures low { IfOk result (λ n. n ≤ limit) }
+{
+    let Sym::Const(item) = sym else {
+        return Err(Halt::Undecided);
+    };
+    match num::read(item.bytes(), Limit::Count) {
+        Some(number) if !number.negative && number.magnitude <= limit as u64 => {
+            Ok(number.magnitude as usize)
+        }
+        _ => Err(Halt::Dead),
+    }
+}
+
+// Counts keys with the opcodes of the whole script.
+fn count_keys(counted: usize, more: usize, state: &mut State) -> Result<(), Halt>
+    requires keys { counted + state.old.keys ≤ 201 }
+    requires more { more ≤ 20 }
+    ensures { Leaves (keys_counted counted more state.old) state.new result }
+{
+    state.keys += more;
+    if counted + state.keys > MAX_OPS {
+        return Err(Halt::TooManyOps);
+    }
+    Ok(())
+}
+
+// Takes so many symbols, the deepest of which is the top of the result. The only error is want of memory.
+fn pull_many(alloc: Global, count: usize, state: &mut State) -> Result<Pile<Sym>, AllocError>
+    requires { state.old.slots + count < 2000 }
+    ensures taken { IfOk result (λ p. p ≡ reverse (pops count state.old).0) }
+    ensures left { OnOk result (state.new ≡ (pops count state.old).1) }
+    ensures near { OnOk result (IsNear count state.old state.new) }
+{
+    let mut syms = Pile::new(alloc);
+    for _step in 0..count {
+        syms.push(pull(state))?;
+    }
+    Ok(syms)
+}
+
+// Checks signatures against keys, the deepest of each the top. A bad form comes before what no rule decides.
+fn check(
+    alloc: Global,
+    state: &mut State,
+    keys: Pile<Sym>,
+    signatures: Pile<Sym>,
+    extra: Sym,
+) -> Result<(), Halt>
+    ensures exact { Leaves (check_sigs keys signatures extra state.old) state.new result }
+    ensures near { OnOk result (IsNear 0 state.old state.new) }
+{
+    if has_bad_key(&keys) || is_bad_extra(&extra) {
+        return Err(Halt::Dead);
+    }
+    let slots = slots_of(alloc, signatures)?;
+    let sources = sources_of(alloc, keys)?;
+    ask_forms(state, slots.values())?;
+    ask_keys(state, sources.values())?;
+    ask_extra(alloc, state, extra)?;
+    let answer = answer_of(alloc, slots, sources)?;
+    put(state, answer)?;
+    Ok(())
+}
+
+// Whether no run takes one of these symbols for a key.
+#[tactic(auto, using(crate::proofs::RuleLists::any_reversed))]
+fn has_bad_key(keys: &Pile<Sym>) -> bool
+    ensures { result ≡ list_any is_bad_key_of keys.now }
+{
+    any_is_bad(keys.values())
+}
+
+// Whether no run takes one of these symbols for a key.
+fn any_is_bad(keys: &[Sym]) -> bool
+    ensures { result ≡ list_any is_bad_key_of keys.now }
+{
+    keys.iter().any(|key| is_bad_key(key))
+}
+
+// Whether no run takes this symbol for the extra item.
+fn is_bad_extra(extra: &Sym) -> bool
+    ensures { result ≡ is_bad_extra_of extra.now }
+{
+    match extra {
+        Sym::Const(item) => !item.is_empty(),
+        _ => false,
+    }
+}
+
+// The slots of symbols that are all slots, the deepest of which is the top.
+fn slots_of(alloc: Global, syms: Pile<Sym>) -> Result<Row<usize>, Halt>
+    ensures { Answers (slots_for syms) result }
+{
+    let mut syms = syms;
+    let mut slots = Row::new(alloc);
+    while let Some(sym) = syms.pop() {
+        let Sym::Slot(i) = sym else {
+            return Err(Halt::Undecided);
+        };
+        slots.push(i)?;
+    }
+    Ok(slots)
+}
+
+// Where keys come from, the deepest of which is the top.
+fn sources_of(alloc: Global, keys: Pile<Sym>) -> Result<Row<KeySource>, Halt>
+    ensures { Answers (sources_for keys) result }
+{
+    let mut keys = keys;
+    let mut sources = Row::new(alloc);
+    while let Some(key) = keys.pop() {
+        sources.push(source_of(key)?)?;
+    }
+    Ok(sources)
+}
+
+// Asks for the forms of signatures. The only error is want of memory.
+fn ask_forms(state: &mut State, slots: &[usize]) -> Result<(), AllocError>
+    ensures exact { OnOk result (state.new ≡ forms_asked slots.now state.old) }
+    ensures near { OnOk result (IsNear 0 state.old state.new) }
+{
+    for slot in slots {
+        ask(state, Fact::Form(*slot), true)?;
+    }
+    Ok(())
+}
+
+// Asks for the forms of those keys that are slots. The only error is want of memory.
+fn ask_keys(state: &mut State, keys: &[KeySource]) -> Result<(), AllocError>
+    ensures exact { OnOk result (state.new ≡ keys_asked keys.now state.old) }
+    ensures near { OnOk result (IsNear 0 state.old state.new) }
+{
+    for key in keys {
+        ask_key(state, key)?;
+    }
+    Ok(())
+}
+
+// Asks that the extra item be empty (BIP 147).
+fn ask_extra(alloc: Global, state: &mut State, extra: Sym) -> Result<(), Halt>
+    ensures exact { Leaves (extra_asked extra state.old) state.new result }
+    ensures near { OnOk result (IsNear 0 state.old state.new) }
+{
+    match extra {
+        Sym::Const(_item) => Ok(()),
+        Sym::Slot(i) => {
+            ask(state, Fact::Is(i, Item::from_vec(Vec::new(alloc))), true)?;
+            Ok(())
+        }
+        _other => Err(Halt::Undecided),
+    }
+}
+
+// Whether the slots are tokens of an increasing choice of the keys; no slots are. The only error is want of memory.
+fn answer_of(alloc: Global, slots: Row<usize>, keys: Row<KeySource>) -> Result<Sym, AllocError>
+    ensures { IfOk result (λ s. s ≡ answer_for slots keys) }
+{
+    if slots.is_empty() {
+        return Ok(Sym::Const(flag(alloc, true)?));
+    }
+    Ok(Sym::Holds(Fact::Assigned(slots, keys)))
+}

@@ -1,0 +1,106 @@
+// What an opcode does to a path.
+
+ghost use Rattle.std.specs.Prelude.{◌≡◌, ◌<◌, ◌≤◌, ◌+◌, OnOk, OnErr};
+ghost use Rattle.paths.specs.Rules.{pop, ask as asked, condition_of, insist as insisted, followed};
+ghost use Rattle.paths.specs.Following.{IsFollowed, IsConditionOf, IsInsisted};
+ghost use Rattle.paths.specs.declared.state.Halt.TheVariants.{NoMemory};
+
+use crate::branching::{enter_if, enter_not_if};
+use crate::comparing::{equal, equal_verify, hash, size};
+use crate::entries::{discard, double, push_item, push_number, swap};
+use crate::locking::{check_lock_time, check_sequence};
+use crate::multisig::check_multi_sig;
+use crate::signing::check_sig;
+use crate::state::{Condition, Halt, State, Turn};
+use facts::{Fact, Stated, Sym};
+use script::Op;
+use script::truths::is_true;
+use std::alloc::{AllocError, Global};
+
+impl From<AllocError> for Halt {
+    ghost from_gives = { λ _ e. e ≡ NoMemory };
+
+    fn from(_error: AllocError) -> Halt {
+        Halt::NoMemory
+    }
+}
+
+/// Takes the top symbol, which is the next slot where there is none.
+pub fn take(state: &mut State) -> Sym
+    requires { state.old.slots < 2000 }
+    ensures { pop state.old ≡ (result, state.new) }
+{
+    match state.stack.pop() {
+        Some(sym) => sym,
+        None => {
+            let slot = state.slots;
+            state.slots += 1;
+            Sym::Slot(slot)
+        }
+    }
+}
+
+/// Asks for a fact. The only error is want of memory.
+pub fn ask(state: &mut State, fact: Fact, holds: bool) -> Result<(), AllocError>
+    ensures { OnOk result (state.new ≡ asked fact holds state.old) }
+{
+    state.facts.push(Stated { fact, holds })
+}
+
+/// What decides whether a symbol counts as true.
+pub fn condition(sym: Sym) -> Result<Condition, Halt>
+    ensures { IsConditionOf sym result }
+{
+    match sym {
+        Sym::Slot(i) => Ok(Condition::Asked(Fact::Truth(i))),
+        Sym::Const(item) => Ok(Condition::Known(is_true(item.bytes()))),
+        Sym::Holds(fact) => Ok(Condition::Asked(fact)),
+        _ => Err(Halt::Undecided),
+    }
+}
+
+/// Goes on only where the condition holds.
+pub fn insist(state: &mut State, condition: Condition) -> Result<(), Halt>
+    ensures { IsInsisted condition state.old state.new result }
+{
+    match condition {
+        Condition::Known(true) => Ok(()),
+        Condition::Known(false) => Err(Halt::Dead),
+        Condition::Asked(fact) => {
+            ask(state, fact, true)?;
+            Ok(())
+        }
+    }
+}
+
+/// Follows an opcode, where so many opcodes of the whole script count. After an error the path ends, and its state may be anything:
+/// `Dead` where no witness goes on, `Undecided` where no rule and no death decides, `TooManyOps` where the keys of a CHECKMULTISIG lift
+/// the count above 201, `NoMemory` where memory runs out.
+#[tactic(auto, unfolding(crate::specs::Rules::followed))]
+pub fn follow(alloc: Global, op: &Op, counted: usize, state: &mut State) -> Result<Turn, Halt>
+    requires slots { state.old.slots ≤ 1000 }
+    requires keys { counted + state.old.keys ≤ 201 }
+    ensures exact { IsFollowed counted op.now state.old state.new result }
+    ensures slots_stay { OnOk result (state.new.slots ≤ 1100) }
+    ensures keys_stay { OnOk result (counted + state.new.keys ≤ 201) }
+{
+    match op {
+        Op::Push(item) => push_item(alloc, item, state),
+        Op::Number(number) => push_number(alloc, *number, state),
+        Op::If => enter_if(state),
+        Op::NotIf => enter_not_if(state),
+        Op::Else => Ok(Turn::PastEnd),
+        Op::EndIf => Ok(Turn::Onward),
+        Op::Drop => discard(state),
+        Op::Dup => double(alloc, state),
+        Op::Swap => swap(state),
+        Op::Size => size(alloc, state),
+        Op::Equal => equal(alloc, state),
+        Op::EqualVerify => equal_verify(alloc, state),
+        Op::Hash160 => hash(alloc, state),
+        Op::CheckSig => check_sig(state),
+        Op::CheckMultiSig => check_multi_sig(alloc, counted, state),
+        Op::CheckLockTimeVerify => check_lock_time(state),
+        Op::CheckSequenceVerify => check_sequence(state),
+    }
+}

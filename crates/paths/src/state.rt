@@ -1,0 +1,159 @@
+// Where a path stands, and where it ends.
+
+ghost use Rattle.std.specs.Prelude.{◌≡◌, IfOk};
+ghost use Rattle.script.specs.Step.{checked};
+ghost use Rattle.paths.specs.Listing.{beginning, measured, is_low as is_low_of};
+
+use facts::{Fact, Stated, Sym};
+use script::{Pile, Row};
+use std::alloc::{AllocError, Global};
+
+/// The most entries that a run may have.
+pub const MAX_ENTRIES: usize = 1000;
+
+/// A path on its way, as it comes to an opcode of the list.
+#[derive(Drop)]
+pub struct State {
+    /// How many opcodes it jumps over from here on.
+    pub ahead: usize,
+    /// The symbols on the stack; below them are the slots that were not reached yet.
+    pub stack: Pile<Sym>,
+    /// How many slots were reached.
+    pub slots: usize,
+    /// The facts in the order in which they arose.
+    pub facts: Row<Stated>,
+    /// How many keys of CHECKMULTISIGs were counted.
+    pub keys: usize,
+    /// By how much the number of entries has passed that of the witness, at the most.
+    pub excess: usize,
+}
+
+impl State {
+    /// Where a path begins. It takes no memory.
+    pub fn new(alloc: Global) -> Self
+        ensures { result ≡ beginning }
+    {
+        State {
+            ahead: 0,
+            stack: Pile::new(alloc),
+            slots: 0,
+            facts: Row::new(alloc),
+            keys: 0,
+            excess: 0,
+        }
+    }
+
+    /// An equal one. The only error is want of memory.
+    pub fn copy(&self, alloc: Global) -> Result<Self, AllocError>
+        ensures { IfOk result (λ s. s ≡ self.now) }
+    {
+        let stack = Pile::from_vec(copied_syms(alloc, self.stack.values())?);
+        let facts = Row::from_vec(copied_facts(alloc, self.facts.values())?);
+        Ok(State {
+            ahead: self.ahead,
+            stack,
+            slots: self.slots,
+            facts,
+            keys: self.keys,
+            excess: self.excess,
+        })
+    }
+
+    /// Whether the greatest number of entries of a run so far is at most 1,000.
+    pub fn is_low(&self) -> bool
+        ensures { result ≡ is_low_of self.now }
+    {
+        self.slots <= MAX_ENTRIES && self.excess <= MAX_ENTRIES - self.slots
+    }
+
+    /// Keeps by how much the entries pass those of the witness.
+    pub fn measure(&mut self)
+        ensures { self.new ≡ measured self.old }
+    {
+        let more = self.stack.len().saturating_sub(self.slots);
+        self.excess = self.excess.max(more);
+    }
+}
+
+// Equal symbols.
+fn copied_syms(alloc: Global, syms: &[Sym]) -> Result<Vec<Sym>, AllocError>
+    ensures { IfOk result (λ v. v.items ≡ syms.now) }
+{
+    let mut copies = Vec::new(alloc);
+    for sym in syms {
+        copies.push(sym.copy(alloc)?)?;
+    }
+    Ok(copies)
+}
+
+// Equal facts, stated alike.
+fn copied_facts(alloc: Global, facts: &[Stated]) -> Result<Vec<Stated>, AllocError>
+    ensures { IfOk result (λ v. v.items ≡ facts.now) }
+{
+    let mut copies = Vec::new(alloc);
+    for stated in facts {
+        copies.push(stated.copy(alloc)?)?;
+    }
+    Ok(copies)
+}
+
+/// Why a path does not go on from an opcode.
+#[derive(Clone, Copy, PartialEq, Eq, Debug)]
+pub enum Halt {
+    /// Memory ran out.
+    NoMemory,
+    /// No witness goes on.
+    Dead,
+    /// No rule decides the opcode.
+    Undecided,
+    /// The keys lift the count above 201.
+    TooManyOps,
+}
+
+/// Where a path goes behind an opcode.
+#[derive(Drop)]
+pub enum Turn {
+    /// To the next opcode.
+    Onward,
+    /// Behind the ELSE of this IF, or behind its ENDIF where it has no ELSE.
+    PastElse,
+    /// Behind the ENDIF of this ELSE.
+    PastEnd,
+    /// To the next opcode where the fact is as stated, and behind the ELSE where it is not.
+    Splits(Fact, bool),
+}
+
+/// What decides whether a symbol counts as true.
+#[derive(Drop)]
+pub enum Condition {
+    /// It is known.
+    Known(bool),
+    /// The fact.
+    Asked(Fact),
+}
+
+/// A way through a script: whatever witness meets it runs clean.
+#[derive(Debug, Drop)]
+pub struct Path {
+    /// How many items the witness has beside the script.
+    pub arity: usize,
+    /// What is asked of the witness and the spend, in the order in which it arises.
+    pub facts: Row<Stated>,
+    /// The counted opcodes of a run, keys of CHECKMULTISIGs included; at most 201.
+    pub ops: usize,
+    /// The greatest number of entries of a run, at most 1,000.
+    pub height: usize,
+    /// The greatest absolute lock that the run checks (BIP 65).
+    pub lock: Option<u64>,
+    /// The greatest relative lock in blocks that the run checks (BIP 68, 112).
+    pub age: Option<u16>,
+}
+
+/// The paths that were listed so far, and how many were begun.
+#[derive(Drop)]
+pub struct Listed {
+    /// How many paths were begun, those included that end dead.
+    pub begun: usize,
+    /// The paths that ended, in the text order of their branches.
+    pub paths: Row<Path>,
+}

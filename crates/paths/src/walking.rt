@@ -1,0 +1,205 @@
+// Walks along every way through a script.
+
+ghost use Rattle.std.specs.Prelude.{◌≡◌, ℕ, ◌<◌, ◌≤◌, ◌+◌, Ok, true, All, [], length, IfOk, OnOk};
+ghost use Rattle.script.specs.Run.{over};
+ghost use Rattle.paths.specs.Listing.{ways_by, arrived, ways_from, walk, begins as begins_of, beginning};
+ghost use Rattle.paths.specs.Walking.{ways_of, AreWays, AreKept, Gives, Gets, IsKept, IsWaiting, IsStep, IsWalked, left, paths_in};
+
+use crate::ending::{end, refusal};
+use crate::errors::CheckError;
+use crate::rules::{ask, follow};
+use crate::state::{Listed, Path, State, Turn};
+use script::{Op, Pile, Row};
+use std::alloc::{AllocError, Global};
+
+/// The most paths that a script may begin.
+pub const MAX_PATHS: usize = 64;
+
+/// How a path goes on behind an opcode.
+#[derive(Drop)]
+pub enum Way {
+    /// It ends there, and no witness goes on.
+    Dies,
+    /// It goes on.
+    Goes,
+    /// It goes on, and a second one, which has yet to jump behind the ELSE, begins once all paths through the first have ended.
+    Splits(State),
+}
+
+/// A path that waits for its turn: the second branch of a split, which has yet to jump behind the ELSE.
+#[derive(Drop)]
+pub struct Waiting {
+    /// The position of the next opcode.
+    pub at: usize,
+    /// Where it stands there.
+    pub state: State,
+}
+
+/// Every path through opcodes of which so many count.
+pub fn walk_all(alloc: Global, ops: &[Op], counted: usize) -> Result<Row<Path>, CheckError>
+    requires { counted ≤ 201 }
+    ensures { Gets (paths_in (walk counted 0 ops.now beginning (record { begun = 1; paths = [] }))) result }
+{
+    let mut listed = Listed {
+        begun: 1,
+        paths: Row::new(alloc),
+    };
+    let mut waiting = Pile::new(alloc);
+    let first = Waiting {
+        at: 0,
+        state: State::new(alloc),
+    };
+    walk_path(alloc, ops, counted, first, &mut waiting, &mut listed)?;
+    while let Some(mut next) = waiting.pop() {
+        begins(&mut listed)?;
+        next.state.ahead = jump_len(&ops[next.at..], true);
+        walk_path(alloc, ops, counted, next, &mut waiting, &mut listed)?;
+    }
+    Ok(listed.paths)
+}
+
+// Begins one more path.
+fn begins(listed: &mut Listed) -> Result<(), CheckError>
+    ensures exact { Gives (begins_of listed.old) listed.new result }
+    ensures more { OnOk result (listed.old.begun < 64 × (listed.new.begun ≡ listed.old.begun + 1)) }
+{
+    if listed.begun >= MAX_PATHS {
+        return Err(CheckError::TooManyPaths);
+    }
+    listed.begun += 1;
+    Ok(())
+}
+
+// Walks along one path to its end. The paths that split from it wait, the newest on top.
+fn walk_path(
+    alloc: Global,
+    ops: &[Op],
+    counted: usize,
+    path: Waiting,
+    waiting: &mut Pile<Waiting>,
+    listed: &mut Listed,
+) -> Result<(), CheckError>
+    requires path { IsWaiting counted (length ops.now) path }
+    requires waiting { All (IsWaiting counted (length ops.now)) waiting.old }
+    ensures exact { IsWalked counted ops.now (left counted ops.now path.at path.state waiting.old listed.old) waiting.new listed.new result }
+    ensures begun { OnOk result (listed.new.begun ≡ listed.old.begun) }
+    ensures kept { OnOk result (All (IsWaiting counted (length ops.now)) waiting.new) }
+{
+    let mut state = path.state;
+    for at in path.at..ops.len() {
+        if !step(alloc, ops, counted, at, &mut state, waiting)? {
+            return Ok(());
+        }
+    }
+    end(counted, ops.len(), state, listed)
+}
+
+// Goes past the opcode at this position; whether the path goes on.
+fn step(
+    alloc: Global,
+    ops: &[Op],
+    counted: usize,
+    at: usize,
+    state: &mut State,
+    waiting: &mut Pile<Waiting>,
+) -> Result<bool, CheckError>
+    requires within { at < length ops.now }
+    requires state { IsKept counted state.old }
+    requires waiting { All (IsWaiting counted (length ops.now)) waiting.old }
+    ensures exact { IsStep counted ops.now at state.old waiting.old state.new waiting.new result }
+    ensures state { IfOk result (λ goes. goes ≡ true → IsKept counted state.new) }
+    ensures waiting { OnOk result (All (IsWaiting counted (length ops.now)) waiting.new) }
+{
+    let rest = &ops[at + 1..];
+    match ways(alloc, counted, at, &ops[at], rest, state)? {
+        Way::Dies => Ok(false),
+        Way::Goes => Ok(true),
+        Way::Splits(second) => {
+            waiting.push(Waiting {
+                at: at + 1,
+                state: second,
+            })?;
+            Ok(true)
+        }
+    }
+}
+
+// The ways on from the opcode at this position, where so many opcodes of the whole script count.
+fn ways(
+    alloc: Global,
+    counted: usize,
+    at: usize,
+    op: &Op,
+    rest: &[Op],
+    state: &mut State,
+) -> Result<Way, CheckError>
+    requires { IsKept counted state.old }
+    ensures exact { AreWays (ways_from counted at op.now rest.now state.old state.old.ahead) rest.now state.new result }
+    ensures kept { IfOk result (AreKept counted state.new) }
+{
+    if state.ahead > 0 {
+        state.ahead -= 1;
+        return Ok(Way::Goes);
+    }
+    match follow(alloc, op, counted, state) {
+        Ok(turn) => {
+            state.measure();
+            if !state.is_low() {
+                return Err(CheckError::TooTall);
+            }
+            Ok(turns(alloc, turn, rest, state)?)
+        }
+        Err(halt) => {
+            refusal(at, halt)?;
+            Ok(Way::Dies)
+        }
+    }
+}
+
+// Where a turn leads a path. The only error is want of memory.
+fn turns(alloc: Global, turn: Turn, rest: &[Op], state: &mut State) -> Result<Way, AllocError>
+    ensures { IfOk result (λ way. ways_by turn rest.now state.old ≡ ways_of rest.now state.new way) }
+{
+    match turn {
+        Turn::Onward => Ok(Way::Goes),
+        Turn::PastElse => {
+            state.ahead = jump_len(rest, true);
+            Ok(Way::Goes)
+        }
+        Turn::PastEnd => {
+            state.ahead = jump_len(rest, false);
+            Ok(Way::Goes)
+        }
+        Turn::Splits(fact, first) => {
+            let mut second = state.copy(alloc)?;
+            ask(&mut second, fact.copy(alloc)?, !first)?;
+            ask(state, fact, first)?;
+            Ok(Way::Splits(second))
+        }
+    }
+}
+
+// How many of these opcodes are jumped over, to behind the branch's end, or where `stop` to behind its ELSE.
+fn jump_len(ops: &[Op], stop: bool) -> usize
+    ensures { result ≡ over stop 0 ops.now }
+{
+    let mut depth: usize = 0;
+    for (i, op) in ops.iter().enumerate() {
+        match op {
+            Op::If | Op::NotIf => depth += 1,
+            Op::EndIf => {
+                if depth == 0 {
+                    return i + 1;
+                }
+                depth -= 1;
+            }
+            Op::Else => {
+                if depth == 0 && stop {
+                    return i + 1;
+                }
+            }
+            _ => {}
+        }
+    }
+    ops.len()
+}

@@ -1,0 +1,17 @@
+pub mod TokenBytes
+pub mod LastByte
+pub mod Digits
+pub mod Counting
+pub mod Splits
+pub mod Numbers
+pub mod Choice
+pub mod Unique
+pub mod Blocks
+pub mod OpenIfs
+pub mod Chains
+pub mod Limit
+pub mod Following
+pub mod OneEnd
+pub mod Choosing
+pub mod Examples
+pub mod RoundTrip

@@ -1,0 +1,8 @@
+pub mod Stops
+pub mod Spelling
+pub mod Number
+pub mod Limits
+pub mod Token
+pub mod Step
+pub mod Run
+pub mod Clean

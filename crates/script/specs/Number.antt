@@ -1,0 +1,38 @@
+-- Numbers as items: little-endian, with a sign bit in the last byte.
+use Rattle.std.specs.Prelude.{ℕ, zero, suc, ◌+◌, ◌*◌, ◌/◌, ◌%◌, ◌^◌, ◌&&◌, nat_lt, nat_le, ◌==◌, if◌then◌else◌, false, List, [], ◌∷◌, ◌++◌, length, Option, Some, None}
+use Rattle.script.specs.declared.num.Number.{Number}
+
+-- the little-endian value
+abbrev pub unsigned : List ℕ → ℕ
+unsigned [] = 0
+unsigned (b ∷ bs) = b + 256 * unsigned bs
+
+-- the sign bit, as a number
+abbrev pub sign_bit : List ℕ → ℕ
+sign_bit bs = 256 ^ length bs / 2
+
+-- the value without the sign bit
+abbrev pub magnitude_of : List ℕ → ℕ
+magnitude_of bs = unsigned bs % sign_bit bs
+
+-- the number of an item of at most so many bytes, where no shorter item has it: its magnitude passes what one byte less
+-- could hold
+unfoldable pub number_of : ℕ → List ℕ → Option Number
+number_of limit [] = Some (record { negative = false; magnitude = 0 })
+number_of limit (b ∷ bs) =
+    if nat_le (length (b ∷ bs)) limit && nat_le (256 ^ length bs) (2 * magnitude_of (b ∷ bs))
+    then Some (record { negative = nat_le (sign_bit (b ∷ bs)) (unsigned (b ∷ bs)); magnitude = magnitude_of (b ∷ bs) })
+    else None
+
+-- the lowest digit of a number to the base 256, with a byte for the sign where it is the last one and has the sign bit
+abbrev pub lowest : ℕ → List ℕ
+lowest n = if nat_le 128 n && nat_lt n 256 then (n ∷ 0 ∷ []) else (n % 256 ∷ [])
+
+-- the digits of a number, the lowest first; so many at most
+unfoldable pub digits : ℕ → ℕ → List ℕ
+digits zero n = []
+digits (suc more) n = if n == 0 then [] else (lowest n ++ digits more (n / 256))
+
+-- the shortest item of a number that is not negative and below 2 ^ 32
+unfoldable pub item_of : ℕ → List ℕ
+item_of n = digits 5 n

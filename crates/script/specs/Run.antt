@@ -1,0 +1,107 @@
+-- Runs of a script, computed: how a run ends, opcode by opcode. `Clean` says the same as a relation.
+use Rattle.std.specs.Prelude.{ℕ, zero, suc, ◌+◌, max, Bool, true, false, nat_lt, nat_le, if◌then◌else◌, List, [], ◌∷◌, length, reverse, Result, Ok, Err}
+use Rattle.std.specs.List.{list_any}
+use Rattle.script.specs.declared.opcode.Op.{Op}
+use Rattle.script.specs.declared.opcode.Op.TheVariants.{If, NotIf, Else, EndIf}
+use Rattle.script.specs.declared.spending.Spend.{Spend}
+use Rattle.script.specs.declared.stops.Cause.{Cause}
+use Rattle.script.specs.declared.stops.Cause.TheVariants.{OpenBranch, TooManyOps, StackTooTall, ItemTooLong, NotOneValue, FalseEnd}
+use Rattle.script.specs.Spelling.{code_of}
+use Rattle.script.specs.Step.{Entries, Move, Onward, PastElse, PastEnd, Effect, effect, truth, checked, ◌>>=◌}
+
+-- 1 for an opcode that counts: its byte is above 60
+abbrev pub weight : Op → ℕ
+weight op = if nat_lt 0x60 (code_of op) then 1 else 0
+
+-- the opcodes of a list that count
+abbrev pub counted_in : List Op → ℕ
+counted_in [] = 0
+counted_in (op ∷ ops) = weight op + counted_in ops
+
+-- how many of these opcodes come before what stands behind the branch's end, or where `stop` behind its ELSE, if that is first, where so
+-- many IFs were opened on the way; all of them where neither comes
+abbrev pub over : Bool → ℕ → List Op → ℕ
+over stop depth [] = 0
+over stop depth (If ∷ rest) = suc (over stop (suc depth) rest)
+over stop depth (NotIf ∷ rest) = suc (over stop (suc depth) rest)
+over stop zero (EndIf ∷ rest) = 1
+over stop (suc depth) (EndIf ∷ rest) = suc (over stop depth rest)
+over true zero (Else ∷ rest) = 1
+over true (suc depth) (Else ∷ rest) = suc (over true (suc depth) rest)
+over stop depth (op ∷ rest) = suc (over stop depth rest)
+
+-- how many opcodes a run jumps over, of those that follow
+abbrev pub jump_of : Move → List Op → ℕ
+jump_of Onward rest = 0
+jump_of PastElse rest = over true 0 rest
+jump_of PastEnd rest = over false 0 rest
+
+-- the IFs that stand open behind an opcode, the innermost first, each with whether its ELSE has come
+abbrev pub opens : Op → List Bool → Result (List Bool) Cause
+opens If ifs = Ok (false ∷ ifs)
+opens NotIf ifs = Ok (false ∷ ifs)
+opens Else (false ∷ ifs) = Ok (true ∷ ifs)
+opens Else ifs = Err OpenBranch
+opens EndIf (b ∷ ifs) = Ok ifs
+opens EndIf [] = Err OpenBranch
+opens op ifs = Ok ifs
+
+-- where a run stands as it comes to an opcode of the list
+pub record Place : Type 0 where
+  -- how many opcodes it jumps over from here on
+  pub ahead : ℕ
+  pub stack : Entries
+  -- the opcodes that count so far, with the keys of the CHECKMULTISIGs that were run
+  pub counted : ℕ
+  -- the IFs that stand open here: a fact of the list alone
+  pub open_ifs : List Bool
+  -- the greatest number of entries so far
+  pub height : ℕ
+
+-- behind an opcode that was run: the entries are few enough, and the greatest number is kept
+abbrev pub settled : List Op → ℕ → List Bool → ℕ → Effect → Result Place Cause
+settled rest counted ifs height e =
+    checked (nat_le (length e.stack) 1000) StackTooTall (Ok (record { ahead = jump_of e.move rest; stack = e.stack; counted = counted + e.keys; open_ifs = ifs; height = max height (length e.stack) }))
+
+-- an opcode is jumped over, or run
+abbrev pub jumped_or_run : Spend → Op → List Op → ℕ → Place → ℕ → List Bool → Result Place Cause
+jumped_or_run spend op rest (suc n) p counted ifs = Ok (record { ahead = n; stack = p.stack; counted = counted; open_ifs = ifs; height = p.height })
+jumped_or_run spend op rest zero p counted ifs = effect spend counted op p.stack >>= settled rest counted ifs p.height
+
+-- past one opcode, which these follow
+unfoldable pub past : Spend → Op → List Op → Place → Result Place Cause
+past spend op rest p =
+    checked (nat_le (p.counted + weight op) 201) TooManyOps (opens op p.open_ifs >>= jumped_or_run spend op rest p.ahead p (p.counted + weight op))
+
+-- how a run ends: clean, with the counted opcodes and the greatest number of entries, or stopped, with the position and the cause
+pub data Outcome : Type 0 where
+  Clean : (counted height : ℕ) → Outcome
+  Stopped : (at : ℕ) (cause : Cause) → Outcome
+
+-- the end of the list: no IF stands open, and there is one true entry
+abbrev pub at_end : ℕ → List Bool → Entries → ℕ → ℕ → Outcome
+at_end at (b ∷ ifs) stack counted height = Stopped at OpenBranch
+at_end at [] (x ∷ []) counted height = if truth x then Clean counted height else Stopped at FalseEnd
+at_end at [] stack counted height = Stopped at NotOneValue
+
+-- goes on from a place, or stops at this position
+abbrev pub onward : ℕ → Result Place Cause → (Place → Outcome) → Outcome
+onward at (Ok p) go = go p
+onward at (Err c) go = Stopped at c
+
+-- the outcome from a position on, where these opcodes are left
+abbrev pub outcome_from : Spend → ℕ → List Op → Place → Outcome
+outcome_from spend at [] p = at_end at p.open_ifs p.stack p.counted p.height
+outcome_from spend at (op ∷ rest) p = onward at (past spend op rest p) (outcome_from spend (at + 1) rest)
+
+-- where a run starts, on these entries
+abbrev pub start : Entries → Place
+start stack = record { ahead = 0; stack = stack; counted = 0; open_ifs = []; height = length stack }
+
+-- an item has more than 520 bytes
+abbrev pub is_long : List ℕ → Bool
+is_long item = nat_lt 520 (length item)
+
+-- how a script runs on the items of a witness, the last of which is the top
+abbrev pub outcome : Spend → List Op → List (List ℕ) → Outcome
+outcome spend ops witness = if list_any is_long witness then Stopped 0 ItemTooLong else outcome_from spend 0 ops (start (reverse witness))

@@ -1,0 +1,173 @@
+// Numbers as items: little-endian, with a sign bit in the last byte, in the shortest form.
+
+ghost use Rattle.std.specs.Prelude.{◌≡◌, ◌≤◌, ◌++◌, Some, false, IfOk, OnOk};
+ghost use Rattle.script.specs.Limits.{bytes_in};
+ghost use Rattle.script.specs.Number.{number_of, item_of, lowest};
+
+use crate::items::Item;
+use std::alloc::{AllocError, Global};
+
+/// A number with a sign: the magnitude, or its negative. Zero is not negative.
+#[derive(Clone, Copy, PartialEq, Eq, Debug)]
+pub struct Number {
+    pub negative: bool,
+    pub magnitude: u64,
+}
+
+/// What a number is for, which says how many bytes its item may have.
+#[derive(Clone, Copy, PartialEq, Eq, Debug)]
+pub enum Limit {
+    /// A count of keys or signatures, or a size: at most 4 bytes.
+    Count,
+    /// A lock (BIP 65, 112): at most 5 bytes.
+    Lock,
+}
+
+/// The number of an item; `None` where the item is longer than its limit or not the shortest item of its number.
+pub fn read(bytes: &[u8], limit: Limit) -> Option<Number>
+    ensures { result ≡ number_of (bytes_in limit) bytes.now }
+{
+    match limit {
+        Limit::Count => read_up_to(bytes, 4),
+        Limit::Lock => read_up_to(bytes, 5),
+    }
+}
+
+// The number of an item of at most `limit` bytes.
+fn read_up_to(bytes: &[u8], limit: usize) -> Option<Number>
+    requires { limit ≤ 5 }
+    ensures { result ≡ number_of limit bytes.now }
+{
+    if bytes.is_empty() {
+        return Some(Number {
+            negative: false,
+            magnitude: 0,
+        });
+    }
+    if bytes.len() > limit {
+        return None;
+    }
+    let mut value: u64 = 0;
+    let mut scale: u64 = 1;
+    for byte in bytes {
+        value += u64::from(*byte) * scale;
+        scale *= 256;
+    }
+    let half = scale / 2;
+    let negative = value >= half;
+    let magnitude = value % half;
+    if 2 * magnitude < scale / 256 {
+        return None;
+    }
+    Some(Number {
+        negative,
+        magnitude,
+    })
+}
+
+/// The shortest item of a number that is not negative. The only error is want of memory.
+pub fn write(alloc: Global, n: u32) -> Result<Item, AllocError>
+    ensures item { IfOk result (λ i. i ≡ item_of n) }
+
+    // It is read as the same number.
+    ensures read { IfOk result (λ i. number_of 5 i ≡ Some (record { negative = false; magnitude = n })) }
+{
+    let mut bytes = Vec::new(alloc);
+    let mut rest = n;
+    for _step in 0usize..5 {
+        if rest != 0 {
+            push_lowest(&mut bytes, rest)?;
+            rest /= 256;
+        }
+    }
+    Ok(Item::from_vec(bytes))
+}
+
+// Puts the lowest digit at the end, with a byte for the sign where it needs one.
+fn push_lowest(bytes: &mut Vec<u8>, n: u32) -> Result<(), AllocError>
+    ensures { OnOk result (bytes.new.items ≡ bytes.old.items ++ lowest n) }
+{
+    if 128 <= n && n < 256 {
+        bytes.push(n as u8)?;
+        bytes.push(0)?;
+        return Ok(());
+    }
+    bytes.push((n % 256) as u8)?;
+    Ok(())
+}
+
+#[cfg(test)]
+mod tests {
+    use super::*;
+    use std::test::Fail;
+
+    const fn positive(magnitude: u64) -> Option<Number> {
+        Some(Number {
+            negative: false,
+            magnitude,
+        })
+    }
+
+    #[test]
+    fn writes_the_shortest_item(rt: HostRuntime) -> Result<(), Fail> {
+        let alloc = rt.alloc();
+        assert_eq!(rt; write(alloc, 0)?.len(), 0);
+        assert_eq!(rt; write(alloc, 1)?.bytes(), [0x01].as_slice());
+        assert_eq!(rt; write(alloc, 16)?.bytes(), [0x10].as_slice());
+        assert_eq!(rt; write(alloc, 17)?.bytes(), [0x11].as_slice());
+        assert_eq!(rt; write(alloc, 127)?.bytes(), [0x7f].as_slice());
+        assert_eq!(rt; write(alloc, 128)?.bytes(), [0x80, 0x00].as_slice());
+        assert_eq!(rt; write(alloc, 255)?.bytes(), [0xff, 0x00].as_slice());
+        assert_eq!(rt; write(alloc, 256)?.bytes(), [0x00, 0x01].as_slice());
+        assert_eq!(rt;
+            write(alloc, 40_000)?.bytes(),
+            [0x40, 0x9c, 0x00].as_slice()
+        );
+        assert_eq!(rt;
+            write(alloc, u32::MAX)?.bytes(),
+            [0xff, 0xff, 0xff, 0xff, 0x00].as_slice()
+        );
+        Ok(())
+    }
+
+    #[test]
+    fn reads_an_item(rt: HostRuntime) {
+        assert_eq!(rt; read(&[], Limit::Count), positive(0));
+        assert_eq!(rt; read(&[0x01], Limit::Count), positive(1));
+        assert_eq!(rt; read(&[0x7f], Limit::Count), positive(127));
+        assert_eq!(rt; read(&[0x80, 0x00], Limit::Count), positive(128));
+        assert_eq!(rt; read(&[0x40, 0x9c, 0x00], Limit::Lock), positive(40_000));
+        assert_eq!(rt;
+            read(&[0x81], Limit::Count),
+            Some(Number {
+                negative: true,
+                magnitude: 1
+            })
+        );
+        assert_eq!(rt;
+            read(&[0x80, 0x80], Limit::Count),
+            Some(Number {
+                negative: true,
+                magnitude: 128
+            })
+        );
+        assert_eq!(rt;
+            read(&[0xff, 0xff, 0xff, 0xff, 0x00], Limit::Lock),
+            positive(0xffff_ffff)
+        );
+        assert_eq!(rt;
+            read(&[0xff, 0xff, 0xff, 0xff, 0x7f], Limit::Lock),
+            positive(0x7f_ffff_ffff)
+        );
+    }
+
+    #[test]
+    fn refuses_a_long_item(rt: HostRuntime) {
+        assert_eq!(rt; read(&[0xff, 0xff, 0xff, 0xff, 0x00], Limit::Count), None);
+        assert_eq!(rt; read(&[0, 0, 0, 0, 0, 1], Limit::Lock), None);
+        assert_eq!(rt; read(&[0x00], Limit::Count), None);
+        assert_eq!(rt; read(&[0x80], Limit::Count), None);
+        assert_eq!(rt; read(&[0x01, 0x00], Limit::Count), None);
+        assert_eq!(rt; read(&[0x01, 0x80], Limit::Count), None);
+    }
+}

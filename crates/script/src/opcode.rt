@@ -1,0 +1,137 @@
+// The opcodes.
+
+use crate::items::Item;
+use std::alloc::{AllocError, Global};
+
+/// One opcode of a version 0 witness script.
+#[derive(Debug, Drop)]
+pub enum Op {
+    /// Bytes 00 to 4b: pushes an item of at most 75 bytes.
+    Push(Item),
+    /// Bytes 51 to 60: pushes a number from 1 to 16.
+    Number(u8),
+    /// 63: runs what follows where the top is true.
+    If,
+    /// 64: runs what follows where the top is false.
+    NotIf,
+    /// 67
+    Else,
+    /// 68
+    EndIf,
+    /// 75: takes the top off.
+    Drop,
+    /// 76: pushes the top once more.
+    Dup,
+    /// 7c: exchanges the two topmost entries.
+    Swap,
+    /// 82: pushes the length of the top.
+    Size,
+    /// 87: whether the two topmost entries are equal.
+    Equal,
+    /// 88: the same, and fails where they differ.
+    EqualVerify,
+    /// a9: RIPEMD-160 of SHA-256 of the top.
+    Hash160,
+    /// ac
+    CheckSig,
+    /// ae
+    CheckMultiSig,
+    /// b1 (BIP 65)
+    CheckLockTimeVerify,
+    /// b2 (BIP 112)
+    CheckSequenceVerify,
+}
+
+impl Op {
+    ghost use Rattle.std.specs.Prelude.{◌≡◌, ◌≤◌, length, IfOk};
+    ghost use Rattle.script.specs.Spelling.{code_of, payload_of};
+    ghost use Rattle.script.specs.Run.{weight as weight_of};
+
+    /// The opcode's byte; that of a push is the length of its item.
+    pub fn code(&self) -> usize
+        ensures { result ≡ code_of self.now }
+    {
+        match self {
+            Op::Push(item) => item.len(),
+            Op::Number(n) => 0x50 + *n as usize,
+            Op::If => 0x63,
+            Op::NotIf => 0x64,
+            Op::Else => 0x67,
+            Op::EndIf => 0x68,
+            Op::Drop => 0x75,
+            Op::Dup => 0x76,
+            Op::Swap => 0x7c,
+            Op::Size => 0x82,
+            Op::Equal => 0x87,
+            Op::EqualVerify => 0x88,
+            Op::Hash160 => 0xa9,
+            Op::CheckSig => 0xac,
+            Op::CheckMultiSig => 0xae,
+            Op::CheckLockTimeVerify => 0xb1,
+            Op::CheckSequenceVerify => 0xb2,
+        }
+    }
+
+    /// How many bytes follow the opcode's own: the item of a push.
+    pub fn payload_len(&self) -> usize
+        ensures { result ≡ length (payload_of self.now) }
+    {
+        match self {
+            Op::Push(item) => item.len(),
+            _ => 0,
+        }
+    }
+
+    /// How much the opcode adds to the counted opcodes of a run: 1 where its byte is above 60 (in hexadecimal), else 0.
+    pub fn weight(&self) -> usize
+        ensures value { result ≡ weight_of self.now }
+        ensures bound { result ≤ 1 }
+    {
+        if self.code() > 0x60 { 1 } else { 0 }
+    }
+
+    /// The same opcode once more. The only error is want of memory.
+    pub fn copy(&self, alloc: Global) -> Result<Op, AllocError>
+        ensures { IfOk result (λ op. op ≡ self.now) }
+    {
+        Ok(match self {
+            Op::Push(item) => Op::Push(item.copy(alloc)?),
+            Op::Number(n) => Op::Number(*n),
+            Op::If => Op::If,
+            Op::NotIf => Op::NotIf,
+            Op::Else => Op::Else,
+            Op::EndIf => Op::EndIf,
+            Op::Drop => Op::Drop,
+            Op::Dup => Op::Dup,
+            Op::Swap => Op::Swap,
+            Op::Size => Op::Size,
+            Op::Equal => Op::Equal,
+            Op::EqualVerify => Op::EqualVerify,
+            Op::Hash160 => Op::Hash160,
+            Op::CheckSig => Op::CheckSig,
+            Op::CheckMultiSig => Op::CheckMultiSig,
+            Op::CheckLockTimeVerify => Op::CheckLockTimeVerify,
+            Op::CheckSequenceVerify => Op::CheckSequenceVerify,
+        })
+    }
+}
+
+#[cfg(test)]
+mod tests {
+    use super::*;
+    use std::test::Fail;
+
+    #[test]
+    fn copies_an_opcode(rt: HostRuntime) -> Result<(), Fail> {
+        let push = Op::Push(Item::from_slice(rt.alloc(), &[1, 2, 3])?).copy(rt.alloc())?;
+        assert_eq!(rt; push.code(), 3);
+        assert_eq!(rt; push.payload_len(), 3);
+        assert_eq!(rt; push.weight(), 0);
+        assert_eq!(rt; Op::Number(16).copy(rt.alloc())?.code(), 0x60);
+        assert_eq!(rt; Op::Number(16).weight(), 0);
+        assert_eq!(rt; Op::If.copy(rt.alloc())?.code(), 0x63);
+        assert_eq!(rt; Op::If.weight(), 1);
+        assert_eq!(rt; Op::CheckSequenceVerify.copy(rt.alloc())?.code(), 0xb2);
+        Ok(())
+    }
+}

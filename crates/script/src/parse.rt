@@ -1,0 +1,305 @@
+// From bytes to opcodes.
+
+ghost use Rattle.std.specs.Prelude.{◌≡◌, ◌⊎◌, ◌<◌, ◌≤◌, List, [], length, All, IfOk, IfErr, IfSome, IfNone, OnOk, MatchResult};
+ghost use Rattle.script.specs.Run.{counted_in};
+ghost use Rattle.script.specs.declared.opcode.Op.{Op as Opcode};
+ghost use Rattle.script.specs.Spelling.{Spells, IsFault, StartsNone, Begins, Refuses, IsOp, code_of, payload_of};
+ghost use Rattle.script.specs.declared.parse.ParseError.TheVariants.{NoMemory};
+
+use crate::items::Item;
+use crate::opcode::Op;
+use std::alloc::{AllocError, AllocFailed, Global};
+use std::marker::Model;
+use thiserror::Error;
+
+/// The greatest number of bytes of a script.
+pub const MAX_BYTES: usize = 10_000;
+
+/// Why bytes are no script. Positions count bytes from 0.
+#[derive(Debug, Drop, Error)]
+pub enum ParseError {
+    /// Memory ran out.
+    #[error("NoMemory")]
+    NoMemory,
+    /// No opcode has the byte at this position.
+    #[error("BadOpcode {0}")]
+    BadOpcode(usize),
+    /// The push whose opcode stands at this position has too few bytes behind it.
+    #[error("Truncated {0}")]
+    Truncated(usize),
+    /// There are more than 10,000 bytes.
+    #[error("TooLong")]
+    TooLong,
+}
+
+/// A script: a list of opcodes, with the bytes that spell it (BIP 141's witness script, at most 10,000 bytes). A contract sees it as the
+/// list of its opcodes.
+#[derive(Drop)]
+pub struct Script {
+    bytes: Vec<u8>,
+    ops: Vec<Op>,
+}
+
+impl Model for Script {
+    ghost use Rattle.std.specs.Prelude.{List, ◌≤◌, length};
+    ghost use Rattle.script.specs.declared.opcode.Op.{Op as Opcode};
+
+    ghost Value = { List Opcode };
+
+    ghost use Rattle.script.specs.Spelling.{Spells};
+
+    ghost view = { λ s. s.ops.items };
+
+    ghost invariant = { λ s. Spells s.ops.items s.bytes.items × (length s.bytes.items ≤ 10000) };
+}
+
+impl ParseError {
+    ghost use Rattle.std.specs.Prelude.{◌≡◌};
+    ghost use Rattle.script.specs.Spelling.{number_of_error};
+
+    /// The number of the refusal; 0 is want of memory.
+    pub fn number(&self) -> u8
+        ensures { result ≡ number_of_error self.now }
+    {
+        match self {
+            ParseError::NoMemory => 0,
+            ParseError::BadOpcode(_) => 1,
+            ParseError::Truncated(_) => 2,
+            ParseError::TooLong => 3,
+        }
+    }
+}
+
+impl Script {
+    /// Reads bytes as opcodes: `TooLong` where they are too many, else the first fault from the left.
+    pub fn parse(alloc: Global, bytes: &[u8]) -> Result<Self, ParseError>
+        ensures ok { IfOk result (λ s. Spells s bytes.now) }
+        ensures short { OnOk result (length bytes.now ≤ 10000) }
+        ensures fault { IfErr result (IsFault bytes.now) }
+
+        // Bytes that are not too many and split into opcodes are refused for want of memory alone, and split in one way.
+        ensures exact { (ops : List Opcode) → Spells ops bytes.now → length bytes.now ≤ 10000 → MatchResult result (λ s. s ≡ ops) (λ e. e ≡ ParseError.NoMemory) }
+    {
+        read(alloc, bytes)
+    }
+
+    /// The bytes that were parsed.
+    pub fn bytes(&self) -> &[u8]
+        ensures spelt { Spells self.now result.now }
+        ensures short { length result.now ≤ 10000 }
+    {
+        self.bytes.as_slice()
+    }
+
+    /// The opcodes.
+    pub fn ops(&self) -> &[Op]
+        ensures value { result.now ≡ self.now }
+        ensures valid { All IsOp result.now }
+    {
+        let _bytes = &self.bytes;
+        self.ops.as_slice()
+    }
+
+    /// How many opcodes of the whole script count towards the limit of 201: those with a byte above 60 (in hexadecimal).
+    pub fn counted(&self) -> usize
+        ensures { result ≡ counted_in self.now }
+    {
+        let mut counted = 0;
+        for op in &self.ops {
+            counted += op.weight();
+        }
+        counted
+    }
+
+    /// The same script once more. The only error is want of memory.
+    pub fn copy(&self, alloc: Global) -> Result<Self, AllocError>
+        ensures { IfOk result (λ s. s ≡ self.now) }
+    {
+        let mut ops = Vec::new(alloc);
+        for op in &self.ops {
+            ops.push(op.copy(alloc)?)?;
+        }
+        Ok(Script {
+            bytes: Vec::from_slice(alloc, self.bytes.as_slice())?,
+            ops,
+        })
+    }
+}
+
+// Reads bytes as opcodes.
+fn read(alloc: Global, bytes: &[u8]) -> Result<Script, ParseError>
+    ensures ok { IfOk result (λ s. Spells s bytes.now) }
+    ensures short { OnOk result (length bytes.now ≤ 10000) }
+    ensures fault { IfErr result (IsFault bytes.now) }
+{
+    if bytes.len() > MAX_BYTES {
+        return Err(ParseError::TooLong);
+    }
+    let mut ops = Vec::new(alloc);
+    let mut rest = bytes;
+    while let Some((first, after)) = rest.split_first() {
+        let at = bytes.len() - rest.len();
+        let op = read_op(alloc, *first, after, at)?;
+        rest = &after[op.payload_len()..];
+        ops.push(op)?;
+    }
+    Ok(Script {
+        bytes: Vec::from_slice(alloc, bytes)?,
+        ops,
+    })
+}
+
+// The opcode that begins with `first`, which stands at `at`, and goes on in `after`.
+fn read_op(alloc: Global, first: u8, after: &[u8], at: usize) -> Result<Op, ParseError>
+    ensures ok { IfOk result (Begins first after.now) }
+    ensures err { IfErr result (Refuses first after.now at) }
+{
+    match first {
+        0..=75 => {
+            let len = first as usize;
+            if after.len() < len {
+                return Err(ParseError::Truncated(at));
+            }
+            Ok(Op::Push(Item::from_slice(alloc, &after[..len])?))
+        }
+        81..=96 => Ok(Op::Number(first - 80)),
+        _ => plain(first).ok_or(ParseError::BadOpcode(at)),
+    }
+}
+
+// The opcode of one byte.
+fn plain(byte: u8) -> Option<Op>
+    requires low { 75 < byte }
+    requires high { byte < 81 ⊎ 96 < byte }
+    ensures some { IfSome result (λ op. IsOp op × (code_of op ≡ byte) × (payload_of op ≡ [])) }
+    ensures none { IfNone result (StartsNone byte) }
+{
+    match byte {
+        0x63 => Some(Op::If),
+        0x64 => Some(Op::NotIf),
+        0x67 => Some(Op::Else),
+        0x68 => Some(Op::EndIf),
+        0x75 => Some(Op::Drop),
+        0x76 => Some(Op::Dup),
+        0x7c => Some(Op::Swap),
+        0x82 => Some(Op::Size),
+        0x87 => Some(Op::Equal),
+        0x88 => Some(Op::EqualVerify),
+        0xa9 => Some(Op::Hash160),
+        0xac => Some(Op::CheckSig),
+        0xae => Some(Op::CheckMultiSig),
+        0xb1 => Some(Op::CheckLockTimeVerify),
+        0xb2 => Some(Op::CheckSequenceVerify),
+        _ => None,
+    }
+}
+
+impl From<AllocError> for ParseError {
+    ghost from_gives = { λ _ e. e ≡ NoMemory };
+
+    fn from(_error: AllocError) -> ParseError {
+        ParseError::NoMemory
+    }
+}
+
+impl<T: Drop> From<AllocFailed<T>> for ParseError {
+    ghost from_gives = { λ _ e. e ≡ NoMemory };
+
+    fn from(_error: AllocFailed<T>) -> ParseError {
+        ParseError::NoMemory
+    }
+}
+
+#[cfg(test)]
+mod tests {
+    use super::*;
+    use std::test::Fail;
+
+    // The to_local output of BOLT 3 with a delay of 40,000 blocks, with keys of one byte.
+    const TO_LOCAL: [u8; 14] = [
+        0x63, 0x01, 0x11, 0x67, 0x03, 0x40, 0x9c, 0x00, 0xb2, 0x75, 0x01, 0x22, 0x68, 0xac,
+    ];
+
+    #[test]
+    fn names_the_first_fault(rt: HostRuntime) -> Result<(), Fail> {
+        let alloc = rt.alloc();
+        assert!(rt; matches!(Script::parse(alloc, &[0x50]), Err(ParseError::BadOpcode(0))));
+        assert!(rt;
+            matches!(
+                Script::parse(alloc, &[0x51, 0xb3]),
+                Err(ParseError::BadOpcode(1))
+            )
+        );
+        assert!(rt;
+            matches!(
+                Script::parse(alloc, &[0x02, 0xff]),
+                Err(ParseError::Truncated(0))
+            )
+        );
+        assert!(rt;
+            matches!(
+                Script::parse(alloc, &[0x51, 0x4b]),
+                Err(ParseError::Truncated(1))
+            )
+        );
+        assert!(rt;
+            matches!(
+                Script::parse(alloc, &[0x4c, 0x01, 0xff]),
+                Err(ParseError::BadOpcode(0))
+            )
+        );
+        Ok(())
+    }
+
+    #[test]
+    fn refuses_what_is_too_long(rt: HostRuntime) -> Result<(), Fail> {
+        let mut bytes = Vec::new(rt.alloc());
+        for _ in 0..10_000 {
+            bytes.push(0x51)?;
+        }
+        assert_eq!(rt; Script::parse(rt.alloc(), &bytes)?.ops().len(), 10_000);
+        bytes.push(0x50)?;
+        assert!(rt; matches!(Script::parse(rt.alloc(), &bytes), Err(ParseError::TooLong)));
+        Ok(())
+    }
+
+    #[test]
+    fn reads_a_script(rt: HostRuntime) -> Result<(), Fail> {
+        let script = Script::parse(rt.alloc(), &TO_LOCAL)?;
+        assert_eq!(rt; script.bytes(), TO_LOCAL.as_slice());
+        assert_eq!(rt; script.counted(), 6);
+        let ops = script.ops();
+        assert_eq!(rt; ops.len(), 9);
+        assert!(rt; matches!(&ops[0], Op::If));
+        assert!(rt; matches!(&ops[3], Op::Push(delay) if delay.len() == 3));
+        assert!(rt; matches!(&ops[4], Op::CheckSequenceVerify));
+        assert!(rt; matches!(&ops[8], Op::CheckSig));
+        assert_eq!(rt; Script::parse(rt.alloc(), &[])?.ops().len(), 0);
+        Ok(())
+    }
+
+    #[test]
+    fn copies_a_script(rt: HostRuntime) -> Result<(), Fail> {
+        let script = Script::parse(rt.alloc(), &TO_LOCAL)?.copy(rt.alloc())?;
+        assert_eq!(rt; script.bytes(), TO_LOCAL.as_slice());
+        assert_eq!(rt; script.ops().len(), 9);
+        Ok(())
+    }
+
+    #[test]
+    fn prints_its_refusals(rt: HostRuntime) -> Result<(), Fail> {
+        let printed = format!(in rt.alloc();
+            "{} {} {} {}",
+            ParseError::NoMemory,
+            ParseError::BadOpcode(7),
+            ParseError::Truncated(8),
+            ParseError::TooLong
+        )?;
+        assert_eq!(rt;
+            printed.as_str(),
+            "NoMemory BadOpcode 7 Truncated 8 TooLong"
+        );
+        assert_eq!(rt; ParseError::Truncated(8).number(), 2);
+        Ok(())
+    }
+}

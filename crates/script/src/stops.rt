@@ -1,0 +1,104 @@
+// Why a run of a script stops before a clean end.
+
+ghost use Rattle.std.specs.Prelude.{◌≡◌};
+ghost use Rattle.script.specs.Stops.{number_of_cause};
+
+use thiserror::Error;
+
+/// The check of an opcode that failed.
+#[derive(Clone, Copy, PartialEq, Eq, Debug, Error)]
+pub enum Kind {
+    /// EQUALVERIFY of two items that differ.
+    #[error("Verify")]
+    Verify,
+    /// An item that is no number: too long, or not in its shortest form.
+    #[error("Number")]
+    Number,
+    /// A number of keys that is negative or above 20.
+    #[error("KeyCount")]
+    KeyCount,
+    /// A number of signatures that is negative or above that of the keys.
+    #[error("SigCount")]
+    SigCount,
+    /// A signature that is neither empty nor a token.
+    #[error("TokenForm")]
+    TokenForm,
+    /// A key of bad form.
+    #[error("KeyForm")]
+    KeyForm,
+    /// An extra item of CHECKMULTISIG that is not empty (BIP 147).
+    #[error("Extra")]
+    Extra,
+    /// CHECKLOCKTIMEVERIFY (BIP 65).
+    #[error("LockTime")]
+    LockTime,
+    /// CHECKSEQUENCEVERIFY (BIP 112).
+    #[error("Sequence")]
+    Sequence,
+}
+
+/// Why a run stops before a clean end.
+#[derive(Clone, Copy, PartialEq, Eq, Debug, Error)]
+pub enum Cause {
+    /// The stack has too few entries for the opcode.
+    #[error("MissingOperand")]
+    MissingOperand,
+    /// A check of the opcode fails.
+    #[error("FailedCheck {0}")]
+    FailedCheck(Kind),
+    /// An ELSE or ENDIF without its IF, a second ELSE of one IF, or an IF that is still open at the end.
+    #[error("OpenBranch")]
+    OpenBranch,
+    /// More than 201 opcodes are counted.
+    #[error("TooManyOps")]
+    TooManyOps,
+    /// More than 1,000 entries stand on the stack after an opcode.
+    #[error("StackTooTall")]
+    StackTooTall,
+    /// An item of the witness has more than 520 bytes.
+    #[error("ItemTooLong")]
+    ItemTooLong,
+    /// The run ends with another number of entries than one.
+    #[error("NotOneValue")]
+    NotOneValue,
+    /// The run ends with one entry, which is false.
+    #[error("FalseEnd")]
+    FalseEnd,
+}
+
+impl Cause {
+    /// The number of the refusal, from 1.
+    pub fn number(&self) -> u8
+        ensures { result ≡ number_of_cause self.now }
+    {
+        match self {
+            Cause::MissingOperand => 1,
+            Cause::FailedCheck(_) => 2,
+            Cause::OpenBranch => 3,
+            Cause::TooManyOps => 4,
+            Cause::StackTooTall => 5,
+            Cause::ItemTooLong => 6,
+            Cause::NotOneValue => 7,
+            Cause::FalseEnd => 8,
+        }
+    }
+}
+
+#[cfg(test)]
+mod tests {
+    use super::*;
+    use std::test::Fail;
+
+    #[test]
+    fn prints_its_name(rt: HostRuntime) -> Result<(), Fail> {
+        let printed = format!(in rt.alloc();
+            "{}, {}",
+            Cause::FailedCheck(Kind::Extra),
+            Cause::OpenBranch
+        )?;
+        assert_eq!(rt; printed.as_str(), "FailedCheck Extra, OpenBranch");
+        assert_eq!(rt; Cause::FailedCheck(Kind::Extra).number(), 2);
+        assert_eq!(rt; Cause::FalseEnd.number(), 8);
+        Ok(())
+    }
+}

@@ -1,0 +1,154 @@
+// The compact store of per-commitment secrets (BOLT 3, "Efficient Per-commitment Secret Storage").
+
+ghost use Rattle.std.specs.Prelude.{◌≡◌, ℕ, ◌+◌, ◌≤◌, ◌<◌, ◌^◌, ◌↔◌, List, [], ◌∷◌, ◌++◌, IsTrue, IsOk, IsErrOf, OnOk, OnErr, length, slice_get};
+ghost use Rattle.std.specs.Int.Count.{count_trailing_zeros};
+ghost use Rattle.sha2.specs.Sha256.{sha256 as sha256_of};
+ghost use Rattle.secrets.specs.Derivation.{flipped, commitment_secret};
+ghost use Rattle.secrets.specs.Inserted.{inserted_at, IsNext, LeadsTo, AreOfSeed};
+
+use crate::derivation::{INDEX_BITS, derive, hash_flipped};
+use std::marker::Model;
+use thiserror::Error;
+
+/// How many secrets a store keeps: one for each count of trailing zeros that an index can have.
+const PLACES: usize = INDEX_BITS + 1;
+
+/// One more than the greatest index.
+const INDEX_END: u64 = 1 << INDEX_BITS;
+
+/// Why a store refuses a secret. Each is numbered as `number` says.
+#[derive(Clone, Copy, Debug, Drop, Error, PartialEq, Eq)]
+pub enum StoreError {
+    /// 1: the index is not the next one.
+    #[error("OutOfTurn")]
+    OutOfTurn,
+    /// 2: a stored secret is not derived from this one.
+    #[error("NotOfThisSeed")]
+    NotOfThisSeed,
+}
+
+impl StoreError {
+    /// The number of the refusal. No refusal is for want of memory, which would be 0.
+    pub fn number(&self) -> u8
+        ensures out_of_turn { self.now ≡ StoreError.OutOfTurn → result ≡ 1 }
+        ensures not_of_this_seed { self.now ≡ StoreError.NotOfThisSeed → result ≡ 2 }
+    {
+        match self {
+            StoreError::OutOfTurn => 1,
+            StoreError::NotOfThisSeed => 2,
+        }
+    }
+}
+
+/// The secrets of one seed, inserted by falling index from 2^48 - 1, in 49 places of 32 bytes.
+///
+/// In clauses it is the list of all secrets inserted, the secret of index 2^48 - 1 first.
+#[derive(Drop)]
+pub struct Store {
+    // the lowest index inserted, or 2^48
+    lowest: u64,
+    // at place b, the last secret inserted whose index has b trailing zeros
+    entries: [[u8; 32]; PLACES],
+}
+
+impl Model for Store {
+    ghost use Rattle.std.specs.Prelude.{ℕ, ◌≤◌, ◌^◌, List};
+    ghost use Rattle.secrets.specs.Places.{secrets_of};
+
+    ghost Value = { List (List ℕ) };
+
+    ghost view = { λ s. secrets_of s.entries s.lowest };
+
+    ghost invariant = { λ s. s.lowest ≤ 2 ^ 48 };
+}
+
+impl Store {
+    /// A store without secrets, whose next index is 2^48 - 1.
+    pub fn new() -> Store
+        ensures empty { result ≡ [] }
+        ensures of_any_seed { (seed : List ℕ) → AreOfSeed seed result }
+    {
+        Store {
+            lowest: INDEX_END,
+            entries: [[0; 32]; PLACES],
+        }
+    }
+
+    /// Inserts the secret of index `i`.
+    ///
+    /// It is refused, and the store stays as it was: `OutOfTurn` where `i` is not the next index (they are counted
+    /// down from 2^48 - 1, and 0 is the last one), else `NotOfThisSeed` where a stored secret whose index begins with
+    /// the bits of `i` above its trailing zeros is not derived from this one.
+    pub fn insert(&mut self, i: u64, secret: &[u8; 32]) -> Result<(), StoreError>
+        ensures ok { IsOk result ↔ (IsNext self.old i × LeadsTo secret.now i self.old) }
+        ensures out_of_turn { IsErrOf result StoreError.OutOfTurn ↔ (¬ IsNext self.old i) }
+        ensures not_of_this_seed { IsErrOf result StoreError.NotOfThisSeed
+            ↔ (IsNext self.old i × (¬ LeadsTo secret.now i self.old)) }
+        ensures added { OnOk result (self.new ≡ self.old ++ secret.now ∷ []) }
+        ensures unchanged { OnErr result (self.new ≡ self.old) }
+        ensures of_one_seed { (seed : List ℕ) → AreOfSeed seed self.old → IsNext self.old i →
+            secret.now ≡ commitment_secret seed i → IsOk result × AreOfSeed seed self.new }
+    {
+        if !self.is_next(i) {
+            return Err(StoreError::OutOfTurn);
+        }
+        if !self.is_led_to(secret, i) {
+            return Err(StoreError::NotOfThisSeed);
+        }
+        self.entries[place_of(i)] = *secret;
+        self.lowest = i;
+        Ok(())
+    }
+
+    // whether `i` is the next index
+    fn is_next(&self, i: u64) -> bool
+        ensures { IsTrue result ↔ IsNext self.now i }
+    {
+        i < self.lowest && self.lowest - i == 1
+    }
+
+    // whether the stored secrets whose indices begin with the leading bits of `i` are derived from this one
+    fn is_led_to(&self, secret: &[u8; 32], i: u64) -> bool
+        requires { IsNext self.now i }
+        ensures { IsTrue result ↔ LeadsTo secret.now i self.now }
+    {
+        leads_to(secret, &self.entries[..place_of(i)])
+    }
+
+    /// The secret that was inserted at index `i`, if one was.
+    pub fn get(&self, i: u64) -> Option<[u8; 32]>
+        ensures { result ≡ inserted_at self.now i }
+    {
+        if i < self.lowest || i >= INDEX_END {
+            return None;
+        }
+        for place in (1..PLACES).rev() {
+            if i >> place << place >= self.lowest {
+                return Some(derive(&self.entries[place], place, i));
+            }
+        }
+        Some(self.entries[0])
+    }
+}
+
+/// The place of the secret of index `i`: its count of trailing zeros, of its 48 bits.
+fn place_of(i: u64) -> usize
+    ensures { result ≡ count_trailing_zeros 48 i }
+{
+    (i.trailing_zeros() as usize).min(INDEX_BITS)
+}
+
+/// Whether each of the lowest places holds what the secret leads to: its hash with the bit of the place flipped.
+fn leads_to(secret: &[u8; 32], lowest_entries: &[[u8; 32]]) -> bool
+    requires { length lowest_entries.now ≤ 48 }
+    ensures { IsTrue result
+        ↔ ((b : ℕ) → b < length lowest_entries.now →
+        slice_get lowest_entries.now b ≡ Some (sha256_of (flipped b secret.now))) }
+{
+    for (b, entry) in lowest_entries.iter().enumerate() {
+        if *entry != hash_flipped(secret, b) {
+            return false;
+        }
+    }
+    true
+}

@@ -1,0 +1,162 @@
+// The generation and storage tests of BOLT 3's appendix D, and what the store says of small cases.
+use crate::{Store, StoreError, from_seed};
+use hex::FromHex;
+use std::process::Abort;
+
+/// The greatest index, that of the first commitment.
+const FIRST: u64 = 281474976710655;
+
+/// The secrets of the all-ones seed, from the first index down.
+const RIGHT: [&str; 8] = [
+    "7cc854b54e3e0dcdb010d7a3fee464a9687be6e8db3be6854c475621e007a5dc",
+    "c7518c8ae4660ed02894df8976fa1a3659c1a8b4b5bec0c4b872abeba4cb8964",
+    "2273e227a5b7449b6e70f1fb4652864038b1cbf9cd7c043a7d6456b7fc275ad8",
+    "27cddaa5624534cb6cb9d7da077cf2b22ab21e9b506fd4998a51d54502e99116",
+    "c65716add7aa98ba7acb236352d665cab17345fe45b55fb879ff80e6bd0c41dd",
+    "969660042a28f32d9be17344e09374b379962d03db1574df5a8a5a47e19ce3f2",
+    "a5a64476122ca0925fb344bdc1854c1c0a59fc614298e50a33e331980a220f32",
+    "05cde6323d949933f7f7b78776bcc1ea6d9b31447732e3802e1f7ac44b650e17",
+];
+
+/// The secrets of the all-zeros seed, from the first index down.
+const WRONG: [&str; 8] = [
+    "02a40c85b6f28da08dfdbe0926c53fab2de6d28c10301f8f7c4073d5e42e3148",
+    "dddc3a8d14fddf2b68fa8c7fbad2748274937479dd0f8930d5ebb4ab6bd866a3",
+    "c51a18b13e8527e579ec56365482c62f180b7d5760b46e9477dae59e87ed423a",
+    "ba65d7b0ef55a3ba300d4e87af29868f394f8f138d78a7011669c79b37b936f4",
+    "631373ad5f9ef654bb3dade742d09504c567edd24320d2fcd68e3cc47e2ff6a6",
+    "b7e76a83668bde38b373970155c868a653304308f9896692f904a23731224bb1",
+    "e7971de736e01da8ed58b94c2fc216cb1dca9e326f3a96e7194fe8ea8af6c0a3",
+    "a7efbc61aac46d34f77778bac22c8a20c6a46ca460addc49009bda875ec88fa4",
+];
+
+fn bytes(rt: &impl Abort, text: &str) -> [u8; 32] {
+    <[u8; 32] as FromHex>::from_hex(text).expect(rt, "64 hex digits")
+}
+
+/// The number of the refusal, or 0.
+fn refusal(outcome: Result<(), StoreError>) -> u8 {
+    match outcome {
+        Ok(()) => 0,
+        Err(e) => e.number(),
+    }
+}
+
+#[test]
+fn generates_the_secrets_of_a_seed(rt: HostRuntime) {
+    let rows = [
+        (0x00, FIRST, WRONG[0]),
+        (0xff, FIRST, RIGHT[0]),
+        (
+            0xff,
+            0xaaaaaaaaaaa,
+            "56f4008fb007ca9acf0e15b054d5c9fd12ee06cea347914ddbaed70d1c13a528",
+        ),
+        (
+            0xff,
+            0x555555555555,
+            "9015daaeb06dba4ccc05b91b2f73bd54405f2be9f217fbacd3c5ac2e62327d31",
+        ),
+        (
+            0x01,
+            1,
+            "915c75942a26bb3a433a8ce2cb0427c29ec6c1775cfc78328b57f6ba7bfeaa9c",
+        ),
+        (
+            0x01,
+            0,
+            "0101010101010101010101010101010101010101010101010101010101010101",
+        ),
+    ];
+    for (byte, i, want) in rows {
+        assert_eq!(rt; from_seed(&[byte; 32], i), bytes(&rt, want), "at {i}");
+    }
+}
+
+#[test]
+fn stores_the_secrets_of_one_seed_alone(rt: HostRuntime) {
+    // which seed's secrets are inserted, true for the wrong one's, and which insertion is refused
+    let rows = [
+        ([false, false, false, false, false, false, false, false], 8),
+        ([true, false, false, false, false, false, false, false], 1),
+        ([true, true, false, false, false, false, false, false], 3),
+        ([false, false, true, false, false, false, false, false], 3),
+        ([true, true, true, true, false, false, false, false], 7),
+        ([false, false, false, false, true, false, false, false], 5),
+        ([false, false, false, false, true, true, false, false], 7),
+        ([false, false, false, false, false, false, true, false], 7),
+        ([false, false, false, false, false, false, false, true], 7),
+    ];
+    for (wrong, refused) in rows {
+        let mut store = Store::new();
+        for (n, is_wrong) in wrong.iter().enumerate() {
+            let text = if *is_wrong { WRONG[n] } else { RIGHT[n] };
+            let i = FIRST - n as u64;
+            let want = if n == refused { 2 } else { 0 };
+            assert_eq!(rt; refusal(store.insert(i, &bytes(&rt, text))), want, "at {i}");
+            if n == refused {
+                assert!(rt; store.get(i).is_none());
+                break;
+            }
+            assert_eq!(rt;
+                store.get(FIRST),
+                Some(bytes(&rt, if wrong[0] { WRONG[0] } else { RIGHT[0] }))
+            );
+            assert_eq!(rt; store.get(i), Some(bytes(&rt, text)));
+        }
+    }
+}
+
+#[test]
+fn counts_down_from_the_greatest_index(rt: HostRuntime) {
+    let mut store = Store::new();
+    let secret = bytes(&rt, RIGHT[1]);
+    for i in [0, FIRST - 1, FIRST + 1, u64::MAX] {
+        assert_eq!(rt;
+            store.insert(i, &secret),
+            Err(StoreError::OutOfTurn),
+            "at {i}"
+        );
+    }
+    assert_eq!(rt; refusal(store.insert(FIRST, &[7; 32])), 0);
+    assert_eq!(rt; store.insert(FIRST, &[7; 32]), Err(StoreError::OutOfTurn));
+    assert_eq!(rt;
+        store.insert(FIRST - 2, &secret),
+        Err(StoreError::OutOfTurn)
+    );
+    assert_eq!(rt;
+        store.insert(FIRST - 1, &secret),
+        Err(StoreError::NotOfThisSeed)
+    );
+    assert_eq!(rt; store.get(FIRST), Some([7; 32]));
+    for i in [0, FIRST - 1, FIRST + 1, u64::MAX] {
+        assert!(rt; store.get(i).is_none(), "at {i}");
+    }
+}
+
+#[test]
+fn gives_back_a_thousand_secrets(rt: HostRuntime) {
+    let mut store = Store::new();
+    let seed = [0x5a; 32];
+    for n in 0..1000 {
+        let i = FIRST - n;
+        assert_eq!(rt; store.insert(i, &from_seed(&seed, i)), Ok(()), "at {i}");
+    }
+    for n in 0..1000 {
+        let i = FIRST - n;
+        assert_eq!(rt; store.get(i), Some(from_seed(&seed, i)), "at {i}");
+    }
+    assert!(rt; store.get(FIRST - 1000).is_none());
+}
+
+#[test]
+fn prints_the_refusals(rt: HostRuntime) {
+    let text = format!(in rt.alloc();
+        "{} {}",
+        StoreError::OutOfTurn,
+        StoreError::NotOfThisSeed
+    ).expect(&rt, "memory");
+    assert_eq!(rt; text.as_str(), "OutOfTurn NotOfThisSeed");
+    assert_eq!(rt; StoreError::OutOfTurn.number(), 1);
+    assert_eq!(rt; StoreError::NotOfThisSeed.number(), 2);
+}

@@ -1,0 +1,31 @@
+//! What a signature signs (BIP 143), and the tokens that stand for signatures.
+//!
+//! ```rust
+//! /// A token for each input of a transaction, which spend outputs of one value to one script.
+//! fn sign_all(
+//!     alloc: Global,
+//!     tx: &Tx,
+//!     key: &[u8; 33],
+//!     code: &[u8],
+//!     value: u64,
+//! ) -> Result<Vec<Token>, AllocError> {
+//!     let cache = SighashCache::new(tx);
+//!     let mut tokens = Vec::new(alloc);
+//!     for index in 0..tx.inputs().len() {
+//!         if let Ok(digest) = cache.digest_of(index, code, value) {
+//!             tokens.push(Token::new(key, &digest))?;
+//!         }
+//!     }
+//!     Ok(tokens)
+//! }
+//! ```
+#![tactic(auto)]
+
+mod signing;
+mod token;
+
+pub use signing::{DigestError, SighashCache, digest_of};
+pub use token::{Token, one_key_and_digest};
+
+#[cfg(test)]
+mod tests;

@@ -1,0 +1,224 @@
+//! From bytes to transactions.
+
+ghost use Rattle.std.specs.Prelude.{◌≡◌, ◌≤◌, ◌<◌, ℕ, List, length, IfOk, Ok};
+ghost use Rattle.tx.specs.Fields.{Transaction};
+ghost use Rattle.tx.specs.Spelling.{IsTransaction};
+ghost use Rattle.tx.specs.Reading.{Gives, many, text_at, input_at, output_at, inputs_at, outputs_at, witness_at, signed_at, each_signed, witnesses_at, version_at, reading};
+
+use crate::fields::{count_up_to, marker_at, split, text_at, u32_at, u64_at};
+use crate::input::{Inputs, MAX_INPUTS, OutPoint, TxIn};
+use crate::output::{MAX_OUTPUTS, MAX_VALUE, Outputs, TxOut};
+use crate::refusal::DecodeError;
+use crate::transaction::{Tx, has_witness};
+use crate::witness::{MAX_ITEMS, Witness};
+use std::alloc::Global;
+
+// An input, as yet with no witness.
+#[tactic(auto, unfolding(crate::specs::Reading::input_at))]
+fn input_at(alloc: Global, bytes: &[u8]) -> Result<(TxIn, &[u8]), DecodeError>
+    ensures { Gives (λ x. (x.0, x.1.now)) result (input_at bytes.now) }
+{
+    let (hash, rest) = split(bytes, 32)?;
+    let mut txid = [0; 32];
+    txid.copy_from_slice(hash);
+    let (index, rest) = u32_at(rest)?;
+    let (_, rest) = count_up_to(0, rest)?;
+    let (sequence, rest) = u32_at(rest)?;
+    let input = TxIn {
+        outpoint: OutPoint { txid, index },
+        sequence,
+        witness: Witness::new(alloc),
+    };
+    Ok((input, rest))
+}
+
+#[tactic(auto, unfolding(crate::specs::Reading::output_at))]
+fn output_at(alloc: Global, bytes: &[u8]) -> Result<(TxOut, &[u8]), DecodeError>
+    ensures { Gives (λ x. (x.0, x.1.now)) result (output_at bytes.now) }
+{
+    let (value, rest) = u64_at(bytes)?;
+    if value > MAX_VALUE {
+        return Err(DecodeError::ValueTooLarge);
+    }
+    let (script, rest) = text_at(alloc, rest)?;
+    Ok((TxOut::new(value, script).unwrap(), rest))
+}
+
+// `count` inputs, as yet with no witnesses.
+fn some_inputs_at(
+    alloc: Global,
+    count: usize,
+    bytes: &[u8],
+) -> Result<(Vec<TxIn>, &[u8]), DecodeError>
+    ensures length { IfOk result (λ x. length x.0.items ≡ count) }
+    ensures value { Gives (λ x. (x.0.items, x.1.now)) result (many input_at count bytes.now) }
+{
+    let mut inputs = Vec::new(alloc);
+    let mut rest = bytes;
+    for _ in 0..count {
+        let (input, after) = input_at(alloc, rest)?;
+        inputs.push(input)?;
+        rest = after;
+    }
+    Ok((inputs, rest))
+}
+
+fn some_outputs_at(
+    alloc: Global,
+    count: usize,
+    bytes: &[u8],
+) -> Result<(Outputs, &[u8]), DecodeError>
+    requires { count ≤ 4000 }
+    ensures { Gives (λ x. (x.0, x.1.now)) result (many output_at count bytes.now) }
+{
+    let mut outputs = Outputs::new(alloc);
+    let mut rest = bytes;
+    for _ in 0..count {
+        let (output, after) = output_at(alloc, rest)?;
+        outputs.push(output)?;
+        rest = after;
+    }
+    Ok((outputs, rest))
+}
+
+fn some_items_at(alloc: Global, count: usize, bytes: &[u8]) -> Result<(Witness, &[u8]), DecodeError>
+    requires { count ≤ 1001 }
+    ensures { Gives (λ x. (x.0, x.1.now)) result (many text_at count bytes.now) }
+{
+    let mut items = Witness::new(alloc);
+    let mut rest = bytes;
+    for _ in 0..count {
+        let (item, after) = text_at(alloc, rest)?;
+        items.push(item)?;
+        rest = after;
+    }
+    Ok((items, rest))
+}
+
+#[tactic(auto, unfolding(crate::specs::Reading::inputs_at, crate::specs::Reading::counted, crate::specs::Reading::input_count_at))]
+fn inputs_at(alloc: Global, bytes: &[u8]) -> Result<(Vec<TxIn>, &[u8]), DecodeError>
+    ensures length { IfOk result (λ x. length x.0.items ≤ 4000) }
+    ensures value { Gives (λ x. (x.0.items, x.1.now)) result (inputs_at bytes.now) }
+{
+    let (count, rest) = count_up_to(MAX_INPUTS, bytes)?;
+    if count == 0 {
+        return Err(DecodeError::NoInputs);
+    }
+    some_inputs_at(alloc, count, rest)
+}
+
+#[tactic(auto, unfolding(crate::specs::Reading::outputs_at, crate::specs::Reading::counted))]
+fn outputs_at(alloc: Global, bytes: &[u8]) -> Result<(Outputs, &[u8]), DecodeError>
+    ensures { Gives (λ x. (x.0, x.1.now)) result (outputs_at bytes.now) }
+{
+    let (count, rest) = count_up_to(MAX_OUTPUTS, bytes)?;
+    some_outputs_at(alloc, count, rest)
+}
+
+#[tactic(auto, unfolding(crate::specs::Reading::witness_at, crate::specs::Reading::counted))]
+fn witness_at(alloc: Global, bytes: &[u8]) -> Result<(Witness, &[u8]), DecodeError>
+    ensures { Gives (λ x. (x.0, x.1.now)) result (witness_at bytes.now) }
+{
+    let (count, rest) = count_up_to(MAX_ITEMS, bytes)?;
+    some_items_at(alloc, count, rest)
+}
+
+// An input with its witness.
+#[tactic(auto, unfolding(crate::specs::Reading::signed_at))]
+fn signed_at<'a>(
+    alloc: Global,
+    input: &TxIn,
+    bytes: &'a [u8],
+) -> Result<(TxIn, &'a [u8]), DecodeError>
+    ensures { Gives (λ x. (x.0, x.1.now)) result (signed_at input.now bytes.now) }
+{
+    let (witness, rest) = witness_at(alloc, bytes)?;
+    let signed = TxIn {
+        outpoint: input.outpoint,
+        sequence: input.sequence,
+        witness,
+    };
+    Ok((signed, rest))
+}
+
+// The inputs with their witnesses.
+fn each_signed<'a>(
+    alloc: Global,
+    unsigned: &[TxIn],
+    bytes: &'a [u8],
+) -> Result<(Inputs, &'a [u8]), DecodeError>
+    requires { length unsigned.now ≤ 4000 }
+    ensures { Gives (λ x. (x.0, x.1.now)) result (each_signed unsigned.now bytes.now) }
+{
+    let mut inputs = Inputs::new(alloc);
+    let mut rest = bytes;
+    for input in unsigned {
+        let (signed, after) = signed_at(alloc, input, rest)?;
+        inputs.push(signed)?;
+        rest = after;
+    }
+    Ok((inputs, rest))
+}
+
+// The inputs with their witnesses, of which one has an item.
+#[tactic(auto, unfolding(crate::specs::Reading::witnesses_at))]
+fn witnesses_at<'a>(
+    alloc: Global,
+    unsigned: &[TxIn],
+    bytes: &'a [u8],
+) -> Result<(Inputs, &'a [u8]), DecodeError>
+    requires { length unsigned.now ≤ 4000 }
+    ensures some { IfOk result (λ x. 0 < length x.0) }
+    ensures value { Gives (λ x. (x.0, x.1.now)) result (witnesses_at unsigned.now bytes.now) }
+{
+    let (inputs, rest) = each_signed(alloc, unsigned, bytes)?;
+    if !has_witness(inputs.as_slice()) {
+        return Err(DecodeError::NoWitness);
+    }
+    Ok((inputs, rest))
+}
+
+// The version, with marker and flag behind it.
+#[tactic(auto, unfolding(crate::specs::Reading::version_at))]
+fn version_at(bytes: &[u8]) -> Result<(u32, &[u8]), DecodeError>
+    ensures { Gives (λ x. (x.0, x.1.now)) result (version_at bytes.now) }
+{
+    let (version, rest) = u32_at(bytes)?;
+    let rest = marker_at(0, rest)?;
+    let rest = marker_at(1, rest)?;
+    Ok((version, rest))
+}
+
+#[tactic(auto, unfolding(crate::specs::Reading::reading, crate::specs::Reading::end_at))]
+fn all(alloc: Global, bytes: &[u8]) -> Result<Tx, DecodeError>
+    ensures { Gives (λ t. t) result (reading bytes.now) }
+{
+    let (version, rest) = version_at(bytes)?;
+    let (unsigned, rest) = inputs_at(alloc, rest)?;
+    let (outputs, rest) = outputs_at(alloc, rest)?;
+    let (inputs, rest) = witnesses_at(alloc, &unsigned, rest)?;
+    let (lock_time, rest) = u32_at(rest)?;
+    if !rest.is_empty() {
+        return Err(DecodeError::Trailing);
+    }
+    Ok(Tx::new(version, inputs, outputs, lock_time).unwrap())
+}
+
+/// The transaction that the bytes spell, all of the bytes (BIP 144). Marker and flag are always there,
+/// each count has its shortest spelling, and at least one witness has an item.
+pub fn decode(alloc: Global, bytes: &[u8]) -> Result<Tx, DecodeError>
+    // What is read is spelled so.
+    ensures found { IfOk result (λ t. IsTransaction t bytes.now) }
+    // What is spelled so is read, unless memory runs out.
+    ensures only { (t : Transaction) → IsTransaction t bytes.now → Gives (λ t. t) result (Ok t) }
+    // Which fault it is: the first one from left to right.
+    ensures exact { Gives (λ t. t) result (reading bytes.now) }
+{
+    all(alloc, bytes)
+}
+
+/// A transaction has one spelling, and bytes spell one transaction.
+pub fn one_spelling()
+    ensures of_value { (t : Transaction) (a b : List ℕ) → IsTransaction t a → IsTransaction t b → a ≡ b }
+    ensures of_bytes { (t u : Transaction) (bytes : List ℕ) → IsTransaction t bytes → IsTransaction u bytes → t ≡ u }
+{}
