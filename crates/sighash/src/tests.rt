@@ -327,16 +327,22 @@ fn every_part_counts(rt: HostRuntime) -> Result<(), Fail> {
     Ok(())
 }
 
+// The token of the key 02(11*32) over the digest (22*32).
+const TOKEN: [u8; 66] = [
+    0x02, 0x11, 0x11, 0x11, 0x11, 0x11, 0x11, 0x11, 0x11, 0x11, 0x11, 0x11, 0x11, 0x11, 0x11, 0x11,
+    0x11, 0x11, 0x11, 0x11, 0x11, 0x11, 0x11, 0x11, 0x11, 0x11, 0x11, 0x11, 0x11, 0x11, 0x11, 0x11,
+    0x11, 0x22, 0x22, 0x22, 0x22, 0x22, 0x22, 0x22, 0x22, 0x22, 0x22, 0x22, 0x22, 0x22, 0x22, 0x22,
+    0x22, 0x22, 0x22, 0x22, 0x22, 0x22, 0x22, 0x22, 0x22, 0x22, 0x22, 0x22, 0x22, 0x22, 0x22, 0x22,
+    0x22, 0x01,
+];
+
 #[test]
 fn tokens(rt: HostRuntime) -> Result<(), Fail> {
     let mut key = [0x11; 33];
     key[0] = 2;
     let token = Token::new(&key, &[0x22; 32]);
-    let bytes = *token.bytes();
-    assert_eq!(rt; &bytes[..33], key.as_slice());
-    assert_eq!(rt; &bytes[33..65], [0x22; 32].as_slice());
-    assert_eq!(rt; bytes[65], 1);
-    assert_eq!(rt; Token::read(&bytes), Some(token));
+    assert_eq!(rt; token.bytes().as_slice(), TOKEN.as_slice());
+    assert_eq!(rt; Token::read(&TOKEN), Some(token));
     for (place, byte, good) in [
         (0, 3, true),
         (0, 4, false),
@@ -345,11 +351,11 @@ fn tokens(rt: HostRuntime) -> Result<(), Fail> {
         (65, 0, false),
         (40, 9, true),
     ] {
-        let mut other = bytes;
+        let mut other = TOKEN;
         other[place] = byte;
         assert_eq!(rt; Token::read(&other).is_some(), good, "{byte} at {place}");
     }
-    assert!(rt; Token::read(&bytes[..65]).is_none());
+    assert!(rt; Token::read(&TOKEN[..65]).is_none());
     assert!(rt; Token::read(&[2; 67]).is_none());
     assert!(rt; Token::read(&[]).is_none());
     assert_eq!(rt;
