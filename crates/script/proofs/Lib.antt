@@ -14,4 +14,5 @@ pub mod Following
 pub mod OneEnd
 pub mod Choosing
 pub mod Examples
+pub mod LimitExamples
 pub mod RoundTrip
