@@ -143,7 +143,7 @@ record Passes (limit : List ℕ) (passes : ℕ → Bool) : Type 0 where
   pub positive : not number.negative ≡ true
   pub passed : passes number.magnitude ≡ true
 
-numbered_ok : (o : Option Signed) (z : Signed) → numbered o ≡ Ok z → o ≡ Some z
+pub numbered_ok : (o : Option Signed) (z : Signed) → numbered o ≡ Ok z → o ≡ Some z
 numbered_ok (Some y) z e = cc
 numbered_ok None z e = absurd (cc)
 

@@ -1,5 +1,5 @@
 -- What a rule owes where a run passes the opcode.
-use Rattle.std.proofs.Common.{◌≡◌, ℕ, ◌≤◌, Bool, true, false, List, [], ◌∷◌, ◌++◌, ◌<◌, length, map, drop, Result, Ok, Err, sym, ap, ◌∙◌, refl, arith, inl, inr, ⊎_elim}
+use Rattle.std.proofs.Common.{◌≡◌, ℕ, ◌≤◌, Bool, true, false, List, [], ◌∷◌, ◌++◌, ◌<◌, length, map, drop, Result, Ok, Err, sym, ap, ◌∙◌, refl, arith, inl, inr, subst, ⊎_elim}
 use Rattle.std.specs.Prelude.{◌⊎◌}
 use Rattle.std.proofs.lemmas.Bool.{cases_lt, true≢false}
 use Rattle.std.proofs.lemmas.List.{drop_all}
@@ -43,6 +43,18 @@ forced_map Q P (Err NoMemory) q h = tt
 forced_map Q P (Err Dead) q h = q
 forced_map Q P (Err Undecided) q h = tt
 forced_map Q P (Err TooManyOps) q h = tt
+
+pub forced_is : {A B : Type 0} (P : B → Type 0) (x : A) (r : Result A Halt) (f : A → Result B Halt) → Forced (λ y. y ≡ x) r → Forced P (f x) → Forced P (r >>= f)
+forced_is P x (Ok y) f e h = subst (λ z. Forced P (f z)) (sym e) h
+forced_is P x (Err NoMemory) f e h = tt
+forced_is P x (Err Dead) f e h = e
+forced_is P x (Err Undecided) f e h = tt
+forced_is P x (Err TooManyOps) f e h = tt
+
+-- too many opcodes are a refusal
+pub forced_unless : {A B : Type 0} (P : B → Type 0) (b : Bool) (x : A) (f : A → Result B Halt) → Forced P (f x) → Forced P (checked b TooManyOps (Ok x) >>= f)
+forced_unless P true x f h = h
+forced_unless P false x f h = tt
 
 pub forced_checked : {A : Type 0} (P : A → Type 0) (b : Bool) (r : Result A Halt) → b ≡ true → Forced P r → Forced P (checked b Dead r)
 forced_checked P true r e h = h
@@ -97,7 +109,7 @@ pop_reaches spend w s l = go s.stack
     go (x ∷ xs) = inl l
 
 -- what has a result on the entries, and none on no entries, has an item for the symbol
-pub pop_met : (spend : Spend) (w : Entries) (s : State) (f : Entries → Result Effect Cause) (c : Cause) (e : Effect) → f [] ≡ Err c → f (entries_of spend w s) ≡ Ok e → IsMet spend w s → IsMet spend w (pop s).1
+pub pop_met : {B : Type 0} (spend : Spend) (w : Entries) (s : State) (f : Entries → Result B Cause) (c : Cause) (e : B) → f [] ≡ Err c → f (entries_of spend w s) ≡ Ok e → IsMet spend w s → IsMet spend w (pop s).1
 pop_met spend w s f c e none some m = record {
   enough = ⊎_elim (λ (l : (pop s).1.slots ≤ length w). l) (λ (z : entries_of spend w s ≡ []). absurd (missing z)) (pop_reaches spend w s m.enough);
   facts = pop_facts spend w s m.facts;
@@ -106,7 +118,7 @@ pop_met spend w s f c e none some m = record {
     missing : entries_of spend w s ≡ [] → ⊥
     missing z = let a : f (entries_of spend w s) ≡ f [] = ap f z in cc
 
-pub pop_met-2 : (spend : Spend) (w : Entries) (s : State) (f : Entries → Result Effect Cause) (c : Cause) (e : Effect) → f [] ≡ Err c → ((x : List ℕ) → f (x ∷ []) ≡ Err c) → f (entries_of spend w s) ≡ Ok e → IsMet spend w s → IsMet spend w (pop (pop s).1).1
+pub pop_met-2 : {B : Type 0} (spend : Spend) (w : Entries) (s : State) (f : Entries → Result B Cause) (c : Cause) (e : B) → f [] ≡ Err c → ((x : List ℕ) → f (x ∷ []) ≡ Err c) → f (entries_of spend w s) ≡ Ok e → IsMet spend w s → IsMet spend w (pop (pop s).1).1
 pop_met-2 spend w s f c e none one some m =
     let m' : IsMet spend w (pop s).1 = pop_met spend w s f c e none some m in
     pop_met spend w (pop s).1 (λ st. f (item_for spend w (pop s).0 ∷ st)) c e (one (item_for spend w (pop s).0)) (sym (ap f (pop_entries spend w s m'.enough)) ∙ some) m'
