@@ -15,3 +15,5 @@ pub mod ForcedRules
 pub mod ForcedMultisig
 pub mod ForcedFollowed
 pub mod ForcedWalk
+pub mod ForcedListing
+pub mod LockFacts
