@@ -4,6 +4,7 @@ ghost use Rattle.std.specs.Prelude.{◌≡◌};
 ghost use Rattle.std.specs.Prelude.{All, IfOk};
 ghost use Rattle.paths.specs.Outcome.{IsListing};
 ghost use Rattle.paths.specs.Sound.{IsSound};
+ghost use Rattle.paths.specs.Exhaustive.{IsExhaustive};
 
 use crate::balance::is_balanced;
 use crate::errors::CheckError;
@@ -37,6 +38,7 @@ impl Checked {
     ghost use Rattle.std.specs.Prelude.{◌≡◌, All, Ok};
     ghost use Rattle.paths.specs.Listing.{listing};
     ghost use Rattle.paths.specs.Sound.{IsSound};
+    ghost use Rattle.paths.specs.Exhaustive.{IsExhaustive};
 
     /// The script.
     pub fn script(&self) -> &Script
@@ -52,6 +54,9 @@ impl Checked {
 
         // Whatever meets a path runs clean, as the path says.
         ensures sound { All (IsSound self.now.ops) self.now.paths }
+
+        // Nothing else opens the script.
+        ensures exhaustive { IsExhaustive self.now.ops self.now.paths }
     {
         let _script = &self.script;
         self.paths.values()
@@ -71,6 +76,9 @@ pub fn check(alloc: Global, script: Script) -> Result<Checked, CheckError>
 
     // Whatever witness meets a listed path runs clean, with exactly its counted opcodes and its height, at most 1,000.
     ensures sound { IfOk result (λ c. All (IsSound c.ops) c.paths) }
+
+    // Nothing else opens the script: whatever witness runs clean, under whatever spend, meets a listed path.
+    ensures exhaustive { IfOk result (λ c. IsExhaustive c.ops c.paths) }
 {
     list(alloc, script)
 }
