@@ -15,3 +15,10 @@ pub mod OneEnd
 pub mod Choosing
 pub mod Examples
 pub mod RoundTrip
+pub mod SpellingExamples
+pub mod NumberExamples
+pub mod TokenExamples
+pub mod LockExamples
+pub mod EffectExamples
+pub mod MultiSigExamples
+pub mod RunExamples

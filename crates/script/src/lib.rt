@@ -10,6 +10,8 @@ pub mod piles;
 pub mod rows;
 pub mod spending;
 pub mod stops;
+#[cfg(test)]
+mod tests;
 pub mod tokens;
 pub mod truths;
 
