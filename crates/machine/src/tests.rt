@@ -1,5 +1,7 @@
 //! Runs whose ends are known from outside.
 
+mod shapes;
+
 use crate::{Run, Spend, Stop, run};
 use lists::ByteString;
 use script::{Cause, Kind, Script};

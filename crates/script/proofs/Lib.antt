@@ -16,3 +16,10 @@ pub mod Choosing
 pub mod Examples
 pub mod LimitExamples
 pub mod RoundTrip
+pub mod SpellingExamples
+pub mod NumberExamples
+pub mod TokenExamples
+pub mod LockExamples
+pub mod EffectExamples
+pub mod MultiSigExamples
+pub mod RunExamples

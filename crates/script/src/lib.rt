@@ -8,6 +8,8 @@ pub mod opcode;
 pub mod parse;
 pub mod spending;
 pub mod stops;
+#[cfg(test)]
+mod tests;
 pub mod tokens;
 pub mod truths;
 
