@@ -11,3 +11,10 @@ pub mod SoundMultisig
 pub mod SoundFollowed
 pub mod SoundWalk
 pub mod SoundListing
+pub mod ForcedWords
+pub mod ForcedRules
+pub mod ForcedMultisig
+pub mod ForcedFollowed
+pub mod ForcedWalk
+pub mod ForcedListing
+pub mod LockFacts

@@ -14,6 +14,7 @@ pub mod Following
 pub mod OneEnd
 pub mod Choosing
 pub mod Examples
+pub mod LimitExamples
 pub mod RoundTrip
 pub mod SpellingExamples
 pub mod NumberExamples

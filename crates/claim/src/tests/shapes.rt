@@ -8,8 +8,9 @@ use crate::showing::shown;
 use crate::{OutPoint, Place, Shell, accept};
 use digest::{hash160, ripemd160, sha256};
 use facts::{Fact, KeySource, Stated};
+use lists::ByteString;
 use paths::check;
-use script::{Item, Script};
+use script::Script;
 use std::alloc::Global;
 use std::test::Fail;
 
@@ -23,7 +24,7 @@ fn answer(alloc: Global, code: &[u8], slots: Vec<Slot>) -> Result<String, Fail> 
             index: 3,
         },
         value: 1000,
-        program: Item::from_vec(program),
+        program: ByteString::from_vec(program),
     };
     let checked = check(alloc, Script::parse(alloc, code)?)?;
     match accept(alloc, checked, 0, slots, place, Shell::Open) {
@@ -45,7 +46,7 @@ fn accepts_items_of_every_length(rt: HostRuntime) -> Result<(), Fail> {
     let alloc = rt.alloc();
     for len in 0usize..=600 {
         let bytes = vec![in alloc; 9u8; len]?;
-        let kept = WitnessItem::new(Item::from_slice(alloc, &bytes)?).is_ok();
+        let kept = WitnessItem::new(ByteString::from_slice(alloc, &bytes)?).is_ok();
         assert_eq!(rt; kept, len <= 520, "{len}");
         if kept {
             let slots = one_exact(alloc, &bytes)?;
@@ -129,14 +130,14 @@ fn shows_hashes(rt: HostRuntime) -> Result<(), Fail> {
         (1, Some(true), Some(false)),
         (2, None, None),
     ] {
-        let right = Fact::Hash(slot, Item::from_slice(alloc, &ripemd)?);
+        let right = Fact::Hash(slot, ByteString::from_slice(alloc, &ripemd)?);
         assert_eq!(rt; shown(&slots, &right), yes);
-        let wrong = Fact::Hash(slot, Item::from_slice(alloc, &[5; 20])?);
+        let wrong = Fact::Hash(slot, ByteString::from_slice(alloc, &[5; 20])?);
         assert_eq!(rt; shown(&slots, &wrong), no);
     }
-    let same = Fact::Is(0, Item::from_slice(alloc, &[5; 32])?);
+    let same = Fact::Is(0, ByteString::from_slice(alloc, &[5; 32])?);
     assert_eq!(rt; shown(&slots, &same), None);
-    let other = Fact::Is(0, Item::from_slice(alloc, &[6; 32])?);
+    let other = Fact::Is(0, ByteString::from_slice(alloc, &[6; 32])?);
     assert_eq!(rt; shown(&slots, &other), Some(false));
     Ok(())
 }

@@ -2,18 +2,18 @@
 
 use super::item;
 use crate::symbols::{Fact, KeySource, Stated, Sym};
-use script::Row;
+use lists::List;
 use std::alloc::Global;
 use std::process::Abort;
 use std::test::Fail;
 
 // Asserts that a fact is one with its copies.
 fn copies(rt: &impl Abort, alloc: Global, fact: Fact) -> Result<(), Fail> {
-    let copy = fact.copy(alloc)?;
+    let copy = fact.copy()?;
     assert!(rt; copy.equals(&fact));
-    let stated = Stated { fact, holds: false }.copy(alloc)?;
+    let stated = Stated { fact, holds: false }.copy()?;
     assert!(rt; copy.equals(&stated.fact) && !stated.holds);
-    let Sym::Holds(held) = Sym::Holds(stated.fact).copy(alloc)? else {
+    let Sym::Holds(held) = Sym::Holds(stated.fact).copy()? else {
         return Err(Fail::from("another symbol"));
     };
     assert!(rt; copy.equals(&held));
@@ -21,8 +21,8 @@ fn copies(rt: &impl Abort, alloc: Global, fact: Fact) -> Result<(), Fail> {
 }
 
 // The first keys of a list of constants and slots.
-fn keys(alloc: Global, count: usize) -> Result<Row<KeySource>, Fail> {
-    let mut keys = Row::new(alloc);
+fn keys(alloc: Global, count: usize) -> Result<List<KeySource>, Fail> {
+    let mut keys = List::new(alloc);
     for i in 0..count {
         if i % 3 == 1 {
             keys.push(KeySource::Slot(i))?;
@@ -53,13 +53,13 @@ fn copies_every_fact(rt: HostRuntime) -> Result<(), Fail> {
         copies(&rt, alloc, Fact::Is(0, item(alloc, &bytes)?))?;
         let key = KeySource::Const(item(alloc, &bytes)?);
         copies(&rt, alloc, Fact::Token(1, key))?;
-        let Sym::Const(copy) = Sym::Const(item(alloc, &bytes)?).copy(alloc)? else {
+        let Sym::Const(copy) = Sym::Const(item(alloc, &bytes)?).copy()? else {
             return Err(Fail::from("another symbol"));
         };
         assert_eq!(rt; copy.bytes(), bytes.as_slice());
     }
     for count in 0usize..=60 {
-        let mut slots = Row::new(alloc);
+        let mut slots = List::new(alloc);
         for slot in 0..count {
             slots.push(slot)?;
         }
