@@ -1,5 +1,6 @@
 pub mod Examples
 pub mod WalkExamples
+pub mod ListingExamples
 pub mod RuleLists
 pub mod RulePops
 pub mod SoundWords

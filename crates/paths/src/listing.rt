@@ -10,24 +10,21 @@ use crate::balance::is_balanced;
 use crate::errors::CheckError;
 use crate::state::Path;
 use crate::walking::walk_all;
-use script::{Row, Script};
+use lists::List;
+use script::Script;
+use script::limits::MAX_OPS_PER_SCRIPT;
 use std::alloc::Global;
 use std::marker::Model;
-
-/// The most opcodes that may count, keys of CHECKMULTISIGs included.
-pub const MAX_OPS: usize = 201;
 
 /// A script with every way through it that runs clean. `check` alone makes one. A contract sees it as its opcodes and its paths.
 #[derive(Drop)]
 pub struct Checked {
     script: Script,
-    paths: Row<Path>,
+    paths: List<Path>,
 }
 
 impl Model for Checked {
-    ghost use Rattle.std.specs.Prelude.{◌≡◌, List, Result, Ok};
-    ghost use Rattle.script.specs.declared.opcode.Op.{Op as Opcode};
-    ghost use Rattle.paths.specs.declared.state.Path.{Path as Way};
+    ghost use Rattle.std.specs.Prelude.{◌≡◌, Ok};
     ghost use Rattle.paths.specs.Listing.{Ways, listing};
 
     ghost Value = { Ways };
@@ -95,7 +92,7 @@ fn list(alloc: Global, script: Script) -> Result<Checked, CheckError>
         return Err(CheckError::OpenBranch);
     }
     let counted = script.counted();
-    if counted > MAX_OPS {
+    if counted > MAX_OPS_PER_SCRIPT {
         return Err(CheckError::TooManyOps);
     }
     let paths = walk_all(alloc, script.ops(), counted)?;

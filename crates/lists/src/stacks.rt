@@ -1,4 +1,4 @@
-// Stacks of values, which contracts see as lists with the top first.
+//! Stacks of values, which contracts see as lists with the top first.
 
 ghost use Rattle.std.specs.Prelude.{◌≡◌, ◌==◌, List, [], ◌∷◌, length, reverse, OnOk, OnErr, MatchOption};
 
@@ -7,24 +7,24 @@ use std::marker::Model;
 
 /// A stack. A contract sees it as the list of its values, the top first.
 #[derive(Debug, Drop)]
-pub struct Pile<T> {
+pub struct Stack<T> {
     items: Vec<T>,
 }
 
-impl<T> Model for Pile<T> {
+impl<T> Model for Stack<T> {
     ghost use Rattle.std.specs.Prelude.{List, reverse};
 
     ghost Value = { List T };
 
-    ghost view = { λ p. reverse p.items.items };
+    ghost view = { λ s. reverse s.items.items };
 }
 
-impl<T: Drop> Pile<T> {
+impl<T: Drop> Stack<T> {
     /// The empty stack, which takes no memory.
     pub fn new(alloc: Global) -> Self
         ensures { result ≡ [] }
     {
-        Pile {
+        Stack {
             items: Vec::new(alloc),
         }
     }
@@ -33,7 +33,12 @@ impl<T: Drop> Pile<T> {
     pub fn from_vec(items: Vec<T>) -> Self
         ensures { result ≡ reverse items.items }
     {
-        Pile { items }
+        Stack { items }
+    }
+
+    /// The allocator that the stack was made with.
+    pub fn allocator(&self) -> Global {
+        *self.items.allocator()
     }
 
     /// How many values there are.
@@ -50,7 +55,7 @@ impl<T: Drop> Pile<T> {
         self.items.is_empty()
     }
 
-    /// Puts a value on top. The only error is want of memory, which leaves the stack as it was.
+    /// Puts a value on top. The only error is that memory ran out, which leaves the stack as it was.
     pub fn push(&mut self, value: T) -> Result<(), AllocError>
         ensures pushed { OnOk result (self.new ≡ value ∷ self.old) }
         ensures err { OnErr result (self.new ≡ self.old) }
@@ -88,17 +93,29 @@ mod tests {
 
     #[test]
     fn gives_back_the_top_first(rt: HostRuntime) -> Result<(), Fail> {
-        let mut pile = Pile::new(rt.alloc());
-        assert!(rt; pile.is_empty());
-        pile.push(1u8)?;
-        pile.push(2)?;
-        assert_eq!(rt; pile.top(), Some(&2));
-        assert_eq!(rt; pile.values(), [1, 2].as_slice());
-        assert_eq!(rt; pile.pop(), Some(2));
-        assert_eq!(rt; pile.len(), 1);
-        assert_eq!(rt; pile.pop(), Some(1));
-        assert_eq!(rt; pile.pop(), None);
-        assert_eq!(rt; Pile::from_vec(vec![in rt.alloc(); 3u8, 4]?).pop(), Some(4));
+        let mut stack = Stack::new(rt.alloc());
+        assert!(rt; stack.is_empty());
+        stack.push(1u8)?;
+        stack.push(2)?;
+        assert_eq!(rt; stack.top(), Some(&2));
+        assert_eq!(rt; stack.values(), [1, 2].as_slice());
+        assert_eq!(rt; stack.pop(), Some(2));
+        assert_eq!(rt; stack.len(), 1);
+        assert_eq!(rt; stack.pop(), Some(1));
+        assert_eq!(rt; stack.pop(), None);
+        assert_eq!(rt; Stack::from_vec(vec![in rt.alloc(); 3u8, 4]?).pop(), Some(4));
+        Ok(())
+    }
+
+    // No height is refused where memory is there.
+    #[test]
+    fn grows_to_every_height(rt: HostRuntime) -> Result<(), Fail> {
+        let mut stack = Stack::new(rt.alloc());
+        for height in 0usize..600 {
+            assert_eq!(rt; stack.len(), height);
+            stack.push(height)?;
+        }
+        assert_eq!(rt; stack.pop(), Some(599));
         Ok(())
     }
 }
