@@ -43,6 +43,10 @@ script_hash : sha256 (0x51 ∷ []) ≡ hash
 unfolding sha256 digest_bytes hash_after compress rounds schedule first_words
 script_hash = refl
 
+script_programs : (is_program (0x51 ∷ []) (0x00 ∷ 0x20 ∷ hash) ≡ true) × (is_program (0x51 ∷ []) (0x51 ∷ 0x20 ∷ hash) ≡ false) × (is_program (0x51 ∷ []) (0x00 ∷ 0x20 ∷ replicate 32 0) ≡ false) × (is_program (0x51 ∷ []) hash ≡ false)
+unfolding sha256 digest_bytes hash_after compress rounds schedule first_words
+script_programs = (refl, refl, refl, refl)
+
 -- a path with no slot, and one of one slot that contradicts itself
 abbrev free : ℕ → List Stated → Path
 free arity facts = record { arity = arity; facts = facts; ops = 4; height = 4; lock = None; age = None }
