@@ -8,7 +8,7 @@ use digest::sha256;
 use sha2::{Digest, Sha256};
 use std::marker::Model;
 use thiserror::Error;
-use tx::hashing::{absorb_outpoint, absorb_outputs, absorb_text, absorb_u32, absorb_u64};
+use tx::hashing::{absorb_outpoint, absorb_outputs, absorb_byte_string, absorb_u32, absorb_u64};
 use tx::{Tx, TxIn, TxOut};
 
 /// Why there is no digest.
@@ -122,7 +122,7 @@ impl<'a> SighashCache<'a> {
         hasher.update(&self.outpoints);
         hasher.update(&self.sequences);
         absorb_outpoint(&mut hasher, &input.outpoint);
-        absorb_text(&mut hasher, code);
+        absorb_byte_string(&mut hasher, code);
         absorb_u64(&mut hasher, value);
         absorb_u32(&mut hasher, input.sequence);
         hasher.update(&self.outputs);

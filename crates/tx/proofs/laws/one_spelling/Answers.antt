@@ -1,6 +1,6 @@
 use Rattle.std.proofs.Common.{sym, ◌∙◌}
 use Rattle.tx.proofs.Whole.{one_value}
-use Rattle.tx.proofs.reading.one_spelling.Goals as goal
+use Rattle.tx.proofs.laws.one_spelling.Goals as goal
 
 pub returns-clause-of_value : goal.returns-clause-of_value
 returns-clause-of_value c = λ t a b first second. first.spelled ∙ sym second.spelled

@@ -1,13 +1,13 @@
--- The refusals by their numbers.
+-- The refusals by their numbers, which are the same in every call.
 use Rattle.std.specs.Prelude.{ℕ}
-use Rattle.tx.specs.declared.refusal.LimitError.{LimitError}
-use Rattle.tx.specs.declared.refusal.LimitError.TheVariants as limit
-use Rattle.tx.specs.declared.refusal.FieldError.{FieldError}
-use Rattle.tx.specs.declared.refusal.FieldError.TheVariants as field
-use Rattle.tx.specs.declared.refusal.DecodeError.{DecodeError}
-use Rattle.tx.specs.declared.refusal.DecodeError.TheVariants as decode
-use Rattle.tx.specs.declared.refusal.EncodeError.{EncodeError}
-use Rattle.tx.specs.declared.refusal.EncodeError.TheVariants as encode
+use Rattle.tx.specs.declared.errors.LimitError.{LimitError}
+use Rattle.tx.specs.declared.errors.LimitError.TheVariants as limit
+use Rattle.tx.specs.declared.errors.FieldError.{FieldError}
+use Rattle.tx.specs.declared.errors.FieldError.TheVariants as field
+use Rattle.tx.specs.declared.errors.DecodeError.{DecodeError}
+use Rattle.tx.specs.declared.errors.DecodeError.TheVariants as decode
+use Rattle.tx.specs.declared.errors.EncodeError.{EncodeError}
+use Rattle.tx.specs.declared.errors.EncodeError.TheVariants as encode
 
 abbrev pub limit_number : LimitError → ℕ
 limit_number limit.NoMemory = 0
@@ -16,6 +16,7 @@ limit_number limit.OverLimit = 8
 abbrev pub field_number : FieldError → ℕ
 field_number field.NoInputs = 4
 field_number field.ValueTooLarge = 6
+field_number field.OverLimit = 8
 
 abbrev pub decode_number : DecodeError → ℕ
 decode_number decode.NoMemory = 0

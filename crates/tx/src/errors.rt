@@ -1,21 +1,21 @@
 //! Why a transaction is refused. Each refusal has a number, which is the same in every call of the crate.
 
 ghost use Rattle.std.specs.Prelude.{◌≡◌};
-ghost use Rattle.tx.specs.Numbers.{limit_number, field_number, decode_number, encode_number, decoding};
-ghost use Rattle.tx.specs.declared.refusal.LimitError.TheVariants as limit;
-ghost use Rattle.tx.specs.declared.refusal.DecodeError.TheVariants as decode;
-ghost use Rattle.tx.specs.declared.refusal.EncodeError.TheVariants as encode;
+ghost use Rattle.tx.specs.Errors.{limit_number, field_number, decode_number, encode_number, decoding};
+ghost use Rattle.tx.specs.declared.errors.LimitError.TheVariants as limit;
+ghost use Rattle.tx.specs.declared.errors.DecodeError.TheVariants as decode;
+ghost use Rattle.tx.specs.declared.errors.EncodeError.TheVariants as encode;
 
 use std::alloc::{AllocError, AllocFailed};
 use thiserror::Error;
 
-/// Why a collection did not take an element.
+/// Why a list does not take an element.
 #[derive(Debug, Drop, Error)]
 pub enum LimitError {
     /// Memory ran out.
     #[error("NoMemory")]
     NoMemory,
-    /// The collection would pass its limit.
+    /// The list is full, or the element does not keep the limits of its kind.
     #[error("OverLimit")]
     OverLimit,
 }
@@ -29,6 +29,9 @@ pub enum FieldError {
     /// A value is above 2,100,000,000,000,000 satoshis.
     #[error("ValueTooLarge")]
     ValueTooLarge,
+    /// A script has more than 10,000 bytes.
+    #[error("OverLimit")]
+    OverLimit,
 }
 
 /// Why bytes are no transaction: the first fault from left to right.
@@ -40,7 +43,7 @@ pub enum DecodeError {
     /// The bytes end within a field.
     #[error("Truncated")]
     Truncated,
-    /// A count is not in its shortest spelling.
+    /// A compactSize is not minimal.
     #[error("LongCount")]
     LongCount,
     /// The marker is not 0, or the flag is not 1 (BIP 144).
@@ -55,7 +58,7 @@ pub enum DecodeError {
     /// A value is above 2,100,000,000,000,000 satoshis.
     #[error("ValueTooLarge")]
     ValueTooLarge,
-    /// Bytes stand behind the lock time.
+    /// Bytes stand after the lock time.
     #[error("Trailing")]
     Trailing,
     /// A count is above its limit.
@@ -94,6 +97,7 @@ impl FieldError {
         match self {
             FieldError::NoInputs => 4,
             FieldError::ValueTooLarge => 6,
+            FieldError::OverLimit => 8,
         }
     }
 }
