@@ -1,3 +1,4 @@
 pub mod Derivation
 pub mod Places
 pub mod Inserted
+pub mod Errors

@@ -29,7 +29,7 @@ strips_suc (y ∷ xs) (suc i) x lt e = ap (λ (zs : List TxIn). signed_input y [
 
 pub strips_more : (xs ys : List TxIn) (i : ℕ) (x : TxIn) → ys ≡ stripped_front i xs → i < length xs → x ≡ get_or ys i x → set ys i (signed_input x []) ≡ stripped_front (i + 1) xs
 strips_more xs ys i x e lt h =
-    let k : i + 1 ≡ suc i = add-one in
+    let k : i + 1 ≡ suc i = add-one i in
     ap (λ (zs : List TxIn). set zs i (signed_input x [])) e
     ∙ strips_suc xs i x lt (h ∙ ap (λ (zs : List TxIn). get_or zs i x) e)
     ∙ ap (λ (n : ℕ). stripped_front n xs) (sym k)
@@ -44,6 +44,9 @@ unsigned_each (x ∷ xs) good =
 
 pub unsigned_within : (xs : List TxIn) → AreInputs xs → AreInputs (unsigned_inputs xs)
 unsigned_within xs good = record { count = omega (arith, unsigned_length xs, good.count); each = unsigned_each xs good.each }
+
+pub strips_within : (xs ys : List TxIn) (i : ℕ) → ys ≡ stripped_front i xs → length xs ≤ i → AreInputs xs → AreInputs ys
+strips_within xs ys i e le good = rw (strips_all xs ys i e le) (unsigned_within xs good)
 
 -- ---- laws
 

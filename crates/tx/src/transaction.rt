@@ -161,10 +161,10 @@ impl Tx {
     pub fn equals(&self, other: &Self) -> bool
         ensures { IsTrue result ↔ (self.now ≡ other.now) }
     {
-        self.version == other.version
+        self.lock_time == other.lock_time
+            && self.version == other.version
             && self.inputs.equals(&other.inputs)
             && self.outputs.equals(&other.outputs)
-            && self.lock_time == other.lock_time
     }
 
     // What the proof of `encode` learns: every transaction keeps its limits, which are seen where a field is read.

@@ -7,6 +7,6 @@ pub returns-then-not-are_bounded-clause-by_number : goal.returns-then-not-are_bo
 returns-then-not-are_bounded-clause-by_number g c = λ always.
     let e : c.are_bounded.result ≡ true = c.are_bounded.ensures.value ∙ list_all-always g.T.Element.is_bounded always c.as_slice.result.now in
     elim c.then-not-are_bounded.branch [
-      | then-not-are_bounded-via-then-not-are_bounded w ↦ first_of (absurd (contradicts c.are_bounded.result e w.if-not-are_bounded.true), absurd (cc))
+      | then-not-are_bounded-via-then-not-are_bounded w ↦ absurd (contradicts c.are_bounded.result e w.if-not-are_bounded.true)
       | then-not-are_bounded-via-else-not-are_bounded+then-len-LIMIT w ↦ search rules
     ]
