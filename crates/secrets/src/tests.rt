@@ -156,7 +156,10 @@ fn gives_back_a_thousand_secrets(rt: HostRuntime) {
         assert_eq!(rt; store.get(i), Some(from_seed(&seed, i)), "at {i}");
         assert_eq!(rt; copy.get(i), Some(from_seed(&seed, i)), "at {i}");
     }
-    assert_eq!(rt; copy.insert(FIRST - 1000, &from_seed(&seed, FIRST - 1000)), Ok(()));
+    assert_eq!(rt;
+        copy.insert(FIRST - 1000, &from_seed(&seed, FIRST - 1000)),
+        Ok(())
+    );
     assert!(rt; copy.get(FIRST - 1000).is_some());
     assert!(rt; store.get(FIRST - 1000).is_none());
 }

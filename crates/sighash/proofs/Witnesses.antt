@@ -1,7 +1,6 @@
 -- Digests do not look at witnesses.
 use Rattle.std.proofs.Common.{◌≡◌, ℕ, zero, suc, List, [], ◌∷◌, ◌++◌, Option, Some, None, refl, sym, ap, ◌∙◌}
-use Rattle.std.specs.List.{slice_get}
-use Rattle.std.specs.Option.{option_map}
+use Rattle.std.specs.Prelude.{slice_get, option_map}
 use Rattle.digest.specs.Hash.{sha256d}
 use Rattle.tx.specs.declared.input.TxIn.{TxIn}
 use Rattle.tx.specs.Fields.{Transaction, signed_input, unsigned_inputs, unsigned_transaction}
@@ -18,7 +17,7 @@ unfolding all_sequences
 unsigned_sequences [] = refl
 unsigned_sequences (x ∷ xs) = ap (λ (t : List ℕ). number 4 x.sequence ++ t) (unsigned_sequences xs)
 
-unsigned_at : (xs : List TxIn) (i : ℕ) → slice_get (unsigned_inputs xs) i ≡ option_map (λ x. signed_input x []) (slice_get xs i)
+unsigned_at : (xs : List TxIn) (i : ℕ) → slice_get (unsigned_inputs xs) i ≡ option_map (λ (x : TxIn). signed_input x []) (slice_get xs i)
 unsigned_at [] i = refl
 unsigned_at (x ∷ xs) zero = refl
 unsigned_at (x ∷ xs) (suc i) = unsigned_at xs i
@@ -30,7 +29,7 @@ unsigned_list t x code value = rw (unsigned_outpoints t.inputs, unsigned_sequenc
 abbrev digest_in : Transaction → List ℕ → ℕ → TxIn → List ℕ
 digest_in t code value input = sha256d (signed_list t input code value)
 
-at_input : (t : Transaction) (code : List ℕ) (value : ℕ) (o : Option TxIn) → option_map (digest_in (unsigned_transaction t) code value) (option_map (λ x. signed_input x []) o) ≡ option_map (digest_in t code value) o
+at_input : (t : Transaction) (code : List ℕ) (value : ℕ) (o : Option TxIn) → option_map (digest_in (unsigned_transaction t) code value) (option_map (λ (x : TxIn). signed_input x []) o) ≡ option_map (digest_in t code value) o
 at_input t code value None = refl
 at_input t code value (Some x) = ap (λ (bytes : List ℕ). Some (sha256d bytes)) (unsigned_list t x code value)
 

@@ -8,7 +8,7 @@ use crate::errors::DigestError;
 use digest::sha256;
 use sha2::{Digest, Sha256};
 use std::marker::Model;
-use tx::hashing::{absorb_outpoint, absorb_outputs, absorb_byte_string, absorb_u32, absorb_u64};
+use tx::hashing::{absorb_byte_string, absorb_outpoint, absorb_outputs, absorb_u32, absorb_u64};
 use tx::{Tx, TxIn, TxOut};
 
 // SHA-256 twice over the outpoints of all inputs.

@@ -118,7 +118,10 @@ pub(crate) fn compact_size_up_to(limit: usize, bytes: &[u8]) -> Result<(usize, &
 
 /// Bytes with their length before them.
 #[tactic(auto, unfolding(crate::specs::Reading::byte_string_at))]
-pub(crate) fn byte_string_at(alloc: Global, bytes: &[u8]) -> Result<(ByteString, &[u8]), DecodeError>
+pub(crate) fn byte_string_at(
+    alloc: Global,
+    bytes: &[u8],
+) -> Result<(ByteString, &[u8]), DecodeError>
     ensures bound { IfOk result (λ x. length x.0 ≤ max_bytes) }
     ensures value { Gives (λ x. (x.0, x.1.now)) result (byte_string_at bytes.now) }
 {

@@ -6,8 +6,8 @@ ghost use Rattle.tx.specs.Fields.{Transaction};
 ghost use Rattle.tx.specs.Spelling.{IsTransaction, IsStripped};
 ghost use Rattle.tx.specs.Reading.{Gives, fields_at, byte_string_at, input_at, output_at, inputs_at, outputs_at, witness_at, signed_input_at, signed_inputs_at, witnesses_at, version_at, reading, stripped_reading};
 
-use crate::fields::{compact_size_up_to, marker_at, split, byte_string_at, u32_at, u64_at};
 use crate::errors::DecodeError;
+use crate::fields::{byte_string_at, compact_size_up_to, marker_at, split, u32_at, u64_at};
 use crate::input::{Inputs, OutPoint, TxIn};
 use crate::limits::{MAX_INPUTS, MAX_ITEMS, MAX_OUTPUTS, MAX_VALUE};
 use crate::output::{Outputs, TxOut};

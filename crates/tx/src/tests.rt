@@ -11,7 +11,8 @@ fn bytes(alloc: Global, text: &str) -> Result<Vec<u8>, Fail> {
 }
 
 // One input, one output to a key hash, and a witness of one item of one byte.
-const SMALL: &str = "02000000000101000000000000000000000000000000000000000000000000000000000000000000000000000000000001e803000000000000160014111111111111111111111111111111111111111101010100000000";
+const SMALL: &str =
+    "02000000000101000000000000000000000000000000000000000000000000000000000000000000000000000000000001e803000000000000160014111111111111111111111111111111111111111101010100000000";
 
 // SHA-256 twice over the bytes without marker, flag and witnesses.
 const SMALL_ID: &str = "d914e1175849695af5606e0cb9f0555140e80837f5e92a707f0d7d248b1ac890";
@@ -119,7 +120,10 @@ fn outside_transactions(rt: HostRuntime) -> Result<(), Fail> {
         assert_eq!(rt; txid(&tx), id);
         assert!(rt; tx.has_witness());
         assert_eq!(rt; encode(alloc, &tx)?.as_slice(), whole.as_slice());
-        assert_eq!(rt; encode_stripped(alloc, &tx)?.as_slice(), stripped.as_slice());
+        assert_eq!(rt;
+            encode_stripped(alloc, &tx)?.as_slice(),
+            stripped.as_slice()
+        );
         let mut unsigned = tx.copy()?;
         assert!(rt; unsigned.equals(&tx));
         unsigned.strip_witnesses();
@@ -136,7 +140,12 @@ fn outside_transactions(rt: HostRuntime) -> Result<(), Fail> {
         let again = Tx::new(parts.version, parts.inputs, parts.outputs, parts.lock_time)?;
         assert_eq!(rt; encode(alloc, &again)?.as_slice(), whole.as_slice());
         for end in 0..stripped.len() {
-            assert!(rt; matches!(decode_stripped(alloc, &stripped[..end]), Err(DecodeError::Truncated)));
+            assert!(rt;
+                matches!(
+                    decode_stripped(alloc, &stripped[..end]),
+                    Err(DecodeError::Truncated)
+                )
+            );
         }
     }
     let small = decode(alloc, &bytes(alloc, SMALL)?)?;
@@ -269,13 +278,22 @@ fn first_faults(rt: HostRuntime) -> Result<(), Fail> {
 #[test]
 fn greatest_value(rt: HostRuntime) -> Result<(), Fail> {
     let small = bytes(rt.alloc(), SMALL)?;
-    let mut greatest = ending(rt.alloc(), 49, &[0x00, 0x40, 0x07, 0x5a, 0xf0, 0x75, 0x07, 0x00])?;
+    let mut greatest = ending(
+        rt.alloc(),
+        49,
+        &[0x00, 0x40, 0x07, 0x5a, 0xf0, 0x75, 0x07, 0x00],
+    )?;
     assert_eq!(rt; small.len(), 87);
     greatest.extend_from_slice(&small[57..])?;
     assert!(rt; matches!(pays(rt.alloc(), &greatest, 2_100_000_000_000_000), Ok(true)));
     assert!(rt; matches!(pays(rt.alloc(), &small, 2_100_000_000_000_000), Ok(false)));
     let script = ByteString::new(rt.alloc());
-    assert!(rt; matches!(TxOut::new(2_100_000_000_000_001, script), Err(FieldError::ValueTooLarge)));
+    assert!(rt;
+        matches!(
+            TxOut::new(2_100_000_000_000_001, script),
+            Err(FieldError::ValueTooLarge)
+        )
+    );
     Ok(())
 }
 
@@ -376,7 +394,10 @@ fn at_the_limits(rt: HostRuntime) -> Result<(), Fail> {
         };
         let tx = transaction_of(rt.alloc(), sizes)?;
         let whole = encode(rt.alloc(), &tx)?;
-        assert_eq!(rt; Sha256::digest(whole.as_slice()), <[u8; 32] as FromHex>::from_hex(hash)?);
+        assert_eq!(rt;
+            Sha256::digest(whole.as_slice()),
+            <[u8; 32] as FromHex>::from_hex(hash)?
+        );
         assert_eq!(rt; txid(&tx), <[u8; 32] as FromHex>::from_hex(id)?);
         let read = decode(rt.alloc(), &whole)?;
         assert!(rt; read.equals(&tx));
@@ -398,7 +419,12 @@ fn above_the_limits(rt: HostRuntime) -> Result<(), Fail> {
     for _ in 0..1_001 {
         witness.push(ByteString::new(alloc))?;
     }
-    assert!(rt; matches!(witness.push(ByteString::new(alloc)), Err(LimitError::OverLimit)));
+    assert!(rt;
+        matches!(
+            witness.push(ByteString::new(alloc)),
+            Err(LimitError::OverLimit)
+        )
+    );
     let mut items = witness.into_vec();
     items.push(ByteString::new(alloc))?;
     assert!(rt; matches!(Witness::from_vec(items), Err(LimitError::OverLimit)));
@@ -408,7 +434,12 @@ fn above_the_limits(rt: HostRuntime) -> Result<(), Fail> {
         inputs.push(input_of(alloc, k, 0, 0)?)?;
         outputs.push(TxOut::new(0, ByteString::new(alloc))?)?;
     }
-    assert!(rt; matches!(inputs.push(input_of(alloc, 0, 0, 0)?), Err(LimitError::OverLimit)));
+    assert!(rt;
+        matches!(
+            inputs.push(input_of(alloc, 0, 0, 0)?),
+            Err(LimitError::OverLimit)
+        )
+    );
     let output = TxOut::new(0, ByteString::new(alloc))?;
     assert!(rt; matches!(outputs.push(output), Err(LimitError::OverLimit)));
     let mut inputs = inputs.into_vec();
@@ -441,9 +472,14 @@ fn every_shape(rt: HostRuntime) -> Result<(), Fail> {
             item: 1,
             script: 22,
         };
-        let shapes = [
-            Sizes { item: n, ..plain },
-            Sizes { script: n, ..plain },
+        let lengths = [Sizes { item: n, ..plain }, Sizes { script: n, ..plain }];
+        for sizes in lengths {
+            assert!(rt; goes_round(rt.alloc(), sizes)?, "{n} bytes");
+        }
+        if n > 70 && n % 53 != 0 {
+            continue;
+        }
+        let counts = [
             Sizes { items: n, ..plain },
             Sizes {
                 inputs: n,
@@ -457,8 +493,8 @@ fn every_shape(rt: HostRuntime) -> Result<(), Fail> {
                 ..plain
             },
         ];
-        for sizes in shapes {
-            assert!(rt; goes_round(rt.alloc(), sizes)?, "{n}");
+        for sizes in counts {
+            assert!(rt; goes_round(rt.alloc(), sizes)?, "{n} elements");
         }
     }
     Ok(())
@@ -496,7 +532,12 @@ fn outpoints_in_order(rt: HostRuntime) {
         txid[31] = last;
         OutPoint { txid, index }
     };
-    let rising = [point(0, 1, 9), point(0, 2, 0), point(0, 2, 256), point(1, 0, 0)];
+    let rising = [
+        point(0, 1, 9),
+        point(0, 2, 0),
+        point(0, 2, 256),
+        point(1, 0, 0),
+    ];
     for (i, a) in rising.iter().enumerate() {
         for (j, b) in rising.iter().enumerate() {
             assert_eq!(rt; a < b, i < j);
