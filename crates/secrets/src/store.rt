@@ -1,4 +1,4 @@
-// The compact store of per-commitment secrets (BOLT 3, "Efficient Per-commitment Secret Storage").
+//! The compact store of per-commitment secrets (BOLT 3, "Efficient Per-commitment Secret Storage").
 
 ghost use Rattle.std.specs.Prelude.{◌≡◌, ℕ, ◌+◌, ◌≤◌, ◌<◌, ◌^◌, ◌↔◌, List, [], ◌∷◌, ◌++◌, IsTrue, IsOk, IsErrOf, OnOk, OnErr, length, slice_get};
 ghost use Rattle.std.specs.Int.Count.{count_trailing_zeros};
@@ -7,38 +7,14 @@ ghost use Rattle.secrets.specs.Derivation.{flipped, commitment_secret};
 ghost use Rattle.secrets.specs.Inserted.{inserted_at, IsNext, LeadsTo, AreOfSeed};
 
 use crate::derivation::{INDEX_BITS, derive, hash_flipped};
+use crate::errors::StoreError;
 use std::marker::Model;
-use thiserror::Error;
 
 /// How many secrets a store keeps: one for each count of trailing zeros that an index can have.
 const BUCKETS: usize = INDEX_BITS + 1;
 
 /// One more than the greatest index.
 const INDEX_END: u64 = 1 << INDEX_BITS;
-
-/// Why a store refuses a secret. Each is numbered as `number` says.
-#[derive(Clone, Copy, Debug, Drop, Error, PartialEq, Eq)]
-pub enum StoreError {
-    /// 1: the index is not the next one.
-    #[error("OutOfTurn")]
-    OutOfTurn,
-    /// 2: a stored secret is not derived from this one.
-    #[error("NotOfThisSeed")]
-    NotOfThisSeed,
-}
-
-impl StoreError {
-    /// The number of the refusal. No refusal is for running out of memory, which would be 0.
-    pub fn number(&self) -> u8
-        ensures out_of_turn { self.now ≡ StoreError.OutOfTurn → result ≡ 1 }
-        ensures not_of_this_seed { self.now ≡ StoreError.NotOfThisSeed → result ≡ 2 }
-    {
-        match self {
-            StoreError::OutOfTurn => 1,
-            StoreError::NotOfThisSeed => 2,
-        }
-    }
-}
 
 /// The secrets of one seed, inserted by falling index from 2^48 - 1, in 49 buckets of 32 bytes.
 ///
@@ -71,6 +47,16 @@ impl Store {
         Store {
             lowest: INDEX_END,
             entries: [[0; 32]; BUCKETS],
+        }
+    }
+
+    /// An equal store. It takes no memory.
+    pub fn copy(&self) -> Store
+        ensures { result ≡ self.now }
+    {
+        Store {
+            lowest: self.lowest,
+            entries: self.entries,
         }
     }
 
