@@ -1,8 +1,8 @@
 use crate::errors::AcceptError;
 use crate::judging::{first_unmet, is_program};
-use crate::parts::{Key, Slot, WitnessItem};
+use crate::parts::{Slot, WitnessItem};
 use crate::showing::shown;
-use crate::{OutPoint, Place, Shell, accept};
+use crate::{Key, OutPoint, Place, Shell, accept};
 use digest::{hash160, sha256};
 use facts::{Fact, KeySource, Stated};
 use paths::check;
