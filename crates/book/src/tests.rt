@@ -4,7 +4,8 @@ use crate::history::{Book, Entry};
 use claim::{Claim, Key, OutPoint, Place, Shell, Slot, WitnessItem, accept};
 use digest::sha256;
 use paths::check;
-use script::{Item, Script};
+use lists::ByteString;
+use script::Script;
 use std::alloc::Global;
 use std::test::Fail;
 
@@ -23,7 +24,7 @@ fn penalty(alloc: Global, index: u32) -> Result<Claim, Fail> {
     let checked = check(alloc, script)?;
     let mut key = [0x11; 33];
     key[0] = 2;
-    let Ok(one) = WitnessItem::new(Item::from_slice(alloc, &[1])?) else {
+    let Ok(one) = WitnessItem::new(ByteString::from_slice(alloc, &[1])?) else {
         return Err(Fail::from("too long"));
     };
     let mut slots = Vec::new(alloc);
@@ -37,7 +38,7 @@ fn penalty(alloc: Global, index: u32) -> Result<Claim, Fail> {
             index,
         },
         value: 10_000,
-        program: Item::from_vec(program),
+        program: ByteString::from_vec(program),
     };
     Ok(accept(alloc, checked, 0, slots, place, Shell::Open)?)
 }

@@ -1,16 +1,18 @@
 // What a claim is made of.
 
 ghost use Rattle.std.specs.Prelude.{◌≡◌, ◌≤◌, ◌<◌, length, MatchResult};
+ghost use Rattle.script.specs.Limits.{max_element_size};
 
 use keys::Key;
-use script::Item;
+use lists::ByteString;
+use script::limits::MAX_SCRIPT_ELEMENT_SIZE;
 use tx::OutPoint;
 
 /// An item that a witness may hold: at most 520 bytes.
 #[derive(Debug, Drop)]
 pub struct WitnessItem {
-    pub item: Item,
-    ghost short: { length item ≤ 520 },
+    pub item: ByteString,
+    ghost short: { length item ≤ max_element_size },
 }
 
 /// How a claim fills a slot of its path.
@@ -29,7 +31,7 @@ pub enum Slot {
 pub struct Place {
     pub outpoint: OutPoint,
     pub value: u64,
-    pub program: Item,
+    pub program: ByteString,
 }
 
 /// The transaction round a claim.
@@ -41,10 +43,10 @@ pub enum Shell {
 
 impl WitnessItem {
     /// The item, or back again where it has more than 520 bytes.
-    pub fn new(item: Item) -> Result<Self, Item>
-        ensures { MatchResult result (λ w. w.item ≡ item) (λ i. (i ≡ item) × (520 < length item)) }
+    pub fn new(item: ByteString) -> Result<Self, ByteString>
+        ensures { MatchResult result (λ w. w.item ≡ item) (λ i. (i ≡ item) × (MAX_SCRIPT_ELEMENT_SIZE < length item)) }
     {
-        if item.len() > 520 {
+        if item.len() > MAX_SCRIPT_ELEMENT_SIZE {
             return Err(item);
         }
         Ok(WitnessItem { item })
