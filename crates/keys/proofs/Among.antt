@@ -99,8 +99,8 @@ flat_among f q (y ∷ ys) e =
     elim (or_cases (is_among q (f y)) (is_among q (flat_map f ys)) (sym (is_among-append q (f y) (flat_map f ys)) ∙ e)) [
       | inl a ↦ (y, Contains-append_left (y ∷ []) ys y (Contains-push [] y), a)
       | inr b ↦
-        let r = flat_among f q ys b in
-        (r.0, Contains-append_right (y ∷ []) ys r.0 r.1, r.2)
+          let r = flat_among f q ys b in
+          (r.0, Contains-append_right (y ∷ []) ys r.0 r.1, r.2)
     ]
 
 same : (k q : List ℕ) → q ≡ k → bytes_eq k q ≡ true
@@ -124,4 +124,4 @@ one_of f q b others e next =
 pub each_among : (f : Base → List ℕ) (q : List ℕ) → is_among q (at_each f) ≡ true → (b : Base) × (q ≡ f b)
 each_among f q e =
     one_of f q Funding _ e (λ r.
-      one_of f q Payment _ r (λ s. one_of f q Delayed _ s (λ t. one_of f q Htlc _ t (λ u. one_of f q Revocation _ u (λ v. absurd (false≢true v))))))
+    one_of f q Payment _ r (λ s. one_of f q Delayed _ s (λ t. one_of f q Htlc _ t (λ u. one_of f q Revocation _ u (λ v. absurd (false≢true v))))))

@@ -44,12 +44,12 @@ right_kept r key (derived b p h e) =
     let ps : List (List ℕ) = flat_map (keys_at r.seed) r.points in
     let ss : List (List ℕ) = flat_map (λ s. revocations_at r.seed (point_of s)) r.secrets in
     inr (is_among-append key ps ss
-        ∙ here (is_among key ps) (is_among key ss) (among_flat (keys_at r.seed) key r.points p h (among_each (λ b. derived_key (base_key r.seed b) p) b key e)))
+    ∙ here (is_among key ps) (is_among key ss) (among_flat (keys_at r.seed) key r.points p h (among_each (λ b. derived_key (base_key r.seed b) p) b key e)))
 right_kept r key (revoked b s h e) =
     let ps : List (List ℕ) = flat_map (keys_at r.seed) r.points in
     let ss : List (List ℕ) = flat_map (λ s. revocations_at r.seed (point_of s)) r.secrets in
     inr (is_among-append key ps ss
-        ∙ there (is_among key ps) (is_among key ss) (among_flat (λ s. revocations_at r.seed (point_of s)) key r.secrets s h (among_each (λ b. revocation_key (base_key r.seed b) (point_of s)) b key e)))
+    ∙ there (is_among key ps) (is_among key ss) (among_flat (λ s. revocations_at r.seed (point_of s)) key r.secrets s h (among_each (λ b. revocation_key (base_key r.seed b) (point_of s)) b key e)))
 
 -- the look-up answers for a key that is a base key
 pub signs_own : (r : Rights) (seed : List ℕ) (points secrets : List (List ℕ)) (key : List ℕ) (own_one : Bool) → record { seed = seed; points = points; secrets = secrets } ≡ r → own_one ≡ is_among key (base_keys seed) → own_one ≡ true → (IsTrue own_one → MaySign r key) × (MaySign r key → IsTrue own_one)
@@ -60,6 +60,7 @@ signs_own r seed points secrets key own_one v e t =
 pub signs_learnt : (r : Rights) (seed : List ℕ) (points secrets : List (List ℕ)) (key : List ℕ) (own_one learnt : Bool) → record { seed = seed; points = points; secrets = secrets } ≡ r → own_one ≡ is_among key (base_keys seed) → own_one ≡ false → learnt ≡ is_among key (learnt_keys seed points secrets) → (IsTrue learnt → MaySign r key) × (MaySign r key → IsTrue learnt)
 signs_learnt r seed points secrets key own_one learnt v e f l =
     let base_is : is_among key (base_keys r.seed) ≡ false = ap (λ (x : Rights). is_among key (base_keys x.seed)) (sym v) ∙ sym e ∙ f in
-    let learnt_is : is_among key (learnt_keys r.seed r.points r.secrets) ≡ learnt = ap (λ (x : Rights). is_among key (learnt_keys x.seed x.points x.secrets)) (sym v) ∙ sym l in
-    (λ t. learnt_right r key (learnt_is ∙ t),
-      λ m. elim (right_kept r key m) [ inl a ↦ absurd (false≢true (sym base_is ∙ a)) | inr b ↦ sym learnt_is ∙ b ])
+    let learnt_is : is_among key (learnt_keys r.seed r.points r.secrets) ≡ learnt = ap (λ (x : Rights). is_among key (learnt_keys x.seed x.points x.secrets)) (sym v) ∙ sym l in (
+      λ t. learnt_right r key (learnt_is ∙ t),
+      λ m. elim (right_kept r key m) [ inl a ↦ absurd (false≢true (sym base_is ∙ a)) | inr b ↦ sym learnt_is ∙ b ],
+    )

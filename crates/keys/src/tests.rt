@@ -74,7 +74,9 @@ fn some_secret() -> [u8; 32] {
 
 /// How many of the keys the signer may sign for.
 fn signable(rt: &impl Abort, signer: &Signer, keys: &[&str]) -> usize {
-    keys.iter().filter(|k| signer.can_sign(&key(rt, **k))).count()
+    keys.iter()
+        .filter(|k| signer.can_sign(&key(rt, **k)))
+        .count()
 }
 
 #[test]
@@ -86,8 +88,16 @@ fn derives_the_keys_that_hashlib_gives(rt: HostRuntime) {
         let base_key = signer.base(*base);
         assert_eq!(rt; usize::from(base.number()), n);
         assert_eq!(rt; base_key, key(&rt, BASE_KEYS[n]), "base {n}");
-        assert_eq!(rt; derive(&base_key, &some_point(&rt)), key(&rt, DERIVED[n]), "base {n}");
-        assert_eq!(rt; revocation(&base_key, &secret_point), key(&rt, REVOCATIONS[n]), "base {n}");
+        assert_eq!(rt;
+            derive(&base_key, &some_point(&rt)),
+            key(&rt, DERIVED[n]),
+            "base {n}"
+        );
+        assert_eq!(rt;
+            revocation(&base_key, &secret_point),
+            key(&rt, REVOCATIONS[n]),
+            "base {n}"
+        );
     }
     let seed = <[u8; 32] as FromHex>::from_hex(COMMITMENT_SEED).expect(&rt, "64 hex digits");
     assert_eq!(rt; signer.commitment_seed(), seed);
@@ -95,7 +105,14 @@ fn derives_the_keys_that_hashlib_gives(rt: HostRuntime) {
 
 #[test]
 fn reads_keys_of_their_form_alone(rt: HostRuntime) {
-    for (first, is_key) in [(0, false), (1, false), (2, true), (3, true), (4, false), (255, false)] {
+    for (first, is_key) in [
+        (0, false),
+        (1, false),
+        (2, true),
+        (3, true),
+        (4, false),
+        (255, false),
+    ] {
         let mut bytes = [0x11; 33];
         bytes[0] = first;
         assert_eq!(rt; Key::read(&bytes).is_some(), is_key, "first byte {first}");
@@ -126,38 +143,50 @@ fn gives_the_token_or_the_refusal(rt: HostRuntime) -> Result<(), Fail> {
     let digest = [0x77; 32];
     let mut signer = Signer::new(rt.alloc(), &SEED);
     let own = key(&rt, BASE_KEYS[3]);
-    assert_eq!(rt; signer.sign(&own, &digest), Ok(Token::new(&own.bytes, &digest)));
+    assert_eq!(rt;
+        signer.sign(&own, &digest),
+        Ok(Token::new(&own.bytes, &digest))
+    );
     let revoked = key(&rt, REVOCATIONS[4]);
     assert_eq!(rt; signer.sign(&revoked, &digest), Err(SignError::NoRight));
     signer.learn_secret(&some_secret())?;
-    assert_eq!(rt; signer.sign(&revoked, &digest), Ok(Token::new(&revoked.bytes, &digest)));
+    assert_eq!(rt;
+        signer.sign(&revoked, &digest),
+        Ok(Token::new(&revoked.bytes, &digest))
+    );
     Ok(())
 }
 
-/// A point, another for each number.
-fn numbered_point(number: u16) -> Key {
+/// A secret, another for each number.
+fn numbered_secret(number: u16) -> [u8; 32] {
     let mut secret = [0x44; 32];
     secret[..2].copy_from_slice(&number.to_be_bytes());
-    point(&secret)
+    secret
 }
 
 #[test]
 fn learns_many_and_forgets_none(rt: HostRuntime) -> Result<(), Fail> {
     let mut signer = Signer::new(rt.alloc(), &SEED);
-    for number in 0..600 {
-        signer.learn_point(&numbered_point(number))?;
-        signer.learn_secret(&[number as u8; 32])?;
+    for number in 0..300 {
+        let secret = numbered_secret(number);
+        signer.learn_point(&point(&secret))?;
+        signer.learn_secret(&secret)?;
     }
-    for number in 0..600 {
+    for number in 0..300 {
+        let learnt = point(&numbered_secret(number));
         for base in BASES {
-            let derived = derive(&signer.base(base), &numbered_point(number));
-            assert!(rt; signer.can_sign(&derived), "point {number}");
-            let revoked = revocation(&signer.base(base), &point(&[number as u8; 32]));
-            assert!(rt; signer.can_sign(&revoked), "secret {number}");
+            let key = signer.base(base);
+            assert!(rt; signer.can_sign(&derive(&key, &learnt)), "point {number}");
+            assert!(rt;
+                signer.can_sign(&revocation(&key, &learnt)),
+                "secret {number}"
+            );
         }
     }
-    let other = derive(&signer.base(Base::Htlc), &numbered_point(600));
-    assert!(rt; !signer.can_sign(&other));
+    let other = point(&numbered_secret(300));
+    let key = signer.base(Base::Htlc);
+    assert!(rt; !signer.can_sign(&derive(&key, &other)));
+    assert!(rt; !signer.can_sign(&revocation(&key, &other)));
     Ok(())
 }
 
@@ -206,6 +235,9 @@ fn sign_delayed(
 #[test]
 fn signs_with_a_delayed_key(rt: HostRuntime) -> Result<(), Fail> {
     let token = sign_delayed(rt.alloc(), &SEED, &some_point(&rt), &[9; 32])?;
-    assert_eq!(rt; token, Some(Token::new(&key(&rt, DERIVED[2]).bytes, &[9; 32])));
+    assert_eq!(rt;
+        token,
+        Some(Token::new(&key(&rt, DERIVED[2]).bytes, &[9; 32]))
+    );
     Ok(())
 }
