@@ -1,9 +1,8 @@
 -- What the signer's look-up decides: whether it may sign.
-use Rattle.std.proofs.Common.{◌≡◌, ℕ, ◌⊎◌, inl, inr, Bool, true, false, ◌||◌, List, ◌++◌, sym, ap, ◌∙◌, refl}
-use Rattle.std.specs.Prelude.{IsTrue, Contains}
+use Rattle.std.proofs.Common.{◌≡◌, ℕ, ◌⊎◌, inl, inr, Bool, true, false, List, sym, ap, ◌∙◌}
+use Rattle.std.specs.Prelude.{IsTrue}
 use Rattle.std.specs.List.{flat_map}
 use Rattle.std.proofs.lemmas.Bool.{or_cases, false≢true}
-use Rattle.keys.specs.declared.bases.Base.{Base}
 use Rattle.keys.specs.Derivation.{point_of, derived_key, revocation_key, base_key}
 use Rattle.keys.specs.Rights.{Rights, MaySign}
 use Rattle.keys.specs.Rights.MaySign.{own, derived, revoked}
