@@ -24,5 +24,7 @@ mod tests;
 pub use accepting::accept;
 pub use claims::Claim;
 pub use errors::AcceptError;
-pub use parts::{Key, Place, Shell, Slot, WitnessItem};
+/// A compressed public key. It stands in the crate `keys`.
+pub use keys::Key;
+pub use parts::{Place, Shell, Slot, WitnessItem};
 pub use tx::OutPoint;
