@@ -3,8 +3,8 @@
 use crate::history::{Book, Entry};
 use claim::{Claim, Key, OutPoint, Place, Shell, Slot, WitnessItem, accept};
 use digest::sha256;
-use paths::check;
 use lists::ByteString;
+use paths::check;
 use script::Script;
 use std::alloc::Global;
 use std::test::Fail;

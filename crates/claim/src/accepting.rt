@@ -1,13 +1,13 @@
 // The call that accepts claims.
 
 ghost use Rattle.std.specs.Prelude.{◌≡◌, MatchResult, IfOk};
-ghost use Rattle.claim.specs.Judging.{judged};
+ghost use Rattle.claim.specs.Judgement.{judgement_of};
 ghost use Rattle.claim.specs.Claims.{IsClaimOf, IsOpening};
 ghost use Rattle.claim.specs.Fitting.{IsRefusal};
 
 use crate::claims::Claim;
 use crate::errors::AcceptError;
-use crate::judging::judge;
+use crate::judgement::judge;
 use crate::parts::{Place, Shell, Slot};
 use lists::List;
 use paths::Checked;
@@ -24,7 +24,7 @@ pub fn accept(
     place: Place,
     shell: Shell,
 ) -> Result<Claim, AcceptError>
-    ensures accepted { MatchResult result (IsClaimOf checked path slots.items place shell) (IsRefusal (judged checked path slots.items place)) }
+    ensures accepted { MatchResult result (IsClaimOf checked path slots.items place shell) (IsRefusal (judgement_of checked path slots.items place)) }
     ensures opens { IfOk result IsOpening }
 {
     match judge(alloc, &checked, path, slots.as_slice(), &place) {

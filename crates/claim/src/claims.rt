@@ -1,7 +1,7 @@
 // Claims.
 
 ghost use Rattle.std.specs.Prelude.{◌≡◌, ◌<◌, length, slice_index_or, IsTrue, is_ok};
-ghost use Rattle.claim.specs.Judging.{judged};
+ghost use Rattle.claim.specs.Judgement.{judgement_of};
 
 use crate::parts::{Place, Shell, Slot};
 use lists::List;
@@ -17,7 +17,7 @@ pub struct Claim {
     slots: List<Slot>,
     place: Place,
     shell: Shell,
-    ghost accepted: { IsTrue (is_ok (judged checked index slots place)) },
+    ghost accepted: { IsTrue (is_ok (judgement_of checked index slots place)) },
 }
 
 // The path at an index.
@@ -29,7 +29,7 @@ fn path_at(paths: &[Path], index: usize) -> &Path
 }
 
 impl Claim {
-    ghost use Rattle.claim.specs.Judging.{height_of, age_of};
+    ghost use Rattle.claim.specs.Judgement.{height_of, age_of};
     ghost use Rattle.claim.specs.Claims.{IsClaimOf, IsOpening, path_of};
     ghost use Rattle.paths.specs.Sound.{IsSound};
 
@@ -41,7 +41,7 @@ impl Claim {
         place: Place,
         shell: Shell,
     ) -> Claim
-        requires { IsTrue (is_ok (judged checked index slots place)) }
+        requires { IsTrue (is_ok (judgement_of checked index slots place)) }
         ensures { IsClaimOf checked index slots place shell result }
     {
         Claim {

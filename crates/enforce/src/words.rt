@@ -40,7 +40,7 @@ pub fn refuse_words<E: Write>(err: &mut E) -> u8
     written(err, USAGE, 2)
 }
 
-/// Answers want of memory.
+/// Answers that memory ran out.
 pub fn refuse_memory<W: Write>(out: &mut W) -> u8
     ensures { result ≤ 2 }
 {

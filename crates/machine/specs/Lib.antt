@@ -1,5 +1,5 @@
 pub mod Outcomes
-pub mod Places
+pub mod Skips
 pub mod Doings
 pub mod Passing
 pub mod Stopping

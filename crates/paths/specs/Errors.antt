@@ -3,10 +3,10 @@ use Rattle.std.specs.Prelude.{ℕ}
 use Rattle.paths.specs.declared.errors.CheckError.{CheckError}
 use Rattle.paths.specs.declared.errors.CheckError.TheVariants.{NoMemory, OpenBranch, TooManyOps, Undecided, TooManyPaths, TooTall}
 
-abbrev pub number_of : CheckError → ℕ
-number_of NoMemory = 0
-number_of OpenBranch = 1
-number_of TooManyOps = 2
-number_of (Undecided at) = 3
-number_of TooManyPaths = 4
-number_of TooTall = 5
+abbrev pub refusal_number : CheckError → ℕ
+refusal_number NoMemory = 0
+refusal_number OpenBranch = 1
+refusal_number TooManyOps = 2
+refusal_number (Undecided at) = 3
+refusal_number TooManyPaths = 4
+refusal_number TooTall = 5

@@ -227,3 +227,13 @@ fn lists_the_paths_of_a_received_htlc(rt: HostRuntime) -> Result<(), Fail> {
     );
     Ok(())
 }
+
+// The example of the crate's page.
+#[test]
+fn lists_the_way_through_a_checksig(rt: HostRuntime) -> Result<(), Fail> {
+    let alloc = rt.alloc();
+    let checked = check(alloc, Script::parse(alloc, &[0xac])?)?;
+    assert_eq!(rt; checked.paths().len(), 1);
+    assert_eq!(rt; checked.paths()[0].arity, 2);
+    Ok(())
+}

@@ -87,8 +87,8 @@ Refuses first after at (Truncated k) = (k ≡ at) × (first ≤ 75) × (length a
 Refuses first after at TooLong = ⊥
 
 -- the numbers of the refusals
-abbrev pub number_of_error : ParseError → ℕ
-number_of_error NoMemory = 0
-number_of_error (BadOpcode at) = 1
-number_of_error (Truncated at) = 2
-number_of_error TooLong = 3
+abbrev pub refusal_number : ParseError → ℕ
+refusal_number NoMemory = 0
+refusal_number (BadOpcode at) = 1
+refusal_number (Truncated at) = 2
+refusal_number TooLong = 3

@@ -1,6 +1,7 @@
 //! What no clause says: every byte of the table of opcodes, every printed name, and that memory which is there is found.
 
-use crate::{Cause, Item, Kind, Op, ParseError, Pile, Row, Script, num};
+use crate::{Cause, Kind, Op, ParseError, Script, num};
+use lists::{ByteString, List, Stack};
 use std::alloc::{AllocError, Global};
 use std::test::Fail;
 
@@ -33,7 +34,7 @@ fn reads_the_opcodes_of_the_table_alone(rt: HostRuntime) -> Result<(), Fail> {
                 );
                 let pushed = if byte <= 0x4b { byte as usize } else { 0 };
                 assert_eq!(rt; script.ops().len() + pushed, 76);
-                let copy = script.copy(alloc)?;
+                let copy = script.copy()?;
                 assert_eq!(rt; copy.bytes(), bytes.as_slice());
                 assert_eq!(rt; copy.ops().len() + pushed, 76);
                 let first = copy.ops().first();
@@ -56,14 +57,14 @@ fn reads_the_opcodes_of_the_table_alone(rt: HostRuntime) -> Result<(), Fail> {
 #[test]
 fn finds_memory_for_every_length(rt: HostRuntime) -> Result<(), Fail> {
     let alloc = rt.alloc();
-    let mut pile = Pile::new(alloc);
-    let mut row = Row::new(alloc);
+    let mut pile = Stack::new(alloc);
+    let mut row = List::new(alloc);
     for len in 0usize..=600 {
         let bytes = pattern(alloc, len)?;
-        let item = Item::from_slice(alloc, &bytes)?;
+        let item = ByteString::from_slice(alloc, &bytes)?;
         assert_eq!(rt; item.bytes(), bytes.as_slice());
-        assert_eq!(rt; item.copy(alloc)?.bytes(), bytes.as_slice());
-        let push = Op::Push(item).copy(alloc)?;
+        assert_eq!(rt; item.copy()?.bytes(), bytes.as_slice());
+        let push = Op::Push(item).copy()?;
         assert_eq!(rt; push.payload_len(), len);
         pile.push(len)?;
         row.push(len)?;
@@ -72,13 +73,13 @@ fn finds_memory_for_every_length(rt: HostRuntime) -> Result<(), Fail> {
     assert_eq!(rt; row.len(), 601);
     for len in (0usize..=10_000).step_by(613) {
         let bytes = vec![in alloc; 0x51u8; len]?;
-        let script = Script::parse(alloc, &bytes)?.copy(alloc)?;
+        let script = Script::parse(alloc, &bytes)?.copy()?;
         assert_eq!(rt; script.bytes(), bytes.as_slice());
         assert_eq!(rt; script.ops().len(), len);
     }
     for n in (0u32..=0xffff_0000).step_by(0x0fff_f123) {
         for low in [0, 1, 127, 128, 255, 256, 0x7fff, 0x8000, 0xffff] {
-            let item = num::write(alloc, n.saturating_add(low))?;
+            let item = num::write(alloc, u64::from(n.saturating_add(low)))?;
             assert!(rt; item.len() <= 5);
         }
     }
@@ -138,5 +139,16 @@ fn prints_every_name(rt: HostRuntime) -> Result<(), Fail> {
         assert_eq!(rt; format!(in alloc; "{refusal}")?.as_str(), text);
         assert_eq!(rt; refusal.number(), number);
     }
+    Ok(())
+}
+
+// The example of the crate's page.
+#[test]
+fn reads_opcodes(rt: HostRuntime) -> Result<(), Fail> {
+    let alloc = rt.alloc();
+    let script = Script::parse(alloc, &[0x52, 0x75, 0xac])?;
+    assert_eq!(rt; script.ops().len(), 3);
+    assert_eq!(rt; script.counted(), 2);
+    assert!(rt; Script::parse(alloc, &[0xff]).is_err());
     Ok(())
 }

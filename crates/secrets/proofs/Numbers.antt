@@ -65,7 +65,7 @@ floor_below_odd x b c r h small =
     let m : (q / w * 2 ^ d * 2 + 1) * 2 ^ b ≤ q * 2 ^ b = mul-le-mul_right (2 ^ b) lt in
     omega (arith, f, m, pow_pos b)
 
--- behind these, the next floor is above it
+-- after these, the next floor is above it
 pub floor_above_odd : (x b j : ℕ) → 2 * x + 1 < j / 2 ^ b → (2 * x + 1) * 2 ^ b + 1 ≤ floor_of (suc b) j
 floor_above_odd x b j h =
     let g = j / 2 ^ b in

@@ -28,7 +28,7 @@ pub enum StoreError {
 }
 
 impl StoreError {
-    /// The number of the refusal. No refusal is for want of memory, which would be 0.
+    /// The number of the refusal. No refusal is for running out of memory, which would be 0.
     pub fn number(&self) -> u8
         ensures out_of_turn { self.now ≡ StoreError.OutOfTurn → result ≡ 1 }
         ensures not_of_this_seed { self.now ≡ StoreError.NotOfThisSeed → result ≡ 2 }

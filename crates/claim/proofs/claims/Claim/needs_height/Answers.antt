@@ -1,5 +1,5 @@
 use Rattle.std.proofs.Common.{◌≡◌, ◌<◌, ap, sym, subst, ◌∙◌}
-use Rattle.claim.specs.Judging.{height_of}
+use Rattle.claim.specs.Judgement.{height_of}
 use Rattle.claim.specs.Claims.{path_of}
 use Rattle.claim.proofs.Judged.{accepted-low}
 use Rattle.claim.proofs.claims.Claim.needs_height.Goals as goal
