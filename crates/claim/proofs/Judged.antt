@@ -17,7 +17,6 @@ use Rattle.claim.specs.declared.errors.AcceptError.TheVariants.{NoSuchPath}
 use Rattle.claim.specs.Evidence.{evidence_of}
 use Rattle.claim.specs.Fitting.{IsRefusal, Opens}
 use Rattle.claim.specs.Judgement.{has_polarity, is_met, first_unmet_or, judgement_of_path, judgement_of, height_of}
-use Rattle.claim.specs.Claims.{path_or}
 use Rattle.claim.proofs.Meeting.{met_by, judgement_of-ok, judgement_of-opens, sound-at}
 
 pub judgement_of-some : (ways : CheckedScript) (index : ℕ) (slots : List Slot) (place : Place) (p : Path) → slice_get ways.paths index ≡ Some p → judgement_of ways index slots place ≡ judgement_of_path (spelling ways.ops) slots place.program p
@@ -28,25 +27,29 @@ pub judgement_of-none : (ways : CheckedScript) (index : ℕ) (slots : List Slot)
 unfolding judgement_of
 judgement_of-none ways index slots place e = rw e refl
 
-ok-path : (r : Result Path AcceptError) → is_ok r ≡ true → r ≡ Ok (path_or r)
-ok-path (Ok p) e = refl
+ok-path : (r : Result Path AcceptError) → is_ok r ≡ true → (p : Path) × (r ≡ Ok p)
+ok-path (Ok p) e = (p, refl)
 ok-path (Err c) e = absurd (false≢true e)
 
 pub accepted-within : (ways : CheckedScript) (index : ℕ) (slots : List Slot) (place : Place) → is_ok (judgement_of ways index slots place) ≡ true → index < length ways.paths
-accepted-within ways index slots place e = slice_get_within ways.paths index (path_or (judgement_of ways index slots place)) (judgement_of-ok ways index slots place _ (ok-path (judgement_of ways index slots place) e)).place
+accepted-within ways index slots place e =
+    let o = ok-path (judgement_of ways index slots place) e in
+    slice_get_within ways.paths index o.0 (judgement_of-ok ways index slots place o.0 o.1).place
 
-pub accepted-path : (ways : CheckedScript) (index : ℕ) (slots : List Slot) (place : Place) (d : Path) → is_ok (judgement_of ways index slots place) ≡ true → get_or ways.paths index d ≡ path_or (judgement_of ways index slots place)
-accepted-path ways index slots place d e = get_or_from_slice_get ways.paths index (path_or (judgement_of ways index slots place)) d (judgement_of-ok ways index slots place _ (ok-path (judgement_of ways index slots place) e)).place
-
-pub accepted-opens : (ways : CheckedScript) (index : ℕ) (slots : List Slot) (place : Place) → All (IsSound ways.ops) ways.paths → is_ok (judgement_of ways index slots place) ≡ true → Opens ways.ops (path_or (judgement_of ways index slots place)) slots
-accepted-opens ways index slots place all e = judgement_of-opens ways index slots place (path_or (judgement_of ways index slots place)) all (ok-path (judgement_of ways index slots place) e)
+-- a claim takes one path
+pub one-path : (r : Result Path AcceptError) (p q : Path) → r ≡ Ok p → r ≡ Ok q → p ≡ q
+one-path r p q e g = cc
 
 -- where the paths were read
 pub path-within : (ways : CheckedScript) (index : ℕ) (slots : List Slot) (place : Place) (ps : List Path) → ps ≡ ways.paths → is_ok (judgement_of ways index slots place) ≡ true → index < length ps
 path-within ways index slots place ps e a = subst (λ l. index < length l) (sym e) (accepted-within ways index slots place a)
 
-pub path-here : (ways : CheckedScript) (index : ℕ) (slots : List Slot) (place : Place) (ps : List Path) (d : Path) → ps ≡ ways.paths → d ≡ get_or ps index d → is_ok (judgement_of ways index slots place) ≡ true → d ≡ path_or (judgement_of ways index slots place)
-path-here ways index slots place ps d e g a = g ∙ ap (λ l. get_or l index d) e ∙ accepted-path ways index slots place d a
+pub path-here : (ways : CheckedScript) (index : ℕ) (slots : List Slot) (place : Place) (ps : List Path) (d : Path) → ps ≡ ways.paths → d ≡ get_or ps index d → is_ok (judgement_of ways index slots place) ≡ true → judgement_of ways index slots place ≡ Ok d
+path-here ways index slots place ps d e g a =
+    let o = ok-path (judgement_of ways index slots place) a in
+    let at : slice_get ways.paths index ≡ Some o.0 = (judgement_of-ok ways index slots place o.0 o.1).place in
+    let same : d ≡ o.0 = g ∙ ap (λ l. get_or l index d) e ∙ get_or_from_slice_get ways.paths index o.0 d at in
+    o.1 ∙ ap Ok (sym same)
 
 pub path-got : (ways : CheckedScript) (ps : List Path) (i : ℕ) (p : Path) → ps ≡ ways.paths → i < length ps → p ≡ get_or ps i p → slice_get ways.paths i ≡ Some p
 path-got ways ps i p e h g = ap (λ l. slice_get l i) (sym e) ∙ slice_get_read ps (length ps) i p refl h g
@@ -62,12 +65,15 @@ pub judgement_of-from : {A : Type 0} (ways : CheckedScript) (index : ℕ) (slots
 judgement_of-from ways index slots place p script program (Ok x) at e f h = ap is_ok (judgement_of-same ways index slots place p script program at e f ∙ h)
 judgement_of-from ways index slots place p script program (Err c) at e f h = subst (λ j. IsRefusal j c) (sym (judgement_of-same ways index slots place p script program at e f)) h
 
-pub opens-from : {A : Type 0} (ways : CheckedScript) (index : ℕ) (slots : List Slot) (place : Place) (p : Path) (script program : List ℕ) (r : Result A AcceptError) → All (IsSound ways.ops) ways.paths → slice_get ways.paths index ≡ Some p → spelling ways.ops ≡ script → program ≡ place.program → MatchResult r (λ x. judgement_of_path script slots program p ≡ Ok p) (IsRefusal (judgement_of_path script slots program p)) → IfOk r (λ x. Opens ways.ops (path_or (judgement_of ways index slots place)) slots)
-opens-from ways index slots place p script program (Ok x) all at e f h = accepted-opens ways index slots place all (ap is_ok (judgement_of-same ways index slots place p script program at e f ∙ h))
-opens-from ways index slots place p script program (Err c) all at e f h = tt
+pub accepted-opens : (ways : CheckedScript) (index : ℕ) (slots : List Slot) (place : Place) → All (IsSound ways.ops) ways.paths → (p : Path) → judgement_of ways index slots place ≡ Ok p → Opens ways.ops p slots
+accepted-opens ways index slots place all p e = judgement_of-opens ways index slots place p all e
 
-pub accepted-sound : (ways : CheckedScript) (index : ℕ) (slots : List Slot) (place : Place) → All (IsSound ways.ops) ways.paths → is_ok (judgement_of ways index slots place) ≡ true → IsSound ways.ops (path_or (judgement_of ways index slots place))
-accepted-sound ways index slots place all e = sound-at ways.ops ways.paths index (path_or (judgement_of ways index slots place)) all (judgement_of-ok ways index slots place _ (ok-path (judgement_of ways index slots place) e)).place
+pub opens-from : {A : Type 0} (ways : CheckedScript) (index : ℕ) (slots : List Slot) (place : Place) (r : Result A AcceptError) → All (IsSound ways.ops) ways.paths → IfOk r (λ x. (p : Path) → judgement_of ways index slots place ≡ Ok p → Opens ways.ops p slots)
+opens-from ways index slots place (Ok x) all = accepted-opens ways index slots place all
+opens-from ways index slots place (Err c) all = tt
+
+pub accepted-sound : (ways : CheckedScript) (index : ℕ) (slots : List Slot) (place : Place) (p : Path) → All (IsSound ways.ops) ways.paths → judgement_of ways index slots place ≡ Ok p → IsSound ways.ops p
+accepted-sound ways index slots place p all e = sound-at ways.ops ways.paths index p all (judgement_of-ok ways index slots place p e).place
 
 -- the locks that are shown are heights
 low_by : (n : ℕ) (h b : Bool) → has_polarity h (if b then Some true else None) ≡ true → b ≡ true
@@ -88,8 +94,7 @@ met-low slots (s ∷ facts) p q e =
     let w = met_by (is_met slots s) s (first_unmet_or slots facts p) q e in
     fact-low slots s.holds s.fact (greatest_lock_in facts) w.0 (met-low slots facts p q w.1)
 
-pub accepted-low : (ways : CheckedScript) (index : ℕ) (slots : List Slot) (place : Place) → IsSound ways.ops (path_or (judgement_of ways index slots place)) → is_ok (judgement_of ways index slots place) ≡ true → height_of (path_or (judgement_of ways index slots place)) < 500000000
-accepted-low ways index slots place s e =
-    let p : Path = path_or (judgement_of ways index slots place) in
-    let j = judgement_of-ok ways index slots place p (ok-path (judgement_of ways index slots place) e) in
+pub accepted-low : (ways : CheckedScript) (index : ℕ) (slots : List Slot) (place : Place) (p : Path) → IsSound ways.ops p → judgement_of ways index slots place ≡ Ok p → height_of p < 500000000
+accepted-low ways index slots place p s e =
+    let j = judgement_of-ok ways index slots place p e in
     subst (λ o. unwrap_or o 0 < 500000000) (sym s.lock) (met-low slots p.facts p p j.met)

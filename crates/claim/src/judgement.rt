@@ -7,7 +7,6 @@ ghost use Rattle.paths.specs.declared.state.Path.{Path as PathOf};
 ghost use Rattle.claim.specs.declared.errors.AcceptError.TheVariants.{Unmet};
 ghost use Rattle.claim.specs.Judgement.{script_program, key_script, is_key_program, is_program, is_met, first_unmet_or, judgement_of_path, judgement_of};
 ghost use Rattle.claim.specs.Fitting.{IsRefusal, Opens};
-ghost use Rattle.claim.specs.Claims.{path_or};
 
 use crate::errors::AcceptError;
 use crate::evidence::evidence_of;
@@ -173,7 +172,7 @@ pub(crate) fn judge(
     place: &Place,
 ) -> Result<(), AcceptError>
     ensures judgement_of { MatchResult result (λ _. IsTrue (is_ok (judgement_of checked.now index slots.now place.now))) (IsRefusal (judgement_of checked.now index slots.now place.now)) }
-    ensures opens { IfOk result (λ _. Opens checked.now.ops (path_or (judgement_of checked.now index slots.now place.now)) slots.now) }
+    ensures opens { IfOk result (λ _. (p : PathOf) → judgement_of checked.now index slots.now place.now ≡ Ok p → Opens checked.now.ops p slots.now) }
 {
     match checked.paths().get(index) {
         None => Err(AcceptError::NoSuchPath),

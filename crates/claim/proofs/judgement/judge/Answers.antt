@@ -14,6 +14,4 @@ returns-in-Some-clause-judgement_of c =
 
 pub returns-in-Some-clause-opens : goal.returns-in-Some-clause-opens
 returns-in-Some-clause-opens c =
-    opens-from c.args.checked.now c.args.index c.args.slots.now c.args.place.now c.in-Some.path.now c.bytes.result.now c.bytes-in-Some.result.now c.judge_path.result c.paths.ensures.sound
-    (path-got c.args.checked.now c.paths.result.now c.args.index c.in-Some.path.now c.paths.ensures.value c.in-Some.ensures.lookup.3.0 c.in-Some.ensures.lookup.1)
-    (ap spelling (sym c.script.ensures) ∙ c.bytes.ensures.spelt.same) c.bytes-in-Some.ensures c.judge_path.ensures
+    opens-from c.args.checked.now c.args.index c.args.slots.now c.args.place.now c.judge_path.result c.paths.ensures.sound
