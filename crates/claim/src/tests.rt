@@ -1,3 +1,5 @@
+mod shapes;
+
 use crate::errors::AcceptError;
 use crate::evidence::evidence_of;
 use crate::judgement::{first_unmet, is_program};

@@ -57,8 +57,8 @@ fn reads_the_opcodes_of_the_table_alone(rt: HostRuntime) -> Result<(), Fail> {
 #[test]
 fn finds_memory_for_every_length(rt: HostRuntime) -> Result<(), Fail> {
     let alloc = rt.alloc();
-    let mut pile = Stack::new(alloc);
-    let mut row = List::new(alloc);
+    let mut stack = Stack::new(alloc);
+    let mut list = List::new(alloc);
     for len in 0usize..=600 {
         let bytes = pattern(alloc, len)?;
         let item = ByteString::from_slice(alloc, &bytes)?;
@@ -66,11 +66,11 @@ fn finds_memory_for_every_length(rt: HostRuntime) -> Result<(), Fail> {
         assert_eq!(rt; item.copy()?.bytes(), bytes.as_slice());
         let push = Op::Push(item).copy()?;
         assert_eq!(rt; push.payload_len(), len);
-        pile.push(len)?;
-        row.push(len)?;
+        stack.push(len)?;
+        list.push(len)?;
     }
-    assert_eq!(rt; pile.len(), 601);
-    assert_eq!(rt; row.len(), 601);
+    assert_eq!(rt; stack.len(), 601);
+    assert_eq!(rt; list.len(), 601);
     for len in (0usize..=10_000).step_by(613) {
         let bytes = vec![in alloc; 0x51u8; len]?;
         let script = Script::parse(alloc, &bytes)?.copy()?;
