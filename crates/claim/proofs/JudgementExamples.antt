@@ -16,7 +16,7 @@ use Rattle.claim.specs.declared.parts.Slot.TheVariants.{Sig, Preimage, Exact}
 use Rattle.claim.specs.declared.parts.Place.{Place}
 use Rattle.claim.specs.declared.errors.AcceptError.{AcceptError}
 use Rattle.claim.specs.declared.errors.AcceptError.TheVariants.{NoMemory, NoSuchPath, WrongArity, Unmet, Contradiction, WrongProgram, WrongShell}
-use Rattle.claim.specs.Errors.{refusal_number as number_of_refusal}
+use Rattle.claim.specs.Refusals.{refusal_number as number_of_refusal}
 use Rattle.claim.specs.Judgement.{is_program, judgement_of, height_of, age_of}
 use Rattle.claim.specs.Fitting.{FillsSlot, Fits}
 

@@ -1,4 +1,4 @@
-pub mod Errors
+pub mod Refusals
 pub mod Evidence
 pub mod Judgement
 pub mod Fitting

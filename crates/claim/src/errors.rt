@@ -1,7 +1,7 @@
 // Why a claim is not accepted.
 
 ghost use Rattle.std.specs.Prelude.{◌≡◌};
-ghost use Rattle.claim.specs.Errors.{refusal_number};
+ghost use Rattle.claim.specs.Refusals.{refusal_number};
 ghost use Rattle.claim.specs.declared.errors.AcceptError.TheVariants.{NoMemory};
 
 use facts::Stated;

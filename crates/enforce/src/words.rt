@@ -20,6 +20,7 @@ pub fn run_words<R: Read, W: Write, E: Write>(
 ) -> u8
     ensures { result ≤ 2 }
 {
+    // No program of today reads its input.
     let _ = input;
     let Some(command) = Command::read(words) else {
         return refuse_words(err);

@@ -1,4 +1,5 @@
 pub mod Outcomes
+pub mod Refusals
 pub mod Skips
 pub mod Doings
 pub mod Passing

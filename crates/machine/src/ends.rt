@@ -1,7 +1,7 @@
 //! How a run ends.
 
 ghost use Rattle.std.specs.Prelude.{◌≡◌};
-ghost use Rattle.machine.specs.Outcomes.{refusal_number};
+ghost use Rattle.machine.specs.Refusals.{refusal_number};
 ghost use Rattle.machine.specs.declared.ends.Stop.TheVariants.{NoMemory};
 
 use script::Cause;

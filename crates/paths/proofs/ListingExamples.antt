@@ -10,7 +10,7 @@ use Rattle.facts.specs.declared.symbols.Stated.{Stated}
 use Rattle.paths.specs.declared.errors.CheckError.{CheckError}
 use Rattle.paths.specs.declared.errors.CheckError.TheVariants.{NoMemory, OpenBranch, TooManyOps, Undecided, TooManyPaths, TooTall}
 use Rattle.paths.specs.declared.state.Path.{Path}
-use Rattle.paths.specs.Errors.{refusal_number as number_of_refusal}
+use Rattle.paths.specs.Refusals.{refusal_number as number_of_refusal}
 use Rattle.paths.specs.Rules.{rule_of, check_multi_sig}
 use Rattle.paths.specs.Sound.{IsSound}
 use Rattle.paths.specs.Listing.{is_balanced, greatest_lock_in, greatest_age_in, listing}

@@ -1,7 +1,7 @@
 // Why a script is not listed.
 
 ghost use Rattle.std.specs.Prelude.{◌≡◌};
-ghost use Rattle.paths.specs.Errors.{refusal_number};
+ghost use Rattle.paths.specs.Refusals.{refusal_number};
 ghost use Rattle.paths.specs.declared.errors.CheckError.TheVariants.{NoMemory};
 
 use std::alloc::{AllocError, AllocFailed};

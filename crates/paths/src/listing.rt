@@ -58,6 +58,7 @@ impl Checked {
         // Nothing else opens the script.
         ensures exhaustive { IsExhaustive self.now.ops self.now.paths }
     {
+        // Borrowing both fields gives the prover the invariant, which says that these are the script's paths.
         let _script = &self.script;
         self.paths.values()
     }

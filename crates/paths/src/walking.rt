@@ -114,7 +114,7 @@ fn step(
     ensures waiting { OnOk result (All (IsWaiting counted (length ops.now)) waiting.new) }
 {
     let rest = &ops[at + 1..];
-    match successors(alloc, counted, at, &ops[at], rest, state)? {
+    match next_states(alloc, counted, at, &ops[at], rest, state)? {
         Successors::Dies => Ok(false),
         Successors::Goes => Ok(true),
         Successors::Splits(second) => {
@@ -128,7 +128,7 @@ fn step(
 }
 
 // The ways on from the opcode at this position, where `counted` opcodes of the whole script count.
-fn successors(
+fn next_states(
     alloc: Global,
     counted: usize,
     at: usize,

@@ -4,8 +4,8 @@ use Rattle.script.specs.declared.opcode.Op.TheVariants.{Push, Number, If, NotIf,
 use Rattle.script.specs.declared.parse.ParseError.TheVariants.{NoMemory, BadOpcode, Truncated, TooLong}
 use Rattle.script.specs.declared.stops.Cause.TheVariants.{MissingOperand, FailedCheck, OpenBranch, TooManyOps, StackTooTall, ItemTooLong, NotOneValue, FalseEnd}
 use Rattle.script.specs.declared.stops.Kind.TheVariants.{Verify, Sequence}
-use Rattle.script.specs.Spelling.{code_of, payload_of, IsOp, spelling, IsFault, refusal_number}
-use Rattle.script.specs.Stops.{stop_number}
+use Rattle.script.specs.Spelling.{code_of, payload_of, IsOp, spelling, IsFault}
+use Rattle.script.specs.Refusals.{refusal_number, stop_number}
 
 -- the opcodes' bytes, as Bitcoin's list of opcodes has them
 codes : map code_of (Push [] ∷ Push (9 ∷ []) ∷ Push (replicate 75 9) ∷ Number 1 ∷ Number 2 ∷ Number 16 ∷ If ∷ NotIf ∷ Else ∷ EndIf ∷ Drop ∷ Dup ∷ Swap ∷ Size ∷ Equal ∷ EqualVerify ∷ Hash160 ∷ CheckSig ∷ CheckMultiSig ∷ CheckLockTimeVerify ∷ CheckSequenceVerify ∷ []) ≡

@@ -85,10 +85,3 @@ Refuses first after at NoMemory = Unit {0}
 Refuses first after at (BadOpcode k) = (k ≡ at) × StartsNone first
 Refuses first after at (Truncated k) = (k ≡ at) × (first ≤ 75) × (length after < first)
 Refuses first after at TooLong = ⊥
-
--- the numbers of the refusals
-abbrev pub refusal_number : ParseError → ℕ
-refusal_number NoMemory = 0
-refusal_number (BadOpcode at) = 1
-refusal_number (Truncated at) = 2
-refusal_number TooLong = 3

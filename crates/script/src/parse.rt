@@ -54,7 +54,7 @@ impl Model for Script {
 
 impl ParseError {
     ghost use Rattle.std.specs.Prelude.{◌≡◌};
-    ghost use Rattle.script.specs.Spelling.{refusal_number};
+    ghost use Rattle.script.specs.Refusals.{refusal_number};
 
     /// The number of the refusal; 0 is out of memory.
     pub fn number(&self) -> u8
@@ -95,6 +95,7 @@ impl Script {
         ensures value { result.now ≡ self.now }
         ensures valid { All IsOp result.now }
     {
+        // Borrowing both fields gives the prover the script's invariant, which says that the opcodes are valid.
         let _bytes = &self.bytes;
         self.ops.as_slice()
     }

@@ -1,7 +1,7 @@
 // Why a run of a script stops before a clean end.
 
 ghost use Rattle.std.specs.Prelude.{◌≡◌};
-ghost use Rattle.script.specs.Stops.{stop_number};
+ghost use Rattle.script.specs.Refusals.{stop_number};
 
 use thiserror::Error;
 

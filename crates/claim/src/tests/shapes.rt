@@ -2,9 +2,9 @@
 
 use super::{exact, key_bytes, key_of, sig};
 use crate::errors::AcceptError;
+use crate::evidence::evidence_of;
 use crate::judgement::is_program;
 use crate::parts::{Slot, WitnessItem};
-use crate::evidence::evidence_of;
 use crate::{OutPoint, Place, Shell, accept};
 use digest::{hash160, ripemd160, sha256};
 use facts::{Fact, KeySource, Stated};
