@@ -121,7 +121,7 @@ passes_runs ops spend w counted height at op rest s z p =
       total = p.total;
       done = does.0;
       does = does.1;
-      clean = ap (λ r. onward at r go) (fits.1) ∙ arrives.2;
+      clean = ap (λ r. onward at r go) {x = Ok (record { ahead = jump_length does.0.jump rest; stack = does.0.stack; counted = k + does.0.keys; open_ifs = c.0; height = max (length w + s.excess) (length does.0.stack) })} fits.1 ∙ arrives.2;
     }
 
 place_same : (n n' : ℕ) (stack : Elements) (c c' : ℕ) (ifs : List Bool) (h h' : ℕ) → n ≡ n' → c ≡ c' → h ≡ h' → ◌≡◌ {A = RunState} (record { ahead = n; stack = stack; counted = c; open_ifs = ifs; height = h }) (record { ahead = n'; stack = stack; counted = c'; open_ifs = ifs; height = h' })

@@ -1,13 +1,14 @@
-//! The verifier: lists every way through a script, over symbols in place of the items of a witness.
+//! Lists every way in which a version 0 witness script (BIP 141) can be opened: [`check`] follows each branch over symbols, and writes down what
+//! each opcode asks of the witness and of the spend.
 //!
-//! [`check`] gives exactly the paths of the definition (`listing`), or the refusal that the rules meet first. Whatever witness meets a listed path
-//! runs clean, with the path's counted opcodes and height, and whatever runs clean meets a listed path.
+//! The list is sound and exhaustive, whatever the witness and the spend: whoever meets a listed path runs the script clean, with that path's
+//! counted opcodes and height, and whoever runs it clean meets a listed path.
 //!
-//! ```rust
-//! let script = Script::parse(alloc, &[0xac])?; // CHECKSIG, of a key and a signature that the witness brings
-//! let checked = check(alloc, script)?;
-//! assert_eq!(rt; checked.paths().len(), 1);
-//! assert_eq!(rt; checked.paths()[0].arity, 2);
+//! ```
+//! // IF 1 ELSE 2 ENDIF
+//! let script = Script::parse(rt.alloc(), &[0x63, 0x51, 0x67, 0x52, 0x68])?;
+//! let checked = check(rt.alloc(), script)?;
+//! assert_eq!(rt; checked.paths().len(), 2);
 //! ```
 #![tactic(auto)]
 
