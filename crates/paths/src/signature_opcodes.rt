@@ -39,11 +39,11 @@ fn check(state: &mut State, key: Sym, signature: Sym) -> Result<(), Halt>
         return Err(Halt::Dead);
     }
     let source = source_of(key)?;
-    sign(state, source, signature)
+    record_check(state, source, signature)
 }
 
 // Puts on top whether the signature is the token of the key.
-fn sign(state: &mut State, key: KeySource, signature: Sym) -> Result<(), Halt>
+fn record_check(state: &mut State, key: KeySource, signature: Sym) -> Result<(), Halt>
     ensures exact { Leaves IfHalts (signature_rule_of key signature state.old) state.new result }
     ensures near { OnOk result (IsNear 0 state.old state.new) }
 {
@@ -54,13 +54,13 @@ fn sign(state: &mut State, key: KeySource, signature: Sym) -> Result<(), Halt>
             put(state, Sym::Holds(Fact::Token(i, key)))?;
             Ok(())
         }
-        Sym::Const(item) => sign_known(state, &key, item),
+        Sym::Const(item) => record_known_check(state, &key, item),
         _other => Err(Halt::Undecided),
     }
 }
 
 // Puts the answer for a signature of known bytes on top: false, where there are none.
-fn sign_known(state: &mut State, key: &KeySource, signature: ByteString) -> Result<(), Halt>
+fn record_known_check(state: &mut State, key: &KeySource, signature: ByteString) -> Result<(), Halt>
     ensures exact { Leaves IfHalts (signature_rule_of key.now (Const signature) state.old) state.new result }
     ensures near { OnOk result (IsNear 0 state.old state.new) }
 {

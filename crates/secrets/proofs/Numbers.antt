@@ -5,7 +5,7 @@ use Rattle.std.specs.Int.Count.{count_trailing_zeros, under}
 use Rattle.std.proofs.lemmas.Nat.{pow_pos, pow-add, shr-shr, shr_high}
 use Rattle.std.proofs.lemmas.Nat.Bits.{bit_at_cat_low, bit_at-zero}
 use Rattle.std.proofs.Math.Nat.{pow-suc, mul_assoc, mul_comm, div-mul-le_self, mul-le-mul_right, mul-div_cancel}
-use Rattle.secrets.specs.Places.{floor_of}
+use Rattle.secrets.specs.Buckets.{floor_of}
 
 -- a power by one more, with its double
 pub doubled : (p : ℕ) → 2 ^ suc p ≡ 2 ^ p * 2

@@ -1,3 +1,3 @@
 pub mod Derivation
-pub mod Places
+pub mod Buckets
 pub mod Inserted

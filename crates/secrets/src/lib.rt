@@ -1,4 +1,4 @@
-//! The per-commitment secrets of BOLT 3: their derivation from a seed ([`from_seed`]), and their store in 49 entries ([`Store`]).
+//! The per-commitment secrets of BOLT 3: their derivation from a seed ([`from_seed`]), and their store in 49 buckets ([`Store`]).
 //!
 //! `Store::insert` is Ok exactly where the index is the next one and every secret inserted below its prefix is derived from this one;
 //! `Store::get` gives what was inserted. The tests hold BOLT 3's vectors.

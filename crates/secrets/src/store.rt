@@ -11,7 +11,7 @@ use std::marker::Model;
 use thiserror::Error;
 
 /// How many secrets a store keeps: one for each count of trailing zeros that an index can have.
-const PLACES: usize = INDEX_BITS + 1;
+const BUCKETS: usize = INDEX_BITS + 1;
 
 /// One more than the greatest index.
 const INDEX_END: u64 = 1 << INDEX_BITS;
@@ -40,20 +40,20 @@ impl StoreError {
     }
 }
 
-/// The secrets of one seed, inserted by falling index from 2^48 - 1, in 49 places of 32 bytes.
+/// The secrets of one seed, inserted by falling index from 2^48 - 1, in 49 buckets of 32 bytes.
 ///
 /// In clauses it is the list of all secrets inserted, the secret of index 2^48 - 1 first.
 #[derive(Drop)]
 pub struct Store {
     // the lowest index inserted, or 2^48
     lowest: u64,
-    // at place b, the last secret inserted whose index has b trailing zeros
-    entries: [[u8; 32]; PLACES],
+    // at bucket b, the last secret inserted whose index has b trailing zeros
+    entries: [[u8; 32]; BUCKETS],
 }
 
 impl Model for Store {
     ghost use Rattle.std.specs.Prelude.{ℕ, ◌≤◌, ◌^◌, List};
-    ghost use Rattle.secrets.specs.Places.{secrets_of};
+    ghost use Rattle.secrets.specs.Buckets.{secrets_of};
 
     ghost Value = { List (List ℕ) };
 
@@ -70,7 +70,7 @@ impl Store {
     {
         Store {
             lowest: INDEX_END,
-            entries: [[0; 32]; PLACES],
+            entries: [[0; 32]; BUCKETS],
         }
     }
 
@@ -95,7 +95,7 @@ impl Store {
         if !self.is_led_to(secret, i) {
             return Err(StoreError::NotOfThisSeed);
         }
-        self.entries[place_of(i)] = *secret;
+        self.entries[bucket_of(i)] = *secret;
         self.lowest = i;
         Ok(())
     }
@@ -112,7 +112,7 @@ impl Store {
         requires { IsNext self.now i }
         ensures { IsTrue result ↔ LeadsTo secret.now i self.now }
     {
-        leads_to(secret, &self.entries[..place_of(i)])
+        leads_to(secret, &self.entries[..bucket_of(i)])
     }
 
     /// The secret that was inserted at index `i`, if one was.
@@ -122,23 +122,23 @@ impl Store {
         if i < self.lowest || i >= INDEX_END {
             return None;
         }
-        for place in (1..PLACES).rev() {
-            if i >> place << place >= self.lowest {
-                return Some(derive(&self.entries[place], place, i));
+        for bucket in (1..BUCKETS).rev() {
+            if i >> bucket << bucket >= self.lowest {
+                return Some(derive(&self.entries[bucket], bucket, i));
             }
         }
         Some(self.entries[0])
     }
 }
 
-/// The place of the secret of index `i`: its count of trailing zeros, of its 48 bits.
-fn place_of(i: u64) -> usize
+/// The bucket of the secret of index `i`: its count of trailing zeros, of its 48 bits.
+fn bucket_of(i: u64) -> usize
     ensures { result ≡ count_trailing_zeros 48 i }
 {
     (i.trailing_zeros() as usize).min(INDEX_BITS)
 }
 
-/// Whether each of the lowest places holds what the secret leads to: its hash with the bit of the place flipped.
+/// Whether each of the lowest buckets holds what the secret leads to: its hash with the bit of the bucket flipped.
 fn leads_to(secret: &[u8; 32], lowest_entries: &[[u8; 32]]) -> bool
     requires { length lowest_entries.now ≤ 48 }
     ensures { IsTrue result
