@@ -12,11 +12,14 @@ use Rattle.paths.specs.Listing.{CheckedScript, greater, with_lock, greatest_lock
 use Rattle.paths.specs.Sound.{IsSound}
 use Rattle.claim.specs.declared.parts.Slot.{Slot}
 use Rattle.claim.specs.declared.parts.Place.{Place}
+use Rattle.claim.specs.declared.parts.Shell.{Shell}
+use Rattle.claim.specs.declared.claims.Claim.{Claim}
 use Rattle.claim.specs.declared.errors.AcceptError.{AcceptError}
 use Rattle.claim.specs.declared.errors.AcceptError.TheVariants.{NoSuchPath}
 use Rattle.claim.specs.Evidence.{evidence_of}
 use Rattle.claim.specs.Fitting.{IsRefusal, Opens}
 use Rattle.claim.specs.Judgement.{has_polarity, is_met, first_unmet_or, judgement_of_path, judgement_of, height_of}
+use Rattle.claim.specs.Claims.{IsClaimOf, IsOpening}
 use Rattle.claim.proofs.Meeting.{met_by, judgement_of-ok, judgement_of-opens, sound-at}
 
 pub judgement_of-some : (ways : CheckedScript) (index : ℕ) (slots : List Slot) (place : Place) (p : Path) → slice_get ways.paths index ≡ Some p → judgement_of ways index slots place ≡ judgement_of_path (spelling ways.ops) slots place.program p
@@ -98,3 +101,11 @@ pub accepted-low : (ways : CheckedScript) (index : ℕ) (slots : List Slot) (pla
 accepted-low ways index slots place p s e =
     let j = judgement_of-ok ways index slots place p e in
     subst (λ o. unwrap_or o 0 < 500000000) (sym s.lock) (met-low slots p.facts p p j.met)
+
+-- a claim on these parts is opening, where what was judged is
+pub opening_of : (ways : CheckedScript) (index : ℕ) (slots : List Slot) (place : Place) (shell : Shell) (c : Claim) → IsClaimOf ways index slots place shell c → ((p : Path) → judgement_of ways index slots place ≡ Ok p → Opens ways.ops p slots) → IsOpening c
+opening_of ways index slots place shell c r h =
+    subst (λ w. (p : Path) → judgement_of w c.index c.slots c.place ≡ Ok p → Opens w.ops p c.slots) (sym r.checked)
+    (subst (λ i. (p : Path) → judgement_of ways i c.slots c.place ≡ Ok p → Opens ways.ops p c.slots) (sym r.index)
+    (subst (λ s. (p : Path) → judgement_of ways index s c.place ≡ Ok p → Opens ways.ops p s) (sym r.slots)
+    (subst (λ a. (p : Path) → judgement_of ways index slots a ≡ Ok p → Opens ways.ops p slots) (sym r.place) h)))

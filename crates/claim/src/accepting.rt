@@ -16,6 +16,7 @@ use std::alloc::Global;
 /// Accepts a claim on a path of a checked script, in whose program the output stands: the slots are filled as they say, the top of the
 /// stack first. Whatever fits the claim opens the script. It is refused, in this order, as `NoSuchPath`, `WrongArity`, `WrongProgram`,
 /// `Contradiction` and `Unmet` with the first fact of the path that the slots do not show; `NoMemory` where that fact cannot be copied.
+#[tactic(auto, using(crate::proofs::Judged::opening_of))]
 pub fn accept(
     alloc: Global,
     checked: Checked,
