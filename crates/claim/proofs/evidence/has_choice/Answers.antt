@@ -2,7 +2,7 @@ use Rattle.std.proofs.Common.{ℕ, drop, sym, ◌∙◌, arith}
 use Rattle.facts.specs.declared.symbols.KeySource.{KeySource}
 use Rattle.claim.specs.Evidence.{token_evidence, is_yes}
 use Rattle.claim.proofs.Choosing.{greedy-choice, greedy-done, greedy-end}
-use Rattle.claim.proofs.evidence.is_choice_shown.Goals as goal
+use Rattle.claim.proofs.evidence.has_choice.Goals as goal
 
 pub returns-then-taken-places : goal.returns-then-taken-places
 returns-then-taken-places c =

@@ -1,7 +1,7 @@
 use Rattle.std.proofs.Common.{◌≡◌, ◌≤◌, drop, length}
 use Rattle.claim.specs.Evidence.{token_evidence, is_yes}
 use Rattle.claim.proofs.Choosing.{greedy}
-use Rattle.claim.proofs.evidence.is_choice_shown.Given as goal
+use Rattle.claim.proofs.evidence.has_choice.Given as goal
 
 abbrev pub invariant-loop-key : goal.invariant-loop-key
 invariant-loop-key l = record {
