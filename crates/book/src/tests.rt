@@ -3,8 +3,8 @@
 use crate::history::{Book, Entry};
 use claim::{Claim, Key, OutPoint, Place, Shell, Slot, WitnessItem, accept};
 use digest::sha256;
-use paths::check;
 use lists::ByteString;
+use paths::check;
 use script::Script;
 use std::alloc::Global;
 use std::test::Fail;
@@ -58,5 +58,23 @@ fn first_claim(rt: HostRuntime) -> Result<(), Fail> {
     assert_eq!(rt; first.outpoint().index, 0);
     assert_eq!(rt; *second_seat, 9);
     assert_eq!(rt; second.outpoint().index, 1);
+    Ok(())
+}
+
+// One claim after another, so that the history grows again and again.
+#[test]
+fn files_many_claims(rt: HostRuntime) -> Result<(), Fail> {
+    let alloc = rt.alloc();
+    let mut book = Book::new(alloc);
+    for index in 0u32..300 {
+        let filed = book.file(index, penalty(alloc, index)?)?;
+        assert_eq!(rt; filed, u64::from(index));
+    }
+    assert_eq!(rt; book.entries().len(), 300);
+    for (index, entry) in book.entries().iter().enumerate() {
+        let Entry::Filed(seat, claim) = entry;
+        assert_eq!(rt; *seat as usize, index);
+        assert_eq!(rt; claim.outpoint().index as usize, index);
+    }
     Ok(())
 }

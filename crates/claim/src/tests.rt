@@ -1,3 +1,5 @@
+mod shapes;
+
 use crate::errors::AcceptError;
 use crate::judging::{first_unmet, is_program};
 use crate::parts::{Key, Slot, WitnessItem};

@@ -1,5 +1,7 @@
 // Facts print as the verifier's table has them, and copies are equal.
 
+mod shapes;
+
 use crate::symbols::{Fact, KeySource, Stated, Sym};
 use lists::{ByteString, List};
 use std::alloc::Global;

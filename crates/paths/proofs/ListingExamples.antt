@@ -1,5 +1,5 @@
 -- Which paths are listed, in which order, and which refusal comes first.
-use Rattle.std.proofs.Common.{◌≡◌, ℕ, true, false, List, [], ◌∷◌, ◌++◌, length, map, replicate, flat_map, refl, Some, None, Result, Ok, Err}
+use Rattle.std.proofs.Common.{◌≡◌, ◌≤◌, ℕ, true, false, List, [], ◌∷◌, ◌++◌, length, map, replicate, flat_map, refl, Some, None, Result, Ok, Err}
 use Rattle.script.specs.declared.opcode.Op.{Op}
 use Rattle.script.specs.declared.opcode.Op.TheVariants.{Push, Number, If, NotIf, Else, EndIf, Drop, Dup, Swap, Size, Equal, EqualVerify, Hash160, CheckMultiSig, CheckLockTimeVerify, CheckSequenceVerify}
 use Rattle.script.specs.Token.{is_key, is_signature, is_token}
@@ -12,6 +12,7 @@ use Rattle.paths.specs.declared.errors.CheckError.TheVariants.{NoMemory, OpenBra
 use Rattle.paths.specs.declared.state.Path.{Path}
 use Rattle.paths.specs.Errors.{number_of as number_of_refusal}
 use Rattle.paths.specs.Rules.{followed, check_multi_sig}
+use Rattle.paths.specs.Sound.{IsSound}
 use Rattle.paths.specs.Listing.{is_balanced, lock_in, age_in, listing}
 
 abbrev yes : Fact → Stated
@@ -134,3 +135,7 @@ begun = (refl, refl, refl, refl)
 dead_begun : count_of (listing (If ∷ Number 1 ∷ Number 1 ∷ Push [] ∷ EqualVerify ∷ Else ∷ (nest 63 [] ++ (EndIf ∷ [])))) ≡ Err TooManyPaths
 unfolding listing followed check_multi_sig
 dead_begun = refl
+
+-- a path that is sound runs with at most 201 counted opcodes and 1,000 entries
+sound_limits : (ops : List Op) (p : Path) → IsSound ops p → (p.ops ≤ 201) × (p.height ≤ 1000)
+sound_limits ops p sound = (sound.few, sound.low)

@@ -2,8 +2,7 @@
 use Rattle.std.proofs.Common.{◌≡◌, ℕ, true, false, [], ◌∷◌, map, refl, Option, Some, None}
 use Rattle.script.specs.declared.num.Number.{Number}
 use Rattle.script.specs.declared.num.Limit.TheVariants.{Count, Lock}
-use Rattle.script.specs.Number.{number_of, item_of, digits}
-use Rattle.script.specs.Limits.{bytes_in}
+use Rattle.script.specs.Number.{bytes_in, number_of, item_of, digits}
 
 abbrev plus : ℕ → Option Number
 plus n = Some (record { negative = false; magnitude = n })

@@ -1,6 +1,7 @@
 //! What no clause says: every byte of the table of opcodes, every printed name, and that memory which is there is found.
 
-use crate::{Cause, Item, Kind, Op, ParseError, Pile, Row, Script, num};
+use crate::{Cause, Kind, Op, ParseError, Script, num};
+use lists::{ByteString, List, Stack};
 use std::alloc::{AllocError, Global};
 use std::test::Fail;
 
@@ -33,7 +34,7 @@ fn reads_the_opcodes_of_the_table_alone(rt: HostRuntime) -> Result<(), Fail> {
                 );
                 let pushed = if byte <= 0x4b { byte as usize } else { 0 };
                 assert_eq!(rt; script.ops().len() + pushed, 76);
-                let copy = script.copy(alloc)?;
+                let copy = script.copy()?;
                 assert_eq!(rt; copy.bytes(), bytes.as_slice());
                 assert_eq!(rt; copy.ops().len() + pushed, 76);
                 let first = copy.ops().first();
@@ -56,23 +57,23 @@ fn reads_the_opcodes_of_the_table_alone(rt: HostRuntime) -> Result<(), Fail> {
 #[test]
 fn finds_memory_for_every_length(rt: HostRuntime) -> Result<(), Fail> {
     let alloc = rt.alloc();
-    let mut pile = Pile::new(alloc);
-    let mut row = Row::new(alloc);
+    let mut stack = Stack::new(alloc);
+    let mut list = List::new(alloc);
     for len in 0usize..=600 {
         let bytes = pattern(alloc, len)?;
-        let item = Item::from_slice(alloc, &bytes)?;
+        let item = ByteString::from_slice(alloc, &bytes)?;
         assert_eq!(rt; item.bytes(), bytes.as_slice());
-        assert_eq!(rt; item.copy(alloc)?.bytes(), bytes.as_slice());
-        let push = Op::Push(item).copy(alloc)?;
+        assert_eq!(rt; item.copy()?.bytes(), bytes.as_slice());
+        let push = Op::Push(item).copy()?;
         assert_eq!(rt; push.payload_len(), len);
-        pile.push(len)?;
-        row.push(len)?;
+        stack.push(len)?;
+        list.push(len)?;
     }
-    assert_eq!(rt; pile.len(), 601);
-    assert_eq!(rt; row.len(), 601);
+    assert_eq!(rt; stack.len(), 601);
+    assert_eq!(rt; list.len(), 601);
     for len in (0usize..=10_000).step_by(613) {
         let bytes = vec![in alloc; 0x51u8; len]?;
-        let script = Script::parse(alloc, &bytes)?.copy(alloc)?;
+        let script = Script::parse(alloc, &bytes)?.copy()?;
         assert_eq!(rt; script.bytes(), bytes.as_slice());
         assert_eq!(rt; script.ops().len(), len);
     }
