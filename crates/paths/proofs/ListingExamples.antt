@@ -105,7 +105,7 @@ key b = 2 ∷ replicate 32 b
 abbrev two_keys : List Op
 two_keys = Push [] ∷ Push [] ∷ Push (key 1) ∷ Push (key 2) ∷ Number 2 ∷ CheckMultiSig ∷ []
 
--- the keys count with the whole script: with 199 opcodes up to 201, and with 200 too many at CHECKMULTISIG, before what is undecided behind it
+-- the keys count with the whole script: with 199 opcodes up to 201, and with 200 too many at CHECKMULTISIG, before what is undecided after it
 keys_counted : (listing (two_keys ++ (replicate 99 Dup ++ replicate 99 Drop)) ≡ paths (path 0 [] 201 100 ∷ [])) × (listing (two_keys ++ (replicate 99 Dup ++ replicate 100 Drop)) ≡ refused TooManyOps) × (listing (two_keys ++ (Drop ∷ Size ∷ Size ∷ Size ∷ (replicate 98 Dup ++ replicate 97 Drop))) ≡ refused TooManyOps) × (listing (Size ∷ Size ∷ (two_keys ++ (replicate 99 Dup ++ replicate 98 Drop))) ≡ refused (Undecided 1))
 unfolding listing followed check_multi_sig number_of item_of digits is_key is_signature is_token
 keys_counted = (refl, refl, refl, refl)

@@ -19,11 +19,11 @@ weights = refl
 counted : counted_in (Dup ∷ Hash160 ∷ Push (replicate 20 3) ∷ EqualVerify ∷ CheckSig ∷ []) ≡ 4
 counted = refl
 
--- behind the ELSE of a false IF, or behind its ENDIF where it has no ELSE; branches inside have their own
+-- after the ELSE of a false IF, or after its ENDIF where it has no ELSE; branches inside have their own
 past_else : map (jump_of PastElse) ((Number 1 ∷ Else ∷ Number 2 ∷ EndIf ∷ []) ∷ (Number 1 ∷ EndIf ∷ Else ∷ []) ∷ (If ∷ Else ∷ EndIf ∷ Else ∷ EndIf ∷ []) ∷ (NotIf ∷ If ∷ EndIf ∷ Else ∷ EndIf ∷ EndIf ∷ Number 1 ∷ []) ∷ (Number 1 ∷ Number 2 ∷ []) ∷ [] ∷ []) ≡ 2 ∷ 2 ∷ 4 ∷ 6 ∷ 2 ∷ 0 ∷ []
 past_else = refl
 
--- behind the ENDIF, from an ELSE
+-- after the ENDIF, from an ELSE
 past_end : map (jump_of PastEnd) ((Number 2 ∷ EndIf ∷ Number 3 ∷ []) ∷ (If ∷ Else ∷ EndIf ∷ EndIf ∷ Number 1 ∷ []) ∷ (Else ∷ EndIf ∷ []) ∷ (NotIf ∷ EndIf ∷ []) ∷ []) ≡ 2 ∷ 4 ∷ 2 ∷ 2 ∷ []
 past_end = refl
 
