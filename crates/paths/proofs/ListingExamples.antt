@@ -115,7 +115,7 @@ heights : (listing (Dup ∷ replicate 998 (Number 1)) ≡ paths []) × (listing 
 unfolding listing followed check_multi_sig
 heights = (refl, refl, refl, refl)
 
--- so many IFs, each in the ELSE of the one before, and what stands in the innermost ELSE
+-- n IFs, each in the ELSE of the one before, and what stands in the innermost ELSE
 abbrev nest : ℕ → List Op → List Op
 nest n inner = flat_map (λ op. op ∷ Else ∷ []) (replicate n If) ++ (inner ++ replicate n EndIf)
 
