@@ -6,7 +6,7 @@ use std::alloc::{AllocError, Global};
 use std::process::Abort;
 use std::test::Fail;
 
-// Asserts the paths of a script of these parts, each repeated as it says.
+// Asserts the paths of a script of these parts, each so many times.
 fn lists(
     rt: &impl Abort,
     alloc: Global,
@@ -54,7 +54,7 @@ fn lists_every_opcode(rt: HostRuntime) -> Result<(), Fail> {
     Ok(())
 }
 
-// Pushes of every length, each number of slots and of paths, and long scripts.
+// Pushes of every length, every number of slots and of paths, and long scripts.
 #[test]
 fn lists_every_count(rt: HostRuntime) -> Result<(), Fail> {
     let alloc = rt.alloc();
