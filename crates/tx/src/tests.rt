@@ -518,6 +518,7 @@ fn equality_reads_every_field(rt: HostRuntime) -> Result<(), Fail> {
         }
     }
     let mut fewer = tx.copy()?;
+    assert_eq!(rt; fewer.inputs().len(), 3);
     fewer.set_witness(0, Witness::new(alloc));
     assert!(rt; !fewer.equals(&tx));
     assert_eq!(rt; txid(&fewer), txid(&tx));
