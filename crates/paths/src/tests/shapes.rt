@@ -6,7 +6,7 @@ use std::alloc::{AllocError, Global};
 use std::process::Abort;
 use std::test::Fail;
 
-// Asserts the paths of a script of these parts, each repeated as it says.
+// Asserts the paths of a script of these parts, each so many times.
 fn lists(
     rt: &impl Abort,
     alloc: Global,
