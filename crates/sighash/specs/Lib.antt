@@ -1,1 +1,2 @@
 pub mod Signing
+pub mod Programs
