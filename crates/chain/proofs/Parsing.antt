@@ -1,6 +1,6 @@
 -- The opcodes of a script, computed, are those that its bytes spell.
-use Rattle.std.proofs.Common.{◌≡◌, ◌≢◌, ℕ, zero, suc, ◌+◌, ◌<◌, ◌≤◌, Bool, true, false, nat_le, ◌==◌, cond, List, [], ◌∷◌, ◌++◌, length, take, drop, Option, Some, None, option_map, sym, ap, ◌∙◌, refl, arith, append_assoc, length-append, append-nil, le-leb, lt-leb, ne_eqb, eq-eqb, replicate, lit≤, leb, ⊎_elim}
-use Rattle.std.proofs.lemmas.Bool.{cases_lt}
+use Rattle.std.proofs.Common.{◌≡◌, ◌≢◌, ℕ, zero, suc, ◌+◌, ◌<◌, ◌≤◌, Bool, true, false, nat_le, ◌==◌, cond, List, [], ◌∷◌, ◌++◌, length, take, drop, Option, Some, None, option_map, sym, ap, ◌∙◌, refl, arith, append_assoc, length-append, append-nil, le-leb, ne_eqb, eq-eqb, replicate, lit≤, leb, ⊎_elim}
+use Rattle.std.proofs.lemmas.Bool.{cases_lt, lt-leb}
 use Rattle.std.proofs.lemmas.List.{length-replicate}
 use Rattle.std.specs.Prelude.{All}
 use Rattle.std.specs.List.{find, AllByRecursion}
@@ -103,10 +103,10 @@ parsed ops bytes spells short =
     let enough : length (spelling ops ++ []) ≤ length bytes = omega (arith, ap length e) in
     let r = reads_all ops (length bytes) [] spells.each enough in
     rw (le-leb (length bytes) 10000 short)
-    (ap (ops_within (length bytes)) (sym e) ∙ r.2 ∙ ap (before ops) (reads_end r.0) ∙ ap Some (append_nil ops))
+    (ap (ops_within (length bytes)) (sym e) ∙ r.2 ∙ ap (before ops) (reads_end r.0) ∙ ap Some (append-nil ops))
 
 each_single : AllByRecursion IsOp single_ops
-each_single = (tt, tt, tt, tt, tt, tt, tt, tt, tt, tt, tt, tt, tt, tt, tt, tt)
+each_single = (tt, (tt, (tt, (tt, (tt, (tt, (tt, (tt, (tt, (tt, (tt, (tt, (tt, (tt, (tt, ((lit≤ tt, lit≤ tt), ((lit≤ tt, lit≤ tt), ((lit≤ tt, lit≤ tt), ((lit≤ tt, lit≤ tt), ((lit≤ tt, lit≤ tt), ((lit≤ tt, lit≤ tt), ((lit≤ tt, lit≤ tt), ((lit≤ tt, lit≤ tt), ((lit≤ tt, lit≤ tt), ((lit≤ tt, lit≤ tt), ((lit≤ tt, lit≤ tt), ((lit≤ tt, lit≤ tt), ((lit≤ tt, lit≤ tt), ((lit≤ tt, lit≤ tt), ((lit≤ tt, lit≤ tt), ((lit≤ tt, lit≤ tt), tt)))))))))))))))))))))))))))))))
 
 -- no opcode of one byte has a byte that starts none
 none_single : (b : ℕ) (ops : List Op) → AllByRecursion IsOp ops → StartsNone b → find (λ op. code_of op == b) ops ≡ None
@@ -116,7 +116,7 @@ none_single b (op ∷ ops) valid none = rw (ne_eqb (code_of op) b (none op valid
 -- a byte that starts no opcode is above the pushes
 above_pushes : (b : ℕ) → StartsNone b → 75 < b
 above_pushes b none =
-    ⊎_elim (λ h. h) (λ l. absurd (none (Push (replicate b 0)) (omega (arith, length-replicate b 0)) (length-replicate b 0))) (cases_lt 75 b)
+    ⊎_elim (λ h. h) (λ l. absurd (none (Push (replicate b 0)) (omega (arith, length-replicate {A = ℕ} b 0)) (length-replicate {A = ℕ} b 0))) (cases_lt 75 b)
 
 -- nothing is read where a byte starts no opcode
 none_at : (b : ℕ) (rest : List ℕ) (m : ℕ) → StartsNone b → ops_within m (b ∷ rest) ≡ None

@@ -32,7 +32,7 @@ same_outpoint o p = bytes_eq o.txid p.txid && o.index == p.index
 
 -- the id of the grant that so many came before: SHA-256 twice of "grant" and that number in eight bytes, the lowest first
 unfoldable pub grant_id : ℕ → List ℕ
-grant_id g = sha256d (0x67 ∷ 0x72 ∷ 0x61 ∷ 0x6e ∷ 0x74 ∷ number 8 (g % 2 ^ 64))
+grant_id g = sha256d ((0x67 ∷ 0x72 ∷ 0x61 ∷ 0x6e ∷ 0x74 ∷ []) ++ number 8 (g % 2 ^ 64))
 
 abbrev pub grant_outpoint : ℕ → OutPoint
 grant_outpoint g = record { txid = grant_id g; index = 0 }
@@ -108,7 +108,7 @@ transactions_of blocks = flat_map (λ b. b.transactions) blocks
 
 -- satoshis of the output at an outpoint, 0 where there is none
 abbrev pub value_at : List Contents → OutPoint → ℕ
-value_at blocks o = unwrap_or (option_map (λ c. c.output.value) (created_at blocks o)) 0
+value_at blocks o = unwrap_or (option_map (λ c. c.output.value) (coin_at blocks o)) 0
 
 -- satoshis that the inputs bring, and those of the outputs
 abbrev pub paid_in : List Contents → List TxIn → ℕ

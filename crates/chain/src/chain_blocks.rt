@@ -45,6 +45,7 @@ impl Blocks {
     pub fn as_slice(&self) -> &[Block]
         ensures value { result.now ≡ reverse self.now }
         ensures some { 0 < length result.now }
+        ensures count { length result.now ≡ length self.now }
     {
         self.items.as_slice()
     }
@@ -72,6 +73,7 @@ impl Blocks {
     /// Adds a granted output to the newest block.
     pub fn grant(&mut self, output: TxOut) -> Result<(), AllocError>
         ensures ok { OnOk result (self.new ≡ with_grant self.old output) }
+        ensures some { 0 < length self.old }
         ensures err { OnErr result (self.new ≡ self.old) }
     {
         let last = self.items.len() - 1;

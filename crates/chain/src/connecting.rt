@@ -1,6 +1,6 @@
 //! How a chain grows and shrinks by whole blocks.
 
-ghost use Rattle.std.specs.Prelude.{◌≡◌, ℕ, ◌%◌, ◌^◌, ◌++◌, reverse, Ok, Err, IfOk, OnOk, MatchResult};
+ghost use Rattle.std.specs.Prelude.{◌≡◌, ℕ, ◌-◌, ◌≤◌, ◌%◌, ◌^◌, ◌++◌, length, drop, reverse, Ok, Err, IfOk, OnOk, MatchResult};
 ghost use Rattle.std.specs.List.{list_any};
 ghost use Rattle.chain.specs.Blocks.{grant_outpoint, transactions_of};
 ghost use Rattle.chain.specs.Connecting.{Connects, Disconnects, Grants, has_grant, is_too_deep};
@@ -11,8 +11,10 @@ use crate::program::is_program;
 use crate::refusal::{BlockError, Refusal};
 use crate::store::Store;
 use crate::testing::check_transaction;
-use digest::sha256d;
+use digest::sha256;
+use sha2::{Digest, Sha256};
 use std::alloc::{AllocError, Global};
+use tx::hashing::absorb_u64;
 use tx::{OutPoint, Tx, TxOut};
 
 /// The outpoint of the grant that so many came before.
@@ -20,10 +22,11 @@ use tx::{OutPoint, Tx, TxOut};
 pub(crate) fn grant_outpoint(before: u64) -> OutPoint
     ensures { (g : ℕ) → before ≡ g % 2 ^ 64 → result ≡ grant_outpoint g }
 {
-    let mut bytes = [0x67, 0x72, 0x61, 0x6e, 0x74, 0, 0, 0, 0, 0, 0, 0, 0];
-    bytes[5..].copy_from_slice(&before.to_le_bytes());
+    let mut hasher = Sha256::new();
+    hasher.update(b"grant");
+    absorb_u64(&mut hasher, before);
     OutPoint {
-        txid: sha256d(&bytes),
+        txid: sha256(&hasher.finalize()),
         index: 0,
     }
 }
@@ -65,9 +68,11 @@ fn add_all<S: Store>(store: &mut S, txs: Vec<Tx>) -> Result<(), BlockError>
 }
 
 /// Adds the next block. A refusal changes nothing.
+#[tactic(auto, using(crate::proofs::Growing::more_than_one))]
 pub(crate) fn connect<S: Store>(store: &mut S, txs: Vec<Tx>) -> Result<u64, BlockError>
     ensures { Connects (S.standing store.old) txs.items result (S.standing store.new) }
 {
+    let height = store.blocks().len() as u64;
     if store.begin().is_err() {
         return Err(BlockError {
             index: 0,
@@ -79,13 +84,14 @@ pub(crate) fn connect<S: Store>(store: &mut S, txs: Vec<Tx>) -> Result<u64, Bloc
         return Err(error);
     }
     store.note_height();
-    Ok(store.blocks().len() as u64 - 1)
+    Ok(height)
 }
 
 /// How far the height may fall below the greatest that the chain ever had.
 const MAX_DEPTH: u64 = 6;
 
 /// Whether so many blocks can't be taken off.
+#[tactic(auto, using(crate::proofs::Growing::grants_among_newest))]
 fn is_too_deep<S: Store>(store: &S, k: u64) -> bool
     ensures { result ≡ is_too_deep (S.standing store.now) k }
 {
@@ -94,14 +100,30 @@ fn is_too_deep<S: Store>(store: &S, k: u64) -> bool
     if height < k || height - k + MAX_DEPTH < store.greatest() {
         return true;
     }
-    have_grant(&blocks[blocks.len() - k as usize..])
+    have_grant(newest(blocks, k))
+}
+
+/// So many of the newest blocks.
+fn newest(blocks: &[Block], k: u64) -> &[Block]
+    requires { k ≤ length blocks.now }
+    ensures { result.now ≡ drop (length blocks.now - k) blocks.now }
+{
+    let before = blocks.len() - k as usize;
+    blocks.split_at(before).1
+}
+
+/// Whether outputs were granted in the block.
+fn has_grant(block: &Block) -> bool
+    ensures { result ≡ has_grant block.now }
+{
+    !block.granted().is_empty()
 }
 
 /// Whether one of the blocks holds a grant.
 fn have_grant(blocks: &[Block]) -> bool
     ensures { result ≡ list_any has_grant blocks.now }
 {
-    blocks.iter().any(|block| !block.granted().is_empty())
+    blocks.iter().any(|block| has_grant(block))
 }
 
 /// Copies the transactions of blocks, in their order.
@@ -126,6 +148,7 @@ fn copy_onto(transactions: &[Confirmed], txs: &mut Vec<Tx>) -> Result<(), AllocE
 }
 
 /// Takes so many of the newest blocks off, and gives their transactions in their order.
+#[tactic(auto, using(crate::proofs::Growing::more_left, crate::proofs::Growing::none_granted_left, crate::proofs::Growing::one_fewer, crate::proofs::Growing::transactions_of_newest))]
 pub(crate) fn disconnect<S: Store>(store: &mut S, k: u64) -> Result<Vec<Tx>, Refusal>
     ensures { MatchResult result (λ txs. Disconnects (S.standing store.old) k (Ok txs.items) (S.standing store.new)) (λ e. Disconnects (S.standing store.old) k (Err e) (S.standing store.new)) }
 {
@@ -133,8 +156,8 @@ pub(crate) fn disconnect<S: Store>(store: &mut S, k: u64) -> Result<Vec<Tx>, Ref
         return Err(Refusal::TooDeep);
     }
     let blocks = store.blocks();
-    let txs = copied(store.allocator(), &blocks[blocks.len() - k as usize..])?;
-    for _ in 0..k {
+    let txs = copied(store.allocator(), newest(blocks, k))?;
+    for _taken in 0..k {
         store.take_off();
     }
     Ok(txs)

@@ -59,13 +59,16 @@ fn copied(alloc: Global, items: &[Bytes]) -> Result<Vec<Vec<u8>>, AllocError>
 }
 
 /// Reads a script; `BadProgram` where the bytes are none.
+#[tactic(auto, using(crate::proofs::Parsing::parsed, crate::proofs::Parsing::unparsed))]
 fn parse(alloc: Global, bytes: &[u8]) -> Result<Script, Refusal>
     ensures { IsParsed (script_ops bytes.now) result }
 {
     match Script::parse(alloc, bytes) {
         Ok(script) => Ok(script),
-        Err(ParseError::NoMemory) => Err(Refusal::NoMemory),
-        Err(_) => Err(Refusal::BadProgram),
+        Err(error) => match error {
+            ParseError::NoMemory => Err(Refusal::NoMemory),
+            _ => Err(Refusal::BadProgram),
+        },
     }
 }
 

@@ -1,11 +1,11 @@
 //! A chain that looks through its blocks for every answer.
 
-ghost use Rattle.std.specs.Prelude.{◌≡◌, ℕ, reverse, option_map};
-ghost use Rattle.std.specs.List.{list_any, find};
+ghost use Rattle.std.specs.Prelude.{◌≡◌, ℕ, ◌%◌, ◌^◌, reverse, option_map, slice_get};
+ghost use Rattle.std.specs.List.{list_any};
 ghost use Rattle.std.specs.Str.{bytes_eq};
 ghost use Rattle.tx.specs.Spelling.{transaction_id};
-ghost use Rattle.chain.specs.Blocks.{names, is_named, has_id, created_by, created_by_all, granted_at, created_at, same_outpoint};
-ghost use Rattle.chain.specs.Scanning.{creation, standing_creation};
+ghost use Rattle.chain.specs.Blocks.{names, is_named, has_id, created_by, created_by_all, granted_at, created_of};
+ghost use Rattle.chain.specs.Scanning.{found_in, at_height, with_height};
 
 use crate::blocks::{Block, Confirmed};
 use crate::chain_blocks::Blocks;
@@ -41,58 +41,85 @@ impl Model for Scan {
     ghost invariant = { λ s. s.grants ≡ grants_in s.blocks % 2 ^ 64 };
 }
 
-/// Whether an input of a transaction of the block names the outpoint.
-fn block_names(block: &Block, outpoint: &OutPoint) -> bool
-    ensures { result ≡ list_any (names outpoint.now) block.now.transactions }
+/// Whether an input of one of the transactions names the outpoint.
+fn some_names(transactions: &[Confirmed], outpoint: &OutPoint) -> bool
+    ensures { result ≡ list_any (names outpoint.now) transactions.now }
 {
-    block
-        .transactions()
+    transactions
         .iter()
         .any(|confirmed| some_input_names(confirmed.tx().inputs(), outpoint))
 }
 
-/// Whether an input on the chain names the outpoint.
+/// Whether an input of a transaction of the block names the outpoint.
+#[tactic(auto, using(crate::proofs::Lists::any_reversed))]
+fn block_names(block: &Block, outpoint: &OutPoint) -> bool
+    ensures { result ≡ list_any (names outpoint.now) block.now.transactions }
+{
+    some_names(block.transactions(), outpoint)
+}
+
+/// Whether an input of a transaction of one of the blocks names the outpoint.
 fn is_named(blocks: &[Block], outpoint: &OutPoint) -> bool
-    ensures { result ≡ is_named (reverse blocks.now) outpoint.now }
+    ensures { result ≡ is_named blocks.now outpoint.now }
 {
     blocks.iter().any(|block| block_names(block, outpoint))
 }
 
+/// Whether two ids are one.
+fn same_id(id: &[u8; 32], other: &[u8; 32]) -> bool
+    ensures { result ≡ bytes_eq id.now other.now }
+{
+    id == other
+}
+
+/// Whether one of the transactions has this id.
+fn some_have_id(transactions: &[Confirmed], id: &[u8; 32]) -> bool
+    ensures { result ≡ list_any (λ t. bytes_eq (transaction_id t) id.now) transactions.now }
+{
+    transactions
+        .iter()
+        .any(|confirmed| same_id(confirmed.id(), id))
+}
+
 /// Whether the block has a transaction of this id.
+#[tactic(auto, using(crate::proofs::Lists::any_reversed))]
 fn block_has_id(block: &Block, id: &[u8; 32]) -> bool
     ensures { result ≡ list_any (λ t. bytes_eq (transaction_id t) id.now) block.now.transactions }
 {
-    block
-        .transactions()
-        .iter()
-        .any(|confirmed| confirmed.id() == id)
+    some_have_id(block.transactions(), id)
 }
 
-/// Whether a transaction on the chain has this id.
+/// Whether one of the blocks has a transaction of this id.
 fn has_id(blocks: &[Block], id: &[u8; 32]) -> bool
-    ensures { result ≡ has_id (reverse blocks.now) id.now }
+    ensures { result ≡ has_id blocks.now id.now }
 {
     blocks.iter().any(|block| block_has_id(block, id))
 }
 
+/// The output of an index.
+fn output_at(outputs: &[TxOut], index: u32) -> Option<&TxOut>
+    ensures { option_map (λ r. r.now) result ≡ slice_get outputs.now index }
+{
+    outputs.get(index as usize)
+}
+
 /// The output that a transaction created at an outpoint.
 fn find_in_transaction<'a>(confirmed: &'a Confirmed, outpoint: &OutPoint) -> Option<&'a TxOut>
-    ensures { (height : ℕ) → option_map (creation outpoint.now height) result ≡ find (λ c. same_outpoint c.outpoint outpoint.now) (created_by height confirmed.now) }
+    ensures { (height : ℕ) → at_height height result ≡ found_in outpoint.now (created_by height confirmed.now) }
 {
-    if *confirmed.id() != outpoint.txid {
+    if !same_id(confirmed.id(), &outpoint.txid) {
         return None;
     }
-    confirmed.tx().outputs().get(outpoint.index as usize)
+    output_at(confirmed.tx().outputs(), outpoint.index)
 }
 
 /// The first output that transactions created at an outpoint.
 fn find_in_transactions<'a>(transactions: &'a [Confirmed], outpoint: &OutPoint) -> Option<&'a TxOut>
-    ensures { (height : ℕ) → option_map (creation outpoint.now height) result ≡ find (λ c. same_outpoint c.outpoint outpoint.now) (created_by_all height (reverse transactions.now)) }
+    ensures { (height : ℕ) → at_height height result ≡ found_in outpoint.now (created_by_all height (reverse transactions.now)) }
 {
     for confirmed in transactions {
-        let found = find_in_transaction(confirmed, outpoint);
-        if found.is_some() {
-            return found;
+        if let Some(output) = find_in_transaction(confirmed, outpoint) {
+            return Some(output);
         }
     }
     None
@@ -100,7 +127,7 @@ fn find_in_transactions<'a>(transactions: &'a [Confirmed], outpoint: &OutPoint) 
 
 /// The first output that was granted at an outpoint, where so many grants came before.
 fn find_in_grants<'a>(granted: &'a [TxOut], before: u64, outpoint: &OutPoint) -> Option<&'a TxOut>
-    ensures { (height : ℕ) → option_map (creation outpoint.now height) result ≡ find (λ c. same_outpoint c.outpoint outpoint.now) (granted_at height before (reverse granted.now)) }
+    ensures { (height g : ℕ) → before ≡ g % 2 ^ 64 → at_height height result ≡ found_in outpoint.now (granted_at height g (reverse granted.now)) }
 {
     for (index, output) in granted.iter().enumerate() {
         if same_outpoint(&grant_outpoint(before.wrapping_add(index as u64)), outpoint) {
@@ -112,7 +139,7 @@ fn find_in_grants<'a>(granted: &'a [TxOut], before: u64, outpoint: &OutPoint) ->
 
 /// The first output that was created at an outpoint, with the height of its block.
 fn find_in_blocks<'a>(blocks: &'a [Block], outpoint: &OutPoint) -> Option<(&'a TxOut, u64)>
-    ensures { option_map (standing_creation outpoint.now) result ≡ created_at (reverse blocks.now) outpoint.now }
+    ensures { with_height result ≡ found_in outpoint.now (created_of (reverse blocks.now)) }
 {
     let mut grants = 0u64;
     for (height, block) in blocks.iter().enumerate() {
@@ -151,6 +178,7 @@ impl Store for Scan {
         })
     }
 
+    #[tactic(auto, using(crate::proofs::Lists::any_reversed))]
     fn has_id(&self, id: &[u8; 32]) -> bool {
         has_id(self.blocks.as_slice(), id)
     }
@@ -159,6 +187,7 @@ impl Store for Scan {
         self.blocks.begin()
     }
 
+    #[tactic(auto, using(crate::proofs::Growing::grants_in_stay))]
     fn add(&mut self, confirmed: Confirmed) -> Result<(), AllocError> {
         self.blocks.push(confirmed)
     }

@@ -33,7 +33,8 @@ pub trait Store {
     /// The blocks, the first of which has height 0.
     fn blocks(&self) -> &[Block]
         ensures value { result.now ≡ reverse (standing self.now).blocks }
-        ensures some { 0 < length result.now };
+        ensures some { 0 < length result.now }
+        ensures count { length result.now ≡ length (standing self.now).blocks };
 
     /// The greatest height that the chain ever had.
     fn greatest(&self) -> u64

@@ -1,2 +1,3 @@
 pub mod Tokens
 pub mod Examples
+pub mod ProgramExamples
