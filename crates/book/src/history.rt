@@ -1,7 +1,7 @@
 // The book and its history.
 
 use claim::Claim;
-use script::Row;
+use lists::List;
 use std::alloc::{AllocError, Global};
 use std::marker::Model;
 
@@ -15,14 +15,14 @@ pub enum Entry {
 /// A node's book. A contract sees it as its history, the oldest entry first.
 #[derive(Drop)]
 pub struct Book {
-    entries: Row<Entry>,
+    entries: List<Entry>,
 }
 
 impl Model for Book {
-    ghost use Rattle.std.specs.Prelude.{List};
+    ghost use Rattle.std.specs.Prelude.{List as Values};
     ghost use Rattle.book.specs.declared.history.Entry.{Entry as HistoryEntry};
 
-    ghost Value = { List HistoryEntry };
+    ghost Value = { Values HistoryEntry };
 
     ghost view = { λ b. b.entries };
 }
@@ -36,7 +36,7 @@ impl Book {
         ensures { result ≡ [] }
     {
         Book {
-            entries: Row::new(alloc),
+            entries: List::new(alloc),
         }
     }
 

@@ -3,8 +3,9 @@
 use crate::history::{Book, Entry};
 use claim::{Claim, Key, OutPoint, Place, Shell, Slot, WitnessItem, accept};
 use digest::sha256;
+use lists::ByteString;
 use paths::check;
-use script::{Item, Script};
+use script::Script;
 use std::alloc::Global;
 use std::test::Fail;
 
@@ -23,7 +24,7 @@ fn penalty(alloc: Global, index: u32) -> Result<Claim, Fail> {
     let checked = check(alloc, script)?;
     let mut key = [0x11; 33];
     key[0] = 2;
-    let Ok(one) = WitnessItem::new(Item::from_slice(alloc, &[1])?) else {
+    let Ok(one) = WitnessItem::new(ByteString::from_slice(alloc, &[1])?) else {
         return Err(Fail::from("too long"));
     };
     let mut slots = Vec::new(alloc);
@@ -37,7 +38,7 @@ fn penalty(alloc: Global, index: u32) -> Result<Claim, Fail> {
             index,
         },
         value: 10_000,
-        program: Item::from_vec(program),
+        program: ByteString::from_vec(program),
     };
     Ok(accept(alloc, checked, 0, slots, place, Shell::Open)?)
 }
@@ -57,5 +58,23 @@ fn first_claim(rt: HostRuntime) -> Result<(), Fail> {
     assert_eq!(rt; first.outpoint().index, 0);
     assert_eq!(rt; *second_seat, 9);
     assert_eq!(rt; second.outpoint().index, 1);
+    Ok(())
+}
+
+// One claim after another, so that the history grows again and again.
+#[test]
+fn files_many_claims(rt: HostRuntime) -> Result<(), Fail> {
+    let alloc = rt.alloc();
+    let mut book = Book::new(alloc);
+    for index in 0u32..300 {
+        let filed = book.file(index, penalty(alloc, index)?)?;
+        assert_eq!(rt; filed, u64::from(index));
+    }
+    assert_eq!(rt; book.entries().len(), 300);
+    for (index, entry) in book.entries().iter().enumerate() {
+        let Entry::Filed(seat, claim) = entry;
+        assert_eq!(rt; *seat as usize, index);
+        assert_eq!(rt; claim.outpoint().index as usize, index);
+    }
     Ok(())
 }

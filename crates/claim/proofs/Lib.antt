@@ -6,3 +6,5 @@ pub mod Locks
 pub mod Meeting
 pub mod Programs
 pub mod Judged
+pub mod ShowingExamples
+pub mod JudgingExamples

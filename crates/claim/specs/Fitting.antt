@@ -3,6 +3,7 @@ use Rattle.std.specs.Prelude.{◌≡◌, ℕ, ◌≤◌, ◌<◌, List, [], ◌�
 use Rattle.sha2.specs.Sha256.{sha256}
 use Rattle.script.specs.declared.opcode.Op.{Op}
 use Rattle.script.specs.declared.spending.Spend.{Spend}
+use Rattle.script.specs.Limits.{locktime_threshold, max_ops, max_stack_size}
 use Rattle.script.specs.Token.{token_of}
 use Rattle.script.specs.Step.{Entries}
 use Rattle.script.specs.Run.{Clean, outcome}
@@ -33,15 +34,15 @@ pub record Fits (p : Path) (slots : List Slot) (spend : Spend) (witness : List (
   pub version : spend.version ≡ 2
   pub sequence : spend.sequence ≡ age_of p
   pub reached : height_of p ≤ spend.lock_time
-  pub height : spend.lock_time < 500000000
+  pub height : spend.lock_time < locktime_threshold
   pub filled : FillsSlots spend slots (reverse witness)
 
 -- whatever fits the claim meets its path, and so opens the script
 pub record Opens (ops : List Op) (p : Path) (slots : List Slot) : Type 0 where
   pub meets : (spend : Spend) (witness : List (List ℕ)) → Fits p slots spend witness → Meets spend witness p.arity p.facts
   pub clean : (spend : Spend) (witness : List (List ℕ)) → Fits p slots spend witness → outcome spend ops witness ≡ Clean p.ops p.height
-  pub few : p.ops ≤ 201
-  pub low : p.height ≤ 1000
+  pub few : p.ops ≤ max_ops
+  pub low : p.height ≤ max_stack_size
 
 -- a fact is not met
 abbrev pub IsUnmet : Result Path AcceptError → Type 0

@@ -5,6 +5,7 @@ use Rattle.std.specs.List.{list_any, list_all}
 use Rattle.sha2.specs.Sha256.{sha256}
 use Rattle.digest.specs.Ripemd160.{ripemd160}
 use Rattle.digest.specs.Hash.{hash160}
+use Rattle.script.specs.Limits.{locktime_threshold}
 use Rattle.script.specs.Token.{is_key, is_signature}
 use Rattle.script.specs.Step.{truth, bit_at}
 use Rattle.facts.specs.declared.symbols.KeySource.{KeySource}
@@ -124,5 +125,5 @@ shown slots (KeyForm i) = at_slot shows_key_form (slice_get slots i)
 shown slots (Form i) = at_slot shows_form (slice_get slots i)
 shown slots (Token i key) = token_shown slots i key
 shown slots (Assigned is keys) = assigned_shown slots is keys
-shown slots (Lock n) = if nat_lt n 500000000 then Some true else None
+shown slots (Lock n) = if nat_lt n locktime_threshold then Some true else None
 shown slots (Age n) = if bit_at 22 n then None else Some true

@@ -9,8 +9,8 @@ use crate::claims::Claim;
 use crate::errors::AcceptError;
 use crate::judging::judge;
 use crate::parts::{Place, Shell, Slot};
+use lists::List;
 use paths::Checked;
-use script::Row;
 use std::alloc::Global;
 
 /// Accepts a claim on a path of a checked script, in whose program the output stands: the slots are filled as they say, the top of the
@@ -29,6 +29,6 @@ pub fn accept(
 {
     match judge(alloc, &checked, path, slots.as_slice(), &place) {
         Err(refusal) => Err(refusal),
-        Ok(()) => Ok(Claim::new(checked, path, Row::from_vec(slots), place, shell)),
+        Ok(()) => Ok(Claim::new(checked, path, List::from_vec(slots), place, shell)),
     }
 }

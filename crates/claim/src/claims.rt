@@ -4,8 +4,9 @@ ghost use Rattle.std.specs.Prelude.{◌≡◌, ◌<◌, length, slice_index_or, 
 ghost use Rattle.claim.specs.Judging.{judged};
 
 use crate::parts::{Place, Shell, Slot};
+use lists::List;
 use paths::{Checked, Path};
-use script::Row;
+use script::limits::LOCKTIME_THRESHOLD;
 use tx::OutPoint;
 
 /// A claim on an output: a path through its script, with a filling of each of the path's slots. `accept` alone makes one.
@@ -13,7 +14,7 @@ use tx::OutPoint;
 pub struct Claim {
     checked: Checked,
     index: usize,
-    slots: Row<Slot>,
+    slots: List<Slot>,
     place: Place,
     shell: Shell,
     ghost accepted: { IsTrue (is_ok (judged checked index slots place)) },
@@ -36,7 +37,7 @@ impl Claim {
     pub(crate) fn new(
         checked: Checked,
         index: usize,
-        slots: Row<Slot>,
+        slots: List<Slot>,
         place: Place,
         shell: Shell,
     ) -> Claim
@@ -106,7 +107,7 @@ impl Claim {
     /// The least lock time of a transaction with this claim, a height; 0 where the path checks none (BIP 65).
     pub fn needs_height(&self) -> u64
         ensures value { result ≡ height_of (path_of self.now) }
-        ensures below { result < 500000000 }
+        ensures below { result < LOCKTIME_THRESHOLD }
     {
         self.path().lock.unwrap_or(0)
     }

@@ -135,7 +135,7 @@ fn meet(alloc: Global, slots: &[Slot], facts: &[Stated]) -> Result<(), AcceptErr
 {
     match first_unmet(slots, facts) {
         None => Ok(()),
-        Some(stated) => match stated.copy(alloc) {
+        Some(stated) => match stated.copy() {
             Ok(stated) => Err(AcceptError::Unmet(stated)),
             Err(_) => Err(AcceptError::NoMemory),
         },

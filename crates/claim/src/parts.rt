@@ -1,9 +1,11 @@
 // What a claim is made of.
 
 ghost use Rattle.std.specs.Prelude.{◌≡◌, ◌≤◌, ◌<◌, length, IsTrue, IfSome, IfNone, MatchResult, false};
+ghost use Rattle.script.specs.Limits.{max_element_size};
 ghost use Rattle.script.specs.Token.{is_key};
 
-use script::Item;
+use lists::ByteString;
+use script::limits::MAX_SCRIPT_ELEMENT_SIZE;
 use script::tokens::has_key_form;
 use tx::OutPoint;
 
@@ -17,8 +19,8 @@ pub struct Key {
 /// An item that a witness may hold: at most 520 bytes.
 #[derive(Debug, Drop)]
 pub struct WitnessItem {
-    pub item: Item,
-    ghost short: { length item ≤ 520 },
+    pub item: ByteString,
+    ghost short: { length item ≤ max_element_size },
 }
 
 /// How a claim fills a slot of its path.
@@ -37,7 +39,7 @@ pub enum Slot {
 pub struct Place {
     pub outpoint: OutPoint,
     pub value: u64,
-    pub program: Item,
+    pub program: ByteString,
 }
 
 /// The transaction round a claim.
@@ -62,10 +64,10 @@ impl Key {
 
 impl WitnessItem {
     /// The item, or back again where it has more than 520 bytes.
-    pub fn new(item: Item) -> Result<Self, Item>
-        ensures { MatchResult result (λ w. w.item ≡ item) (λ i. (i ≡ item) × (520 < length item)) }
+    pub fn new(item: ByteString) -> Result<Self, ByteString>
+        ensures { MatchResult result (λ w. w.item ≡ item) (λ i. (i ≡ item) × (MAX_SCRIPT_ELEMENT_SIZE < length item)) }
     {
-        if item.len() > 520 {
+        if item.len() > MAX_SCRIPT_ELEMENT_SIZE {
             return Err(item);
         }
         Ok(WitnessItem { item })

@@ -7,11 +7,9 @@ ghost use Rattle.claim.specs.Showing.{is_token_with, shows_hash, shows_size, sho
 use crate::parts::Slot;
 use digest::{hash160, ripemd160, sha256};
 use facts::{Fact, KeySource};
+use script::limits::LOCKTIME_THRESHOLD;
 use script::tokens::{has_key_form, has_signature_form};
 use script::truths::is_true;
-
-/// A lock below this number is a height (BIP 65).
-const FIRST_TIME: u64 = 500_000_000;
 
 /// The bit of a relative lock that makes it one of time (BIP 112).
 const TIME_BIT: u32 = 22;
@@ -232,7 +230,11 @@ pub(crate) fn shown(slots: &[Slot], fact: &Fact) -> Option<bool>
         Fact::Form(place) => shows_form(slots.get(*place)?),
         Fact::Token(place, key) => token_shown(slots, *place, key),
         Fact::Assigned(places, keys) => assigned_shown(slots, places.values(), keys.values()),
-        Fact::Lock(n) => if *n < FIRST_TIME { Some(true) } else { None },
+        Fact::Lock(n) => if *n < LOCKTIME_THRESHOLD {
+            Some(true)
+        } else {
+            None
+        },
         Fact::Age(n) => if (*n >> TIME_BIT) % 2 == 1 {
             None
         } else {

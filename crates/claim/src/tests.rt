@@ -1,3 +1,5 @@
+mod shapes;
+
 use crate::errors::AcceptError;
 use crate::judging::{first_unmet, is_program};
 use crate::parts::{Key, Slot, WitnessItem};
@@ -5,8 +7,9 @@ use crate::showing::shown;
 use crate::{OutPoint, Place, Shell, accept};
 use digest::{hash160, sha256};
 use facts::{Fact, KeySource, Stated};
+use lists::{ByteString, List};
 use paths::check;
-use script::{Item, Row, Script};
+use script::Script;
 use std::alloc::{AllocError, Global};
 use std::test::Fail;
 
@@ -22,7 +25,7 @@ fn sig(byte: u8) -> Option<Slot> {
 }
 
 fn exact(alloc: Global, bytes: &[u8]) -> Result<Option<Slot>, AllocError> {
-    match WitnessItem::new(Item::from_slice(alloc, bytes)?) {
+    match WitnessItem::new(ByteString::from_slice(alloc, bytes)?) {
         Ok(item) => Ok(Some(Slot::Exact(item))),
         Err(_) => Ok(None),
     }
@@ -41,7 +44,7 @@ fn two_slots(alloc: Global, top: &[u8]) -> Result<Vec<Slot>, AllocError> {
 }
 
 fn key_of(alloc: Global, byte: u8) -> Result<KeySource, AllocError> {
-    Ok(KeySource::Const(Item::from_slice(alloc, &key_bytes(byte))?))
+    Ok(KeySource::Const(ByteString::from_slice(alloc, &key_bytes(byte))?))
 }
 
 #[test]
@@ -79,15 +82,15 @@ fn assigns_keys_in_their_order(rt: HostRuntime) -> Result<(), Fail> {
     let mut keys = Vec::new(alloc);
     keys.push(key_of(alloc, 0x11)?)?;
     keys.push(key_of(alloc, 0x22)?)?;
-    let keys = Row::from_vec(keys);
-    let forward = Row::from_vec(Vec::from_slice(alloc, &[0, 1])?);
+    let keys = List::from_vec(keys);
+    let forward = List::from_vec(Vec::from_slice(alloc, &[0, 1])?);
     let fact = Fact::Assigned(forward, keys);
     assert_eq!(rt; shown(&slots, &fact), Some(true));
     let mut keys = Vec::new(alloc);
     keys.push(key_of(alloc, 0x11)?)?;
     keys.push(key_of(alloc, 0x22)?)?;
-    let backward = Row::from_vec(Vec::from_slice(alloc, &[1, 0])?);
-    let fact = Fact::Assigned(backward, Row::from_vec(keys));
+    let backward = List::from_vec(Vec::from_slice(alloc, &[1, 0])?);
+    let fact = Fact::Assigned(backward, List::from_vec(keys));
     assert_eq!(rt; shown(&slots, &fact), Some(false));
     Ok(())
 }
@@ -102,7 +105,7 @@ fn names_the_first_unmet_fact(rt: HostRuntime) -> Result<(), Fail> {
     }
     match first_unmet(&slots, &facts) {
         Some(stated) => {
-            let refusal = AcceptError::Unmet(stated.copy(alloc)?);
+            let refusal = AcceptError::Unmet(stated.copy()?);
             assert_eq!(rt;
                 format!(in alloc; "{refusal}")?.as_str(),
                 "Unmet truth 0 yes"
@@ -152,7 +155,7 @@ fn place_of(alloc: Global, hash: &[u8; 32]) -> Result<Place, AllocError> {
             index: 3,
         },
         value: 1000,
-        program: Item::from_vec(program),
+        program: ByteString::from_vec(program),
     })
 }
 

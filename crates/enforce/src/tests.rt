@@ -1,5 +1,7 @@
 // The programs' rows, as texts and statuses.
 
+mod rows;
+
 use crate::words::{USAGE, run_words};
 use std::alloc::Global;
 use std::io;

@@ -2,14 +2,14 @@
 
 ghost use Rattle.std.specs.Prelude.{◌≡◌, IfOk};
 
-use script::{Item, Row};
+use lists::{ByteString, List};
 use std::alloc::{AllocError, Global};
 
 /// Where a key comes from.
 #[derive(Debug, Drop)]
 pub enum KeySource {
     /// The script pushes it.
-    Const(Item),
+    Const(ByteString),
     /// It is this slot of the witness.
     Slot(usize),
 }
@@ -18,13 +18,13 @@ pub enum KeySource {
 #[derive(Debug, Drop)]
 pub enum Fact {
     /// HASH160 of the slot is these 20 bytes.
-    Hash(usize, Item),
+    Hash(usize, ByteString),
     /// The slot has so many bytes.
     Size(usize, u32),
     /// The slot counts as true.
     Truth(usize),
     /// The slot is these bytes.
-    Is(usize, Item),
+    Is(usize, ByteString),
     /// The slot has the form of a key.
     KeyForm(usize),
     /// The slot is empty or has the form of a token.
@@ -32,7 +32,7 @@ pub enum Fact {
     /// The slot is the token of the key over the spend's digest.
     Token(usize, KeySource),
     /// The slots are tokens of an increasing choice of the keys, both lists deepest first.
-    Assigned(Row<usize>, Row<KeySource>),
+    Assigned(List<usize>, List<KeySource>),
     /// CHECKLOCKTIMEVERIFY of this number passes (BIP 65).
     Lock(u64),
     /// CHECKSEQUENCEVERIFY of this number passes (BIP 112); of a number, the bits of 0x40ffff.
@@ -52,7 +52,7 @@ pub enum Sym {
     /// An item of the witness.
     Slot(usize),
     /// Known bytes.
-    Const(Item),
+    Const(ByteString),
     /// HASH160 of a slot.
     HashOf(usize),
     /// The length of a slot, as a number.
@@ -63,11 +63,11 @@ pub enum Sym {
 
 impl KeySource {
     /// An equal one. The only error is want of memory.
-    pub fn copy(&self, alloc: Global) -> Result<Self, AllocError>
+    pub fn copy(&self) -> Result<Self, AllocError>
         ensures { IfOk result (λ k. k ≡ self.now) }
     {
         match self {
-            KeySource::Const(item) => Ok(KeySource::Const(item.copy(alloc)?)),
+            KeySource::Const(item) => Ok(KeySource::Const(item.copy()?)),
             KeySource::Slot(i) => Ok(KeySource::Slot(*i)),
         }
     }
@@ -75,20 +75,20 @@ impl KeySource {
 
 impl Fact {
     /// An equal one. The only error is want of memory.
-    pub fn copy(&self, alloc: Global) -> Result<Self, AllocError>
+    pub fn copy(&self) -> Result<Self, AllocError>
         ensures { IfOk result (λ f. f ≡ self.now) }
     {
         match self {
-            Fact::Hash(i, hash) => Ok(Fact::Hash(*i, hash.copy(alloc)?)),
+            Fact::Hash(i, hash) => Ok(Fact::Hash(*i, hash.copy()?)),
             Fact::Size(i, n) => Ok(Fact::Size(*i, *n)),
             Fact::Truth(i) => Ok(Fact::Truth(*i)),
-            Fact::Is(i, bytes) => Ok(Fact::Is(*i, bytes.copy(alloc)?)),
+            Fact::Is(i, bytes) => Ok(Fact::Is(*i, bytes.copy()?)),
             Fact::KeyForm(i) => Ok(Fact::KeyForm(*i)),
             Fact::Form(i) => Ok(Fact::Form(*i)),
-            Fact::Token(i, key) => Ok(Fact::Token(*i, key.copy(alloc)?)),
+            Fact::Token(i, key) => Ok(Fact::Token(*i, key.copy()?)),
             Fact::Assigned(slots, keys) => {
-                let slots = Row::from_vec(copied_slots(alloc, slots.values())?);
-                let keys = Row::from_vec(copied_keys(alloc, keys.values())?);
+                let slots = List::from_vec(Vec::from_slice(slots.allocator(), slots.values())?);
+                let keys = List::from_vec(copied_keys(keys.allocator(), keys.values())?);
                 Ok(Fact::Assigned(slots, keys))
             }
             Fact::Lock(n) => Ok(Fact::Lock(*n)),
@@ -97,31 +97,24 @@ impl Fact {
     }
 }
 
-// The same slots.
-fn copied_slots(alloc: Global, slots: &[usize]) -> Result<Vec<usize>, AllocError>
-    ensures { IfOk result (λ v. v.items ≡ slots.now) }
-{
-    Vec::from_slice(alloc, slots)
-}
-
 // Equal keys.
 fn copied_keys(alloc: Global, keys: &[KeySource]) -> Result<Vec<KeySource>, AllocError>
     ensures { IfOk result (λ v. v.items ≡ keys.now) }
 {
     let mut copies = Vec::new(alloc);
     for key in keys {
-        copies.push(key.copy(alloc)?)?;
+        copies.push(key.copy()?)?;
     }
     Ok(copies)
 }
 
 impl Stated {
     /// An equal one. The only error is want of memory.
-    pub fn copy(&self, alloc: Global) -> Result<Self, AllocError>
+    pub fn copy(&self) -> Result<Self, AllocError>
         ensures { IfOk result (λ s. s ≡ self.now) }
     {
         Ok(Stated {
-            fact: self.fact.copy(alloc)?,
+            fact: self.fact.copy()?,
             holds: self.holds,
         })
     }
@@ -129,15 +122,15 @@ impl Stated {
 
 impl Sym {
     /// An equal one. The only error is want of memory.
-    pub fn copy(&self, alloc: Global) -> Result<Self, AllocError>
+    pub fn copy(&self) -> Result<Self, AllocError>
         ensures { IfOk result (λ s. s ≡ self.now) }
     {
         match self {
             Sym::Slot(i) => Ok(Sym::Slot(*i)),
-            Sym::Const(item) => Ok(Sym::Const(item.copy(alloc)?)),
+            Sym::Const(item) => Ok(Sym::Const(item.copy()?)),
             Sym::HashOf(i) => Ok(Sym::HashOf(*i)),
             Sym::SizeOf(i) => Ok(Sym::SizeOf(*i)),
-            Sym::Holds(fact) => Ok(Sym::Holds(fact.copy(alloc)?)),
+            Sym::Holds(fact) => Ok(Sym::Holds(fact.copy()?)),
         }
     }
 }

@@ -1,7 +1,9 @@
 // Facts print as the verifier's table has them, and copies are equal.
 
+mod shapes;
+
 use crate::symbols::{Fact, KeySource, Stated, Sym};
-use script::{Item, Row};
+use lists::{ByteString, List};
 use std::alloc::Global;
 use std::process::Abort;
 use std::test::Fail;
@@ -9,15 +11,15 @@ use std::test::Fail;
 // Asserts the text of a fact, and of a copy of it.
 fn prints(rt: &impl Abort, alloc: Global, fact: Fact, holds: bool, text: &str) -> Result<(), Fail> {
     let stated = Stated { fact, holds };
-    let copy = stated.copy(alloc)?;
+    let copy = stated.copy()?;
     assert_eq!(rt; format!(in alloc; "{stated}")?.as_str(), text);
     assert_eq!(rt; format!(in alloc; "{copy}")?.as_str(), text);
     Ok(())
 }
 
 // An item of these bytes.
-fn item(alloc: Global, bytes: &[u8]) -> Result<Item, Fail> {
-    Ok(Item::from_slice(alloc, bytes)?)
+fn item(alloc: Global, bytes: &[u8]) -> Result<ByteString, Fail> {
+    Ok(ByteString::from_slice(alloc, bytes)?)
 }
 
 #[test]
@@ -65,10 +67,10 @@ fn prints_keys(rt: HostRuntime) -> Result<(), Fail> {
         true,
         "token 1 slot 0 yes",
     )?;
-    let mut slots = Row::new(alloc);
+    let mut slots = List::new(alloc);
     slots.push(2)?;
     slots.push(1)?;
-    let mut keys = Row::new(alloc);
+    let mut keys = List::new(alloc);
     keys.push(KeySource::Const(item(alloc, &[2, 0x11])?))?;
     keys.push(KeySource::Slot(7))?;
     prints(
@@ -84,8 +86,8 @@ fn prints_keys(rt: HostRuntime) -> Result<(), Fail> {
 #[test]
 fn copies_symbols(rt: HostRuntime) -> Result<(), Fail> {
     let alloc = rt.alloc();
-    let holds = Sym::Holds(Fact::Truth(1)).copy(alloc)?;
+    let holds = Sym::Holds(Fact::Truth(1)).copy()?;
     assert!(rt; matches!(holds, Sym::Holds(Fact::Truth(1))));
-    assert!(rt; matches!(Sym::HashOf(2).copy(alloc)?, Sym::HashOf(2)));
+    assert!(rt; matches!(Sym::HashOf(2).copy()?, Sym::HashOf(2)));
     Ok(())
 }

@@ -1,4 +1,3 @@
-pub mod Starting
 pub mod Past
 pub mod Reversing
 pub mod MultiSigs

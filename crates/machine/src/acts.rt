@@ -11,13 +11,12 @@ use crate::multisig::check_multi_sig;
 use crate::sizes::size_item;
 use crate::skips::Course;
 use digest::hash160;
+use lists::{ByteString, Stack};
+use script::limits::MAX_OPS_PER_SCRIPT;
 use script::tokens::{has_key_form, has_signature_form, is_token_of};
 use script::truths::is_true;
-use script::{Cause, Item, Kind, Op, Pile, Spend};
+use script::{Cause, Kind, Op, Spend};
 use std::alloc::{AllocError, Global};
-
-/// The greatest number of counted opcodes and keys.
-pub const MAX_OPS: usize = 201;
 
 /// What an opcode that was run gives beside the entries.
 #[derive(Clone, Copy, Debug, PartialEq, Eq)]
@@ -35,11 +34,11 @@ pub fn act(
     op: &Op,
     spend: &Spend,
     counted: usize,
-    stack: &mut Pile<Item>,
+    stack: &mut Stack<ByteString>,
 ) -> Result<Step, Halt>
-    requires { counted ≤ 201 }
+    requires { counted ≤ MAX_OPS_PER_SCRIPT }
     ensures does { IsEffect (effect spend.now counted op.now stack.old) stack.new result }
-    ensures few { IfOk result (λ step. counted + step.keys ≤ 201) }
+    ensures few { IfOk result (λ step. counted + step.keys ≤ MAX_OPS_PER_SCRIPT) }
 {
     if let Op::CheckMultiSig = op {
         return check_multi_sig(alloc, spend, counted, stack);
@@ -54,14 +53,14 @@ fn act_keyless(
     alloc: Global,
     op: &Op,
     spend: &Spend,
-    stack: &mut Pile<Item>,
+    stack: &mut Stack<ByteString>,
 ) -> Result<Course, Halt>
     requires { IsKeyless op.now }
     ensures { Does spend.now op.now stack.old stack.new result }
 {
     match op {
-        Op::Push(item) => push(stack, item.copy(alloc)?),
-        Op::Number(n) => push(stack, Item::from_slice(alloc, &[*n])?),
+        Op::Push(item) => push(stack, item.copy()?),
+        Op::Number(n) => push(stack, ByteString::from_slice(alloc, &[*n])?),
         Op::If => enter(stack, true),
         Op::NotIf => enter(stack, false),
         Op::Else => Ok(Course::BehindEnd),
@@ -81,7 +80,7 @@ fn act_keyless(
 }
 
 /// The top of the stack, which is taken off.
-pub fn take(stack: &mut Pile<Item>) -> Result<Item, Halt>
+pub fn take(stack: &mut Stack<ByteString>) -> Result<ByteString, Halt>
     ensures { MatchResult result
         (λ x. stack.old ≡ x ∷ stack.new)
         (λ h. (stack.old ≡ []) × (stack.new ≡ []) × (h ≡ Halt.Stop Cause.MissingOperand)) }
@@ -90,18 +89,18 @@ pub fn take(stack: &mut Pile<Item>) -> Result<Item, Halt>
 }
 
 /// The item that a test pushes.
-pub fn flag(alloc: Global, is_true: bool) -> Result<Item, AllocError>
+pub fn flag(alloc: Global, is_true: bool) -> Result<ByteString, AllocError>
     ensures { IfOk result (λ x. x ≡ flag_of is_true) }
 {
     if is_true {
-        Item::from_slice(alloc, &[1])
+        ByteString::from_slice(alloc, &[1])
     } else {
-        Item::from_slice(alloc, &[])
+        ByteString::from_slice(alloc, &[])
     }
 }
 
 // Puts an entry on top.
-fn push(stack: &mut Pile<Item>, item: Item) -> Result<Course, Halt>
+fn push(stack: &mut Stack<ByteString>, item: ByteString) -> Result<Course, Halt>
     ensures { MatchResult result
         (λ course. (course ≡ Course.Next) × (stack.new ≡ item ∷ stack.old))
         (λ h. h ≡ Halt.NoMemory) }
@@ -112,7 +111,7 @@ fn push(stack: &mut Pile<Item>, item: Item) -> Result<Course, Halt>
 
 // IF, and NOTIF, which runs where the top is false.
 #[tactic(auto, unfolding(script::specs::Step::effect))]
-fn enter(stack: &mut Pile<Item>, wanted: bool) -> Result<Course, Halt>
+fn enter(stack: &mut Stack<ByteString>, wanted: bool) -> Result<Course, Halt>
     ensures on_true { (spend : Spending) → wanted ≡ true → Does spend Op.If stack.old stack.new result }
     ensures on_false { (spend : Spending) → wanted ≡ false → Does spend Op.NotIf stack.old stack.new result }
 {
@@ -126,7 +125,7 @@ fn enter(stack: &mut Pile<Item>, wanted: bool) -> Result<Course, Halt>
 
 // DROP
 #[tactic(auto, unfolding(script::specs::Step::effect))]
-fn discard(stack: &mut Pile<Item>) -> Result<Course, Halt>
+fn discard(stack: &mut Stack<ByteString>) -> Result<Course, Halt>
     ensures { (spend : Spending) → Does spend Op.Drop stack.old stack.new result }
 {
     take(stack)?;
@@ -135,19 +134,19 @@ fn discard(stack: &mut Pile<Item>) -> Result<Course, Halt>
 
 // DUP
 #[tactic(auto, unfolding(script::specs::Step::effect))]
-fn duplicate(alloc: Global, stack: &mut Pile<Item>) -> Result<Course, Halt>
+fn duplicate(alloc: Global, stack: &mut Stack<ByteString>) -> Result<Course, Halt>
     ensures { (spend : Spending) → Does spend Op.Dup stack.old stack.new result }
 {
     let Some(top) = stack.top() else {
         return Err(Halt::Stop(Cause::MissingOperand));
     };
-    let item = top.copy(alloc)?;
+    let item = top.copy()?;
     push(stack, item)
 }
 
 // SWAP
 #[tactic(auto, unfolding(script::specs::Step::effect))]
-fn swap(stack: &mut Pile<Item>) -> Result<Course, Halt>
+fn swap(stack: &mut Stack<ByteString>) -> Result<Course, Halt>
     ensures { (spend : Spending) → Does spend Op.Swap stack.old stack.new result }
 {
     let top = take(stack)?;
@@ -158,7 +157,7 @@ fn swap(stack: &mut Pile<Item>) -> Result<Course, Halt>
 
 // SIZE
 #[tactic(auto, unfolding(script::specs::Step::effect))]
-fn size(alloc: Global, stack: &mut Pile<Item>) -> Result<Course, Halt>
+fn size(alloc: Global, stack: &mut Stack<ByteString>) -> Result<Course, Halt>
     ensures { (spend : Spending) → Does spend Op.Size stack.old stack.new result }
 {
     let Some(top) = stack.top() else {
@@ -170,7 +169,7 @@ fn size(alloc: Global, stack: &mut Pile<Item>) -> Result<Course, Halt>
 
 // EQUAL
 #[tactic(auto, unfolding(script::specs::Step::effect))]
-fn equal(alloc: Global, stack: &mut Pile<Item>) -> Result<Course, Halt>
+fn equal(alloc: Global, stack: &mut Stack<ByteString>) -> Result<Course, Halt>
     ensures { (spend : Spending) → Does spend Op.Equal stack.old stack.new result }
 {
     let top = take(stack)?;
@@ -180,7 +179,7 @@ fn equal(alloc: Global, stack: &mut Pile<Item>) -> Result<Course, Halt>
 
 // EQUALVERIFY
 #[tactic(auto, unfolding(script::specs::Step::effect))]
-fn verify_equal(stack: &mut Pile<Item>) -> Result<Course, Halt>
+fn verify_equal(stack: &mut Stack<ByteString>) -> Result<Course, Halt>
     ensures { (spend : Spending) → Does spend Op.EqualVerify stack.old stack.new result }
 {
     let top = take(stack)?;
@@ -194,16 +193,16 @@ fn verify_equal(stack: &mut Pile<Item>) -> Result<Course, Halt>
 
 // HASH160
 #[tactic(auto, unfolding(script::specs::Step::effect))]
-fn hash(alloc: Global, stack: &mut Pile<Item>) -> Result<Course, Halt>
+fn hash(alloc: Global, stack: &mut Stack<ByteString>) -> Result<Course, Halt>
     ensures { (spend : Spending) → Does spend Op.Hash160 stack.old stack.new result }
 {
     let top = take(stack)?;
-    push(stack, Item::from_slice(alloc, &hash160(top.bytes()))?)
+    push(stack, ByteString::from_slice(alloc, &hash160(top.bytes()))?)
 }
 
 // CHECKSIG
 #[tactic(auto, unfolding(script::specs::Step::effect))]
-fn check_sig(alloc: Global, spend: &Spend, stack: &mut Pile<Item>) -> Result<Course, Halt>
+fn check_sig(alloc: Global, spend: &Spend, stack: &mut Stack<ByteString>) -> Result<Course, Halt>
     ensures { Does spend.now Op.CheckSig stack.old stack.new result }
 {
     let key = take(stack)?;
@@ -220,7 +219,7 @@ fn check_sig(alloc: Global, spend: &Spend, stack: &mut Pile<Item>) -> Result<Cou
 
 // CHECKLOCKTIMEVERIFY
 #[tactic(auto, unfolding(script::specs::Step::effect))]
-fn check_lock_time(spend: &Spend, stack: &Pile<Item>) -> Result<Course, Halt>
+fn check_lock_time(spend: &Spend, stack: &Stack<ByteString>) -> Result<Course, Halt>
     ensures { Does spend.now Op.CheckLockTimeVerify stack.now stack.now result }
 {
     let lock = read_lock(stack, Kind::LockTime)?;
@@ -233,7 +232,7 @@ fn check_lock_time(spend: &Spend, stack: &Pile<Item>) -> Result<Course, Halt>
 
 // CHECKSEQUENCEVERIFY
 #[tactic(auto, unfolding(script::specs::Step::effect))]
-fn check_sequence(spend: &Spend, stack: &Pile<Item>) -> Result<Course, Halt>
+fn check_sequence(spend: &Spend, stack: &Stack<ByteString>) -> Result<Course, Halt>
     ensures { Does spend.now Op.CheckSequenceVerify stack.now stack.now result }
 {
     let age = read_lock(stack, Kind::Sequence)?;

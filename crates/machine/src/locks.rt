@@ -5,11 +5,10 @@ ghost use Rattle.script.specs.Step.{age_passes, lock_passes};
 ghost use Rattle.machine.specs.Doings.{IfStop, IsLock, HasNoLock};
 
 use crate::halts::Halt;
+use lists::{ByteString, Stack};
+use script::limits::LOCKTIME_THRESHOLD;
 use script::num::Limit;
-use script::{Cause, Item, Kind, Pile, Spend, num};
-
-/// The least lock time that is a time in seconds; those below it are heights of blocks (BIP 65).
-const LEAST_TIME: u64 = 500_000_000;
+use script::{Cause, Kind, Spend, num};
 
 /// The sequence of a final input.
 const FINAL: u32 = 0xffff_ffff;
@@ -20,7 +19,9 @@ pub fn is_lock_reached(spend: &Spend, lock: u64) -> bool
     ensures { result ≡ lock_passes spend.now lock }
 {
     let lock_time = u64::from(spend.lock_time);
-    (lock < LEAST_TIME) == (lock_time < LEAST_TIME) && lock <= lock_time && spend.sequence != FINAL
+    (lock < LOCKTIME_THRESHOLD) == (lock_time < LOCKTIME_THRESHOLD)
+        && lock <= lock_time
+        && spend.sequence != FINAL
 }
 
 /// Whether a relative lock passes (BIP 112): bit 31 switches it off, bit 22 is its kind, and the lowest 16 bits are its length.
@@ -37,7 +38,7 @@ pub fn is_age_reached(spend: &Spend, age: u64) -> bool
 }
 
 /// The lock on top of the stack: a number of at most 5 bytes that is not negative, else the check of its kind fails.
-pub fn read_lock(stack: &Pile<Item>, kind: Kind) -> Result<u64, Halt>
+pub fn read_lock(stack: &Stack<ByteString>, kind: Kind) -> Result<u64, Halt>
     ensures { MatchResult result (λ n. IsLock stack.now kind n) (λ h. IfStop h (λ c. HasNoLock stack.now kind c)) }
 {
     let Some(top) = stack.top() else {

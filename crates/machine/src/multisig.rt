@@ -7,16 +7,15 @@ ghost use Rattle.script.specs.Step.{multi_sig};
 ghost use Rattle.machine.specs.Doings.{IfStop, IsEffect};
 ghost use Rattle.machine.specs.MultiSig.{Counts, CountsNone, HasForms};
 
-use crate::acts::{MAX_OPS, Step, flag, take};
+use crate::acts::{Step, flag, take};
 use crate::halts::Halt;
 use crate::skips::Course;
+use lists::{ByteString, Stack};
+use script::limits::{MAX_OPS_PER_SCRIPT, MAX_PUBKEYS_PER_MULTISIG};
 use script::num::Limit;
 use script::tokens::{has_key_form, has_signature_form, is_token_of};
-use script::{Cause, Item, Kind, Pile, Spend, num};
+use script::{Cause, Kind, Spend, num};
 use std::alloc::Global;
-
-/// The greatest number of keys.
-const MAX_KEYS: usize = 20;
 
 /// CHECKMULTISIG, where so many opcodes and keys are counted with the opcode. The entries are, from the top: the number of keys, the
 /// keys, the number of signatures, the signatures, and an extra item, which has to be empty (BIP 147).
@@ -24,14 +23,14 @@ pub fn check_multi_sig(
     alloc: Global,
     spend: &Spend,
     counted: usize,
-    stack: &mut Pile<Item>,
+    stack: &mut Stack<ByteString>,
 ) -> Result<Step, Halt>
-    requires { counted ≤ 201 }
+    requires { counted ≤ MAX_OPS_PER_SCRIPT }
     ensures does { IsEffect (multi_sig spend.now counted stack.old) stack.new result }
-    ensures few { IfOk result (λ step. counted + step.keys ≤ 201) }
+    ensures few { IfOk result (λ step. counted + step.keys ≤ MAX_OPS_PER_SCRIPT) }
 {
-    let key_count = take_count(stack, MAX_KEYS, Kind::KeyCount)?;
-    if counted + key_count > MAX_OPS {
+    let key_count = take_count(stack, MAX_PUBKEYS_PER_MULTISIG, Kind::KeyCount)?;
+    if counted + key_count > MAX_OPS_PER_SCRIPT {
         return Err(Halt::Stop(Cause::TooManyOps));
     }
     let keys = take_many(alloc, stack, key_count)?;
@@ -48,7 +47,7 @@ pub fn check_multi_sig(
 }
 
 // The number of at most 4 bytes on top of the stack, which is taken off; the check of its kind fails where it is not from 0 to a limit.
-fn take_count(stack: &mut Pile<Item>, limit: usize, kind: Kind) -> Result<usize, Halt>
+fn take_count(stack: &mut Stack<ByteString>, limit: usize, kind: Kind) -> Result<usize, Halt>
     ensures { MatchResult result
         (λ n. Counts stack.old stack.new limit kind n)
         (λ h. IfStop h (λ c. CountsNone stack.old limit kind c)) }
@@ -64,12 +63,16 @@ fn take_count(stack: &mut Pile<Item>, limit: usize, kind: Kind) -> Result<usize,
 }
 
 // So many entries from the top, which are taken off; the deepest of them is the top of the pile.
-fn take_many(alloc: Global, stack: &mut Pile<Item>, count: usize) -> Result<Pile<Item>, Halt>
+fn take_many(
+    alloc: Global,
+    stack: &mut Stack<ByteString>,
+    count: usize,
+) -> Result<Stack<ByteString>, Halt>
     ensures { MatchResult result
         (λ p. (count ≤ length stack.old) × (p ≡ reverse (front count stack.old)) × (stack.new ≡ behind count stack.old))
         (λ h. IfStop h (λ c. (c ≡ Cause.MissingOperand) × (length stack.old < count))) }
 {
-    let mut entries = Pile::new(alloc);
+    let mut entries = Stack::new(alloc);
     for _entry in 0..count {
         entries.push(take(stack)?)?;
     }
@@ -78,7 +81,11 @@ fn take_many(alloc: Global, stack: &mut Pile<Item>, count: usize) -> Result<Pile
 
 // The forms of the signatures, those of the keys, and the extra item, in this order.
 #[tactic(auto, using(crate::proofs::Reversing::all_reversed))]
-fn check_forms(keys: &Pile<Item>, sigs: &Pile<Item>, extra: &Item) -> Result<(), Halt>
+fn check_forms(
+    keys: &Stack<ByteString>,
+    sigs: &Stack<ByteString>,
+    extra: &ByteString,
+) -> Result<(), Halt>
     ensures { HasForms keys.now sigs.now extra.now result }
 {
     if !are_signatures(sigs.values()) {
@@ -94,14 +101,14 @@ fn check_forms(keys: &Pile<Item>, sigs: &Pile<Item>, extra: &Item) -> Result<(),
 }
 
 // Whether each item is empty or has the form of a token.
-fn are_signatures(items: &[Item]) -> bool
+fn are_signatures(items: &[ByteString]) -> bool
     ensures { result ≡ list_all is_signature items.now }
 {
     items.iter().all(|item| has_signature_form(item.bytes()))
 }
 
 // Whether all items have the form of a compressed key.
-fn are_keys(items: &[Item]) -> bool
+fn are_keys(items: &[ByteString]) -> bool
     ensures { result ≡ list_all is_key items.now }
 {
     items.iter().all(|item| has_key_form(item.bytes()))
@@ -109,7 +116,7 @@ fn are_keys(items: &[Item]) -> bool
 
 // Whether the signatures are, in their order, the tokens of some of the keys in theirs. A key that fits the first signature that is left is
 // taken for it: where there is a choice of keys at all, there is one that begins so.
-fn is_assigned(mut sigs: Pile<Item>, mut keys: Pile<Item>, digest: &[u8]) -> bool
+fn is_assigned(mut sigs: Stack<ByteString>, mut keys: Stack<ByteString>, digest: &[u8]) -> bool
     ensures { result ≡ assigned sigs keys digest.now }
 {
     while let Some(key) = keys.pop() {

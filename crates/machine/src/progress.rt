@@ -6,22 +6,21 @@ ghost use Rattle.machine.specs.Doings.{IfStop};
 ghost use Rattle.machine.specs.Places.{depth_of};
 ghost use Rattle.machine.specs.Passing.{IsPassed, IsRun};
 
-use crate::acts::{MAX_OPS, act};
+use crate::acts::act;
 use crate::halts::Halt;
 use crate::skips::Skip;
-use script::{Cause, Item, Op, Pile, Spend};
+use lists::{ByteString, Stack};
+use script::limits::{MAX_OPS_PER_SCRIPT, MAX_STACK_SIZE};
+use script::{Cause, Op, Spend};
 use std::alloc::Global;
-
-/// The greatest number of entries behind an opcode.
-const MAX_ENTRIES: usize = 1000;
 
 /// A run on its way.
 #[derive(Drop)]
 pub struct Machine {
     /// The entries.
-    pub stack: Pile<Item>,
+    pub stack: Stack<ByteString>,
     /// The IFs that stand open, each with whether its ELSE has come.
-    pub ifs: Pile<bool>,
+    pub ifs: Stack<bool>,
     /// The branch that is jumped over.
     pub skip: Option<Skip>,
     /// The opcodes and keys that are counted.
@@ -33,10 +32,10 @@ pub struct Machine {
 impl Machine {
     /// Passes one opcode.
     pub fn pass(&mut self, alloc: Global, op: &Op, spend: &Spend) -> Result<(), Halt>
-        requires few { self.old.counted ≤ 201 }
+        requires few { self.old.counted ≤ MAX_OPS_PER_SCRIPT }
         requires shallow { depth_of self.old.skip ≤ self.old.counted }
         ensures passed { IsPassed spend.now op.now self.old self.new result }
-        ensures still_few { OnOk result (self.new.counted ≤ 201) }
+        ensures still_few { OnOk result (self.new.counted ≤ MAX_OPS_PER_SCRIPT) }
         ensures still_shallow { OnOk result (depth_of self.new.skip ≤ self.new.counted) }
     {
         count(op, &mut self.counted)?;
@@ -52,9 +51,9 @@ impl Machine {
 
     // Runs an opcode that is counted, and whose branch is entered or ended.
     fn run_one(&mut self, alloc: Global, op: &Op, spend: &Spend) -> Result<(), Halt>
-        requires few { self.old.counted ≤ 201 }
+        requires few { self.old.counted ≤ MAX_OPS_PER_SCRIPT }
         ensures run { IsRun spend.now op.now self.old self.new result }
-        ensures still_few { OnOk result (self.new.counted ≤ 201) }
+        ensures still_few { OnOk result (self.new.counted ≤ MAX_OPS_PER_SCRIPT) }
         ensures still_shallow { OnOk result (depth_of self.new.skip ≤ self.new.counted) }
     {
         let step = act(alloc, op, spend, self.counted, &mut self.stack)?;
@@ -66,20 +65,20 @@ impl Machine {
 
 // Counts an opcode.
 fn count(op: &Op, counted: &mut usize) -> Result<(), Halt>
-    requires { counted.old ≤ 201 }
+    requires { counted.old ≤ MAX_OPS_PER_SCRIPT }
     ensures { MatchResult result
-        (λ _. (counted.new ≡ counted.old + weight op.now) × (counted.new ≤ 201))
-        (λ h. (h ≡ Halt.Stop Cause.TooManyOps) × (201 < counted.old + weight op.now)) }
+        (λ _. (counted.new ≡ counted.old + weight op.now) × (counted.new ≤ MAX_OPS_PER_SCRIPT))
+        (λ h. (h ≡ Halt.Stop Cause.TooManyOps) × (MAX_OPS_PER_SCRIPT < counted.old + weight op.now)) }
 {
     *counted += op.weight();
-    if *counted > MAX_OPS {
+    if *counted > MAX_OPS_PER_SCRIPT {
         return Err(Halt::Stop(Cause::TooManyOps));
     }
     Ok(())
 }
 
 // Enters a branch, goes over to its ELSE, or ends it.
-fn open(op: &Op, ifs: &mut Pile<bool>) -> Result<(), Halt>
+fn open(op: &Op, ifs: &mut Stack<bool>) -> Result<(), Halt>
     ensures { MatchResult result
         (λ _. opens op.now ifs.old ≡ Ok ifs.new)
         (λ h. IfStop h (λ c. opens op.now ifs.old ≡ Err c)) }
@@ -107,10 +106,10 @@ fn open(op: &Op, ifs: &mut Pile<bool>) -> Result<(), Halt>
 // Keeps the greatest number of entries.
 fn settle(entries: usize, height: &mut usize) -> Result<(), Halt>
     ensures { MatchResult result
-        (λ _. (height.new ≡ max height.old entries) × (entries ≤ 1000))
-        (λ h. (h ≡ Halt.Stop Cause.StackTooTall) × (1000 < entries)) }
+        (λ _. (height.new ≡ max height.old entries) × (entries ≤ MAX_STACK_SIZE))
+        (λ h. (h ≡ Halt.Stop Cause.StackTooTall) × (MAX_STACK_SIZE < entries)) }
 {
-    if entries > MAX_ENTRIES {
+    if entries > MAX_STACK_SIZE {
         return Err(Halt::Stop(Cause::StackTooTall));
     }
     *height = (*height).max(entries);

@@ -1,6 +1,6 @@
 //! Runs a script.
 
-ghost use Rattle.std.specs.Prelude.{◌≡◌, map, reverse, IfOk};
+ghost use Rattle.std.specs.Prelude.{◌≡◌, reverse, IfOk};
 ghost use Rattle.std.specs.List.{list_any};
 ghost use Rattle.script.specs.Run.{is_long, outcome, at_end};
 ghost use Rattle.machine.specs.Outcomes.{IsOutcome};
@@ -9,19 +9,22 @@ ghost use Rattle.machine.specs.Stopping.{StopsAt};
 use crate::ends::{Run, Stop};
 use crate::halts::Halt;
 use crate::progress::Machine;
+use lists::{ByteString, Stack};
+use script::limits::MAX_SCRIPT_ELEMENT_SIZE;
 use script::truths::is_true;
-use script::{Cause, Item, Pile, Script, Spend};
+use script::{Cause, Script, Spend};
 use std::alloc::{AllocError, Global};
-
-/// The greatest number of bytes of an item of a witness.
-const MAX_ITEM: usize = 520;
 
 /// Runs a script on the items of a witness, the last of which is the top of the stack (BIP 141). `Ok` gives the counted opcodes and the
 /// greatest number of entries of a clean run, one that ends with one true entry and no open IF; `Stop::At` the first opcode that the run
 /// stops at, counted from 0, and why.
-#[tactic(auto, using(crate::proofs::Starting::any_map))]
-pub fn run(alloc: Global, script: &Script, witness: &[Vec<u8>], spend: &Spend) -> Result<Run, Stop>
-    ensures { IsOutcome (outcome spend.now script.now (map (λ item. item.items) witness.now)) result }
+pub fn run(
+    alloc: Global,
+    script: &Script,
+    witness: &[ByteString],
+    spend: &Spend,
+) -> Result<Run, Stop>
+    ensures { IsOutcome (outcome spend.now script.now witness.now) result }
 {
     if has_long(witness) {
         return Err(Stop::At(Cause::ItemTooLong, 0));
@@ -30,7 +33,7 @@ pub fn run(alloc: Global, script: &Script, witness: &[Vec<u8>], spend: &Spend) -
     let height = stack.len();
     let mut machine = Machine {
         stack,
-        ifs: Pile::new(alloc),
+        ifs: Stack::new(alloc),
         skip: None,
         counted: 0,
         height,
@@ -55,26 +58,26 @@ fn stop_at(at: usize, halt: Halt) -> Stop
 }
 
 // Whether some item has more than 520 bytes.
-fn has_long(witness: &[Vec<u8>]) -> bool
-    ensures { result ≡ list_any (λ item. is_long item.items) witness.now }
+fn has_long(witness: &[ByteString]) -> bool
+    ensures { result ≡ list_any is_long witness.now }
 {
-    witness.iter().any(|item| is_too_long(item.as_slice()))
+    witness.iter().any(|item| is_too_long(item))
 }
 
 // Whether an item has more than 520 bytes.
-fn is_too_long(item: &[u8]) -> bool
+fn is_too_long(item: &ByteString) -> bool
     ensures { result ≡ is_long item.now }
 {
-    item.len() > MAX_ITEM
+    item.len() > MAX_SCRIPT_ELEMENT_SIZE
 }
 
 // The stack that a witness starts with.
-fn load(alloc: Global, witness: &[Vec<u8>]) -> Result<Pile<Item>, AllocError>
-    ensures { IfOk result (λ s. s ≡ reverse (map (λ item. item.items) witness.now)) }
+fn load(alloc: Global, witness: &[ByteString]) -> Result<Stack<ByteString>, AllocError>
+    ensures { IfOk result (λ s. s ≡ reverse witness.now) }
 {
-    let mut stack = Pile::new(alloc);
+    let mut stack = Stack::new(alloc);
     for item in witness {
-        stack.push(Item::from_slice(alloc, item.as_slice())?)?;
+        stack.push(item.copy()?)?;
     }
     Ok(stack)
 }

@@ -3,11 +3,11 @@
 ghost use Rattle.std.specs.Prelude.{◌≡◌, ◌++◌, IfOk, OnOk};
 ghost use Rattle.script.specs.Number.{item_of, lowest};
 
-use script::Item;
+use lists::ByteString;
 use std::alloc::{AllocError, Global};
 
 /// The shortest item of a size. The only error is want of memory.
-pub fn size_item(alloc: Global, size: usize) -> Result<Item, AllocError>
+pub fn size_item(alloc: Global, size: usize) -> Result<ByteString, AllocError>
     ensures { IfOk result (λ i. i ≡ item_of size) }
 {
     let mut bytes = Vec::new(alloc);
@@ -18,7 +18,7 @@ pub fn size_item(alloc: Global, size: usize) -> Result<Item, AllocError>
             rest /= 256;
         }
     }
-    Ok(Item::from_vec(bytes))
+    Ok(ByteString::from_vec(bytes))
 }
 
 // Puts the lowest digit at the end, with a byte for the sign where it needs one.

@@ -6,6 +6,7 @@ ghost use Rattle.script.specs.declared.opcode.Op.{Op as Opcode};
 ghost use Rattle.machine.specs.Places.{ahead_of, depth_of, move_of};
 
 use script::Op;
+use script::limits::MAX_OPS_PER_SCRIPT;
 
 /// Where a run goes behind an opcode.
 #[derive(Clone, Copy, Debug, PartialEq, Eq)]
@@ -50,7 +51,7 @@ impl Course {
 impl Skip {
     /// The jump behind an opcode that it jumps over.
     pub fn past(self, op: &Op) -> Option<Skip>
-        requires { self.depth ≤ 201 }
+        requires { self.depth ≤ MAX_OPS_PER_SCRIPT }
         ensures jumps { (rest : List Opcode) → over self.stop self.depth (op.now ∷ rest) ≡ suc (ahead_of result rest) }
         ensures shallow { depth_of result ≤ self.depth + weight op.now }
     {

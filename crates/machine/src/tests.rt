@@ -1,6 +1,9 @@
 //! Runs whose ends are known from outside.
 
+mod shapes;
+
 use crate::{Run, Spend, Stop, run};
+use lists::ByteString;
 use script::{Cause, Kind, Script};
 use std::alloc::{AllocError, Global};
 use std::test::Fail;
@@ -31,10 +34,10 @@ fn repeated(alloc: Global, piece: &[u8], times: usize) -> Result<Vec<u8>, AllocE
 }
 
 // The items of a witness, the last of which is the top.
-fn witness_of(alloc: Global, items: &[&[u8]]) -> Result<Vec<Vec<u8>>, AllocError> {
+fn witness_of(alloc: Global, items: &[&[u8]]) -> Result<Vec<ByteString>, AllocError> {
     let mut witness = Vec::new(alloc);
     for item in items {
-        witness.push(Vec::from_slice(alloc, item)?)?;
+        witness.push(ByteString::from_slice(alloc, item)?)?;
     }
     Ok(witness)
 }

@@ -1,5 +1,6 @@
 pub mod Examples
 pub mod WalkExamples
+pub mod ListingExamples
 pub mod RuleLists
 pub mod RulePops
 pub mod SoundWords
@@ -10,3 +11,10 @@ pub mod SoundMultisig
 pub mod SoundFollowed
 pub mod SoundWalk
 pub mod SoundListing
+pub mod ForcedWords
+pub mod ForcedRules
+pub mod ForcedMultisig
+pub mod ForcedFollowed
+pub mod ForcedWalk
+pub mod ForcedListing
+pub mod LockFacts

@@ -34,7 +34,7 @@ map_reverse_aux : {A B : Type 0} (f : A → B) (xs ys : List A) → map f (rever
 map_reverse_aux f [] ys = refl
 map_reverse_aux f (x ∷ xs) ys = map_reverse_aux f xs (x ∷ ys)
 
-map_reverse : {A B : Type 0} (f : A → B) (xs : List A) → map f (reverse xs) ≡ reverse (map f xs)
+pub map_reverse : {A B : Type 0} (f : A → B) (xs : List A) → map f (reverse xs) ≡ reverse (map f xs)
 map_reverse f xs = map_reverse_aux f xs []
 
 -- so many symbols that are taken
@@ -74,10 +74,10 @@ count_good limit (SizeOf i) = tt
 count_good limit (Holds fact) = tt
 
 -- signatures that are slots
-abbrev AreSlots : List Sym → List ℕ → Type 0
+abbrev pub AreSlots : List Sym → List ℕ → Type 0
 AreSlots xs slots = (spend : Spend) (w : Entries) → map (item_for spend w) xs ≡ map (slot_of w) slots
 
-slots_good : (xs : List Sym) → Gives (AreSlots xs) (slots_of xs)
+pub slots_good : (xs : List Sym) → Gives (AreSlots xs) (slots_of xs)
 slots_good [] = λ spend w. refl
 slots_good (Slot i ∷ xs) = gives_then (AreSlots xs) (AreSlots (Slot i ∷ xs)) (slots_of xs) (λ slots. Ok (i ∷ slots)) (slots_good xs) (λ slots h. λ spend w. ap (λ r. slot_of w i ∷ r) (h spend w))
 slots_good (Const b ∷ xs) = tt
@@ -95,7 +95,7 @@ forms_now spend w (i ∷ slots) s h =
     and_from (is_signature (slot_of w i)) (list_all is_signature (map (slot_of w) slots)) (asked_now spend w (Form i) true s ((forms_asks slots (ask (Form i) true s)).facts spend w h)) (forms_now spend w slots (ask (Form i) true s) h)
 
 -- where keys come from
-record AreSources (xs : List Sym) (sources : List KeySource) : Type 0 where
+pub record AreSources (xs : List Sym) (sources : List KeySource) : Type 0 where
   pub items : (spend : Spend) (w : Entries) → map (item_for spend w) xs ≡ map (key_of w) sources
   pub forms : list_any is_bad_key xs ≡ false → (spend : Spend) (w : Entries) (s : State) → AllStated spend w (ask_keys sources s).facts → list_all is_key (map (key_of w) sources) ≡ true
 
@@ -111,7 +111,7 @@ sources_more x xs key keys k h = record {
       and_from (is_key (key_of w key)) (list_all is_key (map (key_of w) keys)) (k.form p.0 spend w s ((keys_asks keys (ask_key key s)).facts spend w st)) (h.forms p.1 spend w (ask_key key s) st);
 }
 
-sources_good : (xs : List Sym) → Gives (AreSources xs) (sources_of xs)
+pub sources_good : (xs : List Sym) → Gives (AreSources xs) (sources_of xs)
 sources_good [] = record { items = λ spend w. refl; forms = λ e spend w s h. refl }
 sources_good (x ∷ xs) =
     gives_then (IsSource x) (AreSources (x ∷ xs)) (source_of x) (λ key. sources_of xs >>= λ keys. Ok (key ∷ keys)) (source_good x) (λ key k.
@@ -186,7 +186,7 @@ bind_at r x f t e h = ap (λ y. y >>= f) e ∙ h
 up_to-good : (limit : ℕ) (kind : Kind) (z : Signed) (n : ℕ) → z.negative ≡ false → z.magnitude ≡ n → n ≤ limit → up_to limit kind z ≡ Ok n
 up_to-good limit kind z n p e l = rw (p, e, le-leb n limit l) refl
 
-taken_front : (n : ℕ) (xs ys : Entries) → length xs ≡ n → taken n (xs ++ ys) ≡ Ok (xs, ys)
+pub taken_front : (n : ℕ) (xs ys : Entries) → length xs ≡ n → taken n (xs ++ ys) ≡ Ok (xs, ys)
 taken_front n xs ys e =
     ap (λ k. taken k (xs ++ ys)) (sym e)
     ∙ checked_yes (leb (length xs) (length (xs ++ ys))) MissingOperand _ (le-leb (length xs) (length (xs ++ ys)) (omega (arith, length-append xs ys)))

@@ -34,7 +34,7 @@ use Rattle.paths.proofs.SoundNumbers.{hash160-length, masked-passes, bytes_eq-sy
 abbrev pub LeadsTo : ℕ → Op → State → Turn × State → Type 0
 LeadsTo counted op s r = Follows counted op s r.0 r.1
 
-truth_flag : (b : Bool) → truth (flag b) ≡ b
+pub truth_flag : (b : Bool) → truth (flag b) ≡ b
 truth_flag true = refl
 truth_flag false = refl
 

@@ -45,24 +45,24 @@ balanced_step : (r : Result (List Bool) Cause) (go : List Bool → Bool) → goe
 balanced_step (Ok ifs) go e = (ifs, refl, e)
 balanced_step (Err c) go e = absurd (true≢false (sym e))
 
-balanced_end : (ifs : List Bool) → is_balanced [] ifs ≡ true → ifs ≡ []
+pub balanced_end : (ifs : List Bool) → is_balanced [] ifs ≡ true → ifs ≡ []
 balanced_end [] e = refl
 balanced_end (b ∷ ifs) e = absurd (true≢false (sym e))
 
 -- the number of entries, against that of the witness
-length_entries : (spend : Spend) (w : Entries) (s : State) → s.slots ≤ length w → length (entries_of spend w s) + s.slots ≡ length s.stack + length w
+pub length_entries : (spend : Spend) (w : Entries) (s : State) → s.slots ≤ length w → length (entries_of spend w s) + s.slots ≡ length s.stack + length w
 length_entries spend w s l = omega (arith, length-append (map (item_for spend w) s.stack) (drop s.slots w), length-map s.stack (item_for spend w), length-drop s.slots w)
 
 same_place : (n n' : ℕ) (stack : Entries) (c c' : ℕ) (ifs : List Bool) (h h' : ℕ) → n ≡ n' → c ≡ c' → h ≡ h' → ◌≡◌ {A = Result Place Cause} (Ok (record { ahead = n; stack = stack; counted = c; open_ifs = ifs; height = h })) (Ok (record { ahead = n'; stack = stack; counted = c'; open_ifs = ifs; height = h' }))
 same_place n n' stack c c' ifs h h' e f g = rw (e, f, g) refl
 
-summed : (a b c d : ℕ) → a + (b + c) ≡ d → a + b + c ≡ d
+pub summed : (a b c d : ℕ) → a + (b + c) ≡ d → a + b + c ≡ d
 summed a b c d e = omega arith
 
 below : (a k b c d : ℕ) → a + (b + c) ≡ d → d + k ≤ 201 → a + k + b ≤ 201
 below a k b c d e l = omega arith
 
-turned : (a k b : ℕ) → a + k + b ≡ a + b + k
+pub turned : (a k b : ℕ) → a + k + b ≡ a + b + k
 turned a k b = omega arith
 
 -- jumped over
@@ -86,13 +86,13 @@ comes_jump ops at op rest s n z c =
     }
 
 -- where a run goes with these facts
-abbrev run_to : ℕ → List Stated → State → State
+abbrev pub run_to : ℕ → List Stated → State → State
 run_to n facts s = record { ahead = n; stack = s.stack; slots = s.slots; facts = facts; keys = s.keys; excess = max s.excess (length s.stack - s.slots) }
 
-above : (a k b c d : ℕ) → a + (b + c) ≡ d → a + k + b ≤ d + k
+pub above : (a k b c d : ℕ) → a + (b + c) ≡ d → a + k + b ≤ d + k
 above a k b c d e = omega arith
 
-counts : (a k b u k' : ℕ) → k' ≡ k + u → a + k + b + u ≡ a + b + k'
+pub counts : (a k b u k' : ℕ) → k' ≡ k + u → a + k + b + u ≡ a + b + k'
 counts a k b u k' e = omega arith
 
 -- run
@@ -128,13 +128,13 @@ comes_run ops at op rest s turn s' n facts z f h c =
         checked_yes (leb (length (entries_of spend w s')) 1000) StackTooTall _ (le-leb _ 1000 (omega arith))
         ∙ same_place _ n (entries_of spend w s') _ k' ifs _ _ (h spend w m.facts).1 e (omega arith)
 
-same_runs : (t runs : Bool) → t ≡ runs → (if t then runs else not runs) ≡ true
+pub same_runs : (t runs : Bool) → t ≡ runs → (if t then runs else not runs) ≡ true
 same_runs true true e = refl
 same_runs true false e = sym e
 same_runs false true e = e
 same_runs false false e = refl
 
-other_runs : (t runs : Bool) → t ≡ not runs → (if t then runs else not runs) ≡ false
+pub other_runs : (t runs : Bool) → t ≡ not runs → (if t then runs else not runs) ≡ false
 other_runs true true e = e
 other_runs true false e = refl
 other_runs false true e = refl
@@ -215,7 +215,7 @@ short_at [] e i = omega arith
 short_at (x ∷ xs) e zero = ltb-false 520 (length x) (or_parts (is_long x) (list_any is_long xs) e).0
 short_at (x ∷ xs) e (suc i) = short_at xs (or_parts (is_long x) (list_any is_long xs) e).1 i
 
-short_reversed : (xs : Entries) → list_any is_long xs ≡ false → IsShort (reverse xs)
+pub short_reversed : (xs : Entries) → list_any is_long xs ≡ false → IsShort (reverse xs)
 short_reversed xs e = short_at (reverse xs) (sym (list_any-IsPermutation is_long xs (reverse xs) (IsPermutation-reverse xs)) ∙ e)
 
 path_sound : (ops : List Op) (at : ℕ) (s s' : State) → Comes ops at [] s → Closes s s' → is_low s' ≡ true → IsSound ops (path_of (counted_in ops) s')

@@ -1,5 +1,6 @@
 -- What the functions do that stand below the table of opcodes.
 use Rattle.std.specs.Prelude.{◌≡◌, ℕ, ◌+◌, ◌≤◌, nat_le, Result, Ok}
+use Rattle.script.specs.Limits.{max_ops}
 use Rattle.script.specs.Step.{checked}
 use Rattle.paths.specs.declared.state.State.{State}
 use Rattle.paths.specs.declared.state.Halt.{Halt}
@@ -12,4 +13,4 @@ pub record IsNear (more : ℕ) (old : State) (new : State) : Type 0 where
 
 -- so many keys are counted, where the count stays low enough
 abbrev pub count_keys : ℕ → ℕ → State → Result State Halt
-count_keys counted more s = checked (nat_le (counted + (s.keys + more)) 201) TooManyOps (Ok (record s { keys = s.keys + more }))
+count_keys counted more s = checked (nat_le (counted + (s.keys + more)) max_ops) TooManyOps (Ok (record s { keys = s.keys + more }))

@@ -6,3 +6,5 @@ pub mod Listing
 pub mod Walking
 pub mod Sound
 pub mod Outcome
+pub mod Exhaustive
+pub mod Laws

@@ -2,6 +2,7 @@
 use Rattle.std.specs.Prelude.{ℕ, zero, suc, ◌+◌, ◌-◌, ◌%◌, ◌^◌, max, Bool, true, false, not, nat_lt, nat_le, if◌then◌else◌, List, [], ◌∷◌, ◌++◌, length, Option, Some, None, Result, Ok, Err}
 use Rattle.script.specs.declared.opcode.Op.{Op}
 use Rattle.script.specs.declared.stops.Cause.{Cause}
+use Rattle.script.specs.Limits.{max_ops, max_stack_size}
 use Rattle.script.specs.Step.{◌>>=◌, checked, bit_at}
 use Rattle.script.specs.Run.{over, opens, counted_in}
 use Rattle.facts.specs.declared.symbols.Fact.{Fact}
@@ -62,7 +63,7 @@ measured s = record s { excess = max s.excess (length s.stack - s.slots) }
 
 -- the greatest number of entries of a run so far is at most 1,000
 abbrev pub is_low : State → Bool
-is_low s = nat_le (s.slots + s.excess) 1000
+is_low s = nat_le (s.slots + s.excess) max_stack_size
 
 -- jumps over opcodes
 abbrev pub ahead_by : ℕ → State → State
@@ -135,4 +136,4 @@ beginning = record { ahead = 0; stack = []; slots = 0; facts = []; keys = 0; exc
 -- the paths of a script
 unfoldable pub listing : List Op → Result (List Path) CheckError
 listing ops =
-    checked (is_balanced ops []) OpenBranch (checked (nat_le (counted_in ops) 201) TooMany (walk (counted_in ops) 0 ops beginning (record { begun = 1; paths = [] }) >>= λ l. Ok l.paths))
+    checked (is_balanced ops []) OpenBranch (checked (nat_le (counted_in ops) max_ops) TooMany (walk (counted_in ops) 0 ops beginning (record { begun = 1; paths = [] }) >>= λ l. Ok l.paths))

@@ -6,6 +6,7 @@ use Rattle.digest.specs.Hash.{hash160}
 use Rattle.script.specs.declared.opcode.Op.{Op}
 use Rattle.script.specs.declared.opcode.Op.TheVariants.{Push, Number as SmallNumber, If, NotIf, Else, EndIf, Drop, Dup, Swap, Size, Equal, EqualVerify, Hash160, CheckSig, CheckMultiSig, CheckLockTimeVerify, CheckSequenceVerify}
 use Rattle.script.specs.declared.num.Number.{Number as Signed}
+use Rattle.script.specs.Limits.{max_element_size, max_keys, max_ops}
 use Rattle.script.specs.Number.{number_of, item_of}
 use Rattle.script.specs.Token.{is_key, is_signature}
 use Rattle.script.specs.Step.{◌>>=◌, checked, truth, flag, bit_at}
@@ -66,7 +67,7 @@ hash_is i h = if length h == 20 then Holds (HashIs i h) else Const []
 -- the number from 0 to 520 whose shortest item these bytes are
 abbrev pub named_size : List ℕ → Option Signed → Option ℕ
 named_size b None = None
-named_size b (Some z) = if not z.negative && nat_le z.magnitude 520 && bytes_eq (item_of z.magnitude) b then Some z.magnitude else None
+named_size b (Some z) = if not z.negative && nat_le z.magnitude max_element_size && bytes_eq (item_of z.magnitude) b then Some z.magnitude else None
 
 abbrev pub size_by : ℕ → Option ℕ → Sym
 size_by i (Some n) = Holds (SizeIs i n)
@@ -191,9 +192,9 @@ check_sigs keys sigs extra s = checked (not (list_any is_bad_key keys || is_bad_
 unfoldable pub check_multi_sig : ℕ → State → Result State Halt
 check_multi_sig counted s = do
   let top = pop s
-  n ← count_of 20 top.0
+  n ← count_of max_keys top.0
   let keys = pops n (record top.1 { keys = top.1.keys + n })
-  second ← checked (nat_le (counted + keys.1.keys) 201) TooManyOps (Ok (pop keys.1))
+  second ← checked (nat_le (counted + keys.1.keys) max_ops) TooManyOps (Ok (pop keys.1))
   m ← count_of n second.0
   let sigs = pops m second.1
   let extra = pop sigs.1

@@ -2,6 +2,7 @@
 use Rattle.std.specs.Prelude.{◌≡◌, ℕ, ◌+◌, ◌≤◌, Bool, true, false, List, [], ◌∷◌, drop, Option, Some, None, Result, Ok, Err}
 use Rattle.script.specs.declared.opcode.Op.{Op}
 use Rattle.script.specs.declared.stops.Cause.TheVariants.{OpenBranch}
+use Rattle.script.specs.Limits.{max_ops, max_stack_size}
 use Rattle.script.specs.Step.{◌>>=◌}
 use Rattle.script.specs.Run.{opens, over}
 use Rattle.paths.specs.declared.errors.CheckError.{CheckError}
@@ -56,8 +57,8 @@ AreWays rule rest s (Err e) = UnlessMemory e (rule ≡ Err e)
 
 -- a state's numbers are within their limits
 pub record IsKept (counted : ℕ) (s : State) : Type 0 where
-  pub low : s.slots + s.excess ≤ 1000
-  pub few : counted + s.keys ≤ 201
+  pub low : s.slots + s.excess ≤ max_stack_size
+  pub few : counted + s.keys ≤ max_ops
 
 abbrev pub AreKept : ℕ → State → Way → Type 0
 AreKept counted s Dies = Unit {0}

@@ -10,11 +10,12 @@ use crate::entries::pull;
 use crate::rules::condition;
 use crate::state::{Condition, Halt, State, Turn};
 use script::Op;
+use script::limits::MAX_STACK_SIZE;
 
 /// IF, which runs what follows where the top is true.
 #[tactic(auto, unfolding(crate::specs::Rules::followed))]
 pub fn enter_if(state: &mut State) -> Result<Turn, Halt>
-    requires { state.old.slots ≤ 1000 }
+    requires { state.old.slots ≤ MAX_STACK_SIZE }
     ensures exact { IsFollowed 0 Op.If state.old state.new result }
     ensures near { OnOk result (IsNear 1 state.old state.new) }
 {
@@ -25,7 +26,7 @@ pub fn enter_if(state: &mut State) -> Result<Turn, Halt>
 /// NOTIF, which runs what follows where the top is false.
 #[tactic(auto, unfolding(crate::specs::Rules::followed))]
 pub fn enter_not_if(state: &mut State) -> Result<Turn, Halt>
-    requires { state.old.slots ≤ 1000 }
+    requires { state.old.slots ≤ MAX_STACK_SIZE }
     ensures exact { IsFollowed 0 Op.NotIf state.old state.new result }
     ensures near { OnOk result (IsNear 1 state.old state.new) }
 {

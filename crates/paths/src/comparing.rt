@@ -11,14 +11,16 @@ use crate::entries::{pull, put};
 use crate::rules::{condition, insist};
 use crate::state::{Halt, State, Turn};
 use facts::{Fact, Sym};
+use lists::ByteString;
+use script::limits::{MAX_SCRIPT_ELEMENT_SIZE, MAX_STACK_SIZE};
 use script::num::Limit;
-use script::{Item, Op, num};
+use script::{Op, num};
 use std::alloc::{AllocError, Global};
 
 /// SIZE.
 #[tactic(auto, unfolding(crate::specs::Rules::followed))]
 pub fn size(alloc: Global, state: &mut State) -> Result<Turn, Halt>
-    requires { state.old.slots ≤ 1000 }
+    requires { state.old.slots ≤ MAX_STACK_SIZE }
     ensures exact { IsFollowed 0 Op.Size state.old state.new result }
     ensures near { OnOk result (IsNear 1 state.old state.new) }
 {
@@ -42,7 +44,7 @@ fn size_of(alloc: Global, sym: &Sym) -> Result<Sym, Halt>
 }
 
 // A length as an item. The only error is want of memory; a length of 2^32, which no item of a script has, is answered so too.
-fn length_item(alloc: Global, len: usize) -> Result<Item, AllocError>
+fn length_item(alloc: Global, len: usize) -> Result<ByteString, AllocError>
     ensures { IfOk result (λ i. i ≡ item_of len) }
 {
     match u32::try_from(len) {
@@ -54,7 +56,7 @@ fn length_item(alloc: Global, len: usize) -> Result<Item, AllocError>
 /// HASH160.
 #[tactic(auto, unfolding(crate::specs::Rules::followed))]
 pub fn hash(alloc: Global, state: &mut State) -> Result<Turn, Halt>
-    requires { state.old.slots ≤ 1000 }
+    requires { state.old.slots ≤ MAX_STACK_SIZE }
     ensures exact { IsFollowed 0 Op.Hash160 state.old state.new result }
     ensures near { OnOk result (IsNear 1 state.old state.new) }
 {
@@ -70,7 +72,7 @@ fn hash_of(alloc: Global, sym: &Sym) -> Result<Sym, Halt>
 {
     match sym {
         Sym::Slot(i) => Ok(Sym::HashOf(*i)),
-        Sym::Const(item) => Ok(Sym::Const(Item::from_slice(
+        Sym::Const(item) => Ok(Sym::Const(ByteString::from_slice(
             alloc,
             &digest::hash160(item.bytes()),
         )?)),
@@ -81,7 +83,7 @@ fn hash_of(alloc: Global, sym: &Sym) -> Result<Sym, Halt>
 /// EQUAL.
 #[tactic(auto, unfolding(crate::specs::Rules::followed))]
 pub fn equal(alloc: Global, state: &mut State) -> Result<Turn, Halt>
-    requires { state.old.slots ≤ 1000 }
+    requires { state.old.slots ≤ MAX_STACK_SIZE }
     ensures exact { IsFollowed 0 Op.Equal state.old state.new result }
     ensures near { OnOk result (IsNear 2 state.old state.new) }
 {
@@ -95,7 +97,7 @@ pub fn equal(alloc: Global, state: &mut State) -> Result<Turn, Halt>
 /// EQUALVERIFY.
 #[tactic(auto, unfolding(crate::specs::Rules::followed))]
 pub fn equal_verify(alloc: Global, state: &mut State) -> Result<Turn, Halt>
-    requires { state.old.slots ≤ 1000 }
+    requires { state.old.slots ≤ MAX_STACK_SIZE }
     ensures exact { IsFollowed 0 Op.EqualVerify state.old state.new result }
     ensures near { OnOk result (IsNear 2 state.old state.new) }
 {
@@ -127,25 +129,25 @@ fn equal_of(alloc: Global, top: Sym, second: Sym) -> Result<Sym, Halt>
 }
 
 /// The item that a test pushes. The only error is want of memory.
-pub fn flag(alloc: Global, holds: bool) -> Result<Item, AllocError>
+pub fn flag(alloc: Global, holds: bool) -> Result<ByteString, AllocError>
     ensures { IfOk result (λ i. i ≡ flag_item holds) }
 {
     if holds {
-        Item::from_slice(alloc, &[1])
+        ByteString::from_slice(alloc, &[1])
     } else {
         Ok(empty(alloc))
     }
 }
 
 // The empty item, which takes no memory.
-fn empty(alloc: Global) -> Item
+fn empty(alloc: Global) -> ByteString
     ensures { result ≡ [] }
 {
-    Item::from_vec(Vec::new(alloc))
+    ByteString::from_vec(Vec::new(alloc))
 }
 
 // Whether the hash of a slot is these bytes.
-fn hash_is(alloc: Global, slot: usize, bytes: Item) -> Sym
+fn hash_is(alloc: Global, slot: usize, bytes: ByteString) -> Sym
     ensures { result ≡ hash_asked slot bytes }
 {
     if bytes.len() == 20 {
@@ -156,7 +158,7 @@ fn hash_is(alloc: Global, slot: usize, bytes: Item) -> Sym
 }
 
 // Whether the length of a slot is the number of these bytes. The only error is want of memory.
-fn size_is(alloc: Global, slot: usize, bytes: &Item) -> Result<Sym, AllocError>
+fn size_is(alloc: Global, slot: usize, bytes: &ByteString) -> Result<Sym, AllocError>
     ensures { IfOk result (λ s. s ≡ size_asked slot bytes.now) }
 {
     match named_size(alloc, bytes)? {
@@ -166,13 +168,13 @@ fn size_is(alloc: Global, slot: usize, bytes: &Item) -> Result<Sym, AllocError>
 }
 
 // The number from 0 to 520 whose shortest item these bytes are. The only error is want of memory.
-fn named_size(alloc: Global, bytes: &Item) -> Result<Option<u32>, AllocError>
+fn named_size(alloc: Global, bytes: &ByteString) -> Result<Option<u32>, AllocError>
     ensures { IfOk result (λ n. n ≡ size_named bytes.now (number_of 4 bytes.now)) }
 {
     let Some(number) = num::read(bytes.bytes(), Limit::Count) else {
         return Ok(None);
     };
-    if number.negative || number.magnitude > 520 {
+    if number.negative || number.magnitude > MAX_SCRIPT_ELEMENT_SIZE as u64 {
         return Ok(None);
     }
     let size = number.magnitude as u32;

@@ -10,6 +10,7 @@ use crate::locks::{greatest_age, greatest_lock};
 use crate::rules::{condition, insist, take};
 use crate::state::{Halt, Listed, Path, State};
 use facts::Sym;
+use script::limits::{MAX_OPS_PER_SCRIPT, MAX_STACK_SIZE};
 
 /// The refusal for a halt at this position; none where the path dies.
 pub fn refusal(at: usize, halt: Halt) -> Result<(), CheckError>
@@ -25,8 +26,8 @@ pub fn refusal(at: usize, halt: Halt) -> Result<(), CheckError>
 
 /// Ends a path at this position, the number of opcodes, and lists it unless it dies there.
 pub fn end(counted: usize, at: usize, state: State, listed: &mut Listed) -> Result<(), CheckError>
-    requires slots { state.slots ≤ 1000 }
-    requires keys { counted + state.keys ≤ 201 }
+    requires slots { state.slots ≤ MAX_STACK_SIZE }
+    requires keys { counted + state.keys ≤ MAX_OPS_PER_SCRIPT }
     ensures exact { Gives (listed_with listed.old (ended_of counted at state)) listed.new result }
     ensures begun { OnOk result (listed.new.begun ≡ listed.old.begun) }
 {
@@ -38,8 +39,8 @@ pub fn end(counted: usize, at: usize, state: State, listed: &mut Listed) -> Resu
 
 // The path that ends, unless it dies.
 fn ended(counted: usize, at: usize, mut state: State) -> Result<Option<Path>, CheckError>
-    requires slots { state.slots ≤ 1000 }
-    requires keys { counted + state.keys ≤ 201 }
+    requires slots { state.slots ≤ MAX_STACK_SIZE }
+    requires keys { counted + state.keys ≤ MAX_OPS_PER_SCRIPT }
     ensures { IsEnded (ended_of counted at state) result }
 {
     let top = take(&mut state);
@@ -67,8 +68,8 @@ fn decide(state: &mut State, top: Sym) -> Result<(), Halt>
 
 // The path of a state at the end.
 fn path_of(counted: usize, state: State) -> Path
-    requires low { state.slots + state.excess ≤ 1000 }
-    requires keys { counted + state.keys ≤ 201 }
+    requires low { state.slots + state.excess ≤ MAX_STACK_SIZE }
+    requires keys { counted + state.keys ≤ MAX_OPS_PER_SCRIPT }
     ensures { result ≡ path_for counted state }
 {
     Path {

@@ -8,7 +8,9 @@ ghost use Rattle.paths.specs.Doing.{IsNear};
 use crate::rules::take;
 use crate::state::{Halt, State, Turn};
 use facts::Sym;
-use script::{Item, Op};
+use lists::ByteString;
+use script::Op;
+use script::limits::MAX_STACK_SIZE;
 use std::alloc::{AllocError, Global};
 
 /// Takes the top symbol, which is the next slot where there is none.
@@ -30,11 +32,11 @@ pub fn put(state: &mut State, sym: Sym) -> Result<(), AllocError>
 
 /// A push.
 #[tactic(auto, unfolding(crate::specs::Rules::followed))]
-pub fn push_item(alloc: Global, item: &Item, state: &mut State) -> Result<Turn, Halt>
+pub fn push_item(alloc: Global, item: &ByteString, state: &mut State) -> Result<Turn, Halt>
     ensures exact { IsFollowed 0 (Op.Push item.now) state.old state.new result }
     ensures near { OnOk result (IsNear 0 state.old state.new) }
 {
-    put(state, Sym::Const(item.copy(alloc)?))?;
+    put(state, Sym::Const(item.copy()?))?;
     Ok(Turn::Onward)
 }
 
@@ -44,14 +46,14 @@ pub fn push_number(alloc: Global, number: u8, state: &mut State) -> Result<Turn,
     ensures exact { IsFollowed 0 (Op.Number number) state.old state.new result }
     ensures near { OnOk result (IsNear 0 state.old state.new) }
 {
-    put(state, Sym::Const(Item::from_slice(alloc, &[number])?))?;
+    put(state, Sym::Const(ByteString::from_slice(alloc, &[number])?))?;
     Ok(Turn::Onward)
 }
 
 /// DROP.
 #[tactic(auto, unfolding(crate::specs::Rules::followed))]
 pub fn discard(state: &mut State) -> Result<Turn, Halt>
-    requires { state.old.slots ≤ 1000 }
+    requires { state.old.slots ≤ MAX_STACK_SIZE }
     ensures exact { IsFollowed 0 Op.Drop state.old state.new result }
     ensures near { OnOk result (IsNear 1 state.old state.new) }
 {
@@ -62,12 +64,12 @@ pub fn discard(state: &mut State) -> Result<Turn, Halt>
 /// DUP.
 #[tactic(auto, unfolding(crate::specs::Rules::followed))]
 pub fn double(alloc: Global, state: &mut State) -> Result<Turn, Halt>
-    requires { state.old.slots ≤ 1000 }
+    requires { state.old.slots ≤ MAX_STACK_SIZE }
     ensures exact { IsFollowed 0 Op.Dup state.old state.new result }
     ensures near { OnOk result (IsNear 1 state.old state.new) }
 {
     let sym = pull(state);
-    let other = sym.copy(alloc)?;
+    let other = sym.copy()?;
     put(state, sym)?;
     put(state, other)?;
     Ok(Turn::Onward)
@@ -76,7 +78,7 @@ pub fn double(alloc: Global, state: &mut State) -> Result<Turn, Halt>
 /// SWAP.
 #[tactic(auto, unfolding(crate::specs::Rules::followed))]
 pub fn swap(state: &mut State) -> Result<Turn, Halt>
-    requires { state.old.slots ≤ 1000 }
+    requires { state.old.slots ≤ MAX_STACK_SIZE }
     ensures exact { IsFollowed 0 Op.Swap state.old state.new result }
     ensures near { OnOk result (IsNear 2 state.old state.new) }
 {

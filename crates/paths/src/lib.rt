@@ -7,6 +7,7 @@ mod comparing;
 mod ending;
 mod entries;
 pub mod errors;
+pub mod laws;
 pub mod listing;
 mod locking;
 mod locks;

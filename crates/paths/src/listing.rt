@@ -4,29 +4,27 @@ ghost use Rattle.std.specs.Prelude.{◌≡◌};
 ghost use Rattle.std.specs.Prelude.{All, IfOk};
 ghost use Rattle.paths.specs.Outcome.{IsListing};
 ghost use Rattle.paths.specs.Sound.{IsSound};
+ghost use Rattle.paths.specs.Exhaustive.{IsExhaustive};
 
 use crate::balance::is_balanced;
 use crate::errors::CheckError;
 use crate::state::Path;
 use crate::walking::walk_all;
-use script::{Row, Script};
+use lists::List;
+use script::Script;
+use script::limits::MAX_OPS_PER_SCRIPT;
 use std::alloc::Global;
 use std::marker::Model;
-
-/// The most opcodes that may count, keys of CHECKMULTISIGs included.
-pub const MAX_OPS: usize = 201;
 
 /// A script with every way through it that runs clean. `check` alone makes one. A contract sees it as its opcodes and its paths.
 #[derive(Drop)]
 pub struct Checked {
     script: Script,
-    paths: Row<Path>,
+    paths: List<Path>,
 }
 
 impl Model for Checked {
-    ghost use Rattle.std.specs.Prelude.{◌≡◌, List, Result, Ok};
-    ghost use Rattle.script.specs.declared.opcode.Op.{Op as Opcode};
-    ghost use Rattle.paths.specs.declared.state.Path.{Path as Way};
+    ghost use Rattle.std.specs.Prelude.{◌≡◌, Ok};
     ghost use Rattle.paths.specs.Listing.{Ways, listing};
 
     ghost Value = { Ways };
@@ -40,6 +38,7 @@ impl Checked {
     ghost use Rattle.std.specs.Prelude.{◌≡◌, All, Ok};
     ghost use Rattle.paths.specs.Listing.{listing};
     ghost use Rattle.paths.specs.Sound.{IsSound};
+    ghost use Rattle.paths.specs.Exhaustive.{IsExhaustive};
 
     /// The script.
     pub fn script(&self) -> &Script
@@ -55,6 +54,9 @@ impl Checked {
 
         // Whatever meets a path runs clean, as the path says.
         ensures sound { All (IsSound self.now.ops) self.now.paths }
+
+        // Nothing else opens the script.
+        ensures exhaustive { IsExhaustive self.now.ops self.now.paths }
     {
         let _script = &self.script;
         self.paths.values()
@@ -74,6 +76,9 @@ pub fn check(alloc: Global, script: Script) -> Result<Checked, CheckError>
 
     // Whatever witness meets a listed path runs clean, with exactly its counted opcodes and its height, at most 1,000.
     ensures sound { IfOk result (λ c. All (IsSound c.ops) c.paths) }
+
+    // Nothing else opens the script: whatever witness runs clean, under whatever spend, meets a listed path.
+    ensures exhaustive { IfOk result (λ c. IsExhaustive c.ops c.paths) }
 {
     list(alloc, script)
 }
@@ -87,7 +92,7 @@ fn list(alloc: Global, script: Script) -> Result<Checked, CheckError>
         return Err(CheckError::OpenBranch);
     }
     let counted = script.counted();
-    if counted > MAX_OPS {
+    if counted > MAX_OPS_PER_SCRIPT {
         return Err(CheckError::TooManyOps);
     }
     let paths = walk_all(alloc, script.ops(), counted)?;

@@ -9,6 +9,7 @@ use crate::entries::{pull, put};
 use crate::rules::ask;
 use crate::state::{Halt, State, Turn};
 use facts::{Fact, Sym};
+use script::limits::MAX_STACK_SIZE;
 use script::num::Limit;
 use script::{Op, num};
 use std::alloc::AllocError;
@@ -16,7 +17,7 @@ use std::alloc::AllocError;
 /// CHECKLOCKTIMEVERIFY (BIP 65).
 #[tactic(auto, unfolding(crate::specs::Rules::followed))]
 pub fn check_lock_time(state: &mut State) -> Result<Turn, Halt>
-    requires { state.old.slots ≤ 1000 }
+    requires { state.old.slots ≤ MAX_STACK_SIZE }
     ensures exact { IsFollowed 0 Op.CheckLockTimeVerify state.old state.new result }
     ensures near { OnOk result (IsNear 1 state.old state.new) }
 {
@@ -30,7 +31,7 @@ pub fn check_lock_time(state: &mut State) -> Result<Turn, Halt>
 /// CHECKSEQUENCEVERIFY (BIP 112).
 #[tactic(auto, unfolding(crate::specs::Rules::followed))]
 pub fn check_sequence(state: &mut State) -> Result<Turn, Halt>
-    requires { state.old.slots ≤ 1000 }
+    requires { state.old.slots ≤ MAX_STACK_SIZE }
     ensures exact { IsFollowed 0 Op.CheckSequenceVerify state.old state.new result }
     ensures near { OnOk result (IsNear 1 state.old state.new) }
 {

@@ -12,23 +12,22 @@ use crate::rules::ask;
 use crate::signing::{ask_key, is_bad_key, source_of};
 use crate::state::{Halt, State, Turn};
 use facts::{Fact, KeySource, Sym};
+use lists::{ByteString, List, Stack};
+use script::limits::{MAX_OPS_PER_SCRIPT, MAX_PUBKEYS_PER_MULTISIG, MAX_STACK_SIZE};
 use script::num::Limit;
-use script::{Item, Op, Pile, Row, num};
+use script::{Op, num};
 use std::alloc::{AllocError, Global};
-
-/// The most counted opcodes and keys of a run.
-const MAX_OPS: usize = 201;
 
 /// CHECKMULTISIG, where so many opcodes of the whole script count.
 #[tactic(auto, unfolding(crate::specs::Rules::followed, crate::specs::Rules::check_multi_sig), using(crate::proofs::RulePops::pops_keys))]
 pub fn check_multi_sig(alloc: Global, counted: usize, state: &mut State) -> Result<Turn, Halt>
-    requires slots { state.old.slots ≤ 1000 }
-    requires keys { counted + state.old.keys ≤ 201 }
+    requires slots { state.old.slots ≤ MAX_STACK_SIZE }
+    requires keys { counted + state.old.keys ≤ MAX_OPS_PER_SCRIPT }
     ensures exact { IsFollowed counted Op.CheckMultiSig state.old state.new result }
     ensures slots_stay { OnOk result (state.new.slots ≤ 1100) }
-    ensures keys_stay { OnOk result (counted + state.new.keys ≤ 201) }
+    ensures keys_stay { OnOk result (counted + state.new.keys ≤ MAX_OPS_PER_SCRIPT) }
 {
-    let key_count = count_of(20, &pull(state))?;
+    let key_count = count_of(MAX_PUBKEYS_PER_MULTISIG, &pull(state))?;
     count_keys(counted, key_count, state)?;
     let keys = pull_many(alloc, key_count, state)?;
     let signature_count = count_of(key_count, &pull(state))?;
@@ -56,25 +55,25 @@ fn count_of(limit: usize, sym: &Sym) -> Result<usize, Halt>
 
 // Counts keys with the opcodes of the whole script.
 fn count_keys(counted: usize, more: usize, state: &mut State) -> Result<(), Halt>
-    requires keys { counted + state.old.keys ≤ 201 }
+    requires keys { counted + state.old.keys ≤ MAX_OPS_PER_SCRIPT }
     requires more { more ≤ 20 }
     ensures { Leaves (keys_counted counted more state.old) state.new result }
 {
     state.keys += more;
-    if counted + state.keys > MAX_OPS {
+    if counted + state.keys > MAX_OPS_PER_SCRIPT {
         return Err(Halt::TooManyOps);
     }
     Ok(())
 }
 
 // Takes so many symbols, the deepest of which is the top of the result. The only error is want of memory.
-fn pull_many(alloc: Global, count: usize, state: &mut State) -> Result<Pile<Sym>, AllocError>
+fn pull_many(alloc: Global, count: usize, state: &mut State) -> Result<Stack<Sym>, AllocError>
     requires { state.old.slots + count < 2000 }
     ensures taken { IfOk result (λ p. p ≡ reverse (pops count state.old).0) }
     ensures left { OnOk result (state.new ≡ (pops count state.old).1) }
     ensures near { OnOk result (IsNear count state.old state.new) }
 {
-    let mut syms = Pile::new(alloc);
+    let mut syms = Stack::new(alloc);
     for _step in 0..count {
         syms.push(pull(state))?;
     }
@@ -85,8 +84,8 @@ fn pull_many(alloc: Global, count: usize, state: &mut State) -> Result<Pile<Sym>
 fn check(
     alloc: Global,
     state: &mut State,
-    keys: Pile<Sym>,
-    signatures: Pile<Sym>,
+    keys: Stack<Sym>,
+    signatures: Stack<Sym>,
     extra: Sym,
 ) -> Result<(), Halt>
     ensures exact { Leaves (check_sigs keys signatures extra state.old) state.new result }
@@ -107,7 +106,7 @@ fn check(
 
 // Whether no run takes one of these symbols for a key.
 #[tactic(auto, using(crate::proofs::RuleLists::any_reversed))]
-fn has_bad_key(keys: &Pile<Sym>) -> bool
+fn has_bad_key(keys: &Stack<Sym>) -> bool
     ensures { result ≡ list_any is_bad_key_of keys.now }
 {
     any_is_bad(keys.values())
@@ -131,11 +130,11 @@ fn is_bad_extra(extra: &Sym) -> bool
 }
 
 // The slots of symbols that are all slots, the deepest of which is the top.
-fn slots_of(alloc: Global, syms: Pile<Sym>) -> Result<Row<usize>, Halt>
+fn slots_of(alloc: Global, syms: Stack<Sym>) -> Result<List<usize>, Halt>
     ensures { Answers (slots_for syms) result }
 {
     let mut syms = syms;
-    let mut slots = Row::new(alloc);
+    let mut slots = List::new(alloc);
     while let Some(sym) = syms.pop() {
         let Sym::Slot(i) = sym else {
             return Err(Halt::Undecided);
@@ -146,11 +145,11 @@ fn slots_of(alloc: Global, syms: Pile<Sym>) -> Result<Row<usize>, Halt>
 }
 
 // Where keys come from, the deepest of which is the top.
-fn sources_of(alloc: Global, keys: Pile<Sym>) -> Result<Row<KeySource>, Halt>
+fn sources_of(alloc: Global, keys: Stack<Sym>) -> Result<List<KeySource>, Halt>
     ensures { Answers (sources_for keys) result }
 {
     let mut keys = keys;
-    let mut sources = Row::new(alloc);
+    let mut sources = List::new(alloc);
     while let Some(key) = keys.pop() {
         sources.push(source_of(key)?)?;
     }
@@ -187,7 +186,11 @@ fn ask_extra(alloc: Global, state: &mut State, extra: Sym) -> Result<(), Halt>
     match extra {
         Sym::Const(_item) => Ok(()),
         Sym::Slot(i) => {
-            ask(state, Fact::Is(i, Item::from_vec(Vec::new(alloc))), true)?;
+            ask(
+                state,
+                Fact::Is(i, ByteString::from_vec(Vec::new(alloc))),
+                true,
+            )?;
             Ok(())
         }
         _other => Err(Halt::Undecided),
@@ -195,7 +198,7 @@ fn ask_extra(alloc: Global, state: &mut State, extra: Sym) -> Result<(), Halt>
 }
 
 // Whether the slots are tokens of an increasing choice of the keys; no slots are. The only error is want of memory.
-fn answer_of(alloc: Global, slots: Row<usize>, keys: Row<KeySource>) -> Result<Sym, AllocError>
+fn answer_of(alloc: Global, slots: List<usize>, keys: List<KeySource>) -> Result<Sym, AllocError>
     ensures { IfOk result (λ s. s ≡ answer_for slots keys) }
 {
     if slots.is_empty() {

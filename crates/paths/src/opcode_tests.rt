@@ -5,7 +5,8 @@ ghost use Rattle.std.specs.Prelude.{◌≤◌};
 use crate::rules::follow;
 use crate::state::{Halt, State, Turn};
 use facts::{Fact, Sym};
-use script::{Item, Op, Pile, Row};
+use lists::{ByteString, List, Stack};
+use script::Op;
 use std::alloc::{AllocError, Global};
 use std::test::Fail;
 
@@ -27,7 +28,7 @@ enum Part {
 use Part::{Bytes, Has32, HashOf, Key, SizeOf, Slot, Token};
 
 fn known(alloc: Global, bytes: &[u8]) -> Result<Sym, AllocError> {
-    Ok(Sym::Const(Item::from_slice(alloc, bytes)?))
+    Ok(Sym::Const(ByteString::from_slice(alloc, bytes)?))
 }
 
 fn key(alloc: Global, byte: u8) -> Result<Sym, AllocError> {
@@ -55,7 +56,7 @@ fn symbol(alloc: Global, part: Part) -> Result<Sym, AllocError> {
 
 // A state with these symbols, the top last, above the slots from 5 on.
 fn state(alloc: Global, parts: &[Part]) -> Result<State, AllocError> {
-    let mut stack = Pile::new(alloc);
+    let mut stack = Stack::new(alloc);
     for part in parts {
         stack.push(symbol(alloc, *part)?)?;
     }
@@ -63,7 +64,7 @@ fn state(alloc: Global, parts: &[Part]) -> Result<State, AllocError> {
         ahead: 0,
         stack,
         slots: 5,
-        facts: Row::new(alloc),
+        facts: List::new(alloc),
         keys: 0,
         excess: 0,
     })
@@ -113,14 +114,14 @@ fn seen(alloc: Global, op: &Op, parts: &[Part]) -> Result<String, Fail> {
 #[test]
 fn pushes(rt: HostRuntime) -> Result<(), Fail> {
     let alloc = rt.alloc();
-    let push = Op::Push(Item::from_slice(alloc, &[1, 2])?);
+    let push = Op::Push(ByteString::from_slice(alloc, &[1, 2])?);
     assert_eq!(rt;
         seen(alloc, &push, &[Slot(3)])?.as_str(),
-        "onward: [Slot(3), Const(Item { bytes: [1, 2] })]; 5 0"
+        "onward: [Slot(3), Const(ByteString { bytes: [1, 2] })]; 5 0"
     );
     assert_eq!(rt;
         seen(alloc, &Op::Number(16), &[])?.as_str(),
-        "onward: [Const(Item { bytes: [16] })]; 5 0"
+        "onward: [Const(ByteString { bytes: [16] })]; 5 0"
     );
     Ok(())
 }
@@ -193,11 +194,11 @@ fn sizes_and_hashes(rt: HostRuntime) -> Result<(), Fail> {
         (&[][..], "onward: [Slot(5), SizeOf(5)]; 6 0"),
         (
             &[Bytes(&[9, 9, 9])][..],
-            "onward: [Const(Item { bytes: [9, 9, 9] }), Const(Item { bytes: [3] })]; 5 0",
+            "onward: [Const(ByteString { bytes: [9, 9, 9] }), Const(ByteString { bytes: [3] })]; 5 0",
         ),
         (
             &[HashOf(1)][..],
-            "onward: [HashOf(1), Const(Item { bytes: [20] })]; 5 0",
+            "onward: [HashOf(1), Const(ByteString { bytes: [20] })]; 5 0",
         ),
         (&[SizeOf(1)][..], "Undecided"),
     ] {
@@ -207,7 +208,7 @@ fn sizes_and_hashes(rt: HostRuntime) -> Result<(), Fail> {
         (&[][..], "onward: [HashOf(5)]; 6 0"),
         (
             &[Bytes(&[])][..],
-            "onward: [Const(Item { bytes: [180, 114, 162, 102, 208, 189, 137, 193, 55, 6, 164, 19, 44, 207, 177, 111, 124, 59, 159, 203] })]; 5 0",
+            "onward: [Const(ByteString { bytes: [180, 114, 162, 102, 208, 189, 137, 193, 55, 6, 164, 19, 44, 207, 177, 111, 124, 59, 159, 203] })]; 5 0",
         ),
         (&[HashOf(1)][..], "Undecided"),
     ] {
@@ -224,13 +225,25 @@ fn lengths_that_bytes_name(rt: HostRuntime) -> Result<(), Fail> {
         (&[][..], "onward: [Holds(Size(4, 0))]; 5 0"),
         (&[0x80, 0][..], "onward: [Holds(Size(4, 128))]; 5 0"),
         (&[8, 2][..], "onward: [Holds(Size(4, 520))]; 5 0"),
-        (&[9, 2][..], "onward: [Const(Item { bytes: [] })]; 5 0"),
-        (&[0x20, 0][..], "onward: [Const(Item { bytes: [] })]; 5 0"),
-        (&[0x80][..], "onward: [Const(Item { bytes: [] })]; 5 0"),
-        (&[0xa0][..], "onward: [Const(Item { bytes: [] })]; 5 0"),
+        (
+            &[9, 2][..],
+            "onward: [Const(ByteString { bytes: [] })]; 5 0",
+        ),
+        (
+            &[0x20, 0][..],
+            "onward: [Const(ByteString { bytes: [] })]; 5 0",
+        ),
+        (
+            &[0x80][..],
+            "onward: [Const(ByteString { bytes: [] })]; 5 0",
+        ),
+        (
+            &[0xa0][..],
+            "onward: [Const(ByteString { bytes: [] })]; 5 0",
+        ),
         (
             &[1, 0, 0, 0, 0][..],
-            "onward: [Const(Item { bytes: [] })]; 5 0",
+            "onward: [Const(ByteString { bytes: [] })]; 5 0",
         ),
     ] {
         assert_eq!(rt;
@@ -251,27 +264,27 @@ fn equal_items(rt: HostRuntime) -> Result<(), Fail> {
     for (parts, wanted) in [
         (
             &[Bytes(&[1, 2]), Bytes(&[1, 2])][..],
-            "onward: [Const(Item { bytes: [1] })]; 5 0",
+            "onward: [Const(ByteString { bytes: [1] })]; 5 0",
         ),
         (
             &[Bytes(&[1, 2]), Bytes(&[1, 3])][..],
-            "onward: [Const(Item { bytes: [] })]; 5 0",
+            "onward: [Const(ByteString { bytes: [] })]; 5 0",
         ),
         (
             &[Bytes(&[1, 2]), Slot(2)][..],
-            "onward: [Holds(Is(2, Item { bytes: [1, 2] }))]; 5 0",
+            "onward: [Holds(Is(2, ByteString { bytes: [1, 2] }))]; 5 0",
         ),
         (
             &[Bytes(&[])][..],
-            "onward: [Holds(Is(5, Item { bytes: [] }))]; 6 0",
+            "onward: [Holds(Is(5, ByteString { bytes: [] }))]; 6 0",
         ),
         (
             &[HashOf(3), Bytes(&[3; 20])][..],
-            "onward: [Holds(Hash(3, Item { bytes: [3, 3, 3, 3, 3, 3, 3, 3, 3, 3, 3, 3, 3, 3, 3, 3, 3, 3, 3, 3] }))]; 5 0",
+            "onward: [Holds(Hash(3, ByteString { bytes: [3, 3, 3, 3, 3, 3, 3, 3, 3, 3, 3, 3, 3, 3, 3, 3, 3, 3, 3, 3] }))]; 5 0",
         ),
         (
             &[Bytes(&[3; 19]), HashOf(3)][..],
-            "onward: [Const(Item { bytes: [] })]; 5 0",
+            "onward: [Const(ByteString { bytes: [] })]; 5 0",
         ),
         (&[][..], "Undecided"),
     ] {
@@ -307,11 +320,11 @@ fn signatures(rt: HostRuntime) -> Result<(), Fail> {
         ),
         (
             &[Bytes(&[]), Key(17)][..],
-            "onward: [Const(Item { bytes: [] })]; 5 0",
+            "onward: [Const(ByteString { bytes: [] })]; 5 0",
         ),
         (
             &[Bytes(&[]), Slot(0)][..],
-            "onward: [Const(Item { bytes: [] })], KeyForm(0) true; 5 0",
+            "onward: [Const(ByteString { bytes: [] })], KeyForm(0) true; 5 0",
         ),
         (&[Slot(1), Bytes(&[2; 32])][..], "Dead"),
         (&[HashOf(1), Bytes(&[])][..], "Dead"),
@@ -333,27 +346,27 @@ fn locks(rt: HostRuntime) -> Result<(), Fail> {
         (
             Op::CheckLockTimeVerify,
             &[0xf4, 1][..],
-            "onward: [Const(Item { bytes: [244, 1] })], Lock(500) true; 5 0",
+            "onward: [Const(ByteString { bytes: [244, 1] })], Lock(500) true; 5 0",
         ),
         (
             Op::CheckLockTimeVerify,
             &[255, 255, 255, 255, 127][..],
-            "onward: [Const(Item { bytes: [255, 255, 255, 255, 127] })], Lock(549755813887) true; 5 0",
+            "onward: [Const(ByteString { bytes: [255, 255, 255, 255, 127] })], Lock(549755813887) true; 5 0",
         ),
         (
             Op::CheckSequenceVerify,
             &[0x90, 0][..],
-            "onward: [Const(Item { bytes: [144, 0] })], Age(144) true; 5 0",
+            "onward: [Const(ByteString { bytes: [144, 0] })], Age(144) true; 5 0",
         ),
         (
             Op::CheckSequenceVerify,
             &[0x90, 0, 0xe1, 0][..],
-            "onward: [Const(Item { bytes: [144, 0, 225, 0] })], Age(4194448) true; 5 0",
+            "onward: [Const(ByteString { bytes: [144, 0, 225, 0] })], Age(4194448) true; 5 0",
         ),
         (
             Op::CheckSequenceVerify,
             &[5, 0, 0, 0x80, 0][..],
-            "onward: [Const(Item { bytes: [5, 0, 0, 128, 0] })]; 5 0",
+            "onward: [Const(ByteString { bytes: [5, 0, 0, 128, 0] })]; 5 0",
         ),
         (Op::CheckLockTimeVerify, &[0x81][..], "Dead"),
         (Op::CheckSequenceVerify, &[0x81][..], "Dead"),
@@ -373,12 +386,12 @@ fn locks(rt: HostRuntime) -> Result<(), Fail> {
 fn several_signatures(rt: HostRuntime) -> Result<(), Fail> {
     let alloc = rt.alloc();
     let fixed = format!(in alloc;
-        "onward: [Holds(Assigned(Row {{ items: [2, 1] }}, Row {{ items: [{:?}, {:?}] }}))], Form(2) true, Form(1) true, Is(3, Item {{ bytes: [] }}) true; 5 2",
+        "onward: [Holds(Assigned(List {{ items: [2, 1] }}, List {{ items: [{:?}, {:?}] }}))], Form(2) true, Form(1) true, Is(3, ByteString {{ bytes: [] }}) true; 5 2",
         key(alloc, 17)?,
         key(alloc, 34)?
     )?;
     let slots = format!(in alloc;
-        "onward: [Holds(Assigned(Row {{ items: [2] }}, Row {{ items: [Slot(1), {:?}, Slot(0)] }}))], Form(2) true, KeyForm(1) true, KeyForm(0) true; 5 3",
+        "onward: [Holds(Assigned(List {{ items: [2] }}, List {{ items: [Slot(1), {:?}, Slot(0)] }}))], Form(2) true, KeyForm(1) true, KeyForm(0) true; 5 3",
         key(alloc, 34)?
     )?;
     for (parts, wanted) in [
@@ -408,11 +421,11 @@ fn several_signatures(rt: HostRuntime) -> Result<(), Fail> {
         ),
         (
             &[Bytes(&[]), Key(17), Bytes(&[1])][..],
-            "onward: [Const(Item { bytes: [1] })], Is(5, Item { bytes: [] }) true; 6 1",
+            "onward: [Const(ByteString { bytes: [1] })], Is(5, ByteString { bytes: [] }) true; 6 1",
         ),
         (
             &[Bytes(&[]), Bytes(&[]), Bytes(&[])][..],
-            "onward: [Const(Item { bytes: [1] })]; 5 0",
+            "onward: [Const(ByteString { bytes: [1] })]; 5 0",
         ),
     ] {
         assert_eq!(rt; seen(alloc, &Op::CheckMultiSig, parts)?.as_str(), wanted);
@@ -484,7 +497,7 @@ fn keys_that_lift_the_count(rt: HostRuntime) -> Result<(), Fail> {
         (
             199,
             &[Bytes(&[]), Bytes(&[]), Slot(0), Slot(1), Bytes(&[2])][..],
-            "onward: [Const(Item { bytes: [1] })], KeyForm(0) true, KeyForm(1) true; 5 2",
+            "onward: [Const(ByteString { bytes: [1] })], KeyForm(0) true, KeyForm(1) true; 5 2",
         ),
         (
             200,

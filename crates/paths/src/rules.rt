@@ -14,6 +14,7 @@ use crate::signing::check_sig;
 use crate::state::{Condition, Halt, State, Turn};
 use facts::{Fact, Stated, Sym};
 use script::Op;
+use script::limits::{MAX_OPS_PER_SCRIPT, MAX_STACK_SIZE};
 use script::truths::is_true;
 use std::alloc::{AllocError, Global};
 
@@ -78,11 +79,11 @@ pub fn insist(state: &mut State, condition: Condition) -> Result<(), Halt>
 /// the count above 201, `NoMemory` where memory runs out.
 #[tactic(auto, unfolding(crate::specs::Rules::followed))]
 pub fn follow(alloc: Global, op: &Op, counted: usize, state: &mut State) -> Result<Turn, Halt>
-    requires slots { state.old.slots ≤ 1000 }
-    requires keys { counted + state.old.keys ≤ 201 }
+    requires slots { state.old.slots ≤ MAX_STACK_SIZE }
+    requires keys { counted + state.old.keys ≤ MAX_OPS_PER_SCRIPT }
     ensures exact { IsFollowed counted op.now state.old state.new result }
     ensures slots_stay { OnOk result (state.new.slots ≤ 1100) }
-    ensures keys_stay { OnOk result (counted + state.new.keys ≤ 201) }
+    ensures keys_stay { OnOk result (counted + state.new.keys ≤ MAX_OPS_PER_SCRIPT) }
 {
     match op {
         Op::Push(item) => push_item(alloc, item, state),

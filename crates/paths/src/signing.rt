@@ -10,14 +10,16 @@ use crate::entries::{pull, put};
 use crate::rules::ask;
 use crate::state::{Halt, State, Turn};
 use facts::{Fact, KeySource, Sym};
+use lists::ByteString;
+use script::Op;
+use script::limits::MAX_STACK_SIZE;
 use script::tokens::{has_key_form, has_signature_form};
-use script::{Item, Op};
 use std::alloc::AllocError;
 
 /// CHECKSIG.
 #[tactic(auto, unfolding(crate::specs::Rules::followed))]
 pub fn check_sig(state: &mut State) -> Result<Turn, Halt>
-    requires { state.old.slots ≤ 1000 }
+    requires { state.old.slots ≤ MAX_STACK_SIZE }
     ensures exact { IsFollowed 0 Op.CheckSig state.old state.new result }
     ensures near { OnOk result (IsNear 2 state.old state.new) }
 {
@@ -57,7 +59,7 @@ fn sign(state: &mut State, key: KeySource, signature: Sym) -> Result<(), Halt>
 }
 
 // Puts the answer for a signature of known bytes on top: false, where there are none.
-fn sign_known(state: &mut State, key: &KeySource, signature: Item) -> Result<(), Halt>
+fn sign_known(state: &mut State, key: &KeySource, signature: ByteString) -> Result<(), Halt>
     ensures exact { Leaves (signed_by key.now (Const signature) state.old) state.new result }
     ensures near { OnOk result (IsNear 0 state.old state.new) }
 {

@@ -5,11 +5,9 @@ ghost use Rattle.script.specs.Step.{checked};
 ghost use Rattle.paths.specs.Listing.{beginning, measured, is_low as is_low_of};
 
 use facts::{Fact, Stated, Sym};
-use script::{Pile, Row};
+use lists::{List, Stack};
+use script::limits::MAX_STACK_SIZE;
 use std::alloc::{AllocError, Global};
-
-/// The most entries that a run may have.
-pub const MAX_ENTRIES: usize = 1000;
 
 /// A path on its way, as it comes to an opcode of the list.
 #[derive(Drop)]
@@ -17,11 +15,11 @@ pub struct State {
     /// How many opcodes it jumps over from here on.
     pub ahead: usize,
     /// The symbols on the stack; below them are the slots that were not reached yet.
-    pub stack: Pile<Sym>,
+    pub stack: Stack<Sym>,
     /// How many slots were reached.
     pub slots: usize,
     /// The facts in the order in which they arose.
-    pub facts: Row<Stated>,
+    pub facts: List<Stated>,
     /// How many keys of CHECKMULTISIGs were counted.
     pub keys: usize,
     /// By how much the number of entries has passed that of the witness, at the most.
@@ -35,20 +33,20 @@ impl State {
     {
         State {
             ahead: 0,
-            stack: Pile::new(alloc),
+            stack: Stack::new(alloc),
             slots: 0,
-            facts: Row::new(alloc),
+            facts: List::new(alloc),
             keys: 0,
             excess: 0,
         }
     }
 
     /// An equal one. The only error is want of memory.
-    pub fn copy(&self, alloc: Global) -> Result<Self, AllocError>
+    pub fn copy(&self) -> Result<Self, AllocError>
         ensures { IfOk result (λ s. s ≡ self.now) }
     {
-        let stack = Pile::from_vec(copied_syms(alloc, self.stack.values())?);
-        let facts = Row::from_vec(copied_facts(alloc, self.facts.values())?);
+        let stack = Stack::from_vec(copied_syms(self.stack.allocator(), self.stack.values())?);
+        let facts = List::from_vec(copied_facts(self.facts.allocator(), self.facts.values())?);
         Ok(State {
             ahead: self.ahead,
             stack,
@@ -63,7 +61,7 @@ impl State {
     pub fn is_low(&self) -> bool
         ensures { result ≡ is_low_of self.now }
     {
-        self.slots <= MAX_ENTRIES && self.excess <= MAX_ENTRIES - self.slots
+        self.slots <= MAX_STACK_SIZE && self.excess <= MAX_STACK_SIZE - self.slots
     }
 
     /// Keeps by how much the entries pass those of the witness.
@@ -81,7 +79,7 @@ fn copied_syms(alloc: Global, syms: &[Sym]) -> Result<Vec<Sym>, AllocError>
 {
     let mut copies = Vec::new(alloc);
     for sym in syms {
-        copies.push(sym.copy(alloc)?)?;
+        copies.push(sym.copy()?)?;
     }
     Ok(copies)
 }
@@ -92,7 +90,7 @@ fn copied_facts(alloc: Global, facts: &[Stated]) -> Result<Vec<Stated>, AllocErr
 {
     let mut copies = Vec::new(alloc);
     for stated in facts {
-        copies.push(stated.copy(alloc)?)?;
+        copies.push(stated.copy()?)?;
     }
     Ok(copies)
 }
@@ -138,7 +136,7 @@ pub struct Path {
     /// How many items the witness has beside the script.
     pub arity: usize,
     /// What is asked of the witness and the spend, in the order in which it arises.
-    pub facts: Row<Stated>,
+    pub facts: List<Stated>,
     /// The counted opcodes of a run, keys of CHECKMULTISIGs included; at most 201.
     pub ops: usize,
     /// The greatest number of entries of a run, at most 1,000.
@@ -155,5 +153,5 @@ pub struct Listed {
     /// How many paths were begun, those included that end dead.
     pub begun: usize,
     /// The paths that ended, in the text order of their branches.
-    pub paths: Row<Path>,
+    pub paths: List<Path>,
 }

@@ -1,3 +1,5 @@
+mod shapes;
+
 use crate::{CheckError, Checked, Path, check};
 use script::{ParseError, Script};
 use std::alloc::Global;

@@ -9,7 +9,9 @@ use crate::ending::{end, refusal};
 use crate::errors::CheckError;
 use crate::rules::{ask, follow};
 use crate::state::{Listed, Path, State, Turn};
-use script::{Op, Pile, Row};
+use lists::{List, Stack};
+use script::Op;
+use script::limits::MAX_OPS_PER_SCRIPT;
 use std::alloc::{AllocError, Global};
 
 /// The most paths that a script may begin.
@@ -36,15 +38,15 @@ pub struct Waiting {
 }
 
 /// Every path through opcodes of which so many count.
-pub fn walk_all(alloc: Global, ops: &[Op], counted: usize) -> Result<Row<Path>, CheckError>
-    requires { counted ≤ 201 }
+pub fn walk_all(alloc: Global, ops: &[Op], counted: usize) -> Result<List<Path>, CheckError>
+    requires { counted ≤ MAX_OPS_PER_SCRIPT }
     ensures { Gets (paths_in (walk counted 0 ops.now beginning (record { begun = 1; paths = [] }))) result }
 {
     let mut listed = Listed {
         begun: 1,
-        paths: Row::new(alloc),
+        paths: List::new(alloc),
     };
-    let mut waiting = Pile::new(alloc);
+    let mut waiting = Stack::new(alloc);
     let first = Waiting {
         at: 0,
         state: State::new(alloc),
@@ -76,7 +78,7 @@ fn walk_path(
     ops: &[Op],
     counted: usize,
     path: Waiting,
-    waiting: &mut Pile<Waiting>,
+    waiting: &mut Stack<Waiting>,
     listed: &mut Listed,
 ) -> Result<(), CheckError>
     requires path { IsWaiting counted (length ops.now) path }
@@ -101,7 +103,7 @@ fn step(
     counted: usize,
     at: usize,
     state: &mut State,
-    waiting: &mut Pile<Waiting>,
+    waiting: &mut Stack<Waiting>,
 ) -> Result<bool, CheckError>
     requires within { at < length ops.now }
     requires state { IsKept counted state.old }
@@ -171,8 +173,8 @@ fn turns(alloc: Global, turn: Turn, rest: &[Op], state: &mut State) -> Result<Wa
             Ok(Way::Goes)
         }
         Turn::Splits(fact, first) => {
-            let mut second = state.copy(alloc)?;
-            ask(&mut second, fact.copy(alloc)?, !first)?;
+            let mut second = state.copy()?;
+            ask(&mut second, fact.copy()?, !first)?;
             ask(state, fact, first)?;
             Ok(Way::Splits(second))
         }

@@ -14,4 +14,12 @@ pub mod Following
 pub mod OneEnd
 pub mod Choosing
 pub mod Examples
+pub mod LimitExamples
 pub mod RoundTrip
+pub mod SpellingExamples
+pub mod NumberExamples
+pub mod TokenExamples
+pub mod LockExamples
+pub mod EffectExamples
+pub mod MultiSigExamples
+pub mod RunExamples

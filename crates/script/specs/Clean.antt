@@ -6,6 +6,7 @@ use Rattle.script.specs.declared.opcode.Op.TheVariants.{If, NotIf, Else, EndIf}
 use Rattle.script.specs.declared.spending.Spend.{Spend}
 use Rattle.script.specs.declared.stops.Cause.{Cause}
 use Rattle.script.specs.declared.stops.Cause.TheVariants.{OpenBranch, TooManyOps, StackTooTall, ItemTooLong, NotOneValue, FalseEnd}
+use Rattle.script.specs.Limits.{max_element_size, max_ops, max_stack_size}
 use Rattle.script.specs.Step.{Entries, Move, Onward, PastElse, PastEnd, Effect, effect, truth}
 use Rattle.script.specs.Token.{assigned, Assigned}
 use Rattle.script.specs.Run.{counted_in, jump_of, Clean, Stopped, outcome}
@@ -75,7 +76,7 @@ pub record Steps (spend : Spend) (ops : List Op) (x y : Point) : Type 0 where
 -- a chain of steps, each of which begins before position k and leaves at most 1,000 entries
 pub data Chain (spend : Spend) (ops : List Op) (k : ℕ) : Point → Point → Type 0 where
   ends : {x : Point} → Chain spend ops k x x
-  goes_on : {x y z : Point} → x.at < k → Steps spend ops x y → length y.stack ≤ 1000 → Chain spend ops k y z → Chain spend ops k x z
+  goes_on : {x y z : Point} → x.at < k → Steps spend ops x y → length y.stack ≤ max_stack_size → Chain spend ops k y z → Chain spend ops k x z
 
 -- the run comes to position k, or jumps over it, and this is where its steps before k lead
 pub record RunsTo (spend : Spend) (ops : List Op) (witness : List (List ℕ)) (k : ℕ) (x : Point) : Type 0 where
@@ -110,7 +111,7 @@ ArePlaced ops = (before rest : List Op) (op : Op) → ops ≡ before ++ op ∷ r
 
 -- no item has more than 520 bytes
 abbrev pub AreShort : List (List ℕ) → Type 0
-AreShort witness = All (λ item. length item ≤ 520) witness
+AreShort witness = All (λ item. length item ≤ max_element_size) witness
 
 -- the script runs clean on the witness, with so many counted opcodes and so many entries at most
 pub record IsClean (spend : Spend) (ops : List Op) (witness : List (List ℕ)) (counted height : ℕ) : Type 0 where
@@ -122,19 +123,19 @@ pub record IsClean (spend : Spend) (ops : List Op) (witness : List (List ℕ)) (
   pub runs : RunsTo spend ops witness (length ops) (record { at = length ops; stack = last ∷ []; keys = keys; height = height })
   pub holds : IsTrue (truth last)
   pub sum : counted ≡ counted_in ops + keys
-  pub limit : counted ≤ 201
+  pub limit : counted ≤ max_ops
 
 -- the opcodes above 60 up to and with opcode k, and the keys of the CHECKMULTISIGs that were run before it, exceed 201
 pub record PassesLimit (spend : Spend) (ops : List Op) (witness : List (List ℕ)) (k : ℕ) : Type 0 where
   pub within : k < length ops
   pub point : Point
   pub runs : RunsTo spend ops witness k point
-  pub above : 201 < counted_in (take (k + 1) ops) + point.keys
+  pub above : max_ops < counted_in (take (k + 1) ops) + point.keys
 
 -- what an opcode did is a failure with this cause: its own, or more than 1,000 entries
 abbrev pub Fails : Result Effect Cause → Cause → Type 0
 Fails (Err c) cause = cause ≡ c
-Fails (Ok done) cause = (1000 < length done.stack) × (cause ≡ StackTooTall)
+Fails (Ok done) cause = (max_stack_size < length done.stack) × (cause ≡ StackTooTall)
 
 -- the run comes to opcode k, which fails
 pub record FailsAt (spend : Spend) (ops : List Op) (witness : List (List ℕ)) (k : ℕ) (cause : Cause) : Type 0 where
@@ -159,7 +160,7 @@ AreFaultless spend ops witness k = (j : ℕ) (cause : Cause) → j < k → Fault
 -- the run stops at this position, for this cause: a long item; else the fault of the least position that has one; else what is wrong at the
 -- end of the list
 pub data StopsAt (spend : Spend) (ops : List Op) (witness : List (List ℕ)) : ℕ → Cause → Type 0 where
-  long_item : Any (λ item. 520 < length item) witness → StopsAt spend ops witness 0 ItemTooLong
+  long_item : Any (λ item. max_element_size < length item) witness → StopsAt spend ops witness 0 ItemTooLong
   least_fault : {k : ℕ} {cause : Cause} → AreShort witness → AreFaultless spend ops witness k → FaultAt spend ops witness k cause → StopsAt spend ops witness k cause
   open_end : AreShort witness → AreFaultless spend ops witness (length ops) → HasOpen true ops → StopsAt spend ops witness (length ops) OpenBranch
   not_one : {x : Point} → AreShort witness → AreFaultless spend ops witness (length ops) → (HasOpen true ops → ⊥) → RunsTo spend ops witness (length ops) x → length x.stack ≢ 1 → StopsAt spend ops witness (length ops) NotOneValue

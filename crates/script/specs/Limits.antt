@@ -1,8 +1,27 @@
--- How many bytes a number's item may have.
+-- The limits of scripts and of their runs: the constants of `limits`, whose values `proofs/Examples.antt` pins from outside.
 use Rattle.std.specs.Prelude.{ℕ}
-use Rattle.script.specs.declared.num.Limit.{Limit}
-use Rattle.script.specs.declared.num.Limit.TheVariants.{Count, Lock}
+use Rattle.script.specs.declared.limits.TheConstants.{MAX_SCRIPT_SIZE, MAX_SCRIPT_ELEMENT_SIZE, MAX_OPS_PER_SCRIPT, MAX_STACK_SIZE, MAX_PUBKEYS_PER_MULTISIG, LOCKTIME_THRESHOLD}
 
-abbrev pub bytes_in : Limit → ℕ
-bytes_in Count = 4
-bytes_in Lock = 5
+-- the bytes of a script
+abbrev pub max_script_size : ℕ
+max_script_size = MAX_SCRIPT_SIZE
+
+-- the bytes of an item of a witness
+abbrev pub max_element_size : ℕ
+max_element_size = MAX_SCRIPT_ELEMENT_SIZE
+
+-- the opcodes above 60 of a script, with the keys of each CHECKMULTISIG that runs
+abbrev pub max_ops : ℕ
+max_ops = MAX_OPS_PER_SCRIPT
+
+-- the elements on the stack after an opcode
+abbrev pub max_stack_size : ℕ
+max_stack_size = MAX_STACK_SIZE
+
+-- the keys of one CHECKMULTISIG
+abbrev pub max_keys : ℕ
+max_keys = MAX_PUBKEYS_PER_MULTISIG
+
+-- the least lock time that is a time
+abbrev pub locktime_threshold : ℕ
+locktime_threshold = LOCKTIME_THRESHOLD

@@ -1,6 +1,13 @@
 -- Numbers as items: little-endian, with a sign bit in the last byte.
 use Rattle.std.specs.Prelude.{ℕ, zero, suc, ◌+◌, ◌*◌, ◌/◌, ◌%◌, ◌^◌, ◌&&◌, nat_lt, nat_le, ◌==◌, if◌then◌else◌, false, List, [], ◌∷◌, ◌++◌, length, Option, Some, None}
 use Rattle.script.specs.declared.num.Number.{Number}
+use Rattle.script.specs.declared.num.Limit.{Limit}
+use Rattle.script.specs.declared.num.Limit.TheVariants.{Count, Lock}
+
+-- how many bytes a number of this use may have
+abbrev pub bytes_in : Limit → ℕ
+bytes_in Count = 4
+bytes_in Lock = 5
 
 -- the little-endian value
 abbrev pub unsigned : List ℕ → ℕ

@@ -6,6 +6,7 @@ use Rattle.script.specs.declared.opcode.Op.TheVariants.{If, NotIf, Else, EndIf}
 use Rattle.script.specs.declared.spending.Spend.{Spend}
 use Rattle.script.specs.declared.stops.Cause.{Cause}
 use Rattle.script.specs.declared.stops.Cause.TheVariants.{OpenBranch, TooManyOps, StackTooTall, ItemTooLong, NotOneValue, FalseEnd}
+use Rattle.script.specs.Limits.{max_element_size, max_ops, max_stack_size}
 use Rattle.script.specs.Spelling.{code_of}
 use Rattle.script.specs.Step.{Entries, Move, Onward, PastElse, PastEnd, Effect, effect, truth, checked, ◌>>=◌}
 
@@ -61,7 +62,7 @@ pub record Place : Type 0 where
 -- behind an opcode that was run: the entries are few enough, and the greatest number is kept
 abbrev pub settled : List Op → ℕ → List Bool → ℕ → Effect → Result Place Cause
 settled rest counted ifs height e =
-    checked (nat_le (length e.stack) 1000) StackTooTall (Ok (record { ahead = jump_of e.move rest; stack = e.stack; counted = counted + e.keys; open_ifs = ifs; height = max height (length e.stack) }))
+    checked (nat_le (length e.stack) max_stack_size) StackTooTall (Ok (record { ahead = jump_of e.move rest; stack = e.stack; counted = counted + e.keys; open_ifs = ifs; height = max height (length e.stack) }))
 
 -- an opcode is jumped over, or run
 abbrev pub jumped_or_run : Spend → Op → List Op → ℕ → Place → ℕ → List Bool → Result Place Cause
@@ -71,7 +72,7 @@ jumped_or_run spend op rest zero p counted ifs = effect spend counted op p.stack
 -- past one opcode, which these follow
 unfoldable pub past : Spend → Op → List Op → Place → Result Place Cause
 past spend op rest p =
-    checked (nat_le (p.counted + weight op) 201) TooManyOps (opens op p.open_ifs >>= jumped_or_run spend op rest p.ahead p (p.counted + weight op))
+    checked (nat_le (p.counted + weight op) max_ops) TooManyOps (opens op p.open_ifs >>= jumped_or_run spend op rest p.ahead p (p.counted + weight op))
 
 -- how a run ends: clean, with the counted opcodes and the greatest number of entries, or stopped, with the position and the cause
 pub data Outcome : Type 0 where
@@ -100,7 +101,7 @@ start stack = record { ahead = 0; stack = stack; counted = 0; open_ifs = []; hei
 
 -- an item has more than 520 bytes
 abbrev pub is_long : List ℕ → Bool
-is_long item = nat_lt 520 (length item)
+is_long item = nat_lt max_element_size (length item)
 
 -- how a script runs on the items of a witness, the last of which is the top
 abbrev pub outcome : Spend → List Op → List (List ℕ) → Outcome

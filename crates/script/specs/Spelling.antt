@@ -4,6 +4,7 @@ use Rattle.script.specs.declared.opcode.Op.{Op}
 use Rattle.script.specs.declared.parse.ParseError.{ParseError}
 use Rattle.script.specs.declared.parse.ParseError.TheVariants.{NoMemory, BadOpcode, Truncated, TooLong}
 use Rattle.script.specs.declared.opcode.Op.TheVariants.{Push, Number, If, NotIf, Else, EndIf, Drop, Dup, Swap, Size, Equal, EqualVerify, Hash160, CheckSig, CheckMultiSig, CheckLockTimeVerify, CheckSequenceVerify}
+use Rattle.script.specs.Limits.{max_script_size}
 
 -- the byte of an opcode: a push has its length
 abbrev pub code_of : Op → ℕ
@@ -68,9 +69,9 @@ HasShortPush bytes at = (b : ℕ) × (rest : List ℕ) × SplitsUpTo bytes at (b
 -- the bytes have this fault: they are too many, or else it is the first one from the left
 abbrev pub IsFault : List ℕ → ParseError → Type 0
 IsFault bytes NoMemory = Unit {0}
-IsFault bytes (BadOpcode at) = (length bytes ≤ 10000) × HasBadOpcode bytes at
-IsFault bytes (Truncated at) = (length bytes ≤ 10000) × HasShortPush bytes at
-IsFault bytes TooLong = 10000 < length bytes
+IsFault bytes (BadOpcode at) = (length bytes ≤ max_script_size) × HasBadOpcode bytes at
+IsFault bytes (Truncated at) = (length bytes ≤ max_script_size) × HasShortPush bytes at
+IsFault bytes TooLong = max_script_size < length bytes
 
 -- the opcode begins with this byte and goes on in these
 pub record Begins (first : ℕ) (after : List ℕ) (op : Op) : Type 0 where

@@ -11,6 +11,7 @@ use Rattle.script.specs.declared.stops.Kind.TheVariants.{Verify, Number, KeyCoun
 use Rattle.script.specs.declared.stops.Cause.{Cause}
 use Rattle.script.specs.declared.stops.Cause.TheVariants.{MissingOperand, FailedCheck, TooManyOps}
 use Rattle.script.specs.declared.num.Number.{Number as Signed}
+use Rattle.script.specs.Limits.{locktime_threshold, max_keys, max_ops}
 use Rattle.script.specs.Number.{number_of, item_of}
 use Rattle.script.specs.Token.{token_of, is_key, is_signature, assigned}
 
@@ -73,7 +74,7 @@ alike a b = if a then b else not b
 -- an absolute lock passes: it is of the kind of the transaction's lock time and not above it, and the input is not final (BIP 65)
 unfoldable pub lock_passes : Spend → ℕ → Bool
 lock_passes spend n =
-    alike (nat_lt n 500000000) (nat_lt spend.lock_time 500000000) && nat_le n spend.lock_time && not (spend.sequence == 0xffffffff)
+    alike (nat_lt n locktime_threshold) (nat_lt spend.lock_time locktime_threshold) && nat_le n spend.lock_time && not (spend.sequence == 0xffffffff)
 
 -- a relative lock passes: it is switched off, or the transaction has version 2, the input's sequence is a lock of the same kind, and the
 -- lock is not above it (BIP 112)
@@ -118,8 +119,8 @@ unfoldable pub multi_sig : Spend → ℕ → Entries → Result Effect Cause
 multi_sig spend counted stack = do
   (top, below) ← popped stack
   z ← numbered (number_of 4 top)
-  n ← up_to 20 KeyCount z
-  (keys, below') ← checked (nat_le (counted + n) 201) TooManyOps (taken n below)
+  n ← up_to max_keys KeyCount z
+  (keys, below') ← checked (nat_le (counted + n) max_ops) TooManyOps (taken n below)
   (second, below'') ← popped below'
   y ← numbered (number_of 4 second)
   m ← up_to n SigCount y

@@ -1,10 +1,9 @@
 // Numbers as items: little-endian, with a sign bit in the last byte, in the shortest form.
 
 ghost use Rattle.std.specs.Prelude.{◌≡◌, ◌≤◌, ◌++◌, Some, false, IfOk, OnOk};
-ghost use Rattle.script.specs.Limits.{bytes_in};
-ghost use Rattle.script.specs.Number.{number_of, item_of, lowest};
+ghost use Rattle.script.specs.Number.{bytes_in, number_of, item_of, lowest};
 
-use crate::items::Item;
+use lists::ByteString;
 use std::alloc::{AllocError, Global};
 
 /// A number with a sign: the magnitude, or its negative. Zero is not negative.
@@ -66,7 +65,7 @@ fn read_up_to(bytes: &[u8], limit: usize) -> Option<Number>
 }
 
 /// The shortest item of a number that is not negative. The only error is want of memory.
-pub fn write(alloc: Global, n: u32) -> Result<Item, AllocError>
+pub fn write(alloc: Global, n: u32) -> Result<ByteString, AllocError>
     ensures item { IfOk result (λ i. i ≡ item_of n) }
 
     // It is read as the same number.
@@ -80,7 +79,7 @@ pub fn write(alloc: Global, n: u32) -> Result<Item, AllocError>
             rest /= 256;
         }
     }
-    Ok(Item::from_vec(bytes))
+    Ok(ByteString::from_vec(bytes))
 }
 
 // Puts the lowest digit at the end, with a byte for the sign where it needs one.

@@ -1,13 +1,13 @@
 // The opcodes.
 
-use crate::items::Item;
+use lists::ByteString;
 use std::alloc::{AllocError, Global};
 
 /// One opcode of a version 0 witness script.
 #[derive(Debug, Drop)]
 pub enum Op {
     /// Bytes 00 to 4b: pushes an item of at most 75 bytes.
-    Push(Item),
+    Push(ByteString),
     /// Bytes 51 to 60: pushes a number from 1 to 16.
     Number(u8),
     /// 63: runs what follows where the top is true.
@@ -91,11 +91,11 @@ impl Op {
     }
 
     /// The same opcode once more. The only error is want of memory.
-    pub fn copy(&self, alloc: Global) -> Result<Op, AllocError>
+    pub fn copy(&self) -> Result<Op, AllocError>
         ensures { IfOk result (λ op. op ≡ self.now) }
     {
         Ok(match self {
-            Op::Push(item) => Op::Push(item.copy(alloc)?),
+            Op::Push(item) => Op::Push(item.copy()?),
             Op::Number(n) => Op::Number(*n),
             Op::If => Op::If,
             Op::NotIf => Op::NotIf,
@@ -123,15 +123,15 @@ mod tests {
 
     #[test]
     fn copies_an_opcode(rt: HostRuntime) -> Result<(), Fail> {
-        let push = Op::Push(Item::from_slice(rt.alloc(), &[1, 2, 3])?).copy(rt.alloc())?;
+        let push = Op::Push(ByteString::from_slice(rt.alloc(), &[1, 2, 3])?).copy()?;
         assert_eq!(rt; push.code(), 3);
         assert_eq!(rt; push.payload_len(), 3);
         assert_eq!(rt; push.weight(), 0);
-        assert_eq!(rt; Op::Number(16).copy(rt.alloc())?.code(), 0x60);
+        assert_eq!(rt; Op::Number(16).copy()?.code(), 0x60);
         assert_eq!(rt; Op::Number(16).weight(), 0);
-        assert_eq!(rt; Op::If.copy(rt.alloc())?.code(), 0x63);
+        assert_eq!(rt; Op::If.copy()?.code(), 0x63);
         assert_eq!(rt; Op::If.weight(), 1);
-        assert_eq!(rt; Op::CheckSequenceVerify.copy(rt.alloc())?.code(), 0xb2);
+        assert_eq!(rt; Op::CheckSequenceVerify.copy()?.code(), 0xb2);
         Ok(())
     }
 }

@@ -6,14 +6,12 @@ ghost use Rattle.script.specs.declared.opcode.Op.{Op as Opcode};
 ghost use Rattle.script.specs.Spelling.{Spells, IsFault, StartsNone, Begins, Refuses, IsOp, code_of, payload_of};
 ghost use Rattle.script.specs.declared.parse.ParseError.TheVariants.{NoMemory};
 
-use crate::items::Item;
+use crate::limits::MAX_SCRIPT_SIZE;
 use crate::opcode::Op;
+use lists::ByteString;
 use std::alloc::{AllocError, AllocFailed, Global};
 use std::marker::Model;
 use thiserror::Error;
-
-/// The greatest number of bytes of a script.
-pub const MAX_BYTES: usize = 10_000;
 
 /// Why bytes are no script. Positions count bytes from 0.
 #[derive(Debug, Drop, Error)]
@@ -46,11 +44,12 @@ impl Model for Script {
 
     ghost Value = { List Opcode };
 
+    ghost use Rattle.script.specs.Limits.{max_script_size};
     ghost use Rattle.script.specs.Spelling.{Spells};
 
     ghost view = { λ s. s.ops.items };
 
-    ghost invariant = { λ s. Spells s.ops.items s.bytes.items × (length s.bytes.items ≤ 10000) };
+    ghost invariant = { λ s. Spells s.ops.items s.bytes.items × (length s.bytes.items ≤ max_script_size) };
 }
 
 impl ParseError {
@@ -74,11 +73,11 @@ impl Script {
     /// Reads bytes as opcodes: `TooLong` where they are too many, else the first fault from the left.
     pub fn parse(alloc: Global, bytes: &[u8]) -> Result<Self, ParseError>
         ensures ok { IfOk result (λ s. Spells s bytes.now) }
-        ensures short { OnOk result (length bytes.now ≤ 10000) }
+        ensures short { OnOk result (length bytes.now ≤ MAX_SCRIPT_SIZE) }
         ensures fault { IfErr result (IsFault bytes.now) }
 
         // Bytes that are not too many and split into opcodes are refused for want of memory alone, and split in one way.
-        ensures exact { (ops : List Opcode) → Spells ops bytes.now → length bytes.now ≤ 10000 → MatchResult result (λ s. s ≡ ops) (λ e. e ≡ ParseError.NoMemory) }
+        ensures exact { (ops : List Opcode) → Spells ops bytes.now → length bytes.now ≤ MAX_SCRIPT_SIZE → MatchResult result (λ s. s ≡ ops) (λ e. e ≡ ParseError.NoMemory) }
     {
         read(alloc, bytes)
     }
@@ -86,7 +85,7 @@ impl Script {
     /// The bytes that were parsed.
     pub fn bytes(&self) -> &[u8]
         ensures spelt { Spells self.now result.now }
-        ensures short { length result.now ≤ 10000 }
+        ensures short { length result.now ≤ MAX_SCRIPT_SIZE }
     {
         self.bytes.as_slice()
     }
@@ -112,15 +111,15 @@ impl Script {
     }
 
     /// The same script once more. The only error is want of memory.
-    pub fn copy(&self, alloc: Global) -> Result<Self, AllocError>
+    pub fn copy(&self) -> Result<Self, AllocError>
         ensures { IfOk result (λ s. s ≡ self.now) }
     {
-        let mut ops = Vec::new(alloc);
+        let mut ops = Vec::new(*self.ops.allocator());
         for op in &self.ops {
-            ops.push(op.copy(alloc)?)?;
+            ops.push(op.copy()?)?;
         }
         Ok(Script {
-            bytes: Vec::from_slice(alloc, self.bytes.as_slice())?,
+            bytes: self.bytes.clone()?,
             ops,
         })
     }
@@ -129,10 +128,10 @@ impl Script {
 // Reads bytes as opcodes.
 fn read(alloc: Global, bytes: &[u8]) -> Result<Script, ParseError>
     ensures ok { IfOk result (λ s. Spells s bytes.now) }
-    ensures short { OnOk result (length bytes.now ≤ 10000) }
+    ensures short { OnOk result (length bytes.now ≤ MAX_SCRIPT_SIZE) }
     ensures fault { IfErr result (IsFault bytes.now) }
 {
-    if bytes.len() > MAX_BYTES {
+    if bytes.len() > MAX_SCRIPT_SIZE {
         return Err(ParseError::TooLong);
     }
     let mut ops = Vec::new(alloc);
@@ -160,7 +159,7 @@ fn read_op(alloc: Global, first: u8, after: &[u8], at: usize) -> Result<Op, Pars
             if after.len() < len {
                 return Err(ParseError::Truncated(at));
             }
-            Ok(Op::Push(Item::from_slice(alloc, &after[..len])?))
+            Ok(Op::Push(ByteString::from_slice(alloc, &after[..len])?))
         }
         81..=96 => Ok(Op::Number(first - 80)),
         _ => plain(first).ok_or(ParseError::BadOpcode(at)),
@@ -280,7 +279,7 @@ mod tests {
 
     #[test]
     fn copies_a_script(rt: HostRuntime) -> Result<(), Fail> {
-        let script = Script::parse(rt.alloc(), &TO_LOCAL)?.copy(rt.alloc())?;
+        let script = Script::parse(rt.alloc(), &TO_LOCAL)?.copy()?;
         assert_eq!(rt; script.bytes(), TO_LOCAL.as_slice());
         assert_eq!(rt; script.ops().len(), 9);
         Ok(())

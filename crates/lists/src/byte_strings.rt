@@ -1,0 +1,124 @@
+//! Strings of bytes.
+
+ghost use Rattle.std.specs.Prelude.{◌≡◌, ◌==◌, [], length, IfOk};
+ghost use Rattle.std.specs.Str.{bytes_eq};
+
+use std::alloc::{AllocError, Global};
+use std::marker::Model;
+
+/// A string of bytes: an element of a script's stack, an item of a witness (BIP 141), the data of a push, or an output's script. It has no
+/// limit of its own. A contract sees it as the list of its bytes.
+#[derive(Debug, Drop)]
+pub struct ByteString {
+    bytes: Vec<u8>,
+}
+
+impl Model for ByteString {
+    ghost use Rattle.std.specs.Prelude.{ℕ, List};
+
+    ghost Value = { List ℕ };
+
+    ghost view = { λ b. b.bytes.items };
+}
+
+impl ByteString {
+    /// The empty string, which takes no memory.
+    pub fn new(alloc: Global) -> Self
+        ensures { result ≡ [] }
+    {
+        ByteString {
+            bytes: Vec::new(alloc),
+        }
+    }
+
+    /// The string of these bytes. The only error is that memory ran out.
+    pub fn from_slice(alloc: Global, bytes: &[u8]) -> Result<Self, AllocError>
+        ensures { IfOk result (λ b. b ≡ bytes.now) }
+    {
+        Ok(ByteString {
+            bytes: Vec::from_slice(alloc, bytes)?,
+        })
+    }
+
+    /// The string that takes over the bytes of a `Vec`, without memory.
+    pub fn from_vec(bytes: Vec<u8>) -> Self
+        ensures { result ≡ bytes.items }
+    {
+        ByteString { bytes }
+    }
+
+    /// Gives the bytes back as a `Vec`, without memory.
+    pub fn into_vec(self) -> Vec<u8>
+        ensures { result.items ≡ self }
+    {
+        self.bytes
+    }
+
+    /// The bytes.
+    pub fn bytes(&self) -> &[u8]
+        ensures { result.now ≡ self.now }
+    {
+        self.bytes.as_slice()
+    }
+
+    /// How many bytes there are.
+    pub fn len(&self) -> usize
+        ensures { result ≡ length self.now }
+    {
+        self.bytes.len()
+    }
+
+    /// Whether there are none.
+    pub fn is_empty(&self) -> bool
+        ensures { result ≡ (length self.now == 0) }
+    {
+        self.bytes.is_empty()
+    }
+
+    /// An equal string. The only error is that memory ran out.
+    pub fn copy(&self) -> Result<Self, AllocError>
+        ensures { IfOk result (λ b. b ≡ self.now) }
+    {
+        Ok(ByteString {
+            bytes: self.bytes.clone()?,
+        })
+    }
+
+    /// Whether two strings have the same bytes.
+    pub fn equals(&self, other: &ByteString) -> bool
+        ensures { result ≡ bytes_eq self.now other.now }
+    {
+        self.bytes() == other.bytes()
+    }
+}
+
+#[cfg(test)]
+mod tests {
+    use super::*;
+    use std::test::Fail;
+
+    #[test]
+    fn holds_its_bytes(rt: HostRuntime) -> Result<(), Fail> {
+        let string = ByteString::from_slice(rt.alloc(), &[1, 2, 3])?;
+        let copy = string.copy()?;
+        assert_eq!(rt; copy.bytes(), [1, 2, 3].as_slice());
+        assert!(rt; copy.equals(&string));
+        assert!(rt; !copy.equals(&ByteString::new(rt.alloc())));
+        assert!(rt; !copy.is_empty());
+        assert_eq!(rt; copy.into_vec().as_slice(), [1, 2, 3].as_slice());
+        Ok(())
+    }
+
+    // No length is refused where memory is there.
+    #[test]
+    fn copies_every_length(rt: HostRuntime) -> Result<(), Fail> {
+        let mut bytes = Vec::new(rt.alloc());
+        for len in 0usize..=600 {
+            let string = ByteString::from_slice(rt.alloc(), &bytes)?.copy()?;
+            assert_eq!(rt; string.len(), len);
+            assert_eq!(rt; string.bytes(), bytes.as_slice());
+            bytes.push((len % 256) as u8)?;
+        }
+        Ok(())
+    }
+}

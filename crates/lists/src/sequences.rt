@@ -1,0 +1,115 @@
+//! Lists of values, which contracts see as lists in their order.
+
+ghost use Rattle.std.specs.Prelude.{◌≡◌, ◌==◌, [], ◌∷◌, ◌++◌, length, OnOk, OnErr};
+
+use std::alloc::{AllocError, Global};
+use std::marker::Model;
+
+/// A list that grows at its end. A contract sees it as the list of its values, the first one first.
+#[derive(Debug, Drop)]
+pub struct List<T> {
+    items: Vec<T>,
+}
+
+impl<T> Model for List<T> {
+    ghost use Rattle.std.specs.Prelude.{List as Values};
+
+    ghost Value = { Values T };
+
+    ghost view = { λ l. l.items.items };
+}
+
+impl<T: Drop> List<T> {
+    /// The empty list, which takes no memory.
+    pub fn new(alloc: Global) -> Self
+        ensures { result ≡ [] }
+    {
+        List {
+            items: Vec::new(alloc),
+        }
+    }
+
+    /// The list of these values. It takes no memory.
+    pub fn from_vec(items: Vec<T>) -> Self
+        ensures { result ≡ items.items }
+    {
+        List { items }
+    }
+
+    /// Gives the values back as a `Vec`, without memory.
+    pub fn into_vec(self) -> Vec<T>
+        ensures { result.items ≡ self }
+    {
+        self.items
+    }
+
+    /// The allocator that the list was made with.
+    pub fn allocator(&self) -> Global {
+        *self.items.allocator()
+    }
+
+    /// How many values there are.
+    pub fn len(&self) -> usize
+        ensures { result ≡ length self.now }
+    {
+        self.items.len()
+    }
+
+    /// Whether there is no value.
+    pub fn is_empty(&self) -> bool
+        ensures { result ≡ (length self.now == 0) }
+    {
+        self.items.is_empty()
+    }
+
+    /// Puts a value at the end. The only error is that memory ran out, which leaves the list as it was.
+    pub fn push(&mut self, value: T) -> Result<(), AllocError>
+        ensures pushed { OnOk result (self.new ≡ self.old ++ value ∷ []) }
+        ensures err { OnErr result (self.new ≡ self.old) }
+    {
+        self.items.push(value)?;
+        Ok(())
+    }
+
+    /// The values in their order.
+    pub fn values(&self) -> &[T]
+        ensures { result.now ≡ self.now }
+    {
+        self.items.as_slice()
+    }
+}
+
+#[cfg(test)]
+mod tests {
+    use super::*;
+    use std::test::Fail;
+
+    #[test]
+    fn grows_at_its_end(rt: HostRuntime) -> Result<(), Fail> {
+        let mut list = List::new(rt.alloc());
+        assert!(rt; list.is_empty());
+        list.push(1u8)?;
+        list.push(2)?;
+        assert_eq!(rt; list.len(), 2);
+        assert_eq!(rt; list.values(), [1, 2].as_slice());
+        assert_eq!(rt;
+            List::from_vec(vec![in rt.alloc(); 3u8, 4]?)
+                .into_vec()
+                .as_slice(),
+            [3, 4].as_slice()
+        );
+        Ok(())
+    }
+
+    // No length is refused where memory is there.
+    #[test]
+    fn grows_to_every_length(rt: HostRuntime) -> Result<(), Fail> {
+        let mut list = List::new(rt.alloc());
+        for len in 0usize..600 {
+            assert_eq!(rt; list.len(), len);
+            list.push(len)?;
+        }
+        assert_eq!(rt; list.values().last(), Some(&599));
+        Ok(())
+    }
+}

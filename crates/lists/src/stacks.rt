@@ -1,0 +1,121 @@
+//! Stacks of values, which contracts see as lists with the top first.
+
+ghost use Rattle.std.specs.Prelude.{◌≡◌, ◌==◌, List, [], ◌∷◌, length, reverse, OnOk, OnErr, MatchOption};
+
+use std::alloc::{AllocError, Global};
+use std::marker::Model;
+
+/// A stack. A contract sees it as the list of its values, the top first.
+#[derive(Debug, Drop)]
+pub struct Stack<T> {
+    items: Vec<T>,
+}
+
+impl<T> Model for Stack<T> {
+    ghost use Rattle.std.specs.Prelude.{List, reverse};
+
+    ghost Value = { List T };
+
+    ghost view = { λ s. reverse s.items.items };
+}
+
+impl<T: Drop> Stack<T> {
+    /// The empty stack, which takes no memory.
+    pub fn new(alloc: Global) -> Self
+        ensures { result ≡ [] }
+    {
+        Stack {
+            items: Vec::new(alloc),
+        }
+    }
+
+    /// The stack of these values, the last of which is the top. It takes no memory.
+    pub fn from_vec(items: Vec<T>) -> Self
+        ensures { result ≡ reverse items.items }
+    {
+        Stack { items }
+    }
+
+    /// The allocator that the stack was made with.
+    pub fn allocator(&self) -> Global {
+        *self.items.allocator()
+    }
+
+    /// How many values there are.
+    pub fn len(&self) -> usize
+        ensures { result ≡ length self.now }
+    {
+        self.items.len()
+    }
+
+    /// Whether there is no value.
+    pub fn is_empty(&self) -> bool
+        ensures { result ≡ (length self.now == 0) }
+    {
+        self.items.is_empty()
+    }
+
+    /// Puts a value on top. The only error is that memory ran out, which leaves the stack as it was.
+    pub fn push(&mut self, value: T) -> Result<(), AllocError>
+        ensures pushed { OnOk result (self.new ≡ value ∷ self.old) }
+        ensures err { OnErr result (self.new ≡ self.old) }
+    {
+        self.items.push(value)?;
+        Ok(())
+    }
+
+    /// Takes the top off, where there is one.
+    pub fn pop(&mut self) -> Option<T>
+        ensures { MatchOption result ((self.old ≡ []) × (self.new ≡ [])) (λ x. self.old ≡ x ∷ self.new) }
+    {
+        self.items.pop()
+    }
+
+    /// The top, where there is one.
+    pub fn top(&self) -> Option<&T>
+        ensures { MatchOption result (self.now ≡ []) (λ x. (rest : List T) × (self.now ≡ x.now ∷ rest)) }
+    {
+        self.items.last()
+    }
+
+    /// The values, the top last.
+    pub fn values(&self) -> &[T]
+        ensures { result.now ≡ reverse self.now }
+    {
+        self.items.as_slice()
+    }
+}
+
+#[cfg(test)]
+mod tests {
+    use super::*;
+    use std::test::Fail;
+
+    #[test]
+    fn gives_back_the_top_first(rt: HostRuntime) -> Result<(), Fail> {
+        let mut stack = Stack::new(rt.alloc());
+        assert!(rt; stack.is_empty());
+        stack.push(1u8)?;
+        stack.push(2)?;
+        assert_eq!(rt; stack.top(), Some(&2));
+        assert_eq!(rt; stack.values(), [1, 2].as_slice());
+        assert_eq!(rt; stack.pop(), Some(2));
+        assert_eq!(rt; stack.len(), 1);
+        assert_eq!(rt; stack.pop(), Some(1));
+        assert_eq!(rt; stack.pop(), None);
+        assert_eq!(rt; Stack::from_vec(vec![in rt.alloc(); 3u8, 4]?).pop(), Some(4));
+        Ok(())
+    }
+
+    // No height is refused where memory is there.
+    #[test]
+    fn grows_to_every_height(rt: HostRuntime) -> Result<(), Fail> {
+        let mut stack = Stack::new(rt.alloc());
+        for height in 0usize..600 {
+            assert_eq!(rt; stack.len(), height);
+            stack.push(height)?;
+        }
+        assert_eq!(rt; stack.pop(), Some(599));
+        Ok(())
+    }
+}

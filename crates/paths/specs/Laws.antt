@@ -1,0 +1,29 @@
+-- What a listing says of whoever opens the script.
+use Rattle.std.specs.Prelude.{◌≡◌, ◌≢◌, ℕ, ◌%◌, ◌^◌, ◌≤◌, List, [], Ok, IfSome, IsTrue, IsFalse, Any}
+use Rattle.script.specs.declared.opcode.Op.{Op}
+use Rattle.script.specs.declared.spending.Spend.{Spend}
+use Rattle.script.specs.Step.{lock_passes, age_passes}
+use Rattle.script.specs.Run.{Clean, outcome}
+use Rattle.paths.specs.declared.state.Path.{Path}
+use Rattle.paths.specs.Listing.{listing}
+use Rattle.paths.specs.Exhaustive.{OpensBy}
+
+-- a script that is listed with no path runs clean on no witness, under no spend
+abbrev pub NoPathNoWitness : Type 0
+NoPathNoWitness =
+    (ops : List Op) (spend : Spend) (witness : List (List ℕ)) (counted height : ℕ) → listing ops ≡ Ok [] → outcome spend ops witness ≡ Clean counted height → ⊥
+
+-- the spend meets a path's greatest absolute lock (BIP 65) and its greatest relative lock in blocks (BIP 112)
+pub record MeetsLocks (spend : Spend) (p : Path) : Type 0 where
+  pub lock : IfSome p.lock (λ n. lock_passes spend n ≡ true)
+  pub age : IfSome p.age (λ n. age_passes spend n ≡ true)
+
+-- a witness goes this way in time
+pub record OpensInTime (spend : Spend) (witness : List (List ℕ)) (counted height : ℕ) (p : Path) : Type 0 where
+  pub opens : OpensBy spend witness counted height p
+  pub locks : MeetsLocks spend p
+
+-- whatever opens a listed script meets a listed path and that path's locks
+abbrev pub OpenersWait : Type 0
+OpenersWait =
+    (ops : List Op) (paths : List Path) (spend : Spend) (witness : List (List ℕ)) (counted height : ℕ) → listing ops ≡ Ok paths → outcome spend ops witness ≡ Clean counted height → Any (OpensInTime spend witness counted height) paths

@@ -1,0 +1,14 @@
+// Laws of the listing: who can open a script, and when.
+
+ghost use Rattle.paths.specs.Laws.{NoPathNoWitness, OpenersWait};
+
+/// A script that is listed with no path opens to nobody: no witness runs clean, under no spend.
+pub fn no_path_opens_to_nobody()
+    ensures { NoPathNoWitness }
+{}
+
+/// Whatever opens a listed script meets a listed path, and the spend meets that path's greatest absolute lock (BIP 65) and its greatest
+/// relative lock in blocks (BIP 112).
+pub fn openers_wait()
+    ensures { OpenersWait }
+{}
