@@ -110,14 +110,14 @@ pub found_here : (o : OutPoint) (height : ℕ) (id : List ℕ) (outputs : List O
 found_here o height id outputs r same value =
     at_height_by_value height r ∙ ap (option_map (λ x. (x, height))) value ∙ sym (found_by_index o id height 0 o.index outputs same (sym (zero-add o.index)))
 
-drop-past : {X : Type 0} (xs : List X) (i : ℕ) → length xs ≤ i → drop i xs ≡ []
+pub drop-past : {X : Type 0} (xs : List X) (i : ℕ) → length xs ≤ i → drop i xs ≡ []
 drop-past [] zero past = refl
 drop-past [] (suc i) past = refl
 drop-past (x ∷ xs) zero past = absurd (omega arith)
 drop-past (x ∷ xs) (suc i) past = drop-past xs i (omega arith)
 
 -- the first of a list that is left
-head_left : {X : Type 0} (xs : List X) (i : ℕ) (x : X) → x ≡ get_or xs i x → i < length xs → drop i xs ≡ x ∷ drop (i + 1) xs
+pub head_left : {X : Type 0} (xs : List X) (i : ℕ) (x : X) → x ≡ get_or xs i x → i < length xs → drop i xs ≡ x ∷ drop (i + 1) xs
 head_left xs i x e below = rw (add-one, drop-cons xs i x) (ap (λ y. y ∷ drop (suc i) xs) (sym e))
 
 -- where the first of the transactions that are left created nothing there, the others are looked through

@@ -6,7 +6,7 @@ ghost use Rattle.tx.specs.Fields.{Transaction};
 ghost use Rattle.tx.specs.Parts.{Output};
 ghost use Rattle.chain.specs.Blocks.{empty_block, Contents};
 
-use script::Pile;
+use lists::Stack;
 use std::alloc::{AllocError, Global};
 use std::marker::Model;
 use tx::{Tx, TxOut, txid};
@@ -56,8 +56,8 @@ impl Confirmed {
 /// A block: its transactions, and the outputs that were granted while it was the newest.
 #[derive(Debug, Drop)]
 pub struct Block {
-    transactions: Pile<Confirmed>,
-    granted: Pile<TxOut>,
+    transactions: Stack<Confirmed>,
+    granted: Stack<TxOut>,
 }
 
 impl Model for Block {
@@ -74,8 +74,8 @@ impl Block {
         ensures { result ≡ empty_block }
     {
         Block {
-            transactions: Pile::new(alloc),
-            granted: Pile::new(alloc),
+            transactions: Stack::new(alloc),
+            granted: Stack::new(alloc),
         }
     }
 

@@ -1,4 +1,17 @@
 //! The simulated chain: blocks of transactions, the outputs that they create and spend, time locks, and blocks taken off again.
+//!
+//! [`Coins`] has the calls. A call speaks of the list of blocks as it stands: an input passes exactly where its output was created and
+//! is unspent, its locks are reached (BIP 65, BIP 68), and the output's program runs clean on its witness (BIP 141); a block is connected
+//! exactly where each of its transactions passes, and else the first at fault is named and nothing changes. [`Scan`] looks through its
+//! blocks for every answer.
+//!
+//! ```rust
+//! /// Grants an output, and spends it in the next block.
+//! fn spend<C: Coins>(chain: &mut C, output: TxOut, tx: Vec<Tx>) -> Result<u64, BlockError> {
+//!     let _ = chain.grant(output);
+//!     chain.connect(tx)
+//! }
+//! ```
 #![tactic(auto)]
 
 mod blocks;
@@ -11,9 +24,9 @@ mod refusal;
 mod scan;
 mod store;
 mod testing;
-mod totals;
 #[cfg(test)]
 mod tests;
+mod totals;
 
 pub use blocks::{Block, Confirmed};
 pub use coins::Coins;

@@ -9,6 +9,7 @@ ghost use Rattle.chain.specs.Running.{IsRun, IsParsed};
 
 use crate::refusal::Refusal;
 use digest::sha256;
+use lists::ByteString;
 use machine::{Run, Stop, run};
 use script::{ParseError, Script, Spend};
 use sighash::SighashCache;
@@ -48,12 +49,12 @@ fn key_hash_script(alloc: Global, hash: &[u8]) -> Result<Vec<u8>, AllocError>
 }
 
 /// The items of a witness, as the script machine takes them.
-fn copied(alloc: Global, items: &[Bytes]) -> Result<Vec<Vec<u8>>, AllocError>
-    ensures { IfOk result (λ v. map (λ item. item.items) v.items ≡ items.now) }
+fn copied(alloc: Global, items: &[Bytes]) -> Result<Vec<ByteString>, AllocError>
+    ensures { IfOk result (λ v. v.items ≡ items.now) }
 {
     let mut copies = Vec::new(alloc);
     for item in items {
-        copies.push(Vec::from_slice(alloc, item.as_slice())?)?;
+        copies.push(ByteString::from_slice(alloc, item.as_slice())?)?;
     }
     Ok(copies)
 }

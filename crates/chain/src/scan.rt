@@ -179,6 +179,11 @@ impl Store for Scan {
     }
 
     #[tactic(auto, using(crate::proofs::Lists::any_reversed))]
+    fn is_named(&self, outpoint: &OutPoint) -> bool {
+        is_named(self.blocks.as_slice(), outpoint)
+    }
+
+    #[tactic(auto, using(crate::proofs::Lists::any_reversed))]
     fn has_id(&self, id: &[u8; 32]) -> bool {
         has_id(self.blocks.as_slice(), id)
     }

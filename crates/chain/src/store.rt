@@ -1,7 +1,7 @@
 //! What the two ways to keep a chain have in common: what they find, and how they grow and shrink by one step.
 
 ghost use Rattle.std.specs.Prelude.{◌≡◌, ◌<◌, ◌≤◌, [], ◌∷◌, length, reverse, OnOk, OnErr, option_map, max, None, ◌%◌, ◌^◌};
-ghost use Rattle.chain.specs.Blocks.{Contents, Standing, Coin, empty_block, height_of, coin_at, has_id, grants_in};
+ghost use Rattle.chain.specs.Blocks.{Contents, Standing, Coin, empty_block, height_of, coin_at, has_id, is_named, grants_in};
 ghost use Rattle.chain.specs.Connecting.{with_transaction, with_grant, has_grant};
 ghost use Rattle.chain.specs.Tests.{transaction_refusal};
 ghost use Rattle.chain.specs.Storing.{found_coin, taken_off, MayTakeOff};
@@ -43,6 +43,10 @@ pub trait Store {
     /// The output at an outpoint.
     fn find(&self, outpoint: &OutPoint) -> Option<Found<'_>>
         ensures { option_map found_coin result ≡ coin_at (standing self.now).blocks outpoint.now };
+
+    /// Whether an input on the chain names the outpoint.
+    fn is_named(&self, outpoint: &OutPoint) -> bool
+        ensures { result ≡ is_named (standing self.now).blocks outpoint.now };
 
     /// Whether a transaction of this id stands on the chain.
     fn has_id(&self, id: &[u8; 32]) -> bool

@@ -1,11 +1,12 @@
 //! Sums over a chain.
 
-ghost use Rattle.std.specs.Prelude.{◌≡◌, ◌+◌, ◌++◌, ◌≤◌, ◌<◌, ◌^◌, length, map, filter, not, reverse, sum, sum_by, IfOk};
-ghost use Rattle.tx.specs.Fields.{AreInputs};
-ghost use Rattle.chain.specs.Blocks.{Standing, fee_of, fees_of, paid_in, transactions_of, unspent_of, value_at};
-ghost use Rattle.chain.specs.Totals.{IsUnspent};
+ghost use Rattle.std.specs.Prelude.{◌≡◌, ℕ, ◌++◌, ◌≤◌, ◌%◌, ◌^◌, length, map, sum, IfOk, OnOk};
+ghost use Rattle.std.specs.List.{flat_map};
+ghost use Rattle.chain.specs.Blocks.{created_by, fee_of, fees_of, paid_in, value_at};
+ghost use Rattle.chain.specs.Totals.{IsUnspent, unspent_value, unspent_values};
+ghost use Rattle.chain.specs.Scanning.{grants_from};
 
-use crate::blocks::{Block, Confirmed};
+use crate::blocks::Confirmed;
 use crate::connecting::grant_outpoint;
 use crate::store::Store;
 use crate::testing::paid_out;
@@ -68,6 +69,7 @@ fn push_fees<S: Store>(store: &S, transactions: &[Confirmed], fees: &mut Vec<u64
 }
 
 /// The sum of the fees of all transactions in satoshis.
+#[tactic(auto, using(crate::proofs::Sums::amounts_more))]
 pub(crate) fn sum_fees<S: Store>(store: &S) -> Result<u128, AllocError>
     ensures { IfOk result (λ f. f ≡ fees_of (S.standing store.now).blocks) }
 {
@@ -78,35 +80,67 @@ pub(crate) fn sum_fees<S: Store>(store: &S) -> Result<u128, AllocError>
     Ok(sum_of(&fees))
 }
 
-/// Whether an input names the outpoint of an output that was created.
-fn is_spent<S: Store>(store: &S, outpoint: &OutPoint) -> bool {
-    match store.find(outpoint) {
-        Some(found) => found.spent,
-        None => false,
+/// Adds a value, where no input names its outpoint.
+fn push_unless_named<S: Store>(
+    store: &S,
+    outpoint: &OutPoint,
+    value: u64,
+    values: &mut Vec<u64>,
+) -> Result<(), AllocError>
+    ensures { OnOk result (values.new.items ≡ values.old.items ++ unspent_value (S.standing store.now).blocks outpoint.now value) }
+{
+    if store.is_named(outpoint) {
+        return Ok(());
     }
+    values.push(value)?;
+    Ok(())
 }
 
 /// Adds the values of a transaction's outputs that no input names.
-fn push_outputs<S: Store>(store: &S, confirmed: &Confirmed, values: &mut Vec<u64>) -> Result<(), AllocError> {
-    for (index, output) in confirmed.tx().outputs().iter().enumerate() {
+fn push_outputs<S: Store>(
+    store: &S,
+    confirmed: &Confirmed,
+    values: &mut Vec<u64>,
+) -> Result<(), AllocError>
+    ensures { (height : ℕ) → OnOk result (values.new.items ≡ values.old.items ++ unspent_values (S.standing store.now).blocks (created_by height confirmed.now)) }
+{
+    let outputs = confirmed.tx().outputs();
+    for (index, output) in outputs.iter().enumerate() {
         let outpoint = OutPoint {
             txid: *confirmed.id(),
             index: index as u32,
         };
-        if !is_spent(store, &outpoint) {
-            values.push(output.value())?;
-        }
+        push_unless_named(store, &outpoint, output.value(), values)?;
+    }
+    Ok(())
+}
+
+/// Adds the values of outputs of transactions that no input names.
+fn push_transactions<S: Store>(
+    store: &S,
+    transactions: &[Confirmed],
+    values: &mut Vec<u64>,
+) -> Result<(), AllocError>
+    ensures { (height : ℕ) → OnOk result (values.new.items ≡ values.old.items ++ unspent_values (S.standing store.now).blocks (flat_map (created_by height) transactions.now)) }
+{
+    for confirmed in transactions {
+        push_outputs(store, confirmed, values)?;
     }
     Ok(())
 }
 
 /// Adds the values of granted outputs that no input names, where so many grants came before.
-fn push_grants<S: Store>(store: &S, granted: &[TxOut], before: u64, values: &mut Vec<u64>) -> Result<(), AllocError> {
+fn push_grants<S: Store>(
+    store: &S,
+    granted: &[TxOut],
+    before: u64,
+    values: &mut Vec<u64>,
+) -> Result<(), AllocError>
+    ensures { (height g : ℕ) → before ≡ g % 2 ^ 64 → OnOk result (values.new.items ≡ values.old.items ++ unspent_values (S.standing store.now).blocks (grants_from height g granted.now)) }
+{
     for (index, output) in granted.iter().enumerate() {
         let outpoint = grant_outpoint(before.wrapping_add(index as u64));
-        if !is_spent(store, &outpoint) {
-            values.push(output.value())?;
-        }
+        push_unless_named(store, &outpoint, output.value(), values)?;
     }
     Ok(())
 }
@@ -117,10 +151,9 @@ pub(crate) fn sum_unspent<S: Store>(store: &S) -> Result<Unspent, AllocError>
 {
     let mut values = Vec::new(store.allocator());
     let mut grants = 0u64;
-    for block in store.blocks() {
-        for confirmed in block.transactions() {
-            push_outputs(store, confirmed, &mut values)?;
-        }
+    let blocks = store.blocks();
+    for block in blocks {
+        push_transactions(store, block.transactions(), &mut values)?;
         push_grants(store, block.granted(), grants, &mut values)?;
         grants = grants.wrapping_add(block.granted().len() as u64);
     }
