@@ -4,6 +4,6 @@ use Rattle.book.specs.declared.history.Entry.{Entry}
 use Rattle.book.specs.declared.history.Entry.TheVariants.{Filed}
 
 -- how many claims were filed
-abbrev pub filed_in : List Entry → ℕ
-filed_in [] = 0
-filed_in (Filed seat claim ∷ entries) = 1 + filed_in entries
+abbrev pub filed_count : List Entry → ℕ
+filed_count [] = 0
+filed_count (Filed seat claim ∷ entries) = 1 + filed_count entries

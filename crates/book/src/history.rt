@@ -29,7 +29,7 @@ impl Model for Book {
 
 impl Book {
     ghost use Rattle.std.specs.Prelude.{◌≡◌, [], ◌∷◌, ◌++◌, IfOk, OnErr};
-    ghost use Rattle.book.specs.History.{filed_in};
+    ghost use Rattle.book.specs.History.{filed_count};
 
     /// An empty book, which takes no memory.
     pub fn new(alloc: Global) -> Self
@@ -47,10 +47,10 @@ impl Book {
         self.entries.values()
     }
 
-    /// Files a claim for a seat, and answers how many claims were filed before. The only error is want of memory, which leaves the book as it
+    /// Files a claim for a seat, and answers how many claims were filed before. The only error is that memory ran out, which leaves the book as it
     /// was and drops the claim.
     pub fn file(&mut self, seat: u32, claim: Claim) -> Result<u64, AllocError>
-        ensures filed { IfOk result (λ n. (n ≡ filed_in self.old) × (self.new ≡ self.old ++ Entry.Filed seat claim ∷ [])) }
+        ensures filed { IfOk result (λ n. (n ≡ filed_count self.old) × (self.new ≡ self.old ++ Entry.Filed seat claim ∷ [])) }
         ensures err { OnErr result (self.new ≡ self.old) }
     {
         let before = self.entries.len() as u64;

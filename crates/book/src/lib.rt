@@ -1,4 +1,7 @@
-// A node's book: what it did, in order.
+//! A node's book: what it did, in order.
+//!
+//! [`Book::file`] adds exactly one entry to the history and answers how many claims were filed before; out of memory leaves the book as it was. The
+//! test `first_claim` shows a claim filed under two seats.
 #![tactic(auto)]
 
 pub mod history;

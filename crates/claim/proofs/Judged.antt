@@ -8,69 +8,78 @@ use Rattle.facts.specs.declared.symbols.Fact.{Fact}
 use Rattle.facts.specs.declared.symbols.Fact.TheVariants.{Lock}
 use Rattle.facts.specs.declared.symbols.Stated.{Stated}
 use Rattle.paths.specs.declared.state.Path.{Path}
-use Rattle.paths.specs.Listing.{Ways, greater, with_lock, lock_in}
+use Rattle.paths.specs.Listing.{CheckedScript, greater, with_lock, greatest_lock_in}
 use Rattle.paths.specs.Sound.{IsSound}
 use Rattle.claim.specs.declared.parts.Slot.{Slot}
 use Rattle.claim.specs.declared.parts.Place.{Place}
+use Rattle.claim.specs.declared.parts.Shell.{Shell}
+use Rattle.claim.specs.declared.claims.Claim.{Claim}
 use Rattle.claim.specs.declared.errors.AcceptError.{AcceptError}
 use Rattle.claim.specs.declared.errors.AcceptError.TheVariants.{NoSuchPath}
-use Rattle.claim.specs.Showing.{shown}
+use Rattle.claim.specs.Evidence.{evidence_of}
 use Rattle.claim.specs.Fitting.{IsRefusal, Opens}
-use Rattle.claim.specs.Judging.{shows_as, is_met, met_or_first, judged_path, judged, height_of}
-use Rattle.claim.specs.Claims.{path_or}
-use Rattle.claim.proofs.Meeting.{met_by, judged-ok, judged-opens, sound-at}
+use Rattle.claim.specs.Judgement.{has_polarity, is_met, first_unmet_or, judgement_of_path, judgement_of, height_of}
+use Rattle.claim.specs.Claims.{IsClaimOf, IsOpening}
+use Rattle.claim.proofs.Meeting.{met_by, judgement_of-ok, judgement_of-opens, sound-at}
 
-pub judged-some : (ways : Ways) (index : ℕ) (slots : List Slot) (place : Place) (p : Path) → slice_get ways.paths index ≡ Some p → judged ways index slots place ≡ judged_path (spelling ways.ops) slots place.program p
-unfolding judged
-judged-some ways index slots place p e = rw e refl
+pub judgement_of-some : (ways : CheckedScript) (index : ℕ) (slots : List Slot) (place : Place) (p : Path) → slice_get ways.paths index ≡ Some p → judgement_of ways index slots place ≡ judgement_of_path (spelling ways.ops) slots place.program p
+unfolding judgement_of
+judgement_of-some ways index slots place p e = rw e refl
 
-pub judged-none : (ways : Ways) (index : ℕ) (slots : List Slot) (place : Place) → slice_get ways.paths index ≡ None → judged ways index slots place ≡ Err NoSuchPath
-unfolding judged
-judged-none ways index slots place e = rw e refl
+pub judgement_of-none : (ways : CheckedScript) (index : ℕ) (slots : List Slot) (place : Place) → slice_get ways.paths index ≡ None → judgement_of ways index slots place ≡ Err NoSuchPath
+unfolding judgement_of
+judgement_of-none ways index slots place e = rw e refl
 
-ok-path : (r : Result Path AcceptError) → is_ok r ≡ true → r ≡ Ok (path_or r)
-ok-path (Ok p) e = refl
+ok-path : (r : Result Path AcceptError) → is_ok r ≡ true → (p : Path) × (r ≡ Ok p)
+ok-path (Ok p) e = (p, refl)
 ok-path (Err c) e = absurd (false≢true e)
 
-pub accepted-within : (ways : Ways) (index : ℕ) (slots : List Slot) (place : Place) → is_ok (judged ways index slots place) ≡ true → index < length ways.paths
-accepted-within ways index slots place e = slice_get_within ways.paths index (path_or (judged ways index slots place)) (judged-ok ways index slots place _ (ok-path (judged ways index slots place) e)).place
+pub accepted-within : (ways : CheckedScript) (index : ℕ) (slots : List Slot) (place : Place) → is_ok (judgement_of ways index slots place) ≡ true → index < length ways.paths
+accepted-within ways index slots place e =
+    let o = ok-path (judgement_of ways index slots place) e in
+    slice_get_within ways.paths index o.0 (judgement_of-ok ways index slots place o.0 o.1).place
 
-pub accepted-path : (ways : Ways) (index : ℕ) (slots : List Slot) (place : Place) (d : Path) → is_ok (judged ways index slots place) ≡ true → get_or ways.paths index d ≡ path_or (judged ways index slots place)
-accepted-path ways index slots place d e = get_or_from_slice_get ways.paths index (path_or (judged ways index slots place)) d (judged-ok ways index slots place _ (ok-path (judged ways index slots place) e)).place
-
-pub accepted-opens : (ways : Ways) (index : ℕ) (slots : List Slot) (place : Place) → All (IsSound ways.ops) ways.paths → is_ok (judged ways index slots place) ≡ true → Opens ways.ops (path_or (judged ways index slots place)) slots
-accepted-opens ways index slots place all e = judged-opens ways index slots place (path_or (judged ways index slots place)) all (ok-path (judged ways index slots place) e)
+-- a claim takes one path
+pub one-path : (r : Result Path AcceptError) (p q : Path) → r ≡ Ok p → r ≡ Ok q → p ≡ q
+one-path r p q e g = cc
 
 -- where the paths were read
-pub path-within : (ways : Ways) (index : ℕ) (slots : List Slot) (place : Place) (ps : List Path) → ps ≡ ways.paths → is_ok (judged ways index slots place) ≡ true → index < length ps
+pub path-within : (ways : CheckedScript) (index : ℕ) (slots : List Slot) (place : Place) (ps : List Path) → ps ≡ ways.paths → is_ok (judgement_of ways index slots place) ≡ true → index < length ps
 path-within ways index slots place ps e a = subst (λ l. index < length l) (sym e) (accepted-within ways index slots place a)
 
-pub path-here : (ways : Ways) (index : ℕ) (slots : List Slot) (place : Place) (ps : List Path) (d : Path) → ps ≡ ways.paths → d ≡ get_or ps index d → is_ok (judged ways index slots place) ≡ true → d ≡ path_or (judged ways index slots place)
-path-here ways index slots place ps d e g a = g ∙ ap (λ l. get_or l index d) e ∙ accepted-path ways index slots place d a
+pub path-here : (ways : CheckedScript) (index : ℕ) (slots : List Slot) (place : Place) (ps : List Path) (d : Path) → ps ≡ ways.paths → d ≡ get_or ps index d → is_ok (judgement_of ways index slots place) ≡ true → judgement_of ways index slots place ≡ Ok d
+path-here ways index slots place ps d e g a =
+    let o = ok-path (judgement_of ways index slots place) a in
+    let at : slice_get ways.paths index ≡ Some o.0 = (judgement_of-ok ways index slots place o.0 o.1).place in
+    let same : d ≡ o.0 = g ∙ ap (λ l. get_or l index d) e ∙ get_or_from_slice_get ways.paths index o.0 d at in
+    o.1 ∙ ap Ok (sym same)
 
-pub path-got : (ways : Ways) (ps : List Path) (i : ℕ) (p : Path) → ps ≡ ways.paths → i < length ps → p ≡ get_or ps i p → slice_get ways.paths i ≡ Some p
+pub path-got : (ways : CheckedScript) (ps : List Path) (i : ℕ) (p : Path) → ps ≡ ways.paths → i < length ps → p ≡ get_or ps i p → slice_get ways.paths i ≡ Some p
 path-got ways ps i p e h g = ap (λ l. slice_get l i) (sym e) ∙ slice_get_read ps (length ps) i p refl h g
 
-pub path-none : (ways : Ways) (ps : List Path) (i : ℕ) → ps ≡ ways.paths → length ps ≤ i → slice_get ways.paths i ≡ None
+pub path-none : (ways : CheckedScript) (ps : List Path) (i : ℕ) → ps ≡ ways.paths → length ps ≤ i → slice_get ways.paths i ≡ None
 path-none ways ps i e h = ap (λ l. slice_get l i) (sym e) ∙ slice_get_past ps i h
 
-judged-same : (ways : Ways) (index : ℕ) (slots : List Slot) (place : Place) (p : Path) (script program : List ℕ) → slice_get ways.paths index ≡ Some p → spelling ways.ops ≡ script → program ≡ place.program → judged ways index slots place ≡ judged_path script slots program p
-judged-same ways index slots place p script program at e f =
-    judged-some ways index slots place p at ∙ ap (λ s. judged_path s slots place.program p) e ∙ ap (λ t. judged_path script slots t p) (sym f)
+judgement_of-same : (ways : CheckedScript) (index : ℕ) (slots : List Slot) (place : Place) (p : Path) (script program : List ℕ) → slice_get ways.paths index ≡ Some p → spelling ways.ops ≡ script → program ≡ place.program → judgement_of ways index slots place ≡ judgement_of_path script slots program p
+judgement_of-same ways index slots place p script program at e f =
+    judgement_of-some ways index slots place p at ∙ ap (λ s. judgement_of_path s slots place.program p) e ∙ ap (λ t. judgement_of_path script slots t p) (sym f)
 
-pub judged-from : {A : Type 0} (ways : Ways) (index : ℕ) (slots : List Slot) (place : Place) (p : Path) (script program : List ℕ) (r : Result A AcceptError) → slice_get ways.paths index ≡ Some p → spelling ways.ops ≡ script → program ≡ place.program → MatchResult r (λ x. judged_path script slots program p ≡ Ok p) (IsRefusal (judged_path script slots program p)) → MatchResult r (λ x. IsTrue (is_ok (judged ways index slots place))) (IsRefusal (judged ways index slots place))
-judged-from ways index slots place p script program (Ok x) at e f h = ap is_ok (judged-same ways index slots place p script program at e f ∙ h)
-judged-from ways index slots place p script program (Err c) at e f h = subst (λ j. IsRefusal j c) (sym (judged-same ways index slots place p script program at e f)) h
+pub judgement_of-from : {A : Type 0} (ways : CheckedScript) (index : ℕ) (slots : List Slot) (place : Place) (p : Path) (script program : List ℕ) (r : Result A AcceptError) → slice_get ways.paths index ≡ Some p → spelling ways.ops ≡ script → program ≡ place.program → MatchResult r (λ x. judgement_of_path script slots program p ≡ Ok p) (IsRefusal (judgement_of_path script slots program p)) → MatchResult r (λ x. IsTrue (is_ok (judgement_of ways index slots place))) (IsRefusal (judgement_of ways index slots place))
+judgement_of-from ways index slots place p script program (Ok x) at e f h = ap is_ok (judgement_of-same ways index slots place p script program at e f ∙ h)
+judgement_of-from ways index slots place p script program (Err c) at e f h = subst (λ j. IsRefusal j c) (sym (judgement_of-same ways index slots place p script program at e f)) h
 
-pub opens-from : {A : Type 0} (ways : Ways) (index : ℕ) (slots : List Slot) (place : Place) (p : Path) (script program : List ℕ) (r : Result A AcceptError) → All (IsSound ways.ops) ways.paths → slice_get ways.paths index ≡ Some p → spelling ways.ops ≡ script → program ≡ place.program → MatchResult r (λ x. judged_path script slots program p ≡ Ok p) (IsRefusal (judged_path script slots program p)) → IfOk r (λ x. Opens ways.ops (path_or (judged ways index slots place)) slots)
-opens-from ways index slots place p script program (Ok x) all at e f h = accepted-opens ways index slots place all (ap is_ok (judged-same ways index slots place p script program at e f ∙ h))
-opens-from ways index slots place p script program (Err c) all at e f h = tt
+pub accepted-opens : (ways : CheckedScript) (index : ℕ) (slots : List Slot) (place : Place) → All (IsSound ways.ops) ways.paths → (p : Path) → judgement_of ways index slots place ≡ Ok p → Opens ways.ops p slots
+accepted-opens ways index slots place all p e = judgement_of-opens ways index slots place p all e
 
-pub accepted-sound : (ways : Ways) (index : ℕ) (slots : List Slot) (place : Place) → All (IsSound ways.ops) ways.paths → is_ok (judged ways index slots place) ≡ true → IsSound ways.ops (path_or (judged ways index slots place))
-accepted-sound ways index slots place all e = sound-at ways.ops ways.paths index (path_or (judged ways index slots place)) all (judged-ok ways index slots place _ (ok-path (judged ways index slots place) e)).place
+pub opens-from : {A : Type 0} (ways : CheckedScript) (index : ℕ) (slots : List Slot) (place : Place) (r : Result A AcceptError) → All (IsSound ways.ops) ways.paths → IfOk r (λ x. (p : Path) → judgement_of ways index slots place ≡ Ok p → Opens ways.ops p slots)
+opens-from ways index slots place (Ok x) all = accepted-opens ways index slots place all
+opens-from ways index slots place (Err c) all = tt
+
+pub accepted-sound : (ways : CheckedScript) (index : ℕ) (slots : List Slot) (place : Place) (p : Path) → All (IsSound ways.ops) ways.paths → judgement_of ways index slots place ≡ Ok p → IsSound ways.ops p
+accepted-sound ways index slots place p all e = sound-at ways.ops ways.paths index p all (judgement_of-ok ways index slots place p e).place
 
 -- the locks that are shown are heights
-low_by : (n : ℕ) (h b : Bool) → shows_as h (if b then Some true else None) ≡ true → b ≡ true
+low_by : (n : ℕ) (h b : Bool) → has_polarity h (if b then Some true else None) ≡ true → b ≡ true
 low_by n h true e = refl
 low_by n h false e = e
 
@@ -78,18 +87,25 @@ greater-low : (n : ℕ) (o : Option ℕ) → n < 500000000 → unwrap_or o 0 < 5
 greater-low n None h e = h
 greater-low n (Some m) h e = omega arith
 
-fact-low : (slots : List Slot) (h : Bool) (fact : Fact) (o : Option ℕ) → shows_as h (shown slots fact) ≡ true → unwrap_or o 0 < 500000000 → unwrap_or (with_lock fact o) 0 < 500000000
+fact-low : (slots : List Slot) (h : Bool) (fact : Fact) (o : Option ℕ) → has_polarity h (evidence_of slots fact) ≡ true → unwrap_or o 0 < 500000000 → unwrap_or (with_lock fact o) 0 < 500000000
 fact-low slots h (Lock n) o e l = greater-low n o (ltb-true n 500000000 (low_by n h (nat_lt n 500000000) e)) l
 fact-low slots h fact o e l = l
 
-met-low : (slots : List Slot) (facts : List Stated) (p q : Path) → met_or_first slots facts p ≡ Ok q → unwrap_or (lock_in facts) 0 < 500000000
+met-low : (slots : List Slot) (facts : List Stated) (p q : Path) → first_unmet_or slots facts p ≡ Ok q → unwrap_or (greatest_lock_in facts) 0 < 500000000
 met-low slots [] p q e = omega arith
 met-low slots (s ∷ facts) p q e =
-    let w = met_by (is_met slots s) s (met_or_first slots facts p) q e in
-    fact-low slots s.holds s.fact (lock_in facts) w.0 (met-low slots facts p q w.1)
+    let w = met_by (is_met slots s) s (first_unmet_or slots facts p) q e in
+    fact-low slots s.holds s.fact (greatest_lock_in facts) w.0 (met-low slots facts p q w.1)
 
-pub accepted-low : (ways : Ways) (index : ℕ) (slots : List Slot) (place : Place) → IsSound ways.ops (path_or (judged ways index slots place)) → is_ok (judged ways index slots place) ≡ true → height_of (path_or (judged ways index slots place)) < 500000000
-accepted-low ways index slots place s e =
-    let p : Path = path_or (judged ways index slots place) in
-    let j = judged-ok ways index slots place p (ok-path (judged ways index slots place) e) in
+pub accepted-low : (ways : CheckedScript) (index : ℕ) (slots : List Slot) (place : Place) (p : Path) → IsSound ways.ops p → judgement_of ways index slots place ≡ Ok p → height_of p < 500000000
+accepted-low ways index slots place p s e =
+    let j = judgement_of-ok ways index slots place p e in
     subst (λ o. unwrap_or o 0 < 500000000) (sym s.lock) (met-low slots p.facts p p j.met)
+
+-- a claim on these parts is opening, where what was judged is
+pub opening_of : (ways : CheckedScript) (index : ℕ) (slots : List Slot) (place : Place) (shell : Shell) (c : Claim) → IsClaimOf ways index slots place shell c → ((p : Path) → judgement_of ways index slots place ≡ Ok p → Opens ways.ops p slots) → IsOpening c
+opening_of ways index slots place shell c r h =
+    subst (λ w. (p : Path) → judgement_of w c.index c.slots c.place ≡ Ok p → Opens w.ops p c.slots) (sym r.checked)
+    (subst (λ i. (p : Path) → judgement_of ways i c.slots c.place ≡ Ok p → Opens ways.ops p c.slots) (sym r.index)
+    (subst (λ s. (p : Path) → judgement_of ways index s c.place ≡ Ok p → Opens ways.ops p s) (sym r.slots)
+    (subst (λ a. (p : Path) → judgement_of ways index slots a ≡ Ok p → Opens ways.ops p slots) (sym r.place) h)))

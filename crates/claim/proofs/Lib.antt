@@ -6,5 +6,5 @@ pub mod Locks
 pub mod Meeting
 pub mod Programs
 pub mod Judged
-pub mod ShowingExamples
-pub mod JudgingExamples
+pub mod EvidenceExamples
+pub mod JudgementExamples

@@ -8,7 +8,7 @@ use Rattle.script.specs.declared.spending.Spend.{Spend}
 use Rattle.facts.specs.declared.symbols.Fact.{Fact}
 use Rattle.facts.specs.declared.symbols.Fact.TheVariants.{Lock, Age}
 use Rattle.facts.specs.declared.symbols.Stated.{Stated}
-use Rattle.paths.specs.Listing.{greater, with_lock, with_age, age_in}
+use Rattle.paths.specs.Listing.{greater, with_lock, with_age, greatest_age_in}
 use Rattle.claim.proofs.Telling.{Tells}
 
 -- the lock of a fact is at most this
@@ -50,9 +50,9 @@ age-small_with (Age n) o e = age-small_by n o (bit_at 22 n) e
 age-small_with fact o e = e
 
 -- an age in blocks has 16 bits
-pub age-small : (facts : List Stated) → unwrap_or (age_in facts) 0 < 65536
+pub age-small : (facts : List Stated) → unwrap_or (greatest_age_in facts) 0 < 65536
 age-small [] = omega arith
-age-small (s ∷ facts) = age-small_with s.fact (age_in facts) (age-small facts)
+age-small (s ∷ facts) = age-small_with s.fact (greatest_age_in facts) (age-small facts)
 
 bit-clear : (k a : ℕ) → a < 2 ^ k → bit_at k a ≡ false
 bit-clear k a h = ap (λ q. eqb (q % 2) 1) (div-eq_of_lt h)

@@ -37,7 +37,7 @@ bytes_eq-front : (p a b : List ℕ) → bytes_eq (p ++ a) (p ++ b) ≡ bytes_eq 
 bytes_eq-front [] a b = refl
 bytes_eq-front (x ∷ p) a b = ap (λ t. t && bytes_eq (p ++ a) (p ++ b)) (eq-eqb x x refl) ∙ bytes_eq-front p a b
 
--- behind a hash
+-- after a hash
 pub behind_hash : (bytes hash end tail : List ℕ) → bytes ≡ hash ++ end → bytes_eq bytes (hash ++ tail) ≡ bytes_eq end tail
 behind_hash bytes hash end tail e = ap (λ t. bytes_eq t (hash ++ tail)) e ∙ bytes_eq-front hash end tail
 

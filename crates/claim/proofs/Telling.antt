@@ -12,7 +12,7 @@ use Rattle.script.specs.Step.{truth}
 use Rattle.script.specs.declared.spending.Spend.{Spend}
 use Rattle.claim.specs.declared.parts.Slot.{Slot}
 use Rattle.claim.specs.declared.parts.Slot.TheVariants.{Sig, Preimage, Exact}
-use Rattle.claim.specs.Showing.{is_token_with, shows_hash, shows_size, shows_truth, no_unless, shows_is, shows_form, shows_key_form, shows_token_of, shows_token}
+use Rattle.claim.specs.Evidence.{is_token_with, hash_evidence, size_evidence, truth_evidence, no_unless, bytes_evidence, form_evidence, key_form_evidence, token_of_evidence, slot_token_evidence}
 use Rattle.claim.specs.Fitting.{FillsSlot}
 use Rattle.claim.proofs.TokenForms.{token-length, token_with, token-injective, key-length, token-signature, token-no_key, token-true, token-apart}
 
@@ -28,19 +28,19 @@ no_unless-tells : (b t : Bool) → (b ≡ false → t ≡ false) → Tells (no_u
 no_unless-tells true t h = tt
 no_unless-tells false t h = h refl
 
-pub hash-tells : (spend : Spend) (h : List ℕ) (slot : Slot) (x : List ℕ) → length spend.digest ≡ 32 → FillsSlot spend slot x → Tells (shows_hash h slot) (bytes_eq (hash160 x) h)
+pub hash-tells : (spend : Spend) (h : List ℕ) (slot : Slot) (x : List ℕ) → length spend.digest ≡ 32 → FillsSlot spend slot x → Tells (hash_evidence h slot) (bytes_eq (hash160 x) h)
 hash-tells spend h (Sig k) x e f = tt
 hash-tells spend h (Preimage ph) x e f = ap (λ s. bytes_eq (ripemd160 s) h) f.1
 hash-tells spend h (Exact b) x e f = ap (λ s. bytes_eq (hash160 s) h) f
 
-pub size-tells : (spend : Spend) (n : ℕ) (slot : Slot) (x : List ℕ) → length spend.digest ≡ 32 → FillsSlot spend slot x → Tells (shows_size n slot) (eqb (length x) n)
+pub size-tells : (spend : Spend) (n : ℕ) (slot : Slot) (x : List ℕ) → length spend.digest ≡ 32 → FillsSlot spend slot x → Tells (size_evidence n slot) (eqb (length x) n)
 size-tells spend n (Sig k) x e f =
     let l : length x ≡ 66 = ap length f ∙ token-length k.bytes spend.digest e ∙ ap (λ m. m + 33) (key-length k.bytes k.form) in
     ap (λ m. eqb m n) l ∙ same_test 66 n
 size-tells spend n (Preimage ph) x e f = ap (λ m. eqb m n) f.0 ∙ same_test 32 n
 size-tells spend n (Exact b) x e f = ap (λ s. eqb (length s) n) f
 
-pub truth-tells : (spend : Spend) (slot : Slot) (x : List ℕ) → length spend.digest ≡ 32 → FillsSlot spend slot x → Tells (shows_truth slot) (truth x)
+pub truth-tells : (spend : Spend) (slot : Slot) (x : List ℕ) → length spend.digest ≡ 32 → FillsSlot spend slot x → Tells (truth_evidence slot) (truth x)
 truth-tells spend (Sig k) x e f = ap truth f ∙ token-true k.bytes spend.digest k.form
 truth-tells spend (Preimage ph) x e f = tt
 truth-tells spend (Exact b) x e f = ap truth f
@@ -51,7 +51,7 @@ preimage-apart ph x c l e h = false_from_ne_true _ (λ t.
     let yes = and_from (eqb (length c) 32) (bytes_eq (sha256 c) ph) (eq-eqb (length c) 32 (ap length (sym same) ∙ l)) ((bytes_eq-Decides (sha256 c) ph).1 (ap sha256 (sym same) ∙ e)) in
     true≢false (sym yes ∙ h))
 
-pub is-tells : (spend : Spend) (c : List ℕ) (slot : Slot) (x : List ℕ) → length spend.digest ≡ 32 → FillsSlot spend slot x → Tells (shows_is c slot) (bytes_eq x c)
+pub is-tells : (spend : Spend) (c : List ℕ) (slot : Slot) (x : List ℕ) → length spend.digest ≡ 32 → FillsSlot spend slot x → Tells (bytes_evidence c slot) (bytes_eq x c)
 is-tells spend c (Sig k) x e f = no_unless-tells _ _ (λ h. ap (λ s. bytes_eq s c) f ∙ token-apart k.bytes spend.digest c e h)
 is-tells spend c (Preimage ph) x e f = no_unless-tells _ _ (preimage-apart ph x c f.0 f.1)
 is-tells spend c (Exact b) x e f = ap (λ s. bytes_eq s c) f
@@ -64,12 +64,12 @@ preimage-no_key : (x : List ℕ) → length x ≡ 32 → is_key x ≡ false
 unfolding is_key
 preimage-no_key x l = rw (ne_eqb (length x) 33 (λ z. omega arith)) refl
 
-pub form-tells : (spend : Spend) (slot : Slot) (x : List ℕ) → length spend.digest ≡ 32 → FillsSlot spend slot x → Tells (shows_form slot) (is_signature x)
+pub form-tells : (spend : Spend) (slot : Slot) (x : List ℕ) → length spend.digest ≡ 32 → FillsSlot spend slot x → Tells (form_evidence slot) (is_signature x)
 form-tells spend (Sig k) x e f = ap is_signature f ∙ token-signature k.bytes spend.digest k.form e
 form-tells spend (Preimage ph) x e f = preimage-no_signature x f.0
 form-tells spend (Exact b) x e f = ap is_signature f
 
-pub key_form-tells : (spend : Spend) (slot : Slot) (x : List ℕ) → length spend.digest ≡ 32 → FillsSlot spend slot x → Tells (shows_key_form slot) (is_key x)
+pub key_form-tells : (spend : Spend) (slot : Slot) (x : List ℕ) → length spend.digest ≡ 32 → FillsSlot spend slot x → Tells (key_form_evidence slot) (is_key x)
 key_form-tells spend (Sig k) x e f = ap is_key f ∙ token-no_key k.bytes spend.digest k.form e
 key_form-tells spend (Preimage ph) x e f = preimage-no_key x f.0
 key_form-tells spend (Exact b) x e f = ap is_key f
@@ -85,12 +85,12 @@ preimage-no_token x k d l e = false_from_ne_true _ (λ t. let same = (bytes_eq-D
 no_token-exact : (k b d : List ℕ) → length d ≡ 32 → is_token_with k b ≡ false → bytes_eq b (token_of k d) ≡ false
 no_token-exact k b d e h = false_from_ne_true _ (λ t. let same = (bytes_eq-Decides b (token_of k d)).0 t in true≢false (sym (token_with k d e) ∙ ap (is_token_with k) (sym same) ∙ h))
 
-token_of-tells : (spend : Spend) (key : List ℕ) (slot : Slot) (x : List ℕ) → length spend.digest ≡ 32 → FillsSlot spend slot x → Tells (shows_token_of key slot) (bytes_eq x (token_of key spend.digest))
+token_of-tells : (spend : Spend) (key : List ℕ) (slot : Slot) (x : List ℕ) → length spend.digest ≡ 32 → FillsSlot spend slot x → Tells (token_of_evidence key slot) (bytes_eq x (token_of key spend.digest))
 token_of-tells spend key (Sig k) x e f = ap (λ s. bytes_eq s (token_of key spend.digest)) f ∙ token-injective k.bytes key spend.digest
 token_of-tells spend key (Preimage ph) x e f = preimage-no_token x key spend.digest f.0 e
 token_of-tells spend key (Exact b) x e f = no_unless-tells _ _ (λ h. ap (λ s. bytes_eq s (token_of key spend.digest)) f ∙ no_token-exact key b.item spend.digest e h)
 
-pub token-tells : (spend : Spend) (known : Option (List ℕ)) (key : List ℕ) (slot : Slot) (x : List ℕ) → length spend.digest ≡ 32 → Known known key → FillsSlot spend slot x → Tells (shows_token known slot) (bytes_eq x (token_of key spend.digest))
+pub token-tells : (spend : Spend) (known : Option (List ℕ)) (key : List ℕ) (slot : Slot) (x : List ℕ) → length spend.digest ≡ 32 → Known known key → FillsSlot spend slot x → Tells (slot_token_evidence known slot) (bytes_eq x (token_of key spend.digest))
 token-tells spend (Some b) key slot x e k f = rw k (token_of-tells spend b slot x e f)
 token-tells spend None key (Sig j) x e k f = tt
 token-tells spend None key (Preimage ph) x e k f = preimage-no_token x key spend.digest f.0 e

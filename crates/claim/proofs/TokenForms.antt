@@ -9,7 +9,7 @@ use Rattle.std.proofs.lemmas.Bool.{eq-eqb, eqb-true, ne_eqb, and_parts, and_from
 use Rattle.std.proofs.lemmas.Bool.Decides.{same_from_decides, nat_tests}
 use Rattle.script.specs.Token.{token_of, is_key, is_key_start, is_token, is_signature}
 use Rattle.script.specs.Step.{truth}
-use Rattle.claim.specs.Showing.{is_token_with}
+use Rattle.claim.specs.Evidence.{is_token_with}
 
 pub token-length : (k d : List ℕ) → length d ≡ 32 → length (token_of k d) ≡ length k + 33
 unfolding token_of

@@ -5,7 +5,7 @@ use Rattle.script.specs.declared.opcode.Op.{Op}
 use Rattle.script.specs.declared.spending.Spend.{Spend}
 use Rattle.script.specs.Limits.{locktime_threshold, max_ops, max_stack_size}
 use Rattle.script.specs.Token.{token_of}
-use Rattle.script.specs.Step.{Entries}
+use Rattle.script.specs.Step.{Elements}
 use Rattle.script.specs.Run.{Clean, outcome}
 use Rattle.facts.specs.Meaning.{Meets}
 use Rattle.paths.specs.declared.state.Path.{Path}
@@ -13,7 +13,7 @@ use Rattle.claim.specs.declared.parts.Slot.{Slot}
 use Rattle.claim.specs.declared.parts.Slot.TheVariants.{Sig, Preimage, Exact}
 use Rattle.claim.specs.declared.errors.AcceptError.{AcceptError}
 use Rattle.claim.specs.declared.errors.AcceptError.TheVariants.{NoMemory, Unmet}
-use Rattle.claim.specs.Judging.{height_of, age_of}
+use Rattle.claim.specs.Judgement.{height_of, age_of}
 
 -- an item fills a slot: the token of the key over the spend's digest, 32 bytes of this SHA-256, or the bytes themselves
 abbrev pub FillsSlot : Spend → Slot → List ℕ → Type 0
@@ -22,7 +22,7 @@ FillsSlot spend (Preimage ph) x = (length x ≡ 32) × (sha256 x ≡ ph)
 FillsSlot spend (Exact b) x = x ≡ b.item
 
 -- items, the top first, fill the slots one by one
-abbrev pub FillsSlots : Spend → List Slot → Entries → Type 0
+abbrev pub FillsSlots : Spend → List Slot → Elements → Type 0
 FillsSlots spend [] [] = Unit {0}
 FillsSlots spend (slot ∷ slots) (x ∷ xs) = FillsSlot spend slot x × FillsSlots spend slots xs
 FillsSlots spend slots xs = ⊥

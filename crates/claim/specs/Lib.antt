@@ -1,5 +1,5 @@
-pub mod Errors
-pub mod Showing
-pub mod Judging
+pub mod Refusals
+pub mod Evidence
+pub mod Judgement
 pub mod Fitting
 pub mod Claims

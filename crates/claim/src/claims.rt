@@ -1,7 +1,7 @@
 // Claims.
 
 ghost use Rattle.std.specs.Prelude.{◌≡◌, ◌<◌, length, slice_index_or, IsTrue, is_ok};
-ghost use Rattle.claim.specs.Judging.{judged};
+ghost use Rattle.claim.specs.Judgement.{judgement_of};
 
 use crate::parts::{Place, Shell, Slot};
 use lists::List;
@@ -17,7 +17,7 @@ pub struct Claim {
     slots: List<Slot>,
     place: Place,
     shell: Shell,
-    ghost accepted: { IsTrue (is_ok (judged checked index slots place)) },
+    ghost accepted: { IsTrue (is_ok (judgement_of checked index slots place)) },
 }
 
 // The path at an index.
@@ -29,8 +29,9 @@ fn path_at(paths: &[Path], index: usize) -> &Path
 }
 
 impl Claim {
-    ghost use Rattle.claim.specs.Judging.{height_of, age_of};
-    ghost use Rattle.claim.specs.Claims.{IsClaimOf, IsOpening, path_of};
+    ghost use Rattle.claim.specs.Judgement.{height_of, age_of};
+    ghost use Rattle.claim.specs.Claims.{IsClaimOf, IsOpening, TakesPath};
+    ghost use Rattle.paths.specs.declared.state.Path.{Path as PathOf};
     ghost use Rattle.paths.specs.Sound.{IsSound};
 
     // A claim that was judged.
@@ -41,7 +42,7 @@ impl Claim {
         place: Place,
         shell: Shell,
     ) -> Claim
-        requires { IsTrue (is_ok (judged checked index slots place)) }
+        requires { IsTrue (is_ok (judgement_of checked index slots place)) }
         ensures { IsClaimOf checked index slots place shell result }
     {
         Claim {
@@ -69,8 +70,8 @@ impl Claim {
 
     /// The path that the claim takes. Whatever meets it runs clean, and whatever fits the claim meets it.
     pub fn path(&self) -> &Path
-        ensures value { result.now ≡ path_of self.now }
-        ensures sound { IsSound self.now.checked.ops (path_of self.now) }
+        ensures value { TakesPath self.now result.now }
+        ensures sound { IsSound self.now.checked.ops result.now }
         ensures opens { IsOpening self.now }
     {
         path_at(self.checked.paths(), self.index)
@@ -106,7 +107,7 @@ impl Claim {
 
     /// The least lock time of a transaction with this claim, a height; 0 where the path checks none (BIP 65).
     pub fn needs_height(&self) -> u64
-        ensures value { result ≡ height_of (path_of self.now) }
+        ensures value { (p : PathOf) → TakesPath self.now p → result ≡ height_of p }
         ensures below { result < LOCKTIME_THRESHOLD }
     {
         self.path().lock.unwrap_or(0)
@@ -114,14 +115,14 @@ impl Claim {
 
     /// How many blocks the claimed output has to be old; 0 where the path checks no age (BIP 68, 112).
     pub fn needs_age(&self) -> u16
-        ensures { result ≡ age_of (path_of self.now) }
+        ensures { (p : PathOf) → TakesPath self.now p → result ≡ age_of p }
     {
         self.path().age.unwrap_or(0)
     }
 
     /// The sequence of the claim's input, which is its age in blocks (BIP 68).
     pub fn sequence(&self) -> u32
-        ensures { result ≡ age_of (path_of self.now) }
+        ensures { (p : PathOf) → TakesPath self.now p → result ≡ age_of p }
     {
         u32::from(self.needs_age())
     }

@@ -1,7 +1,7 @@
 // Why a claim is not accepted.
 
 ghost use Rattle.std.specs.Prelude.{◌≡◌};
-ghost use Rattle.claim.specs.Errors.{number_of};
+ghost use Rattle.claim.specs.Refusals.{refusal_number};
 ghost use Rattle.claim.specs.declared.errors.AcceptError.TheVariants.{NoMemory};
 
 use facts::Stated;
@@ -36,9 +36,9 @@ pub enum AcceptError {
 }
 
 impl AcceptError {
-    /// The number of the refusal; 0 is want of memory.
+    /// The number of the refusal; 0 is out of memory.
     pub fn number(&self) -> u8
-        ensures { result ≡ number_of self.now }
+        ensures { result ≡ refusal_number self.now }
     {
         match self {
             AcceptError::NoMemory => 0,

@@ -1,17 +1,30 @@
-// Claims on outputs, accepted before use.
+//! Claims on outputs, accepted before use.
+//!
+//! [`accept`] alone makes a [`Claim`]: a path through a checked script with a filling of each of its slots, on an output whose program stands for
+//! the script. Whatever fits an accepted claim meets its path, and so runs the script clean.
+//!
+//! ```rust
+//! let script = Script::parse(alloc, &[0xac])?; // CHECKSIG
+//! let checked = check(alloc, script)?;
+//! let slots = vec![in alloc; Slot::Exact(WitnessItem::new(key)?), Slot::Sig(signer)]?; // the top first
+//! let claim = accept(alloc, checked, 0, slots, place, Shell::Open)?;
+//! assert_eq!(rt; claim.needs_age(), 0);
+//! ```
 #![tactic(auto)]
 
 pub mod accepting;
 pub mod claims;
 pub mod errors;
-mod judging;
+mod evidence;
+mod judgement;
 pub mod parts;
-mod showing;
 #[cfg(test)]
 mod tests;
 
 pub use accepting::accept;
 pub use claims::Claim;
 pub use errors::AcceptError;
-pub use parts::{Key, Place, Shell, Slot, WitnessItem};
+/// A compressed public key. It stands in the crate `keys`.
+pub use keys::Key;
+pub use parts::{Place, Shell, Slot, WitnessItem};
 pub use tx::OutPoint;

@@ -1,20 +1,12 @@
 // What a claim is made of.
 
-ghost use Rattle.std.specs.Prelude.{◌≡◌, ◌≤◌, ◌<◌, length, IsTrue, IfSome, IfNone, MatchResult, false};
+ghost use Rattle.std.specs.Prelude.{◌≡◌, ◌≤◌, ◌<◌, length, MatchResult};
 ghost use Rattle.script.specs.Limits.{max_element_size};
-ghost use Rattle.script.specs.Token.{is_key};
 
+use keys::Key;
 use lists::ByteString;
 use script::limits::MAX_SCRIPT_ELEMENT_SIZE;
-use script::tokens::has_key_form;
 use tx::OutPoint;
-
-/// A compressed public key: 33 bytes, the first of which is 02 or 03.
-#[derive(Clone, Copy, Debug)]
-pub struct Key {
-    pub bytes: [u8; 33],
-    ghost form: { IsTrue (is_key bytes) },
-}
 
 /// An item that a witness may hold: at most 520 bytes.
 #[derive(Debug, Drop)]
@@ -47,19 +39,6 @@ pub struct Place {
 pub enum Shell {
     /// Any transaction of version 2, with a lock time that the claim asks for.
     Open,
-}
-
-impl Key {
-    /// The key of these bytes; `None` where they have not the form of one.
-    pub fn read(bytes: &[u8; 33]) -> Option<Key>
-        ensures some { IfSome result (λ k. k.bytes ≡ bytes.now) }
-        ensures none { IfNone result (is_key bytes.now ≡ false) }
-    {
-        if !has_key_form(bytes) {
-            return None;
-        }
-        Some(Key { bytes: *bytes })
-    }
 }
 
 impl WitnessItem {

@@ -1,10 +1,10 @@
 mod shapes;
 
 use crate::errors::AcceptError;
-use crate::judging::{first_unmet, is_program};
-use crate::parts::{Key, Slot, WitnessItem};
-use crate::showing::shown;
-use crate::{OutPoint, Place, Shell, accept};
+use crate::evidence::evidence_of;
+use crate::judgement::{first_unmet, is_program};
+use crate::parts::{Slot, WitnessItem};
+use crate::{Key, OutPoint, Place, Shell, accept};
 use digest::{hash160, sha256};
 use facts::{Fact, KeySource, Stated};
 use lists::{ByteString, List};
@@ -52,21 +52,21 @@ fn shows_the_facts_of_to_local(rt: HostRuntime) -> Result<(), Fail> {
     let alloc = rt.alloc();
     let slots = two_slots(alloc, &[1])?;
     assert_eq!(rt; slots.len(), 2);
-    assert_eq!(rt; shown(&slots, &Fact::Truth(0)), Some(true));
-    assert_eq!(rt; shown(&slots, &Fact::Form(1)), Some(true));
+    assert_eq!(rt; evidence_of(&slots, &Fact::Truth(0)), Some(true));
+    assert_eq!(rt; evidence_of(&slots, &Fact::Form(1)), Some(true));
     assert_eq!(rt;
-        shown(&slots, &Fact::Token(1, key_of(alloc, 0x11)?)),
+        evidence_of(&slots, &Fact::Token(1, key_of(alloc, 0x11)?)),
         Some(true)
     );
     assert_eq!(rt;
-        shown(&slots, &Fact::Token(1, key_of(alloc, 0x22)?)),
+        evidence_of(&slots, &Fact::Token(1, key_of(alloc, 0x22)?)),
         Some(false)
     );
-    assert_eq!(rt; shown(&slots, &Fact::Truth(2)), None);
-    assert_eq!(rt; shown(&slots, &Fact::Age(144)), Some(true));
-    assert_eq!(rt; shown(&slots, &Fact::Age(0x40_0001)), None);
-    assert_eq!(rt; shown(&slots, &Fact::Lock(499_999_999)), Some(true));
-    assert_eq!(rt; shown(&slots, &Fact::Lock(500_000_000)), None);
+    assert_eq!(rt; evidence_of(&slots, &Fact::Truth(2)), None);
+    assert_eq!(rt; evidence_of(&slots, &Fact::Age(144)), Some(true));
+    assert_eq!(rt; evidence_of(&slots, &Fact::Age(0x40_0001)), None);
+    assert_eq!(rt; evidence_of(&slots, &Fact::Lock(499_999_999)), Some(true));
+    assert_eq!(rt; evidence_of(&slots, &Fact::Lock(500_000_000)), None);
     Ok(())
 }
 
@@ -85,13 +85,13 @@ fn assigns_keys_in_their_order(rt: HostRuntime) -> Result<(), Fail> {
     let keys = List::from_vec(keys);
     let forward = List::from_vec(Vec::from_slice(alloc, &[0, 1])?);
     let fact = Fact::Assigned(forward, keys);
-    assert_eq!(rt; shown(&slots, &fact), Some(true));
+    assert_eq!(rt; evidence_of(&slots, &fact), Some(true));
     let mut keys = Vec::new(alloc);
     keys.push(key_of(alloc, 0x11)?)?;
     keys.push(key_of(alloc, 0x22)?)?;
     let backward = List::from_vec(Vec::from_slice(alloc, &[1, 0])?);
     let fact = Fact::Assigned(backward, List::from_vec(keys));
-    assert_eq!(rt; shown(&slots, &fact), Some(false));
+    assert_eq!(rt; evidence_of(&slots, &fact), Some(false));
     Ok(())
 }
 
@@ -238,5 +238,26 @@ fn refuses_claims_on_to_local(rt: HostRuntime) -> Result<(), Fail> {
     );
     let slots = slots_of(alloc, &[1], Some(0x11))?;
     assert_eq!(rt; refusal_of(alloc, 2, slots, None)?.as_str(), "NoSuchPath");
+    Ok(())
+}
+
+// The example of the crate's page: a script is parsed, checked, and claimed.
+#[test]
+fn claims_a_checksig(rt: HostRuntime) -> Result<(), Fail> {
+    let alloc = rt.alloc();
+    let checked = check(alloc, Script::parse(alloc, &[0xac])?)?;
+    let slots = two_slots(alloc, &key_bytes(0x11))?;
+    let mut program = vec![in alloc; 0x00, 0x20]?;
+    program.extend_from_slice(&sha256(&[0xac]))?;
+    let place = Place {
+        outpoint: OutPoint {
+            txid: [7; 32],
+            index: 0,
+        },
+        value: 10_000,
+        program: ByteString::from_vec(program),
+    };
+    let claim = accept(alloc, checked, 0, slots, place, Shell::Open)?;
+    assert_eq!(rt; claim.needs_age(), 0);
     Ok(())
 }

@@ -1,4 +1,6 @@
-// The programs of a node operator: hashes a message, lists the ways through a script.
+//! The programs of a node operator: `enforce ripemd HEX` hashes a message, `enforce paths HEX` lists the ways through a script.
+//!
+//! `words::run_words` answers a status of at most 2; its tests hold the programs' rows.
 #![tactic(auto)]
 
 mod answers;

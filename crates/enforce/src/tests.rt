@@ -57,7 +57,7 @@ fn prints(
     Ok(())
 }
 
-// A text so many times, and another behind it.
+// A text so many times, and another after it.
 fn repeated(alloc: Global, piece: &str, times: usize, end: &str) -> Result<String, Fail> {
     let mut text = String::new(alloc);
     for _ in 0..times {

@@ -20,6 +20,7 @@ pub fn run_words<R: Read, W: Write, E: Write>(
 ) -> u8
     ensures { result ≤ 2 }
 {
+    // No program of today reads its input.
     let _ = input;
     let Some(command) = Command::read(words) else {
         return refuse_words(err);
@@ -40,7 +41,7 @@ pub fn refuse_words<E: Write>(err: &mut E) -> u8
     written(err, USAGE, 2)
 }
 
-/// Answers want of memory.
+/// Answers that memory ran out.
 pub fn refuse_memory<W: Write>(out: &mut W) -> u8
     ensures { result ≤ 2 }
 {

@@ -2,9 +2,9 @@
 use Rattle.std.proofs.Common.{◌≡◌, ℕ, Bool, true, false, List, [], ◌∷◌, ◌++◌, map, replicate, refl, arith}
 use Rattle.digest.specs.Hash.{hash160}
 use Rattle.script.specs.declared.spending.Spend.{Spend}
-use Rattle.script.specs.Number.{item_of, digits}
+use Rattle.script.specs.Number.{minimal_bytes_of, digits}
 use Rattle.script.specs.Token.{token_of, is_key, is_token, is_signature}
-use Rattle.script.specs.Step.{Entries, age_passes, lock_passes}
+use Rattle.script.specs.Step.{Elements, age_passes, lock_passes}
 use Rattle.facts.specs.declared.symbols.KeySource.TheVariants.{Const as FixedKey, Slot as SlotKey}
 use Rattle.facts.specs.declared.symbols.Fact.{Fact}
 use Rattle.facts.specs.declared.symbols.Fact.TheVariants.{Hash, Size, Truth, Is, KeyForm, Form, Token, Assigned, Lock, Age}
@@ -22,7 +22,7 @@ abbrev token : ℕ → List ℕ
 token b = 2 ∷ (replicate 32 b ++ (replicate 32 7 ++ 1 ∷ []))
 
 -- the items of a witness, the top first
-items : Entries
+items : Elements
 items = (5 ∷ 6 ∷ []) ∷ (0 ∷ 0x80 ∷ []) ∷ key 1 ∷ token 1 ∷ token 2 ∷ [] ∷ []
 
 asked : List Fact → List Bool
@@ -75,7 +75,7 @@ hashes x = refl
 
 -- the items that symbols stand for
 symbols : (item_for spend items (Slot 0) ≡ 5 ∷ 6 ∷ []) × (item_for spend items (Const (8 ∷ [])) ≡ 8 ∷ []) × (item_for spend items (SizeOf 0) ≡ 2 ∷ []) × (item_for spend items (SizeOf 5) ≡ []) × (item_for spend items (Holds (Truth 0)) ≡ 1 ∷ []) × (item_for spend items (Holds (Truth 1)) ≡ []) × (item_for spend items (HashOf 0) ≡ hash160 (5 ∷ 6 ∷ []))
-unfolding items item_of digits
+unfolding items minimal_bytes_of digits
 symbols = (refl, refl, refl, refl, refl, refl, refl)
 
 -- a witness, its last item the top: with every fact as it is stated, and just so many items

@@ -4,9 +4,9 @@ use Rattle.std.specs.Str.{bytes_eq}
 use Rattle.std.specs.List.{list_any}
 use Rattle.digest.specs.Hash.{hash160}
 use Rattle.script.specs.declared.spending.Spend.{Spend}
-use Rattle.script.specs.Number.{item_of}
+use Rattle.script.specs.Number.{minimal_bytes_of}
 use Rattle.script.specs.Token.{token_of, is_key, is_signature, assigned}
-use Rattle.script.specs.Step.{Entries, truth, flag, age_passes, lock_passes}
+use Rattle.script.specs.Step.{Elements, truth, flag, age_passes, lock_passes}
 use Rattle.script.specs.Run.{is_long}
 use Rattle.facts.specs.declared.symbols.KeySource.{KeySource}
 use Rattle.facts.specs.declared.symbols.KeySource.TheVariants.{Const as FixedKey, Slot as SlotKey}
@@ -17,16 +17,16 @@ use Rattle.facts.specs.declared.symbols.Sym.TheVariants.{Slot, Const, HashOf, Si
 use Rattle.facts.specs.declared.symbols.Stated.{Stated}
 
 -- a slot's item
-abbrev pub slot_of : Entries → ℕ → List ℕ
+abbrev pub slot_of : Elements → ℕ → List ℕ
 slot_of w i = slice_index_or w i []
 
 -- a key's bytes
-abbrev pub key_of : Entries → KeySource → List ℕ
+abbrev pub key_of : Elements → KeySource → List ℕ
 key_of w (FixedKey item) = item
 key_of w (SlotKey i) = slot_of w i
 
 -- whether a fact holds
-abbrev pub holds_of : Spend → Entries → Fact → Bool
+abbrev pub holds_of : Spend → Elements → Fact → Bool
 holds_of spend w (Hash i h) = bytes_eq (hash160 (slot_of w i)) h
 holds_of spend w (Size i n) = length (slot_of w i) == n
 holds_of spend w (Truth i) = truth (slot_of w i)
@@ -39,23 +39,23 @@ holds_of spend w (Lock n) = lock_passes spend n
 holds_of spend w (Age n) = age_passes spend n
 
 -- a fact holds, or does not, as it is stated
-abbrev pub HoldsFor : Spend → Entries → Stated → Type 0
+abbrev pub HoldsFor : Spend → Elements → Stated → Type 0
 HoldsFor spend w s = holds_of spend w s.fact ≡ s.holds
 
 -- the item of a symbol
-abbrev pub item_for : Spend → Entries → Sym → List ℕ
+abbrev pub item_for : Spend → Elements → Sym → List ℕ
 item_for spend w (Slot i) = slot_of w i
 item_for spend w (Const item) = item
 item_for spend w (HashOf i) = hash160 (slot_of w i)
-item_for spend w (SizeOf i) = item_of (length (slot_of w i))
+item_for spend w (SizeOf i) = minimal_bytes_of (length (slot_of w i))
 item_for spend w (Holds fact) = flag (holds_of spend w fact)
 
 -- all facts are as they are stated
-abbrev pub AllStated : Spend → Entries → List Stated → Type 0
+abbrev pub AllStated : Spend → Elements → List Stated → Type 0
 AllStated spend w [] = Unit {0}
 AllStated spend w (s ∷ facts) = HoldsFor spend w s × AllStated spend w facts
 
--- a witness, its last item the top, meets facts about so many slots: it has just those items, none above 520 bytes, and each fact
+-- a witness, its last item the top, meets facts about n slots: it has just those items, none above 520 bytes, and each fact
 -- is as it is stated
 pub record Meets (spend : Spend) (witness : List (List ℕ)) (arity : ℕ) (facts : List Stated) : Type 0 where
   pub exact : length witness ≡ arity

@@ -28,9 +28,9 @@ bytes_text [] = codes "-"
 bytes_text (b ∷ bytes) = hex_text (b ∷ bytes)
 
 -- texts with a comma between them
-abbrev pub joined : {A : Type 0} → (A → List ℕ) → List A → List ℕ
-joined text [] = []
-joined text (x ∷ xs) = text x ++ flat_map (λ y. codes "," ++ text y) xs
+abbrev pub comma_separated : {A : Type 0} → (A → List ℕ) → List A → List ℕ
+comma_separated text [] = []
+comma_separated text (x ∷ xs) = text x ++ flat_map (λ y. codes "," ++ text y) xs
 
 abbrev pub answer_text : Bool → List ℕ
 answer_text true = codes "yes"
@@ -48,7 +48,7 @@ text_by (Is i b) p = asked_text (codes "is ") i (bytes_text b) p
 text_by (KeyForm i) p = codes "key " ++ decimal i
 text_by (Form i) p = codes "form " ++ decimal i
 text_by (Token i key) p = asked_text (codes "token ") i (key_text key) p
-text_by (Assigned is keys) p = codes "assigned " ++ (joined decimal is ++ (codes " " ++ (joined key_text keys ++ (codes " " ++ answer_text p))))
+text_by (Assigned is keys) p = codes "assigned " ++ (comma_separated decimal is ++ (codes " " ++ (comma_separated key_text keys ++ (codes " " ++ answer_text p))))
 text_by (Lock n) p = codes "lock " ++ decimal n
 text_by (Age n) p = codes "age " ++ decimal n
 

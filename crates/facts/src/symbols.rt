@@ -19,7 +19,7 @@ pub enum KeySource {
 pub enum Fact {
     /// HASH160 of the slot is these 20 bytes.
     Hash(usize, ByteString),
-    /// The slot has so many bytes.
+    /// The slot has n bytes.
     Size(usize, u32),
     /// The slot counts as true.
     Truth(usize),
@@ -62,7 +62,7 @@ pub enum Sym {
 }
 
 impl KeySource {
-    /// An equal one. The only error is want of memory.
+    /// An equal one. The only error is that memory ran out.
     pub fn copy(&self) -> Result<Self, AllocError>
         ensures { IfOk result (λ k. k ≡ self.now) }
     {
@@ -74,7 +74,7 @@ impl KeySource {
 }
 
 impl Fact {
-    /// An equal one. The only error is want of memory.
+    /// An equal one. The only error is that memory ran out.
     pub fn copy(&self) -> Result<Self, AllocError>
         ensures { IfOk result (λ f. f ≡ self.now) }
     {
@@ -109,7 +109,7 @@ fn copied_keys(alloc: Global, keys: &[KeySource]) -> Result<Vec<KeySource>, Allo
 }
 
 impl Stated {
-    /// An equal one. The only error is want of memory.
+    /// An equal one. The only error is that memory ran out.
     pub fn copy(&self) -> Result<Self, AllocError>
         ensures { IfOk result (λ s. s ≡ self.now) }
     {
@@ -121,7 +121,7 @@ impl Stated {
 }
 
 impl Sym {
-    /// An equal one. The only error is want of memory.
+    /// An equal one. The only error is that memory ran out.
     pub fn copy(&self) -> Result<Self, AllocError>
         ensures { IfOk result (λ s. s ≡ self.now) }
     {

@@ -1,4 +1,4 @@
-// Facts print as the verifier's table has them, and copies are equal.
+// Facts print their texts, and copies are equal.
 
 mod shapes;
 
@@ -89,5 +89,16 @@ fn copies_symbols(rt: HostRuntime) -> Result<(), Fail> {
     let holds = Sym::Holds(Fact::Truth(1)).copy()?;
     assert!(rt; matches!(holds, Sym::Holds(Fact::Truth(1))));
     assert!(rt; matches!(Sym::HashOf(2).copy()?, Sym::HashOf(2)));
+    Ok(())
+}
+
+// The example of the crate's page.
+#[test]
+fn prints_a_truth(rt: HostRuntime) -> Result<(), Fail> {
+    let truth = Stated {
+        fact: Fact::Truth(0),
+        holds: true,
+    };
+    assert_eq!(rt; format!(in rt.alloc(); "{truth}")?.as_str(), "truth 0 yes");
     Ok(())
 }

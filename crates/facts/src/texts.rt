@@ -1,7 +1,7 @@
 // The printed texts of facts.
 
 ghost use Rattle.std.specs.Prelude.{Some, ◌≡◌, ◌<◌, decimal};
-ghost use Rattle.facts.specs.Texts.{hex_digit, hex_byte, hex_text, key_text, joined, bytes_text, answer_text, text_of};
+ghost use Rattle.facts.specs.Texts.{hex_digit, hex_byte, hex_text, key_text, comma_separated, bytes_text, answer_text, text_of};
 
 use crate::symbols::{Fact, KeySource, Stated};
 use std::fmt;
@@ -79,7 +79,7 @@ impl fmt::Display for Bytes<'_> {
 struct Slots<'a>(&'a [usize]);
 
 impl fmt::Display for Slots<'_> {
-    ghost output = { λ s. Some (joined decimal s.0.now) };
+    ghost output = { λ s. Some (comma_separated decimal s.0.now) };
 
     fn fmt<W: fmt::Write>(&self, f: &mut fmt::Formatter<W>) -> fmt::Result {
         let Some((first, others)) = self.0.split_first() else {
@@ -98,7 +98,7 @@ impl fmt::Display for Slots<'_> {
 struct Keys<'a>(&'a [KeySource]);
 
 impl fmt::Display for Keys<'_> {
-    ghost output = { λ k. Some (joined key_text k.0.now) };
+    ghost output = { λ k. Some (comma_separated key_text k.0.now) };
 
     fn fmt<W: fmt::Write>(&self, f: &mut fmt::Formatter<W>) -> fmt::Result {
         let Some((first, others)) = self.0.split_first() else {
@@ -112,7 +112,7 @@ impl fmt::Display for Keys<'_> {
     }
 }
 
-// The answer behind a fact that may hold or not.
+// The answer after a fact that may hold or not.
 fn answer(holds: bool) -> &'static str
     ensures { result.now ≡ answer_text holds }
 {

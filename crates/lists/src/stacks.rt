@@ -103,7 +103,10 @@ mod tests {
         assert_eq!(rt; stack.len(), 1);
         assert_eq!(rt; stack.pop(), Some(1));
         assert_eq!(rt; stack.pop(), None);
-        assert_eq!(rt; Stack::from_vec(vec![in rt.alloc(); 3u8, 4]?).pop(), Some(4));
+        assert_eq!(rt;
+            Stack::from_vec(vec![in rt.alloc(); 3u8, 4]?).pop(),
+            Some(4)
+        );
         Ok(())
     }
 

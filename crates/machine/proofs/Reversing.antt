@@ -19,7 +19,7 @@ all_reversed p (x ∷ xs) =
     ∙ ap (λ t. t && (p x && true)) (all_reversed p xs)
     ∙ and_swap (list_all p xs) (p x)
 
--- one more of the first entries of a list
+-- one more of the first elements of a list
 pub one_more : {X : Type 0} (s : List X) (i : ℕ) (x : X) (new : List X) → drop i s ≡ x ∷ new → (i + 1 ≤ length s) × (x ∷ reverse (take i s) ≡ reverse (take (i + 1) s)) × (new ≡ drop (i + 1) s)
 one_more s i x new e =
     let l : length (drop i s) ≡ length (x ∷ new) = ap length e in

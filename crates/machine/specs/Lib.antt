@@ -1,5 +1,6 @@
 pub mod Outcomes
-pub mod Places
+pub mod Refusals
+pub mod Skips
 pub mod Doings
 pub mod Passing
 pub mod Stopping

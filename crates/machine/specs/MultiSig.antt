@@ -7,32 +7,32 @@ use Rattle.script.specs.declared.stops.Kind.{Kind}
 use Rattle.script.specs.declared.stops.Kind.TheVariants.{TokenForm, KeyForm, Extra}
 use Rattle.script.specs.Number.{number_of}
 use Rattle.script.specs.Token.{is_key, is_signature}
-use Rattle.script.specs.Step.{Entries, numbered, up_to, checked, ◌>>=◌}
+use Rattle.script.specs.Step.{Elements, number_or_failure, count_or_failure, result_if, ◌>>=◌}
 use Rattle.machine.specs.declared.halts.Halt.{Halt}
 use Rattle.machine.specs.Doings.{IfStop}
 
 -- the number of an item as a count, or why it is none
-abbrev pub count_in : ℕ → Kind → List ℕ → Result ℕ Cause
-count_in limit kind item = numbered (number_of 4 item) >>= up_to limit kind
+abbrev pub count_operand : ℕ → Kind → List ℕ → Result ℕ Cause
+count_operand limit kind item = number_or_failure (number_of 4 item) >>= count_or_failure limit kind
 
--- the top is this count, and these entries are left
-abbrev pub Counts : Entries → Entries → ℕ → Kind → ℕ → Type 0
+-- the top is this count, and these elements are left
+abbrev pub Counts : Elements → Elements → ℕ → Kind → ℕ → Type 0
 Counts [] new limit kind n = ⊥
-Counts (x ∷ stack) new limit kind n = (new ≡ stack) × (count_in limit kind x ≡ Ok n)
+Counts (x ∷ stack) new limit kind n = (new ≡ stack) × (count_operand limit kind x ≡ Ok n)
 
 -- the top is no count, for this cause
-abbrev pub CountsNone : Entries → ℕ → Kind → Cause → Type 0
+abbrev pub CountsNone : Elements → ℕ → Kind → Cause → Type 0
 CountsNone [] limit kind c = c ≡ MissingOperand
-CountsNone (x ∷ stack) limit kind c = count_in limit kind x ≡ Err c
+CountsNone (x ∷ stack) limit kind c = count_operand limit kind x ≡ Err c
 
 -- the checks of forms, in their order
-abbrev pub forms_checked : Entries → Entries → List ℕ → Result (Unit {0}) Cause
-forms_checked keys sigs extra =
-    checked (list_all is_signature sigs) (FailedCheck TokenForm) (checked (list_all is_key keys) (FailedCheck KeyForm) (checked (length extra == 0) (FailedCheck Extra) (Ok tt)))
+abbrev pub forms_result : Elements → Elements → List ℕ → Result (Unit {0}) Cause
+forms_result keys sigs extra =
+    result_if (list_all is_signature sigs) (FailedCheck TokenForm) (result_if (list_all is_key keys) (FailedCheck KeyForm) (result_if (length extra == 0) (FailedCheck Extra) (Ok tt)))
 
 -- the forms are good, or the first that is not fails
-abbrev pub HasForms : Entries → Entries → List ℕ → Result (Unit {0}) Halt → Type 0
+abbrev pub HasForms : Elements → Elements → List ℕ → Result (Unit {0}) Halt → Type 0
 HasForms keys sigs extra r =
     MatchResult r
-    (λ _. forms_checked keys sigs extra ≡ Ok tt)
-    (λ h. IfStop h (λ c. forms_checked keys sigs extra ≡ Err c))
+    (λ _. forms_result keys sigs extra ≡ Ok tt)
+    (λ h. IfStop h (λ c. forms_result keys sigs extra ≡ Err c))

@@ -1,6 +1,5 @@
 -- A result, by the definition of a run.
 use Rattle.std.specs.Prelude.{◌≡◌, ℕ, Result, Ok, Err}
-use Rattle.script.specs.Stops.{number_of_cause}
 use Rattle.script.specs.Run.{Outcome, Clean, Stopped}
 use Rattle.machine.specs.declared.ends.Run.{Run}
 use Rattle.machine.specs.declared.ends.Stop.{Stop}
@@ -11,8 +10,3 @@ abbrev pub IsOutcome : Outcome → Result Run Stop → Type 0
 IsOutcome o (Ok run) = o ≡ Clean run.counted run.height
 IsOutcome o (Err NoMemory) = Unit {0}
 IsOutcome o (Err (At cause at)) = o ≡ Stopped at cause
-
--- the numbers of the refusals
-abbrev pub number_of_stop : Stop → ℕ
-number_of_stop NoMemory = 0
-number_of_stop (At cause at) = number_of_cause cause

@@ -6,6 +6,6 @@ use Rattle.machine.specs.declared.ends.Stop.{Stop}
 use Rattle.machine.specs.declared.ends.Stop.TheVariants.{NoMemory, At}
 
 -- a stop for a halt, at this position
-abbrev pub StopsAt : ℕ → Halt → Stop → Type 0
-StopsAt at OutOfMemory stop = stop ≡ NoMemory
-StopsAt at (Halts cause) stop = stop ≡ At cause at
+abbrev pub IsStopAt : ℕ → Halt → Stop → Type 0
+IsStopAt at OutOfMemory stop = stop ≡ NoMemory
+IsStopAt at (Halts cause) stop = stop ≡ At cause at

@@ -1,33 +1,31 @@
 //! What each opcode does that is run.
 
 ghost use Rattle.std.specs.Prelude.{◌≡◌, ◌≤◌, ◌+◌, true, false, [], ◌∷◌, IfOk, MatchResult};
-ghost use Rattle.script.specs.Step.{effect, flag as flag_of};
+ghost use Rattle.script.specs.Step.{effect};
 ghost use Rattle.script.specs.declared.spending.Spend.{Spend as Spending};
 ghost use Rattle.machine.specs.Doings.{Does, IsEffect, IsKeyless};
 
 use crate::halts::Halt;
 use crate::locks::{is_age_reached, is_lock_reached, read_lock};
 use crate::multisig::check_multi_sig;
-use crate::sizes::size_item;
-use crate::skips::Course;
 use digest::hash160;
 use lists::{ByteString, Stack};
 use script::limits::MAX_OPS_PER_SCRIPT;
 use script::tokens::{has_key_form, has_signature_form, is_token_of};
-use script::truths::is_true;
-use script::{Cause, Kind, Op, Spend};
-use std::alloc::{AllocError, Global};
+use script::truths::{flag, is_true};
+use script::{Cause, Jump, Kind, Op, Spend, num};
+use std::alloc::Global;
 
-/// What an opcode that was run gives beside the entries.
+/// What an opcode that was run gives beside the elements.
 #[derive(Clone, Copy, Debug, PartialEq, Eq)]
 pub struct Step {
     /// Where the run goes.
-    pub course: Course,
+    pub jump: Jump,
     /// The keys that it counted.
     pub keys: usize,
 }
 
-/// Runs an opcode, where so many opcodes and keys are counted with it.
+/// Runs an opcode, where `counted` opcodes and keys are counted with it.
 #[tactic(auto, unfolding(script::specs::Step::effect))]
 pub fn act(
     alloc: Global,
@@ -43,8 +41,8 @@ pub fn act(
     if let Op::CheckMultiSig = op {
         return check_multi_sig(alloc, spend, counted, stack);
     }
-    let course = act_keyless(alloc, op, spend, stack)?;
-    Ok(Step { course, keys: 0 })
+    let jump = act_keyless(alloc, op, spend, stack)?;
+    Ok(Step { jump, keys: 0 })
 }
 
 // Runs an opcode that counts no keys.
@@ -54,7 +52,7 @@ fn act_keyless(
     op: &Op,
     spend: &Spend,
     stack: &mut Stack<ByteString>,
-) -> Result<Course, Halt>
+) -> Result<Jump, Halt>
     requires { IsKeyless op.now }
     ensures { Does spend.now op.now stack.old stack.new result }
 {
@@ -63,8 +61,8 @@ fn act_keyless(
         Op::Number(n) => push(stack, ByteString::from_slice(alloc, &[*n])?),
         Op::If => enter(stack, true),
         Op::NotIf => enter(stack, false),
-        Op::Else => Ok(Course::BehindEnd),
-        Op::EndIf => Ok(Course::Next),
+        Op::Else => Ok(Jump::AfterEndIf),
+        Op::EndIf => Ok(Jump::Next),
         Op::Drop => discard(stack),
         Op::Dup => duplicate(alloc, stack),
         Op::Swap => swap(stack),
@@ -88,53 +86,42 @@ pub fn take(stack: &mut Stack<ByteString>) -> Result<ByteString, Halt>
     stack.pop().ok_or(Halt::Stop(Cause::MissingOperand))
 }
 
-/// The item that a test pushes.
-pub fn flag(alloc: Global, is_true: bool) -> Result<ByteString, AllocError>
-    ensures { IfOk result (λ x. x ≡ flag_of is_true) }
-{
-    if is_true {
-        ByteString::from_slice(alloc, &[1])
-    } else {
-        ByteString::from_slice(alloc, &[])
-    }
-}
-
-// Puts an entry on top.
-fn push(stack: &mut Stack<ByteString>, item: ByteString) -> Result<Course, Halt>
+// Puts an element on top.
+fn push(stack: &mut Stack<ByteString>, item: ByteString) -> Result<Jump, Halt>
     ensures { MatchResult result
-        (λ course. (course ≡ Course.Next) × (stack.new ≡ item ∷ stack.old))
+        (λ jump. (jump ≡ Jump.Next) × (stack.new ≡ item ∷ stack.old))
         (λ h. h ≡ Halt.NoMemory) }
 {
     stack.push(item)?;
-    Ok(Course::Next)
+    Ok(Jump::Next)
 }
 
 // IF, and NOTIF, which runs where the top is false.
 #[tactic(auto, unfolding(script::specs::Step::effect))]
-fn enter(stack: &mut Stack<ByteString>, wanted: bool) -> Result<Course, Halt>
+fn enter(stack: &mut Stack<ByteString>, wanted: bool) -> Result<Jump, Halt>
     ensures on_true { (spend : Spending) → wanted ≡ true → Does spend Op.If stack.old stack.new result }
     ensures on_false { (spend : Spending) → wanted ≡ false → Does spend Op.NotIf stack.old stack.new result }
 {
     let top = take(stack)?;
     if is_true(top.bytes()) == wanted {
-        Ok(Course::Next)
+        Ok(Jump::Next)
     } else {
-        Ok(Course::BehindElse)
+        Ok(Jump::AfterElse)
     }
 }
 
 // DROP
 #[tactic(auto, unfolding(script::specs::Step::effect))]
-fn discard(stack: &mut Stack<ByteString>) -> Result<Course, Halt>
+fn discard(stack: &mut Stack<ByteString>) -> Result<Jump, Halt>
     ensures { (spend : Spending) → Does spend Op.Drop stack.old stack.new result }
 {
     take(stack)?;
-    Ok(Course::Next)
+    Ok(Jump::Next)
 }
 
 // DUP
 #[tactic(auto, unfolding(script::specs::Step::effect))]
-fn duplicate(alloc: Global, stack: &mut Stack<ByteString>) -> Result<Course, Halt>
+fn duplicate(alloc: Global, stack: &mut Stack<ByteString>) -> Result<Jump, Halt>
     ensures { (spend : Spending) → Does spend Op.Dup stack.old stack.new result }
 {
     let Some(top) = stack.top() else {
@@ -146,7 +133,7 @@ fn duplicate(alloc: Global, stack: &mut Stack<ByteString>) -> Result<Course, Hal
 
 // SWAP
 #[tactic(auto, unfolding(script::specs::Step::effect))]
-fn swap(stack: &mut Stack<ByteString>) -> Result<Course, Halt>
+fn swap(stack: &mut Stack<ByteString>) -> Result<Jump, Halt>
     ensures { (spend : Spending) → Does spend Op.Swap stack.old stack.new result }
 {
     let top = take(stack)?;
@@ -157,19 +144,19 @@ fn swap(stack: &mut Stack<ByteString>) -> Result<Course, Halt>
 
 // SIZE
 #[tactic(auto, unfolding(script::specs::Step::effect))]
-fn size(alloc: Global, stack: &mut Stack<ByteString>) -> Result<Course, Halt>
+fn size(alloc: Global, stack: &mut Stack<ByteString>) -> Result<Jump, Halt>
     ensures { (spend : Spending) → Does spend Op.Size stack.old stack.new result }
 {
     let Some(top) = stack.top() else {
         return Err(Halt::Stop(Cause::MissingOperand));
     };
-    let item = size_item(alloc, top.len())?;
+    let item = num::write(alloc, top.len() as u64)?;
     push(stack, item)
 }
 
 // EQUAL
 #[tactic(auto, unfolding(script::specs::Step::effect))]
-fn equal(alloc: Global, stack: &mut Stack<ByteString>) -> Result<Course, Halt>
+fn equal(alloc: Global, stack: &mut Stack<ByteString>) -> Result<Jump, Halt>
     ensures { (spend : Spending) → Does spend Op.Equal stack.old stack.new result }
 {
     let top = take(stack)?;
@@ -179,13 +166,13 @@ fn equal(alloc: Global, stack: &mut Stack<ByteString>) -> Result<Course, Halt>
 
 // EQUALVERIFY
 #[tactic(auto, unfolding(script::specs::Step::effect))]
-fn verify_equal(stack: &mut Stack<ByteString>) -> Result<Course, Halt>
+fn verify_equal(stack: &mut Stack<ByteString>) -> Result<Jump, Halt>
     ensures { (spend : Spending) → Does spend Op.EqualVerify stack.old stack.new result }
 {
     let top = take(stack)?;
     let second = take(stack)?;
     if top.equals(&second) {
-        Ok(Course::Next)
+        Ok(Jump::Next)
     } else {
         Err(Halt::failed(Kind::Verify))
     }
@@ -193,7 +180,7 @@ fn verify_equal(stack: &mut Stack<ByteString>) -> Result<Course, Halt>
 
 // HASH160
 #[tactic(auto, unfolding(script::specs::Step::effect))]
-fn hash(alloc: Global, stack: &mut Stack<ByteString>) -> Result<Course, Halt>
+fn hash(alloc: Global, stack: &mut Stack<ByteString>) -> Result<Jump, Halt>
     ensures { (spend : Spending) → Does spend Op.Hash160 stack.old stack.new result }
 {
     let top = take(stack)?;
@@ -202,7 +189,7 @@ fn hash(alloc: Global, stack: &mut Stack<ByteString>) -> Result<Course, Halt>
 
 // CHECKSIG
 #[tactic(auto, unfolding(script::specs::Step::effect))]
-fn check_sig(alloc: Global, spend: &Spend, stack: &mut Stack<ByteString>) -> Result<Course, Halt>
+fn check_sig(alloc: Global, spend: &Spend, stack: &mut Stack<ByteString>) -> Result<Jump, Halt>
     ensures { Does spend.now Op.CheckSig stack.old stack.new result }
 {
     let key = take(stack)?;
@@ -219,12 +206,12 @@ fn check_sig(alloc: Global, spend: &Spend, stack: &mut Stack<ByteString>) -> Res
 
 // CHECKLOCKTIMEVERIFY
 #[tactic(auto, unfolding(script::specs::Step::effect))]
-fn check_lock_time(spend: &Spend, stack: &Stack<ByteString>) -> Result<Course, Halt>
+fn check_lock_time(spend: &Spend, stack: &Stack<ByteString>) -> Result<Jump, Halt>
     ensures { Does spend.now Op.CheckLockTimeVerify stack.now stack.now result }
 {
     let lock = read_lock(stack, Kind::LockTime)?;
     if is_lock_reached(spend, lock) {
-        Ok(Course::Next)
+        Ok(Jump::Next)
     } else {
         Err(Halt::failed(Kind::LockTime))
     }
@@ -232,12 +219,12 @@ fn check_lock_time(spend: &Spend, stack: &Stack<ByteString>) -> Result<Course, H
 
 // CHECKSEQUENCEVERIFY
 #[tactic(auto, unfolding(script::specs::Step::effect))]
-fn check_sequence(spend: &Spend, stack: &Stack<ByteString>) -> Result<Course, Halt>
+fn check_sequence(spend: &Spend, stack: &Stack<ByteString>) -> Result<Jump, Halt>
     ensures { Does spend.now Op.CheckSequenceVerify stack.now stack.now result }
 {
     let age = read_lock(stack, Kind::Sequence)?;
     if is_age_reached(spend, age) {
-        Ok(Course::Next)
+        Ok(Jump::Next)
     } else {
         Err(Halt::failed(Kind::Sequence))
     }

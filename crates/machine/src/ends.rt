@@ -1,7 +1,7 @@
 //! How a run ends.
 
 ghost use Rattle.std.specs.Prelude.{◌≡◌};
-ghost use Rattle.machine.specs.Outcomes.{number_of_stop};
+ghost use Rattle.machine.specs.Refusals.{refusal_number};
 ghost use Rattle.machine.specs.declared.ends.Stop.TheVariants.{NoMemory};
 
 use script::Cause;
@@ -13,7 +13,7 @@ use thiserror::Error;
 pub struct Run {
     /// The counted opcodes: those of the whole script above 60 (in hexadecimal), and the keys of each CHECKMULTISIG that ran.
     pub counted: usize,
-    /// The greatest number of entries that stood on the stack, at the start or behind an opcode.
+    /// The greatest number of elements that stood on the stack, at the start or after an opcode.
     pub height: usize,
 }
 
@@ -30,9 +30,9 @@ pub enum Stop {
 }
 
 impl Stop {
-    /// The number of the refusal: that of the cause, or 0 for want of memory.
+    /// The number of the refusal: that of the cause, or 0 for running out of memory.
     pub fn number(&self) -> u8
-        ensures { result ≡ number_of_stop self.now }
+        ensures { result ≡ refusal_number self.now }
     {
         match self {
             Stop::NoMemory => 0,

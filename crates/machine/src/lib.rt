@@ -9,7 +9,6 @@ mod locks;
 mod multisig;
 mod progress;
 mod runner;
-mod sizes;
 mod skips;
 #[cfg(test)]
 mod tests;

@@ -7,17 +7,17 @@ ghost use Rattle.script.specs.Step.{multi_sig};
 ghost use Rattle.machine.specs.Doings.{IfStop, IsEffect};
 ghost use Rattle.machine.specs.MultiSig.{Counts, CountsNone, HasForms};
 
-use crate::acts::{Step, flag, take};
+use crate::acts::{Step, take};
 use crate::halts::Halt;
-use crate::skips::Course;
 use lists::{ByteString, Stack};
 use script::limits::{MAX_OPS_PER_SCRIPT, MAX_PUBKEYS_PER_MULTISIG};
 use script::num::Limit;
 use script::tokens::{has_key_form, has_signature_form, is_token_of};
-use script::{Cause, Kind, Spend, num};
+use script::truths::flag;
+use script::{Cause, Jump, Kind, Spend, num};
 use std::alloc::Global;
 
-/// CHECKMULTISIG, where so many opcodes and keys are counted with the opcode. The entries are, from the top: the number of keys, the
+/// CHECKMULTISIG, where `counted` opcodes and keys are counted with the opcode. The elements are, from the top: the number of keys, the
 /// keys, the number of signatures, the signatures, and an extra item, which has to be empty (BIP 147).
 pub fn check_multi_sig(
     alloc: Global,
@@ -41,7 +41,7 @@ pub fn check_multi_sig(
     let valid = is_assigned(sigs, keys, &spend.digest);
     stack.push(flag(alloc, valid)?)?;
     Ok(Step {
-        course: Course::Next,
+        jump: Jump::Next,
         keys: key_count,
     })
 }
@@ -62,7 +62,7 @@ fn take_count(stack: &mut Stack<ByteString>, limit: usize, kind: Kind) -> Result
     Ok(number.magnitude as usize)
 }
 
-// So many entries from the top, which are taken off; the deepest of them is the top of the pile.
+// n elements from the top, which are taken off; the deepest of them is the top of the pile.
 fn take_many(
     alloc: Global,
     stack: &mut Stack<ByteString>,

@@ -1,15 +1,16 @@
 //! A run on its way.
 
 ghost use Rattle.std.specs.Prelude.{◌≡◌, ◌≤◌, ◌<◌, ◌+◌, max, length, OnOk, MatchResult};
-ghost use Rattle.script.specs.Run.{weight, opens};
+ghost use Rattle.script.specs.Run.{weight, open_ifs_after};
 ghost use Rattle.machine.specs.Doings.{IfStop};
-ghost use Rattle.machine.specs.Places.{depth_of};
+ghost use Rattle.machine.specs.Skips.{depth_of};
 ghost use Rattle.machine.specs.Passing.{IsPassed, IsRun};
 
 use crate::acts::act;
 use crate::halts::Halt;
 use crate::skips::Skip;
 use lists::{ByteString, Stack};
+use script::branches::pass_branch;
 use script::limits::{MAX_OPS_PER_SCRIPT, MAX_STACK_SIZE};
 use script::{Cause, Op, Spend};
 use std::alloc::Global;
@@ -17,7 +18,7 @@ use std::alloc::Global;
 /// A run on its way.
 #[derive(Drop)]
 pub struct Machine {
-    /// The entries.
+    /// The elements.
     pub stack: Stack<ByteString>,
     /// The IFs that stand open, each with whether its ELSE has come.
     pub ifs: Stack<bool>,
@@ -25,7 +26,7 @@ pub struct Machine {
     pub skip: Option<Skip>,
     /// The opcodes and keys that are counted.
     pub counted: usize,
-    /// The greatest number of entries so far.
+    /// The greatest number of elements so far.
     pub height: usize,
 }
 
@@ -42,7 +43,7 @@ impl Machine {
         open(op, &mut self.ifs)?;
         match self.skip {
             Some(skip) => {
-                self.skip = skip.past(op);
+                self.skip = skip.after(op);
                 Ok(())
             }
             None => self.run_one(alloc, op, spend),
@@ -58,7 +59,7 @@ impl Machine {
     {
         let step = act(alloc, op, spend, self.counted, &mut self.stack)?;
         self.counted += step.keys;
-        self.skip = step.course.skip();
+        self.skip = Skip::begin(step.jump);
         settle(self.stack.len(), &mut self.height)
     }
 }
@@ -80,30 +81,16 @@ fn count(op: &Op, counted: &mut usize) -> Result<(), Halt>
 // Enters a branch, goes over to its ELSE, or ends it.
 fn open(op: &Op, ifs: &mut Stack<bool>) -> Result<(), Halt>
     ensures { MatchResult result
-        (λ _. opens op.now ifs.old ≡ Ok ifs.new)
-        (λ h. IfStop h (λ c. opens op.now ifs.old ≡ Err c)) }
+        (λ _. open_ifs_after op.now ifs.old ≡ Ok ifs.new)
+        (λ h. IfStop h (λ c. open_ifs_after op.now ifs.old ≡ Err c)) }
 {
-    match op {
-        Op::If | Op::NotIf => {
-            ifs.push(false)?;
-            Ok(())
-        }
-        Op::Else => match ifs.pop() {
-            Some(false) => {
-                ifs.push(true)?;
-                Ok(())
-            }
-            _ => Err(Halt::Stop(Cause::OpenBranch)),
-        },
-        Op::EndIf => match ifs.pop() {
-            Some(_) => Ok(()),
-            None => Err(Halt::Stop(Cause::OpenBranch)),
-        },
-        _ => Ok(()),
+    if !pass_branch(op, ifs)? {
+        return Err(Halt::Stop(Cause::OpenBranch));
     }
+    Ok(())
 }
 
-// Keeps the greatest number of entries.
+// Keeps the greatest number of elements.
 fn settle(entries: usize, height: &mut usize) -> Result<(), Halt>
     ensures { MatchResult result
         (λ _. (height.new ≡ max height.old entries) × (entries ≤ MAX_STACK_SIZE))

@@ -4,7 +4,7 @@ ghost use Rattle.std.specs.Prelude.{◌≡◌, reverse, IfOk};
 ghost use Rattle.std.specs.List.{list_any};
 ghost use Rattle.script.specs.Run.{is_long, outcome, at_end};
 ghost use Rattle.machine.specs.Outcomes.{IsOutcome};
-ghost use Rattle.machine.specs.Stopping.{StopsAt};
+ghost use Rattle.machine.specs.Stopping.{IsStopAt};
 
 use crate::ends::{Run, Stop};
 use crate::halts::Halt;
@@ -16,7 +16,7 @@ use script::{Cause, Script, Spend};
 use std::alloc::{AllocError, Global};
 
 /// Runs a script on the items of a witness, the last of which is the top of the stack (BIP 141). `Ok` gives the counted opcodes and the
-/// greatest number of entries of a clean run, one that ends with one true entry and no open IF; `Stop::At` the first opcode that the run
+/// greatest number of elements of a clean run, one that ends with one true element and no open IF; `Stop::At` the first opcode that the run
 /// stops at, counted from 0, and why.
 pub fn run(
     alloc: Global,
@@ -49,7 +49,7 @@ pub fn run(
 
 // The stop at a position.
 fn stop_at(at: usize, halt: Halt) -> Stop
-    ensures { StopsAt at halt result }
+    ensures { IsStopAt at halt result }
 {
     match halt {
         Halt::NoMemory => Stop::NoMemory,

@@ -1,23 +1,12 @@
 //! Opcodes that are jumped over.
 
 ghost use Rattle.std.specs.Prelude.{◌≡◌, ◌≤◌, ◌+◌, List, ◌∷◌, suc};
-ghost use Rattle.script.specs.Run.{over, jump_of, weight};
+ghost use Rattle.script.specs.Run.{skip_length, jump_length, weight};
 ghost use Rattle.script.specs.declared.opcode.Op.{Op as Opcode};
-ghost use Rattle.machine.specs.Places.{ahead_of, depth_of, move_of};
+ghost use Rattle.machine.specs.Skips.{ahead_of, depth_of};
 
-use script::Op;
 use script::limits::MAX_OPS_PER_SCRIPT;
-
-/// Where a run goes behind an opcode.
-#[derive(Clone, Copy, Debug, PartialEq, Eq)]
-pub enum Course {
-    /// To the next opcode.
-    Next,
-    /// Behind the ELSE of the IF, or behind its ENDIF where it has no ELSE.
-    BehindElse,
-    /// Behind the ENDIF of the ELSE.
-    BehindEnd,
-}
+use script::{Jump, Op};
 
 /// A branch that is jumped over.
 #[derive(Clone, Copy, Debug, PartialEq, Eq)]
@@ -28,31 +17,29 @@ pub struct Skip {
     pub stop: bool,
 }
 
-impl Course {
-    /// The jump that begins behind an opcode.
-    pub fn skip(self) -> Option<Skip>
-        ensures jumps { (rest : List Opcode) → ahead_of result rest ≡ jump_of (move_of self) rest }
+impl Skip {
+    /// What is jumped over after an opcode.
+    pub fn begin(jump: Jump) -> Option<Skip>
+        ensures jumps { (rest : List Opcode) → ahead_of result rest ≡ jump_length jump rest }
         ensures shallow { depth_of result ≡ 0 }
     {
-        match self {
-            Course::Next => None,
-            Course::BehindElse => Some(Skip {
+        match jump {
+            Jump::Next => None,
+            Jump::AfterElse => Some(Skip {
                 depth: 0,
                 stop: true,
             }),
-            Course::BehindEnd => Some(Skip {
+            Jump::AfterEndIf => Some(Skip {
                 depth: 0,
                 stop: false,
             }),
         }
     }
-}
 
-impl Skip {
-    /// The jump behind an opcode that it jumps over.
-    pub fn past(self, op: &Op) -> Option<Skip>
+    /// What is still jumped over after an opcode that was.
+    pub fn after(self, op: &Op) -> Option<Skip>
         requires { self.depth ≤ MAX_OPS_PER_SCRIPT }
-        ensures jumps { (rest : List Opcode) → over self.stop self.depth (op.now ∷ rest) ≡ suc (ahead_of result rest) }
+        ensures jumps { (rest : List Opcode) → skip_length self.stop self.depth (op.now ∷ rest) ≡ suc (ahead_of result rest) }
         ensures shallow { depth_of result ≤ self.depth + weight op.now }
     {
         match op {

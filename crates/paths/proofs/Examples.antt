@@ -3,13 +3,13 @@ use Rattle.std.proofs.Common.{◌≡◌, ℕ, true, false, List, [], ◌∷◌, 
 use Rattle.script.specs.declared.opcode.Op.{Op}
 use Rattle.script.specs.declared.opcode.Op.TheVariants.{Push, Number, If, NotIf, Else, EndIf, Drop, Dup, Swap, Size, Equal, EqualVerify, Hash160, CheckSig, CheckMultiSig, CheckSequenceVerify}
 use Rattle.script.specs.Token.{is_key, is_signature, is_token}
-use Rattle.script.specs.Number.{number_of, item_of, digits}
+use Rattle.script.specs.Number.{number_of, minimal_bytes_of, digits}
 use Rattle.facts.specs.declared.symbols.KeySource.TheVariants.{Const as FixedKey, Slot as SlotKey}
 use Rattle.facts.specs.declared.symbols.Fact.TheVariants.{Hash as HashIs, Size as SizeIs, Truth, Is, KeyForm, Form, Token, Assigned, Age}
 use Rattle.facts.specs.declared.symbols.Stated.{Stated}
 use Rattle.facts.specs.declared.symbols.Fact.{Fact}
 use Rattle.paths.specs.declared.errors.CheckError.TheVariants.{OpenBranch}
-use Rattle.paths.specs.Rules.{followed, check_multi_sig}
+use Rattle.paths.specs.Rules.{rule_of, check_multi_sig}
 use Rattle.paths.specs.Listing.{listing}
 
 key_of : ℕ → List ℕ
@@ -28,11 +28,11 @@ to_local-listed : listing to_local ≡ Ok (
     record { arity = 2; facts = yes (Truth 0) ∷ yes (Form 1) ∷ yes (Token 1 (FixedKey (key_of 17))) ∷ []; ops = 6; height = 2; lock = None; age = None }
     ∷ record { arity = 2; facts = no (Truth 0) ∷ yes (Age 144) ∷ yes (Form 1) ∷ yes (Token 1 (FixedKey (key_of 34))) ∷ []; ops = 6; height = 2; lock = None; age = Some 144 }
     ∷ [])
-unfolding key_of yes no to_local listing followed check_multi_sig is_key is_signature is_token number_of
+unfolding key_of yes no to_local listing rule_of check_multi_sig is_key is_signature is_token number_of
 to_local-listed = refl
 
 empty-listed : listing [] ≡ Ok (record { arity = 1; facts = yes (Truth 0) ∷ []; ops = 0; height = 1; lock = None; age = None } ∷ [])
-unfolding yes listing followed
+unfolding yes listing rule_of
 empty-listed = refl
 
 open-refused : listing (If ∷ Number 1 ∷ []) ≡ Err OpenBranch
@@ -47,5 +47,5 @@ offered-listed : listing offered ≡ Ok (
     ∷ record { arity = 4; facts = no (HashIs 0 (replicate 20 0x33)) ∷ no (SizeIs 0 32) ∷ yes (Form 2) ∷ yes (Form 1) ∷ yes (Is 3 []) ∷ yes (Assigned (2 ∷ 1 ∷ []) (FixedKey (key_of 17) ∷ FixedKey (key_of 34) ∷ [])) ∷ []; ops = 21; height = 7; lock = None; age = None }
     ∷ record { arity = 2; facts = no (HashIs 0 (replicate 20 0x33)) ∷ yes (SizeIs 0 32) ∷ yes (HashIs 0 (replicate 20 0x44)) ∷ yes (Form 1) ∷ yes (Token 1 (FixedKey (key_of 17))) ∷ []; ops = 19; height = 5; lock = None; age = None }
     ∷ [])
-unfolding key_of yes no offered listing followed check_multi_sig is_key is_signature is_token number_of item_of digits
+unfolding key_of yes no offered listing rule_of check_multi_sig is_key is_signature is_token number_of minimal_bytes_of digits
 offered-listed = refl

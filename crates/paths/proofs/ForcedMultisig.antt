@@ -14,7 +14,7 @@ use Rattle.script.specs.declared.stops.Kind.TheVariants.{KeyCount, SigCount}
 use Rattle.script.specs.declared.num.Number.{Number as Signed}
 use Rattle.script.specs.Number.{number_of}
 use Rattle.script.specs.Token.{is_key, is_signature}
-use Rattle.script.specs.Step.{Entries, Effect, effect, multi_sig, numbered, up_to, taken, popped, sigs_checked, checked, ◌>>=◌}
+use Rattle.script.specs.Step.{Elements, Effect, effect, multi_sig, number_or_failure, count_or_failure, top_elements, top_element, check_sigs_effect, result_if, ◌>>=◌}
 use Rattle.facts.specs.declared.symbols.KeySource.{KeySource}
 use Rattle.facts.specs.declared.symbols.Fact.TheVariants.{Is, Form}
 use Rattle.facts.specs.declared.symbols.Sym.{Sym}
@@ -22,7 +22,7 @@ use Rattle.facts.specs.declared.symbols.Sym.TheVariants.{Slot, Const, HashOf, Si
 use Rattle.facts.specs.Meaning.{slot_of, key_of, item_for}
 use Rattle.paths.specs.declared.state.State.{State}
 use Rattle.paths.specs.declared.state.Halt.TheVariants.{Dead, TooManyOps}
-use Rattle.paths.specs.Rules.{pop, pops, push, ask, is_bad_key, is_bad_extra, source_of, ask_key, counted_by, count_of, slots_of, sources_of, ask_forms, ask_keys, ask_extra, answer_of, check_sigs, check_multi_sig, goes_on}
+use Rattle.paths.specs.Rules.{pop, pops, push, ask, is_bad_key, is_bad_extra, source_of, ask_key, count_by, count_of, slots_of, sources_of, ask_forms, ask_keys, ask_extra, answer_of, check_sigs, check_multi_sig, goes_on}
 use Rattle.paths.proofs.SoundWords.{entries_of}
 use Rattle.paths.proofs.SoundPops.{pop_entries}
 use Rattle.paths.proofs.SoundMultisig.{map_reverse, pops_length, pops_entries, AreSlots, slots_good, AreSources, sources_good, taken_front}
@@ -39,23 +39,23 @@ record IsCount (limit : ℕ) (item : List ℕ) (n : ℕ) : Type 0 where
 same_ok : {A E : Type 0} (x y : A) → ◌≡◌ {A = Result A E} (Ok x) (Ok y) → x ≡ y
 same_ok x y e = cc
 
-count_parts : (limit : ℕ) (kind : Kind) (item : List ℕ) (f : ℕ → Result Effect Cause) (e : Effect) → (numbered (number_of 4 item) >>= λ z. up_to limit kind z >>= f) ≡ Ok e → (n : ℕ) × IsCount limit item n × (f n ≡ Ok e)
+count_parts : (limit : ℕ) (kind : Kind) (item : List ℕ) (f : ℕ → Result Effect Cause) (e : Effect) → (number_or_failure (number_of 4 item) >>= λ z. count_or_failure limit kind z >>= f) ≡ Ok e → (n : ℕ) × IsCount limit item n × (f n ≡ Ok e)
 count_parts limit kind item f e h =
-    let first = ok_then (numbered (number_of 4 item)) (λ z. up_to limit kind z >>= f) e h in
+    let first = ok_then (number_or_failure (number_of 4 item)) (λ z. count_or_failure limit kind z >>= f) e h in
     let z : Signed = first.0 in
-    let second = ok_then (up_to limit kind z) f e first.2 in
+    let second = ok_then (count_or_failure limit kind z) f e first.2 in
     let third = ok_checked (not z.negative && nat_le z.magnitude limit) (FailedCheck kind) (Ok z.magnitude) second.0 second.1 in
     (second.0, record { number = z; same = numbered_ok (number_of 4 item) z first.1; good = third.0; magnitude = same_ok z.magnitude second.0 third.1 }, second.2)
 
-count_forced : (spend : Spend) (w : Entries) (limit : ℕ) (x : Sym) (n : ℕ) → IsCount limit (item_for spend w x) n → Forced (λ k. k ≡ n) (count_of limit x)
+count_forced : (spend : Spend) (w : Elements) (limit : ℕ) (x : Sym) (n : ℕ) → IsCount limit (item_for spend w x) n → Forced (λ k. k ≡ n) (count_of limit x)
 count_forced spend w limit (Const b) n p = rw p.same (forced_checked (λ k. k ≡ n) (not p.number.negative && nat_le p.number.magnitude limit) (Ok p.number.magnitude) p.good p.magnitude)
 count_forced spend w limit (Slot i) n p = tt
 count_forced spend w limit (HashOf i) n p = tt
 count_forced spend w limit (SizeOf i) n p = tt
 count_forced spend w limit (Holds fact) n p = tt
 
--- entries that were taken are the items of symbols
-pops_met : (spend : Spend) (w : Entries) (n : ℕ) (s : State) → n ≤ length (entries_of spend w s) → IsMet spend w s → IsMet spend w (pops n s).1
+-- elements that were taken are the items of symbols
+pops_met : (spend : Spend) (w : Elements) (n : ℕ) (s : State) → n ≤ length (entries_of spend w s) → IsMet spend w s → IsMet spend w (pops n s).1
 pops_met spend w zero s l m = m
 pops_met spend w (suc n) s l m = pops_met spend w n (pop s).1 (⊎_elim more (λ z. absurd (none z)) reach) m'
   where
@@ -71,18 +71,18 @@ pops_met spend w (suc n) s l m = pops_met spend w n (pop s).1 (⊎_elim more (λ
     more : (pop s).1.slots ≤ length w → n ≤ length (entries_of spend w (pop s).1)
     more a = let k : length (entries_of spend w s) ≡ suc (length (entries_of spend w (pop s).1)) = ap length (pop_entries spend w s a) in omega arith
 
-taken_syms : (spend : Spend) (w : Entries) (n : ℕ) (s : State) (p : Entries × Entries) → IsMet spend w s → taken n (entries_of spend w s) ≡ Ok p → IsMet spend w (pops n s).1 × (p ≡ (map (item_for spend w) (pops n s).0, entries_of spend w (pops n s).1))
+taken_syms : (spend : Spend) (w : Elements) (n : ℕ) (s : State) (p : Elements × Elements) → IsMet spend w s → top_elements n (entries_of spend w s) ≡ Ok p → IsMet spend w (pops n s).1 × (p ≡ (map (item_for spend w) (pops n s).0, entries_of spend w (pops n s).1))
 taken_syms spend w n s p m h =
     let fits = ok_checked (nat_le n (length (entries_of spend w s))) MissingOperand _ p h in
     let m' : IsMet spend w (pops n s).1 = pops_met spend w n s (leb-true n (length (entries_of spend w s)) fits.0) m in
-    let same : taken n (entries_of spend w s) ≡ Ok (map (item_for spend w) (pops n s).0, entries_of spend w (pops n s).1) =
-    ap (taken n) (pops_entries spend w n s m'.enough) ∙ taken_front n (map (item_for spend w) (pops n s).0) (entries_of spend w (pops n s).1) (length-map (pops n s).0 (item_for spend w) ∙ pops_length n s) in
+    let same : top_elements n (entries_of spend w s) ≡ Ok (map (item_for spend w) (pops n s).0, entries_of spend w (pops n s).1) =
+    ap (top_elements n) (pops_entries spend w n s m'.enough) ∙ taken_front n (map (item_for spend w) (pops n s).0) (entries_of spend w (pops n s).1) (length-map (pops n s).0 (item_for spend w) ∙ pops_length n s) in
     (m', same_ok p _ (sym h ∙ same))
 
-popped_sym : (spend : Spend) (w : Entries) (s : State) (p : List ℕ × Entries) → IsMet spend w s → popped (entries_of spend w s) ≡ Ok p → IsMet spend w (pop s).1 × (p ≡ (item_for spend w (pop s).0, entries_of spend w (pop s).1))
+popped_sym : (spend : Spend) (w : Elements) (s : State) (p : List ℕ × Elements) → IsMet spend w s → top_element (entries_of spend w s) ≡ Ok p → IsMet spend w (pop s).1 × (p ≡ (item_for spend w (pop s).0, entries_of spend w (pop s).1))
 popped_sym spend w s p m h =
-    let m' : IsMet spend w (pop s).1 = pop_met spend w s popped MissingOperand p refl h m in
-    (m', same_ok p _ (sym h ∙ ap popped (pop_entries spend w s m'.enough)))
+    let m' : IsMet spend w (pop s).1 = pop_met spend w s top_element MissingOperand p refl h m in
+    (m', same_ok p _ (sym h ∙ ap top_element (pop_entries spend w s m'.enough)))
 
 -- signatures that are slots, of good form
 slots_live : (xs : List Sym) → Lives (slots_of xs)
@@ -93,7 +93,7 @@ slots_live (HashOf i ∷ xs) = tt
 slots_live (SizeOf i ∷ xs) = tt
 slots_live (Holds fact ∷ xs) = tt
 
-forms_met : (spend : Spend) (w : Entries) (slots : List ℕ) (s : State) → list_all is_signature (map (slot_of w) slots) ≡ true → IsMet spend w s → IsMet spend w (ask_forms slots s)
+forms_met : (spend : Spend) (w : Elements) (slots : List ℕ) (s : State) → list_all is_signature (map (slot_of w) slots) ≡ true → IsMet spend w s → IsMet spend w (ask_forms slots s)
 forms_met spend w [] s e m = m
 forms_met spend w (i ∷ slots) s e m =
     let p = and_parts (is_signature (slot_of w i)) (list_all is_signature (map (slot_of w) slots)) e in
@@ -106,20 +106,20 @@ sources_live (x ∷ xs) =
     forced_then (λ (key : KeySource). Unit {0}) (λ (keys : List KeySource). Unit {0}) (source_of x) (λ key. sources_of xs >>= λ keys. Ok (key ∷ keys)) (source_lives x) (λ key q.
     forced_then (λ (keys : List KeySource). Unit {0}) (λ (keys : List KeySource). Unit {0}) (sources_of xs) (λ keys. Ok (key ∷ keys)) (sources_live xs) (λ keys r. tt))
 
-keys_met : (spend : Spend) (w : Entries) (keys : List KeySource) (s : State) → list_all is_key (map (key_of w) keys) ≡ true → IsMet spend w s → IsMet spend w (ask_keys keys s)
+keys_met : (spend : Spend) (w : Elements) (keys : List KeySource) (s : State) → list_all is_key (map (key_of w) keys) ≡ true → IsMet spend w s → IsMet spend w (ask_keys keys s)
 keys_met spend w [] s e m = m
 keys_met spend w (key ∷ keys) s e m =
     let p = and_parts (is_key (key_of w key)) (list_all is_key (map (key_of w) keys)) e in
     keys_met spend w keys (ask_key key s) p.1 (ask_key_met spend w key s p.0 m)
 
-no_bad_key : (spend : Spend) (w : Entries) (xs : List Sym) → list_all is_key (map (item_for spend w) xs) ≡ true → list_any is_bad_key xs ≡ false
+no_bad_key : (spend : Spend) (w : Elements) (xs : List Sym) → list_all is_key (map (item_for spend w) xs) ≡ true → list_any is_bad_key xs ≡ false
 no_bad_key spend w [] e = refl
 no_bad_key spend w (x ∷ xs) e =
     let p = and_parts (is_key (item_for spend w x)) (list_all is_key (map (item_for spend w) xs)) e in
     or_from (is_bad_key x) (list_any is_bad_key xs) (good_key spend w x p.0) (no_bad_key spend w xs p.1)
 
 -- the extra item is empty
-good_extra : (spend : Spend) (w : Entries) (x : Sym) → (length (item_for spend w x) == 0) ≡ true → is_bad_extra x ≡ false
+good_extra : (spend : Spend) (w : Elements) (x : Sym) → (length (item_for spend w x) == 0) ≡ true → is_bad_extra x ≡ false
 good_extra spend w (Const b) e = not_from_true (length b == 0) e
 good_extra spend w (Slot i) e = refl
 good_extra spend w (HashOf i) e = refl
@@ -130,14 +130,14 @@ no_bytes : (xs : List ℕ) → length xs ≡ 0 → xs ≡ []
 no_bytes [] e = refl
 no_bytes (x ∷ xs) e = absurd (omega arith)
 
-extra_met : (spend : Spend) (w : Entries) (x : Sym) (s : State) → (length (item_for spend w x) == 0) ≡ true → IsMet spend w s → Forced (IsMet spend w) (ask_extra x s)
+extra_met : (spend : Spend) (w : Elements) (x : Sym) (s : State) → (length (item_for spend w x) == 0) ≡ true → IsMet spend w s → Forced (IsMet spend w) (ask_extra x s)
 extra_met spend w (Const b) s e m = m
 extra_met spend w (Slot i) s e m = ask_met spend w (Is i []) true s ((bytes_eq-Decides (slot_of w i) []).1 (no_bytes (slot_of w i) (eqb-true (length (slot_of w i)) 0 e))) m
 extra_met spend w (HashOf i) s e m = tt
 extra_met spend w (SizeOf i) s e m = tt
 extra_met spend w (Holds fact) s e m = tt
 
-check_sigs_met : (spend : Spend) (w : Entries) (keys sigs : List Sym) (extra : Sym) (s : State) (stack : Entries) (e : Effect) → sigs_checked spend (map (item_for spend w) keys) (map (item_for spend w) sigs) (item_for spend w extra) stack ≡ Ok e → IsMet spend w s → Forced (IsMet spend w) (check_sigs keys sigs extra s)
+check_sigs_met : (spend : Spend) (w : Elements) (keys sigs : List Sym) (extra : Sym) (s : State) (stack : Elements) (e : Effect) → check_sigs_effect spend (map (item_for spend w) keys) (map (item_for spend w) sigs) (item_for spend w extra) stack ≡ Ok e → IsMet spend w s → Forced (IsMet spend w) (check_sigs keys sigs extra s)
 check_sigs_met spend w keys sigs extra s stack e h m =
     let first = ok_checked (list_all is_signature (map (item_for spend w) sigs)) _ _ e h in
     let second = ok_checked (list_all is_key (map (item_for spend w) keys)) _ _ e first.1 in
@@ -153,57 +153,57 @@ check_sigs_met spend w keys sigs extra s stack e h m =
     ) (λ s' m'. push_met spend w (answer_of slots sources) s' m'))))
 
 -- the machine's CHECKMULTISIG in its parts: the extra item, the signatures, their number, the keys
-abbrev with_extra : Spend → Entries → Entries → List ℕ × Entries → Result Effect Cause
-with_extra spend keys sigs p = sigs_checked spend (reverse keys) (reverse sigs) p.0 p.1
+abbrev with_extra : Spend → Elements → Elements → List ℕ × Elements → Result Effect Cause
+with_extra spend keys sigs p = check_sigs_effect spend (reverse keys) (reverse sigs) p.0 p.1
 
-abbrev with_sigs : Spend → Entries → Entries × Entries → Result Effect Cause
-with_sigs spend keys p = popped p.1 >>= with_extra spend keys p.0
+abbrev with_sigs : Spend → Elements → Elements × Elements → Result Effect Cause
+with_sigs spend keys p = top_element p.1 >>= with_extra spend keys p.0
 
-abbrev with_count : Spend → ℕ → Entries → List ℕ × Entries → Result Effect Cause
-with_count spend n keys p = numbered (number_of 4 p.0) >>= λ y. up_to n SigCount y >>= λ m. taken m p.1 >>= with_sigs spend keys
+abbrev with_count : Spend → ℕ → Elements → List ℕ × Elements → Result Effect Cause
+with_count spend n keys p = number_or_failure (number_of 4 p.0) >>= λ y. count_or_failure n SigCount y >>= λ m. top_elements m p.1 >>= with_sigs spend keys
 
-abbrev with_keys : Spend → ℕ → Entries × Entries → Result Effect Cause
-with_keys spend n p = popped p.1 >>= with_count spend n p.0
+abbrev with_keys : Spend → ℕ → Elements × Elements → Result Effect Cause
+with_keys spend n p = top_element p.1 >>= with_count spend n p.0
 
-abbrev with_top : Spend → ℕ → List ℕ × Entries → Result Effect Cause
-with_top spend c p = numbered (number_of 4 p.0) >>= λ z. up_to 20 KeyCount z >>= λ n. checked (nat_le (c + n) 201) ManyCounted (taken n p.1) >>= with_keys spend n
+abbrev with_top : Spend → ℕ → List ℕ × Elements → Result Effect Cause
+with_top spend c p = number_or_failure (number_of 4 p.0) >>= λ z. count_or_failure 20 KeyCount z >>= λ n. result_if (nat_le (c + n) 201) ManyCounted (top_elements n p.1) >>= with_keys spend n
 
 -- the signatures and the extra item
-sigs_forced : (spend : Spend) (w : Entries) (keys : List Sym) (s : State) (m : ℕ) (e : Effect) → IsMet spend w s → (taken m (entries_of spend w s) >>= with_sigs spend (map (item_for spend w) keys)) ≡ Ok e → Forced (IsMet spend w) (check_sigs (reverse keys) (reverse (pops m s).0) (pop (pops m s).1).0 (pop (pops m s).1).1)
+sigs_forced : (spend : Spend) (w : Elements) (keys : List Sym) (s : State) (m : ℕ) (e : Effect) → IsMet spend w s → (top_elements m (entries_of spend w s) >>= with_sigs spend (map (item_for spend w) keys)) ≡ Ok e → Forced (IsMet spend w) (check_sigs (reverse keys) (reverse (pops m s).0) (pop (pops m s).1).0 (pop (pops m s).1).1)
 sigs_forced spend w keys s m e met h =
     let items = map (item_for spend w) keys in
     let t = (pops m s).1 in
-    let first = ok_then (taken m (entries_of spend w s)) (with_sigs spend items) e h in
+    let first = ok_then (top_elements m (entries_of spend w s)) (with_sigs spend items) e h in
     let sigs = taken_syms spend w m s first.0 met first.1 in
-    let second = ok_then (popped (entries_of spend w t)) (with_extra spend items (map (item_for spend w) (pops m s).0)) e (ap (with_sigs spend items) (sym sigs.1) ∙ first.2) in
+    let second = ok_then (top_element (entries_of spend w t)) (with_extra spend items (map (item_for spend w) (pops m s).0)) e (ap (with_sigs spend items) (sym sigs.1) ∙ first.2) in
     let extra = popped_sym spend w t second.0 sigs.0 second.1 in
     let all = ap (with_extra spend items (map (item_for spend w) (pops m s).0)) (sym extra.1) ∙ second.2 in
     check_sigs_met spend w (reverse keys) (reverse (pops m s).0) (pop t).0 (pop t).1 (entries_of spend w (pop t).1) e (
-    ap (λ k. sigs_checked spend k (map (item_for spend w) (reverse (pops m s).0)) (item_for spend w (pop t).0) (entries_of spend w (pop t).1)) (map_reverse (item_for spend w) keys)
-    ∙ ap (λ k. sigs_checked spend (reverse items) k (item_for spend w (pop t).0) (entries_of spend w (pop t).1)) (map_reverse (item_for spend w) (pops m s).0)
+    ap (λ k. check_sigs_effect spend k (map (item_for spend w) (reverse (pops m s).0)) (item_for spend w (pop t).0) (entries_of spend w (pop t).1)) (map_reverse (item_for spend w) keys)
+    ∙ ap (λ k. check_sigs_effect spend (reverse items) k (item_for spend w (pop t).0) (entries_of spend w (pop t).1)) (map_reverse (item_for spend w) (pops m s).0)
     ∙ all
     ) extra.0
 
 -- the keys and the number of signatures
-keys_forced : (counted : ℕ) (spend : Spend) (w : Entries) (c n : ℕ) (s : State) (e : Effect) → IsMet spend w s → (checked (nat_le (c + n) 201) ManyCounted (taken n (entries_of spend w s)) >>= with_keys spend n) ≡ Ok e → Forced (IsMet spend w) (checked (nat_le (counted + (pops n s).1.keys) 201) TooManyOps (Ok (pop (pops n s).1)) >>= λ second. count_of n second.0 >>= λ m. check_sigs (reverse (pops n s).0) (reverse (pops m second.1).0) (pop (pops m second.1).1).0 (pop (pops m second.1).1).1)
+keys_forced : (counted : ℕ) (spend : Spend) (w : Elements) (c n : ℕ) (s : State) (e : Effect) → IsMet spend w s → (result_if (nat_le (c + n) 201) ManyCounted (top_elements n (entries_of spend w s)) >>= with_keys spend n) ≡ Ok e → Forced (IsMet spend w) (result_if (nat_le (counted + (pops n s).1.keys) 201) TooManyOps (Ok (pop (pops n s).1)) >>= λ second. count_of n second.0 >>= λ m. check_sigs (reverse (pops n s).0) (reverse (pops m second.1).0) (pop (pops m second.1).1).0 (pop (pops m second.1).1).1)
 keys_forced counted spend w c n s e met h =
     let items = map (item_for spend w) (pops n s).0 in
     let t = (pops n s).1 in
-    let first = ok_then (checked (nat_le (c + n) 201) ManyCounted (taken n (entries_of spend w s))) (with_keys spend n) e h in
-    let fits = ok_checked (nat_le (c + n) 201) ManyCounted (taken n (entries_of spend w s)) first.0 first.1 in
+    let first = ok_then (result_if (nat_le (c + n) 201) ManyCounted (top_elements n (entries_of spend w s))) (with_keys spend n) e h in
+    let fits = ok_checked (nat_le (c + n) 201) ManyCounted (top_elements n (entries_of spend w s)) first.0 first.1 in
     let keys = taken_syms spend w n s first.0 met fits.1 in
-    let second = ok_then (popped (entries_of spend w t)) (with_count spend n items) e (ap (with_keys spend n) (sym keys.1) ∙ first.2) in
+    let second = ok_then (top_element (entries_of spend w t)) (with_count spend n items) e (ap (with_keys spend n) (sym keys.1) ∙ first.2) in
     let count = popped_sym spend w t second.0 keys.0 second.1 in
-    let parts = count_parts n SigCount (item_for spend w (pop t).0) (λ m. taken m (entries_of spend w (pop t).1) >>= with_sigs spend items) e (ap (with_count spend n items) (sym count.1) ∙ second.2) in
+    let parts = count_parts n SigCount (item_for spend w (pop t).0) (λ m. top_elements m (entries_of spend w (pop t).1) >>= with_sigs spend items) e (ap (with_count spend n items) (sym count.1) ∙ second.2) in
     forced_unless (IsMet spend w) (nat_le (counted + t.keys) 201) (pop t) _ (
     forced_is (IsMet spend w) parts.0 (count_of n (pop t).0) _ (count_forced spend w n (pop t).0 parts.0 parts.1) (sigs_forced spend w (pops n s).0 (pop t).1 parts.0 e count.0 parts.2))
 
-pub multi_sig_forced : (counted : ℕ) (spend : Spend) (w : Entries) (c : ℕ) (s : State) (e : Effect) → IsMet spend w s → effect spend c CheckMultiSig (entries_of spend w s) ≡ Ok e → Forced (IsMetBy spend w) (check_multi_sig counted s >>= goes_on)
+pub multi_sig_forced : (counted : ℕ) (spend : Spend) (w : Elements) (c : ℕ) (s : State) (e : Effect) → IsMet spend w s → effect spend c CheckMultiSig (entries_of spend w s) ≡ Ok e → Forced (IsMetBy spend w) (check_multi_sig counted s >>= goes_on)
 unfolding effect multi_sig check_multi_sig
 multi_sig_forced counted spend w c s e met h =
-    let first = ok_then (popped (entries_of spend w s)) (with_top spend c) e h in
+    let first = ok_then (top_element (entries_of spend w s)) (with_top spend c) e h in
     let top = popped_sym spend w s first.0 met first.1 in
-    let parts = count_parts 20 KeyCount (item_for spend w (pop s).0) (λ n. checked (nat_le (c + n) 201) ManyCounted (taken n (entries_of spend w (pop s).1)) >>= with_keys spend n) e (ap (with_top spend c) (sym top.1) ∙ first.2) in
+    let parts = count_parts 20 KeyCount (item_for spend w (pop s).0) (λ n. result_if (nat_le (c + n) 201) ManyCounted (top_elements n (entries_of spend w (pop s).1)) >>= with_keys spend n) e (ap (with_top spend c) (sym top.1) ∙ first.2) in
     let n : ℕ = parts.0 in
     let s' : State = record (pop s).1 { keys = (pop s).1.keys + n } in
     forced_then (IsMet spend w) (IsMetBy spend w) (check_multi_sig counted s) goes_on (

@@ -7,8 +7,10 @@ use Rattle.script.specs.declared.opcode.Op.{Op}
 use Rattle.script.specs.declared.spending.Spend.{Spend}
 use Rattle.script.specs.declared.stops.Cause.{Cause}
 use Rattle.script.specs.declared.stops.Cause.TheVariants.{OpenBranch as OpenIf, TooManyOps as ManyCounted, StackTooTall, ItemTooLong, NotOneValue, FalseEnd}
-use Rattle.script.specs.Step.{Entries, Move, Onward as ToNext, PastElse as ToElse, Effect, effect, checked, truth, ◌>>=◌}
-use Rattle.script.specs.Run.{Place, weight, counted_in, over, jump_of, opens, settled, jumped_or_run, past, Outcome, Clean, Stopped, at_end, onward, outcome_from, outcome, start, is_long}
+use Rattle.script.specs.declared.jumps.Jump.{Jump}
+use Rattle.script.specs.declared.jumps.Jump.TheVariants.{Next as ToNext, AfterElse as ToElse}
+use Rattle.script.specs.Step.{Elements, Effect, effect, result_if, truth, ◌>>=◌}
+use Rattle.script.specs.Run.{RunState, weight, counted_in, skip_length, jump_length, open_ifs_after, state_after_effect, state_after_skip_or_run, state_after, Outcome, Clean, Stopped, at_end, onward, outcome_from, outcome, start, is_long}
 use Rattle.facts.specs.declared.symbols.Stated.{Stated}
 use Rattle.facts.specs.declared.symbols.Sym.{Sym}
 use Rattle.facts.specs.Meaning.{item_for, holds_of, AllStated}
@@ -17,22 +19,22 @@ use Rattle.paths.specs.declared.errors.CheckError.TheVariants.{OpenBranch, TooMa
 use Rattle.paths.specs.declared.state.State.{State}
 use Rattle.paths.specs.declared.state.Halt.{Halt}
 use Rattle.paths.specs.declared.state.Halt.TheVariants.{NoMemory, Dead, Undecided, TooManyOps}
-use Rattle.paths.specs.declared.state.Turn.{Turn}
-use Rattle.paths.specs.declared.state.Turn.TheVariants.{Onward, PastElse, PastEnd, Splits}
+use Rattle.paths.specs.declared.state.SymbolicJump.{SymbolicJump}
+use Rattle.paths.specs.declared.state.SymbolicJump.TheVariants.{Next, AfterElse, AfterEndIf, Splits}
 use Rattle.paths.specs.declared.state.Condition.{Condition}
 use Rattle.paths.specs.declared.state.Path.{Path}
 use Rattle.paths.specs.declared.state.Listed.{Listed}
-use Rattle.paths.specs.Rules.{pop_of, pop, ask, condition_of, insist, followed}
-use Rattle.paths.specs.Listing.{is_balanced, measured, is_low, ahead_by, ways_by, halted, arrived, ways_from, path_of, closed, end_of, ended, listed_with, begins, along, walk, beginning, listing}
+use Rattle.paths.specs.Rules.{pop_of, pop, ask, condition_of, insist, rule_of}
+use Rattle.paths.specs.Listing.{is_balanced, with_excess, is_low, ahead_by, states_after_jump, refusal_at, states_after_rule, states_after, path_of, path_at_end, end_of, paths_at_end, with_paths, begins, walk_along, walk, beginning, listing}
 use Rattle.paths.specs.Exhaustive.{OpensBy, IsExhaustive}
-use Rattle.paths.proofs.SoundWords.{Gives, entries_of, IsShort, move_by, Asks, Follows, place_of}
-use Rattle.paths.proofs.SoundPops.{gives_then, gives_map, gives_checked, stated_join, pop_grows, asks_grows, pop_entries}
-use Rattle.paths.proofs.SoundRules.{LeadsTo, IsDecided, condition_good}
-use Rattle.paths.proofs.SoundFollowed.{followed-sound}
+use Rattle.paths.proofs.SoundWords.{Gives, entries_of, IsShort, move_by, Asks, Follows, run_state_of}
+use Rattle.paths.proofs.SoundPops.{gives_then, gives_map, gives_result_if, stated_join, pop_grows, asks_grows, pop_entries}
+use Rattle.paths.proofs.SoundRules.{FollowsTo, IsDecided, condition_good}
+use Rattle.paths.proofs.SoundFollowed.{rule_of-sound}
 use Rattle.paths.proofs.SoundWalk.{balanced_end, length_entries, turned, counts, summed, above, run_to, short_reversed, same_runs, other_runs}
 use Rattle.paths.proofs.ForcedWords.{Forced, forced_then, forced_map, forced_gives, ok_checked, ok_then, IsMet, IsMetBy, pop_facts}
 use Rattle.paths.proofs.ForcedRules.{condition_lives, insist_forced}
-use Rattle.paths.proofs.ForcedFollowed.{followed-forced}
+use Rattle.paths.proofs.ForcedFollowed.{rule_of-forced}
 
 -- the property holds of one of a list
 abbrev Among : {A : Type 0} → (A → Type 0) → List A → Type 0
@@ -55,31 +57,31 @@ any_among {A} P (x ∷ xs) h = ⊎_elim (λ (p : P x). (0, x, omega arith, refl,
     later (k, y, l, e, p) = (suc k, y, omega arith, e, p)
 
 -- a run that ends clean
-clean_onward : (at : ℕ) (r : Result Place Cause) (go : Place → Outcome) (counted height : ℕ) → onward at r go ≡ Clean counted height → (p : Place) × (r ≡ Ok p) × (go p ≡ Clean counted height)
+clean_onward : (at : ℕ) (r : Result RunState Cause) (go : RunState → Outcome) (counted height : ℕ) → onward at r go ≡ Clean counted height → (p : RunState) × (r ≡ Ok p) × (go p ≡ Clean counted height)
 clean_onward at (Ok p) go counted height e = (p, refl, e)
 clean_onward at (Err c) go counted height e = absurd (cc)
 
-clean_past : (spend : Spend) (at : ℕ) (op : Op) (rest : List Op) (p : Place) (go : Place → Outcome) (counted height : ℕ) → onward at (past spend op rest p) go ≡ Clean counted height → (ifs : List Bool) × (opens op p.open_ifs ≡ Ok ifs) × (onward at (jumped_or_run spend op rest p.ahead p (p.counted + weight op) ifs) go ≡ Clean counted height)
-unfolding past
+clean_past : (spend : Spend) (at : ℕ) (op : Op) (rest : List Op) (p : RunState) (go : RunState → Outcome) (counted height : ℕ) → onward at (state_after spend op rest p) go ≡ Clean counted height → (ifs : List Bool) × (open_ifs_after op p.open_ifs ≡ Ok ifs) × (onward at (state_after_skip_or_run spend op rest p.ahead p (p.counted + weight op) ifs) go ≡ Clean counted height)
+unfolding state_after
 clean_past spend at op rest p go counted height e =
-    let first = clean_onward at (past spend op rest p) go counted height e in
+    let first = clean_onward at (state_after spend op rest p) go counted height e in
     let fits = ok_checked (nat_le (p.counted + weight op) 201) ManyCounted _ first.0 first.1 in
-    let opened = ok_then (opens op p.open_ifs) (jumped_or_run spend op rest p.ahead p (p.counted + weight op)) first.0 fits.1 in
+    let opened = ok_then (open_ifs_after op p.open_ifs) (state_after_skip_or_run spend op rest p.ahead p (p.counted + weight op)) first.0 fits.1 in
     (opened.0, opened.1, ap (λ r. onward at r go) opened.2 ∙ first.2)
 
 -- a run on a witness, the top first, that meets the state and from there on ends clean
-record Passes (ops : List Op) (spend : Spend) (w : Entries) (counted height at : ℕ) (rest : List Op) (s : State) : Type 0 where
+record Passes (ops : List Op) (spend : Spend) (w : Elements) (counted height at : ℕ) (rest : List Op) (s : State) : Type 0 where
   pub ifs : List Bool
   pub before : ℕ
   pub total : before + counted_in rest ≡ counted_in ops
   pub short : IsShort w
   pub met : IsMet spend w s
-  pub clean : outcome_from spend at rest (place_of spend w before ifs s) ≡ Clean counted height
+  pub clean : outcome_from spend at rest (run_state_of spend w before ifs s) ≡ Clean counted height
 
 -- jumped over
-passes_jump : (ops : List Op) (spend : Spend) (w : Entries) (counted height at : ℕ) (op : Op) (rest : List Op) (s : State) (n : ℕ) → s.ahead ≡ suc n → Passes ops spend w counted height at (op ∷ rest) s → Passes ops spend w counted height (at + 1) rest (ahead_by n s)
+passes_jump : (ops : List Op) (spend : Spend) (w : Elements) (counted height at : ℕ) (op : Op) (rest : List Op) (s : State) (n : ℕ) → s.ahead ≡ suc n → Passes ops spend w counted height at (op ∷ rest) s → Passes ops spend w counted height (at + 1) rest (ahead_by n s)
 passes_jump ops spend w counted height at op rest s n z p =
-    let place = place_of spend w p.before p.ifs s in
+    let place = run_state_of spend w p.before p.ifs s in
     let c = clean_past spend at op rest place (outcome_from spend (at + 1) rest) counted height p.clean in
     let t : p.before + (weight op + counted_in rest) ≡ counted_in ops = p.total in
     record {
@@ -89,29 +91,29 @@ passes_jump ops spend w counted height at op rest s n z p =
       short = p.short;
       met = record { enough = p.met.enough; facts = p.met.facts };
       clean = ap (λ k. outcome_from spend (at + 1) rest (record { ahead = n; stack = entries_of spend w s; counted = k; open_ifs = c.0; height = length w + s.excess })) (sym (turned p.before s.keys (weight op)))
-          ∙ ap (λ a. onward at (jumped_or_run spend op rest a place (place.counted + weight op) c.0) (outcome_from spend (at + 1) rest)) (sym z)
+          ∙ ap (λ a. onward at (state_after_skip_or_run spend op rest a place (place.counted + weight op) c.0) (outcome_from spend (at + 1) rest)) (sym z)
           ∙ c.2;
     }
 
 -- run: the opcode had this effect
-record Runs (ops : List Op) (spend : Spend) (w : Entries) (counted height at : ℕ) (op : Op) (rest : List Op) (s : State) : Type 0 where
+record Runs (ops : List Op) (spend : Spend) (w : Elements) (counted height at : ℕ) (op : Op) (rest : List Op) (s : State) : Type 0 where
   pub ifs : List Bool
   pub before : ℕ
   pub total : before + (weight op + counted_in rest) ≡ counted_in ops
   pub done : Effect
   pub does : effect spend (before + s.keys + weight op) op (entries_of spend w s) ≡ Ok done
-  pub clean : outcome_from spend (at + 1) rest (record { ahead = jump_of done.move rest; stack = done.stack; counted = before + s.keys + weight op + done.keys; open_ifs = ifs; height = max (length w + s.excess) (length done.stack) }) ≡ Clean counted height
+  pub clean : outcome_from spend (at + 1) rest (record { ahead = jump_length done.jump rest; stack = done.stack; counted = before + s.keys + weight op + done.keys; open_ifs = ifs; height = max (length w + s.excess) (length done.stack) }) ≡ Clean counted height
 
-passes_runs : (ops : List Op) (spend : Spend) (w : Entries) (counted height at : ℕ) (op : Op) (rest : List Op) (s : State) → s.ahead ≡ 0 → Passes ops spend w counted height at (op ∷ rest) s → Runs ops spend w counted height at op rest s
+passes_runs : (ops : List Op) (spend : Spend) (w : Elements) (counted height at : ℕ) (op : Op) (rest : List Op) (s : State) → s.ahead ≡ 0 → Passes ops spend w counted height at (op ∷ rest) s → Runs ops spend w counted height at op rest s
 passes_runs ops spend w counted height at op rest s z p =
-    let place = place_of spend w p.before p.ifs s in
+    let place = run_state_of spend w p.before p.ifs s in
     let go = outcome_from spend (at + 1) rest in
     let c = clean_past spend at op rest place go counted height p.clean in
     let k : ℕ = p.before + s.keys + weight op in
-    let run : onward at (effect spend k op (entries_of spend w s) >>= settled rest k c.0 (length w + s.excess)) go ≡ Clean counted height =
-    ap (λ a. onward at (jumped_or_run spend op rest a place k c.0) go) (sym z) ∙ c.2 in
-    let arrives = clean_onward at (effect spend k op (entries_of spend w s) >>= settled rest k c.0 (length w + s.excess)) go counted height run in
-    let does = ok_then (effect spend k op (entries_of spend w s)) (settled rest k c.0 (length w + s.excess)) arrives.0 arrives.1 in
+    let run : onward at (effect spend k op (entries_of spend w s) >>= state_after_effect rest k c.0 (length w + s.excess)) go ≡ Clean counted height =
+    ap (λ a. onward at (state_after_skip_or_run spend op rest a place k c.0) go) (sym z) ∙ c.2 in
+    let arrives = clean_onward at (effect spend k op (entries_of spend w s) >>= state_after_effect rest k c.0 (length w + s.excess)) go counted height run in
+    let does = ok_then (effect spend k op (entries_of spend w s)) (state_after_effect rest k c.0 (length w + s.excess)) arrives.0 arrives.1 in
     let fits = ok_checked (nat_le (length does.0.stack) 1000) StackTooTall _ arrives.0 does.2 in
     record {
       ifs = c.0;
@@ -119,18 +121,18 @@ passes_runs ops spend w counted height at op rest s z p =
       total = p.total;
       done = does.0;
       does = does.1;
-      clean = ap (λ r. onward at r go) (fits.1) ∙ arrives.2;
+      clean = ap (λ r. onward at r go) {x = Ok (record { ahead = jump_length does.0.jump rest; stack = does.0.stack; counted = k + does.0.keys; open_ifs = c.0; height = max (length w + s.excess) (length does.0.stack) })} fits.1 ∙ arrives.2;
     }
 
-place_same : (n n' : ℕ) (stack : Entries) (c c' : ℕ) (ifs : List Bool) (h h' : ℕ) → n ≡ n' → c ≡ c' → h ≡ h' → ◌≡◌ {A = Place} (record { ahead = n; stack = stack; counted = c; open_ifs = ifs; height = h }) (record { ahead = n'; stack = stack; counted = c'; open_ifs = ifs; height = h' })
+place_same : (n n' : ℕ) (stack : Elements) (c c' : ℕ) (ifs : List Bool) (h h' : ℕ) → n ≡ n' → c ≡ c' → h ≡ h' → ◌≡◌ {A = RunState} (record { ahead = n; stack = stack; counted = c; open_ifs = ifs; height = h }) (record { ahead = n'; stack = stack; counted = c'; open_ifs = ifs; height = h' })
 place_same n n' stack c c' ifs h h' e f g = rw (e, f, g) refl
 
 -- where the run goes on, with these facts
-passes_on : (ops : List Op) (spend : Spend) (w : Entries) (counted height at : ℕ) (op : Op) (rest : List Op) (s : State) (turn : Turn) (s' : State) (n : ℕ) (facts : List Stated) → IsShort w → Follows (counted_in ops) op s turn s' → IsMet spend w s' → AllStated spend w facts → jump_of (move_by spend w turn) rest ≡ n → Runs ops spend w counted height at op rest s → Passes ops spend w counted height (at + 1) rest (run_to n facts s')
+passes_on : (ops : List Op) (spend : Spend) (w : Elements) (counted height at : ℕ) (op : Op) (rest : List Op) (s : State) (turn : SymbolicJump) (s' : State) (n : ℕ) (facts : List Stated) → IsShort w → Follows (counted_in ops) op s turn s' → IsMet spend w s' → AllStated spend w facts → jump_length (move_by spend w turn) rest ≡ n → Runs ops spend w counted height at op rest s → Passes ops spend w counted height (at + 1) rest (run_to n facts s')
 passes_on ops spend w counted height at op rest s turn s' n facts sh f m h j r =
     let t : r.before + (weight op + counted_in rest) ≡ counted_in ops = r.total in
     let k : ℕ = r.before + s.keys + weight op in
-    let left : Effect = record { move = move_by spend w turn; stack = entries_of spend w s'; keys = f.used } in
+    let left : Effect = record { jump = move_by spend w turn; stack = entries_of spend w s'; keys = f.used } in
     let does : effect spend k op (entries_of spend w s) ≡ Ok left = f.step spend w k (above r.before s.keys (weight op) (counted_in rest) (counted_in ops) t) sh m.enough m.facts in
     let same : left ≡ r.done = same_ok left r.done (sym does ∙ r.does) in
     record {
@@ -139,8 +141,8 @@ passes_on ops spend w counted height at op rest s turn s' n facts sh f m h j r =
       total = summed r.before (weight op) (counted_in rest) (counted_in ops) t;
       short = sh;
       met = record { enough = m.enough; facts = h };
-      clean = ap (outcome_from spend (at + 1) rest) (sym (place_same (jump_of (move_by spend w turn) rest) n (entries_of spend w s') (k + f.used) (r.before + weight op + s'.keys) r.ifs (max (length w + s.excess) (length (entries_of spend w s'))) (length w + max s'.excess (length s'.stack - s'.slots)) j (counts r.before s.keys (weight op) f.used s'.keys f.keys) tall))
-          ∙ ap (λ (x : Effect). outcome_from spend (at + 1) rest (record { ahead = jump_of x.move rest; stack = x.stack; counted = k + x.keys; open_ifs = r.ifs; height = max (length w + s.excess) (length x.stack) })) same
+      clean = ap (outcome_from spend (at + 1) rest) (sym (place_same (jump_length (move_by spend w turn) rest) n (entries_of spend w s') (k + f.used) (r.before + weight op + s'.keys) r.ifs (max (length w + s.excess) (length (entries_of spend w s'))) (length w + max s'.excess (length s'.stack - s'.slots)) j (counts r.before s.keys (weight op) f.used s'.keys f.keys) tall))
+          ∙ ap (λ (x : Effect). outcome_from spend (at + 1) rest (record { ahead = jump_length x.jump rest; stack = x.stack; counted = k + x.keys; open_ifs = r.ifs; height = max (length w + s.excess) (length x.stack) })) same
           ∙ r.clean;
     }
   where
@@ -162,47 +164,47 @@ alike_or_not true false = inr refl
 alike_or_not false true = inr refl
 alike_or_not false false = inl refl
 
-ways_met : (ops : List Op) (spend : Spend) (w : Entries) (counted height at : ℕ) (op : Op) (rest : List Op) (s : State) (turn : Turn) (s' : State) → IsShort w → s.ahead ≡ 0 → Follows (counted_in ops) op s turn s' → IsMet spend w s' → Runs ops spend w counted height at op rest s → OneOf (Passes ops spend w counted height (at + 1) rest) (ways_by turn rest (measured s'))
-ways_met ops spend w counted height at op rest s Onward s' sh z f m r = passes_on ops spend w counted height at op rest s Onward s' s'.ahead s'.facts sh f m m.facts (sym (f.ahead ∙ z)) r
-ways_met ops spend w counted height at op rest s PastElse s' sh z f m r = passes_on ops spend w counted height at op rest s PastElse s' (over true 0 rest) s'.facts sh f m m.facts refl r
-ways_met ops spend w counted height at op rest s PastEnd s' sh z f m r = passes_on ops spend w counted height at op rest s PastEnd s' (over false 0 rest) s'.facts sh f m m.facts refl r
+ways_met : (ops : List Op) (spend : Spend) (w : Elements) (counted height at : ℕ) (op : Op) (rest : List Op) (s : State) (turn : SymbolicJump) (s' : State) → IsShort w → s.ahead ≡ 0 → Follows (counted_in ops) op s turn s' → IsMet spend w s' → Runs ops spend w counted height at op rest s → OneOf (Passes ops spend w counted height (at + 1) rest) (states_after_jump turn rest (with_excess s'))
+ways_met ops spend w counted height at op rest s Next s' sh z f m r = passes_on ops spend w counted height at op rest s Next s' s'.ahead s'.facts sh f m m.facts (sym (f.ahead ∙ z)) r
+ways_met ops spend w counted height at op rest s AfterElse s' sh z f m r = passes_on ops spend w counted height at op rest s AfterElse s' (skip_length true 0 rest) s'.facts sh f m m.facts refl r
+ways_met ops spend w counted height at op rest s AfterEndIf s' sh z f m r = passes_on ops spend w counted height at op rest s AfterEndIf s' (skip_length false 0 rest) s'.facts sh f m m.facts refl r
 ways_met ops spend w counted height at op rest s (Splits fact runs) s' sh z f m r =
     ⊎_elim
     (λ (e : holds_of spend w fact ≡ runs). inl (passes_on ops spend w counted height at op rest s (Splits fact runs) s' s'.ahead (ask fact runs s').facts sh f m
     (stated_join spend w s'.facts (record { fact = fact; holds = runs } ∷ []) m.facts (e, tt))
-    (ap (λ t. jump_of (if t then ToNext else ToElse) rest) (same_runs (holds_of spend w fact) runs e) ∙ sym (f.ahead ∙ z)) r))
-    (λ (e : holds_of spend w fact ≡ not runs). inr (passes_on ops spend w counted height at op rest s (Splits fact runs) s' (over true 0 rest) (ask fact (not runs) s').facts sh f m
+    (ap (λ t. jump_length (if t then ToNext else ToElse) rest) (same_runs (holds_of spend w fact) runs e) ∙ sym (f.ahead ∙ z)) r))
+    (λ (e : holds_of spend w fact ≡ not runs). inr (passes_on ops spend w counted height at op rest s (Splits fact runs) s' (skip_length true 0 rest) (ask fact (not runs) s').facts sh f m
     (stated_join spend w s'.facts (record { fact = fact; holds = not runs } ∷ []) m.facts (e, tt))
-    (ap (λ t. jump_of (if t then ToNext else ToElse) rest) (other_runs (holds_of spend w fact) runs e)) r))
+    (ap (λ t. jump_length (if t then ToNext else ToElse) rest) (other_runs (holds_of spend w fact) runs e)) r))
     (alike_or_not (holds_of spend w fact) runs)
 
-arrived_met : (ops : List Op) (spend : Spend) (w : Entries) (counted height at : ℕ) (op : Op) (rest : List Op) (s : State) (r : Result (Turn × State) Halt) → IsShort w → s.ahead ≡ 0 → Gives (LeadsTo (counted_in ops) op s) r → Forced (IsMetBy spend w) r → Runs ops spend w counted height at op rest s → Gives (OneOf (Passes ops spend w counted height (at + 1) rest)) (arrived at rest r)
+arrived_met : (ops : List Op) (spend : Spend) (w : Elements) (counted height at : ℕ) (op : Op) (rest : List Op) (s : State) (r : Result (SymbolicJump × State) Halt) → IsShort w → s.ahead ≡ 0 → Gives (FollowsTo (counted_in ops) op s) r → Forced (IsMetBy spend w) r → Runs ops spend w counted height at op rest s → Gives (OneOf (Passes ops spend w counted height (at + 1) rest)) (states_after_rule at rest r)
 arrived_met ops spend w counted height at op rest s (Ok (turn, s')) sh z f m r =
-    gives_checked (OneOf (Passes ops spend w counted height (at + 1) rest)) (is_low (measured s')) TooTall (Ok (ways_by turn rest (measured s'))) (λ e. ways_met ops spend w counted height at op rest s turn s' sh z f m r)
+    gives_result_if (OneOf (Passes ops spend w counted height (at + 1) rest)) (is_low (with_excess s')) TooTall (Ok (states_after_jump turn rest (with_excess s'))) (λ e. ways_met ops spend w counted height at op rest s turn s' sh z f m r)
 arrived_met ops spend w counted height at op rest s (Err NoMemory) sh z f m r = tt
 arrived_met ops spend w counted height at op rest s (Err Dead) sh z f m r = absurd m
 arrived_met ops spend w counted height at op rest s (Err Undecided) sh z f m r = tt
 arrived_met ops spend w counted height at op rest s (Err TooManyOps) sh z f m r = tt
 
-ways_from-met : (ops : List Op) (spend : Spend) (w : Entries) (counted height at : ℕ) (op : Op) (rest : List Op) (s : State) → Passes ops spend w counted height at (op ∷ rest) s → Gives (OneOf (Passes ops spend w counted height (at + 1) rest)) (ways_from (counted_in ops) at op rest s s.ahead)
-ways_from-met ops spend w counted height at op rest s p = go s.ahead refl
+states_after-met : (ops : List Op) (spend : Spend) (w : Elements) (counted height at : ℕ) (op : Op) (rest : List Op) (s : State) → Passes ops spend w counted height at (op ∷ rest) s → Gives (OneOf (Passes ops spend w counted height (at + 1) rest)) (states_after (counted_in ops) at op rest s s.ahead)
+states_after-met ops spend w counted height at op rest s p = go s.ahead refl
   where
-    go : (n : ℕ) → s.ahead ≡ n → Gives (OneOf (Passes ops spend w counted height (at + 1) rest)) (ways_from (counted_in ops) at op rest s n)
+    go : (n : ℕ) → s.ahead ≡ n → Gives (OneOf (Passes ops spend w counted height (at + 1) rest)) (states_after (counted_in ops) at op rest s n)
     go zero e =
         let r = passes_runs ops spend w counted height at op rest s e p in
-        arrived_met ops spend w counted height at op rest s (followed (counted_in ops) op s) p.short e (followed-sound (counted_in ops) op s)
-        (followed-forced (counted_in ops) op s spend w (r.before + s.keys + weight op) r.done p.short p.met r.does) r
+        arrived_met ops spend w counted height at op rest s (rule_of (counted_in ops) op s) p.short e (rule_of-sound (counted_in ops) op s)
+        (rule_of-forced (counted_in ops) op s spend w (r.before + s.keys + weight op) r.done p.short p.met r.does) r
     go (suc n) e = passes_jump ops spend w counted height at op rest s n e p
 
--- the end of a clean run: one entry, and it is true
-record EndsClean (stack : Entries) (c h counted height : ℕ) : Type 0 where
+-- the end of a clean run: one element, and it is true
+record EndsClean (stack : Elements) (c h counted height : ℕ) : Type 0 where
   pub last : List ℕ
   pub one : stack ≡ last ∷ []
   pub is_true : truth last ≡ true
   pub counts : c ≡ counted
   pub tall : h ≡ height
 
-clean_end : (at : ℕ) (ifs : List Bool) (stack : Entries) (c h counted height : ℕ) → at_end at ifs stack c h ≡ Clean counted height → EndsClean stack c h counted height
+clean_end : (at : ℕ) (ifs : List Bool) (stack : Elements) (c h counted height : ℕ) → at_end at ifs stack c h ≡ Clean counted height → EndsClean stack c h counted height
 clean_end at (b ∷ ifs) stack c h counted height e = absurd (cc)
 clean_end at [] [] c h counted height e = absurd (cc)
 clean_end at [] (x ∷ y ∷ stack) c h counted height e = absurd (cc)
@@ -213,12 +215,12 @@ clean_end at [] (x ∷ []) c h counted height e = go (truth x) refl e
     go false q e = absurd (cc)
 
 -- then the path ends too: one symbol is left, and all slots were reached
-record IsLast (spend : Spend) (w : Entries) (s : State) (last : List ℕ) : Type 0 where
+record IsLast (spend : Spend) (w : Elements) (s : State) (last : List ℕ) : Type 0 where
   pub alone : (pop s).1.stack ≡ []
   pub all : (pop s).1.slots ≡ length w
   pub item : item_for spend w (pop s).0 ≡ last
 
-last_symbol : (spend : Spend) (w : Entries) (s : State) (last : List ℕ) → s.slots ≤ length w → entries_of spend w s ≡ last ∷ [] → IsLast spend w s last
+last_symbol : (spend : Spend) (w : Elements) (s : State) (last : List ℕ) → s.slots ≤ length w → entries_of spend w s ≡ last ∷ [] → IsLast spend w s last
 last_symbol spend w s last l e =
     let long = length_entries spend w s l in
     let one : length (entries_of spend w s) ≡ 1 = ap length e in
@@ -234,22 +236,22 @@ last_symbol spend w s last l e =
     ends (x ∷ []) k = (refl, omega arith)
     ends (x ∷ y ∷ xs) k = absurd (omega arith)
 
-    same_head : (x y : List ℕ) (xs ys : Entries) → x ∷ xs ≡ y ∷ ys → x ≡ y
+    same_head : (x y : List ℕ) (xs ys : Elements) → x ∷ xs ≡ y ∷ ys → x ≡ y
     same_head x y xs ys e = cc
 
-closed_met : (ops : List Op) (P : Path → Type 0) (at : ℕ) (r : Result State Halt) → Forced (λ s'. P (path_of (counted_in ops) s')) r → Gives (Among P) (closed (counted_in ops) at r)
-closed_met ops P at (Ok s') h = gives_checked (Among P) (is_low s') TooTall (Ok (path_of (counted_in ops) s' ∷ [])) (λ e. inl h)
+closed_met : (ops : List Op) (P : Path → Type 0) (at : ℕ) (r : Result State Halt) → Forced (λ s'. P (path_of (counted_in ops) s')) r → Gives (Among P) (path_at_end (counted_in ops) at r)
+closed_met ops P at (Ok s') h = gives_result_if (Among P) (is_low s') TooTall (Ok (path_of (counted_in ops) s' ∷ [])) (λ e. inl h)
 closed_met ops P at (Err NoMemory) h = tt
 closed_met ops P at (Err Dead) h = h
 closed_met ops P at (Err Undecided) h = tt
 closed_met ops P at (Err TooManyOps) h = tt
 
 -- what a path that ends says: as many slots as items, all facts as stated, and the numbers of the run
-abbrev IsGood : List Op → Spend → Entries → ℕ → ℕ → (Path → Type 0) → Type 0
+abbrev IsGood : List Op → Spend → Elements → ℕ → ℕ → (Path → Type 0) → Type 0
 IsGood ops spend w counted height P =
     (s : State) → s.slots ≡ length w → AllStated spend w s.facts → counted_in ops + s.keys ≡ counted → s.slots + s.excess ≡ height → P (path_of (counted_in ops) s)
 
-end_met : (ops : List Op) (spend : Spend) (w : Entries) (counted height at : ℕ) (s : State) (P : Path → Type 0) → IsGood ops spend w counted height P → Passes ops spend w counted height at [] s → Forced (λ s'. P (path_of (counted_in ops) s')) (end_of (pop s).1.stack (pop s).0 (pop s).1)
+end_met : (ops : List Op) (spend : Spend) (w : Elements) (counted height at : ℕ) (s : State) (P : Path → Type 0) → IsGood ops spend w counted height P → Passes ops spend w counted height at [] s → Forced (λ s'. P (path_of (counted_in ops) s')) (end_of (pop s).1.stack (pop s).0 (pop s).1)
 end_met ops spend w counted height at s P good p =
     let e = clean_end at p.ifs (entries_of spend w s) (p.before + s.keys) (length w + s.excess) counted height p.clean in
     let one = last_symbol spend w s e.last p.met.enough e.one in
@@ -268,7 +270,7 @@ end_met ops spend w counted height at s P good p =
     good s' (omega arith) k.0.facts (omega arith) (omega arith))))
 
 -- a path that was listed, or the way of the run
-listed_met : (P : Path → Type 0) (l : Listed) (r : Result (List Path) CheckError) → Among P l.paths ⊎ Gives (Among P) r → Gives (λ l'. Among P l'.paths) (listed_with l r)
+listed_met : (P : Path → Type 0) (l : Listed) (r : Result (List Path) CheckError) → Among P l.paths ⊎ Gives (Among P) r → Gives (λ l'. Among P l'.paths) (with_paths l r)
 listed_met P l (Ok paths) h = ⊎_elim (λ (a : Among P l.paths). among_left P l.paths paths a) (λ (b : Among P paths). among_right P l.paths paths b) h
 listed_met P l (Err e) h = tt
 
@@ -279,13 +281,13 @@ gives_all : {A E : Type 0} (P : A → Type 0) (r : Result A E) → ((x : A) → 
 gives_all P (Ok x) h = h x
 gives_all P (Err e) h = tt
 
-along_met : (P : Path → Type 0) (R : State → Type 0) (go : State → Listed → Result Listed CheckError) → ((s : State) (l : Listed) → Hits P l ⊎ R s → Gives (Hits P) (go s l)) → (r : Result (List State) CheckError) (l : Listed) → Hits P l ⊎ Gives (OneOf R) r → Gives (Hits P) (along go r l)
+along_met : (P : Path → Type 0) (R : State → Type 0) (go : State → Listed → Result Listed CheckError) → ((s : State) (l : Listed) → Hits P l ⊎ R s → Gives (Hits P) (go s l)) → (r : Result (List State) CheckError) (l : Listed) → Hits P l ⊎ Gives (OneOf R) r → Gives (Hits P) (walk_along go r l)
 along_met P R go f (Err e) l h = tt
 along_met P R go f (Ok []) l h = ⊎_elim (λ (a : Hits P l). a) (λ (b : ⊥). absurd b) h
 along_met P R go f (Ok (s ∷ [])) l h = f s l h
 along_met P R go f (Ok (s ∷ t ∷ more)) l h =
     gives_then (λ l'. Hits P l' ⊎ R t) (Hits P) (go s l) (λ l'. begins l' >>= go t) (first h) (λ l' h'.
-    gives_then (λ l2. Hits P l2 ⊎ R t) (Hits P) (begins l') (go t) (gives_checked (λ l2. Hits P l2 ⊎ R t) (nat_lt l'.begun 64) TooManyPaths (Ok (record l' { begun = l'.begun + 1 })) (λ e. h')) (λ l2 h2. f t l2 h2))
+    gives_then (λ l2. Hits P l2 ⊎ R t) (Hits P) (begins l') (go t) (gives_result_if (λ l2. Hits P l2 ⊎ R t) (nat_lt l'.begun 64) TooManyPaths (Ok (record l' { begun = l'.begun + 1 })) (λ e. h')) (λ l2 h2. f t l2 h2))
   where
     hit : Hits P l ⊎ R s → Gives (λ l'. Hits P l' ⊎ R t) (go s l)
     hit k = gives_map (Hits P) (λ l'. Hits P l' ⊎ R t) (go s l) (f s l k) (λ l' a. inl a)
@@ -293,12 +295,12 @@ along_met P R go f (Ok (s ∷ t ∷ more)) l h =
     first : Hits P l ⊎ (R s ⊎ R t) → Gives (λ l'. Hits P l' ⊎ R t) (go s l)
     first k = ⊎_elim (λ (a : Hits P l). hit (inl a)) (λ (b : R s ⊎ R t). ⊎_elim (λ (c : R s). hit (inr c)) (λ (d : R t). gives_all (λ l'. Hits P l' ⊎ R t) (go s l) (λ l'. inr d)) b) k
 
-walk_met : (ops : List Op) (spend : Spend) (w : Entries) (counted height : ℕ) (P : Path → Type 0) → IsGood ops spend w counted height P → (rest : List Op) (at : ℕ) (s : State) (l : Listed) → Hits P l ⊎ Passes ops spend w counted height at rest s → Gives (Hits P) (walk (counted_in ops) at rest s l)
+walk_met : (ops : List Op) (spend : Spend) (w : Elements) (counted height : ℕ) (P : Path → Type 0) → IsGood ops spend w counted height P → (rest : List Op) (at : ℕ) (s : State) (l : Listed) → Hits P l ⊎ Passes ops spend w counted height at rest s → Gives (Hits P) (walk (counted_in ops) at rest s l)
 walk_met ops spend w counted height P good [] at s l h =
-    listed_met P l (ended (counted_in ops) at s) (⊎_elim (λ (a : Hits P l). inl a) (λ (p : Passes ops spend w counted height at [] s). inr (closed_met ops P at (end_of (pop s).1.stack (pop s).0 (pop s).1) (end_met ops spend w counted height at s P good p))) h)
+    listed_met P l (paths_at_end (counted_in ops) at s) (⊎_elim (λ (a : Hits P l). inl a) (λ (p : Passes ops spend w counted height at [] s). inr (closed_met ops P at (end_of (pop s).1.stack (pop s).0 (pop s).1) (end_met ops spend w counted height at s P good p))) h)
 walk_met ops spend w counted height P good (op ∷ rest) at s l h =
-    along_met P (Passes ops spend w counted height (at + 1) rest) (walk (counted_in ops) (at + 1) rest) (λ s' l' h'. walk_met ops spend w counted height P good rest (at + 1) s' l' h') (ways_from (counted_in ops) at op rest s s.ahead) l
-    (⊎_elim (λ (a : Hits P l). inl a) (λ (p : Passes ops spend w counted height at (op ∷ rest) s). inr (ways_from-met ops spend w counted height at op rest s p)) h)
+    along_met P (Passes ops spend w counted height (at + 1) rest) (walk (counted_in ops) (at + 1) rest) (λ s' l' h'. walk_met ops spend w counted height P good rest (at + 1) s' l' h') (states_after (counted_in ops) at op rest s s.ahead) l
+    (⊎_elim (λ (a : Hits P l). inl a) (λ (p : Passes ops spend w counted height at (op ∷ rest) s). inr (states_after-met ops spend w counted height at op rest s p)) h)
 
 -- a run from the start
 clean_start : (spend : Spend) (ops : List Op) (witness : List (List ℕ)) (counted height : ℕ) → outcome spend ops witness ≡ Clean counted height → (list_any is_long witness ≡ false) × (outcome_from spend 0 ops (start (reverse witness)) ≡ Clean counted height)
@@ -308,7 +310,7 @@ clean_start spend ops witness counted height e = go (list_any is_long witness) r
     go true q e = absurd (cc)
     go false q e = (q, e)
 
-passes_start : (ops : List Op) (spend : Spend) (w : Entries) (counted height : ℕ) → IsShort w → outcome_from spend 0 ops (start w) ≡ Clean counted height → Passes ops spend w counted height 0 ops beginning
+passes_start : (ops : List Op) (spend : Spend) (w : Elements) (counted height : ℕ) → IsShort w → outcome_from spend 0 ops (start w) ≡ Clean counted height → Passes ops spend w counted height 0 ops beginning
 passes_start ops spend w counted height sh e = record {
   ifs = [];
   before = 0;
@@ -330,8 +332,8 @@ unfolding listing
 listing_met ops spend witness counted height e =
     let P : Path → Type 0 = OpensBy spend witness counted height in
     let c = clean_start spend ops witness counted height e in
-    gives_checked (Among P) (is_balanced ops []) OpenBranch _ (λ b.
-    gives_checked (Among P) (nat_le (counted_in ops) 201) TooMany _ (λ few.
+    gives_result_if (Among P) (is_balanced ops []) OpenBranch _ (λ b.
+    gives_result_if (Among P) (nat_le (counted_in ops) 201) TooMany _ (λ few.
     gives_then (Hits P) (Among P) (walk (counted_in ops) 0 ops beginning (record { begun = 1; paths = [] })) (λ l. Ok l.paths) (
     walk_met ops spend (reverse witness) counted height P (opens_good ops spend witness counted height c.0) ops 0 beginning (record { begun = 1; paths = [] }) (inr (passes_start ops spend (reverse witness) counted height (short_reversed witness c.0) c.1))
     ) (λ l h. h)))

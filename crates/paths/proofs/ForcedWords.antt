@@ -6,14 +6,14 @@ use Rattle.std.proofs.lemmas.List.{drop_all}
 use Rattle.script.specs.declared.opcode.Op.{Op}
 use Rattle.script.specs.declared.spending.Spend.{Spend}
 use Rattle.script.specs.declared.stops.Cause.{Cause}
-use Rattle.script.specs.Step.{Entries, Effect, checked, ◌>>=◌}
+use Rattle.script.specs.Step.{Elements, Effect, result_if, ◌>>=◌}
 use Rattle.facts.specs.declared.symbols.Fact.{Fact}
 use Rattle.facts.specs.declared.symbols.Sym.{Sym}
 use Rattle.facts.specs.Meaning.{item_for, holds_of, AllStated}
 use Rattle.paths.specs.declared.state.State.{State}
 use Rattle.paths.specs.declared.state.Halt.{Halt}
 use Rattle.paths.specs.declared.state.Halt.TheVariants.{NoMemory, Dead, Undecided, TooManyOps}
-use Rattle.paths.specs.declared.state.Turn.{Turn}
+use Rattle.paths.specs.declared.state.SymbolicJump.{SymbolicJump}
 use Rattle.paths.specs.Rules.{pop_of, pop, push, ask}
 use Rattle.paths.proofs.SoundWords.{Gives, entries_of}
 use Rattle.paths.proofs.SoundPops.{stated_join, pop_entries}
@@ -52,11 +52,11 @@ forced_is P x (Err Undecided) f e h = tt
 forced_is P x (Err TooManyOps) f e h = tt
 
 -- too many opcodes are a refusal
-pub forced_unless : {A B : Type 0} (P : B → Type 0) (b : Bool) (x : A) (f : A → Result B Halt) → Forced P (f x) → Forced P (checked b TooManyOps (Ok x) >>= f)
+pub forced_unless : {A B : Type 0} (P : B → Type 0) (b : Bool) (x : A) (f : A → Result B Halt) → Forced P (f x) → Forced P (result_if b TooManyOps (Ok x) >>= f)
 forced_unless P true x f h = h
 forced_unless P false x f h = tt
 
-pub forced_checked : {A : Type 0} (P : A → Type 0) (b : Bool) (r : Result A Halt) → b ≡ true → Forced P r → Forced P (checked b Dead r)
+pub forced_checked : {A : Type 0} (P : A → Type 0) (b : Bool) (r : Result A Halt) → b ≡ true → Forced P r → Forced P (result_if b Dead r)
 forced_checked P true r e h = h
 forced_checked P false r e h = absurd (true≢false (sym e))
 
@@ -68,7 +68,7 @@ forced_gives P (Err Undecided) q h = tt
 forced_gives P (Err TooManyOps) q h = tt
 
 -- a step that has a result, in its parts
-pub ok_checked : {A E : Type 0} (b : Bool) (c : E) (r : Result A E) (x : A) → checked b c r ≡ Ok x → (b ≡ true) × (r ≡ Ok x)
+pub ok_checked : {A E : Type 0} (b : Bool) (c : E) (r : Result A E) (x : A) → result_if b c r ≡ Ok x → (b ≡ true) × (r ≡ Ok x)
 ok_checked true c r x e = (refl, e)
 ok_checked false c r x e = absurd (cc)
 
@@ -77,39 +77,39 @@ ok_then (Ok x) f y e = (x, refl, e)
 ok_then (Err c) f y e = absurd (cc)
 
 -- the items and the spend are as the state says so far
-pub record IsMet (spend : Spend) (w : Entries) (s : State) : Type 0 where
+pub record IsMet (spend : Spend) (w : Elements) (s : State) : Type 0 where
   pub enough : s.slots ≤ length w
   pub facts : AllStated spend w s.facts
 
-abbrev pub IsMetBy : Spend → Entries → Turn × State → Type 0
+abbrev pub IsMetBy : Spend → Elements → SymbolicJump × State → Type 0
 IsMetBy spend w r = IsMet spend w r.1
 
-pub push_met : (spend : Spend) (w : Entries) (x : Sym) (s : State) → IsMet spend w s → IsMet spend w (push x s)
+pub push_met : (spend : Spend) (w : Elements) (x : Sym) (s : State) → IsMet spend w s → IsMet spend w (push x s)
 push_met spend w x s m = record { enough = m.enough; facts = m.facts }
 
-pub ask_met : (spend : Spend) (w : Entries) (fact : Fact) (b : Bool) (s : State) → holds_of spend w fact ≡ b → IsMet spend w s → IsMet spend w (ask fact b s)
+pub ask_met : (spend : Spend) (w : Elements) (fact : Fact) (b : Bool) (s : State) → holds_of spend w fact ≡ b → IsMet spend w s → IsMet spend w (ask fact b s)
 ask_met spend w fact b s e m = record {
   enough = m.enough;
   facts = stated_join spend w s.facts (record { fact = fact; holds = b } ∷ []) m.facts (e, tt);
 }
 
-pub pop_facts : (spend : Spend) (w : Entries) (s : State) → AllStated spend w s.facts → AllStated spend w (pop s).1.facts
+pub pop_facts : (spend : Spend) (w : Elements) (s : State) → AllStated spend w s.facts → AllStated spend w (pop s).1.facts
 pop_facts spend w s h = go s.stack
   where
     go : (xs : List Sym) → AllStated spend w (pop_of xs s).1.facts
     go [] = h
     go (x ∷ xs) = h
 
--- there is an item for the symbol that is taken, or there are no entries
-pub pop_reaches : (spend : Spend) (w : Entries) (s : State) → s.slots ≤ length w → ((pop s).1.slots ≤ length w) ⊎ (entries_of spend w s ≡ [])
+-- there is an item for the symbol that is taken, or there are no elements
+pub pop_reaches : (spend : Spend) (w : Elements) (s : State) → s.slots ≤ length w → ((pop s).1.slots ≤ length w) ⊎ (entries_of spend w s ≡ [])
 pop_reaches spend w s l = go s.stack
   where
     go : (xs : List Sym) → ((pop_of xs s).1.slots ≤ length w) ⊎ (map (item_for spend w) xs ++ drop s.slots w ≡ [])
     go [] = ⊎_elim (λ (a : s.slots < length w). inl (omega arith)) (λ (a : length w ≤ s.slots). inr (drop_all s.slots w a)) (cases_lt s.slots (length w))
     go (x ∷ xs) = inl l
 
--- what has a result on the entries, and none on no entries, has an item for the symbol
-pub pop_met : {B : Type 0} (spend : Spend) (w : Entries) (s : State) (f : Entries → Result B Cause) (c : Cause) (e : B) → f [] ≡ Err c → f (entries_of spend w s) ≡ Ok e → IsMet spend w s → IsMet spend w (pop s).1
+-- what has a result on the elements, and none on no elements, has an item for the symbol
+pub pop_met : {B : Type 0} (spend : Spend) (w : Elements) (s : State) (f : Elements → Result B Cause) (c : Cause) (e : B) → f [] ≡ Err c → f (entries_of spend w s) ≡ Ok e → IsMet spend w s → IsMet spend w (pop s).1
 pop_met spend w s f c e none some m = record {
   enough = ⊎_elim (λ (l : (pop s).1.slots ≤ length w). l) (λ (z : entries_of spend w s ≡ []). absurd (missing z)) (pop_reaches spend w s m.enough);
   facts = pop_facts spend w s m.facts;
@@ -118,7 +118,7 @@ pop_met spend w s f c e none some m = record {
     missing : entries_of spend w s ≡ [] → ⊥
     missing z = let a : f (entries_of spend w s) ≡ f [] = ap f z in cc
 
-pub pop_met-2 : {B : Type 0} (spend : Spend) (w : Entries) (s : State) (f : Entries → Result B Cause) (c : Cause) (e : B) → f [] ≡ Err c → ((x : List ℕ) → f (x ∷ []) ≡ Err c) → f (entries_of spend w s) ≡ Ok e → IsMet spend w s → IsMet spend w (pop (pop s).1).1
+pub pop_met-2 : {B : Type 0} (spend : Spend) (w : Elements) (s : State) (f : Elements → Result B Cause) (c : Cause) (e : B) → f [] ≡ Err c → ((x : List ℕ) → f (x ∷ []) ≡ Err c) → f (entries_of spend w s) ≡ Ok e → IsMet spend w s → IsMet spend w (pop (pop s).1).1
 pop_met-2 spend w s f c e none one some m =
     let m' : IsMet spend w (pop s).1 = pop_met spend w s f c e none some m in
     pop_met spend w (pop s).1 (λ st. f (item_for spend w (pop s).0 ∷ st)) c e (one (item_for spend w (pop s).0)) (sym (ap f (pop_entries spend w s m'.enough)) ∙ some) m'

@@ -9,8 +9,8 @@ use Rattle.script.specs.declared.opcode.Op.TheVariants.{Push, Number as SmallNum
 use Rattle.script.specs.declared.spending.Spend.{Spend}
 use Rattle.script.specs.declared.num.Number.{Number as Signed}
 use Rattle.script.specs.Number.{number_of}
-use Rattle.script.specs.Step.{Entries, bit_at, lock_passes, age_passes, checked, ◌>>=◌}
-use Rattle.script.specs.Run.{counted_in, over}
+use Rattle.script.specs.Step.{Elements, bit_at, lock_passes, age_passes, result_if, ◌>>=◌}
+use Rattle.script.specs.Run.{counted_in, skip_length}
 use Rattle.facts.specs.declared.symbols.KeySource.{KeySource}
 use Rattle.facts.specs.declared.symbols.KeySource.TheVariants.{Const as FixedKey, Slot as SlotKey}
 use Rattle.facts.specs.declared.symbols.Fact.{Fact}
@@ -24,17 +24,17 @@ use Rattle.paths.specs.declared.errors.CheckError.TheVariants.{OpenBranch, TooMa
 use Rattle.paths.specs.declared.state.State.{State}
 use Rattle.paths.specs.declared.state.Halt.{Halt}
 use Rattle.paths.specs.declared.state.Halt.TheVariants.{NoMemory, Dead, Undecided, TooManyOps}
-use Rattle.paths.specs.declared.state.Turn.{Turn}
-use Rattle.paths.specs.declared.state.Turn.TheVariants.{Onward, PastElse, PastEnd, Splits}
+use Rattle.paths.specs.declared.state.SymbolicJump.{SymbolicJump}
+use Rattle.paths.specs.declared.state.SymbolicJump.TheVariants.{Next, AfterElse, AfterEndIf, Splits}
 use Rattle.paths.specs.declared.state.Condition.{Condition}
 use Rattle.paths.specs.declared.state.Condition.TheVariants.{Known, Asked}
 use Rattle.paths.specs.declared.state.Path.{Path}
 use Rattle.paths.specs.declared.state.Listed.{Listed}
-use Rattle.paths.specs.Rules.{pop_of, pop, pops, push, ask, size_of, hash_of, hash_is, named_size, size_by, size_is, equal_of, condition_of, insist, branch, is_bad_key, is_bad_signature, is_bad_extra, source_of, ask_key, signed, check_sig, count_of, slots_of, sources_of, ask_forms, ask_keys, ask_extra, answer_of, check_sigs, check_multi_sig, lock_of, masked, ask_age, goes_on, followed}
-use Rattle.paths.specs.Listing.{is_balanced, greater, with_lock, lock_in, with_age, age_in, measured, is_low, ahead_by, ways_by, halted, arrived, ways_from, path_of, closed, end_of, ended, listed_with, begins, along, walk, beginning, listing}
+use Rattle.paths.specs.Rules.{pop_of, pop, pops, push, ask, size_of, hash_of, hash_is, named_size, size_by, size_is, equal_of, condition_of, insist, branch, is_bad_key, is_bad_signature, is_bad_extra, source_of, ask_key, signature_rule, check_sig, count_of, slots_of, sources_of, ask_forms, ask_keys, ask_extra, answer_of, check_sigs, check_multi_sig, lock_of, age_bits, ask_age, goes_on, rule_of}
+use Rattle.paths.specs.Listing.{is_balanced, greater, with_lock, greatest_lock_in, with_age, greatest_age_in, with_excess, is_low, ahead_by, states_after_jump, refusal_at, states_after_rule, states_after, path_of, path_at_end, end_of, paths_at_end, with_paths, begins, walk_along, walk, beginning, listing}
 use Rattle.paths.specs.Laws.{MeetsLocks}
 use Rattle.paths.proofs.SoundWords.{Gives}
-use Rattle.paths.proofs.SoundPops.{gives_then, gives_checked}
+use Rattle.paths.proofs.SoundPops.{gives_then, gives_result_if}
 
 -- no lock
 abbrev IsNoLock : Fact → Type 0
@@ -114,20 +114,20 @@ condition_plain (SizeOf i) h = tt
 condition_plain (Holds fact) h = h
 
 insist_plain : (c : Condition) (s : State) → IsPlainCondition c → AsksLocks s → Gives AsksLocks (insist c s)
-insist_plain (Known b) s h k = gives_checked AsksLocks b Dead (Ok s) (λ e. k)
+insist_plain (Known b) s h k = gives_result_if AsksLocks b Dead (Ok s) (λ e. k)
 insist_plain (Asked fact) s h k = ask_plain fact true s (no_lock_asked fact true h) k
 
-abbrev IsPlainTurn : Turn → Type 0
+abbrev IsPlainTurn : SymbolicJump → Type 0
 IsPlainTurn (Splits fact b) = IsNoLock fact
 IsPlainTurn turn = Unit {0}
 
-abbrev StaysPlain : Turn × State → Type 0
+abbrev StaysPlain : SymbolicJump × State → Type 0
 StaysPlain r = IsPlainTurn r.0 × AsksLocks r.1
 
 branch_plain : (runs : Bool) (c : Condition) (s : State) → IsPlainCondition c → AsksLocks s → Gives StaysPlain (branch runs c s)
 branch_plain runs (Known b) s h k = (go (if b then runs else not runs), k)
   where
-    go : (t : Bool) → IsPlainTurn (if t then Onward else PastElse)
+    go : (t : Bool) → IsPlainTurn (if t then Next else AfterElse)
     go true = tt
     go false = tt
 branch_plain runs (Asked fact) s h k = (h, k)
@@ -176,7 +176,7 @@ key_plain : (key : KeySource) (s : State) → AsksLocks s → AsksLocks (ask_key
 key_plain (FixedKey b) s k = k
 key_plain (SlotKey i) s k = ask_plain (KeyForm i) true s tt k
 
-signed_plain : (key : KeySource) (sig : Sym) (s : State) → AsksLocks s → Gives AsksLocks (signed key sig s)
+signed_plain : (key : KeySource) (sig : Sym) (s : State) → AsksLocks s → Gives AsksLocks (signature_rule key sig s)
 signed_plain key (Slot i) s k = push_plain (Holds (Token i key)) (ask (Form i) true (ask_key key s)) tt (ask_plain (Form i) true (ask_key key s) tt (key_plain key s k))
 signed_plain key (Const []) s k = push_plain (Const []) (ask_key key s) tt (key_plain key s k)
 signed_plain key (Const (b ∷ bs)) s k = tt
@@ -186,8 +186,8 @@ signed_plain key (Holds fact) s k = tt
 
 check_sig_plain : (key sig : Sym) (s : State) → AsksLocks s → Gives AsksLocks (check_sig key sig s)
 check_sig_plain key sig s k =
-    gives_checked AsksLocks (not (is_bad_key key || is_bad_signature sig)) Dead (source_of key >>= λ source. signed source sig s) (λ e.
-    gives_any AsksLocks (source_of key) (λ source. signed source sig s) (λ source. signed_plain source sig s k))
+    gives_result_if AsksLocks (not (is_bad_key key || is_bad_signature sig)) Dead (source_of key >>= λ source. signature_rule source sig s) (λ e.
+    gives_any AsksLocks (source_of key) (λ source. signature_rule source sig s) (λ source. signed_plain source sig s k))
 
 -- CHECKMULTISIG
 forms_plain : (slots : List ℕ) (s : State) → AsksLocks s → AsksLocks (ask_forms slots s)
@@ -211,12 +211,12 @@ answer_plain (i ∷ slots) keys = tt
 
 check_sigs_plain : (keys sigs : List Sym) (extra : Sym) (s : State) → AsksLocks s → Gives AsksLocks (check_sigs keys sigs extra s)
 check_sigs_plain keys sigs extra s k =
-    gives_checked AsksLocks (not (list_any is_bad_key keys || is_bad_extra extra)) Dead _ (λ e.
+    gives_result_if AsksLocks (not (list_any is_bad_key keys || is_bad_extra extra)) Dead _ (λ e.
     gives_any AsksLocks (slots_of sigs) _ (λ slots.
     gives_any AsksLocks (sources_of keys) _ (λ sources.
     gives_then AsksLocks AsksLocks (ask_extra extra (ask_keys sources (ask_forms slots s))) _ (extra_plain extra (ask_keys sources (ask_forms slots s)) (keys_plain sources (ask_forms slots s) (forms_plain slots s k))) (λ s' k'. push_plain (answer_of slots sources) s' (answer_plain slots sources) k'))))
 
-gives_unless : {A B E : Type 0} (P : B → Type 0) (b : Bool) (e : E) (x : A) (f : A → Result B E) → Gives P (f x) → Gives P (checked b e (Ok x) >>= f)
+gives_unless : {A B E : Type 0} (P : B → Type 0) (b : Bool) (e : E) (x : A) (f : A → Result B E) → Gives P (f x) → Gives P (result_if b e (Ok x) >>= f)
 gives_unless P true e x f h = h
 gives_unless P false e x f h = tt
 
@@ -234,21 +234,21 @@ multi_sig_plain counted s k =
     check_sigs_plain (reverse (pops n start).0) (reverse (pops m (pop (pops n start).1).1).0) (pop (pops m (pop (pops n start).1).1).1).0 (pop (pops m (pop (pops n start).1).1).1).1 (pop_plain (pops m (pop (pops n start).1).1).1 sigs).1)))
 
 -- the locks
-masked-clear : (n : ℕ) → bit_at 31 (masked n) ≡ false
-masked-clear n = false_from_ne_true _ (λ t. absurd (high n (eqb-true _ _ t)))
+age_bits-clear : (n : ℕ) → bit_at 31 (age_bits n) ≡ false
+age_bits-clear n = false_from_ne_true _ (λ t. absurd (high n (eqb-true _ _ t)))
   where
-    high : (n : ℕ) → masked n / 2 ^ 31 % 2 ≡ 1 → ⊥
+    high : (n : ℕ) → age_bits n / 2 ^ 31 % 2 ≡ 1 → ⊥
     high n h = omega arith
 
 age_plain : (n : ℕ) (s : State) → AsksLocks s → AsksLocks (ask_age n s)
 age_plain n s k = go (bit_at 31 n)
   where
-    go : (b : Bool) → AsksLocks (if b then s else ask (Age (masked n)) true s)
+    go : (b : Bool) → AsksLocks (if b then s else ask (Age (age_bits n)) true s)
     go true = k
-    go false = ask_plain (Age (masked n)) true s (refl, masked-clear n) k
+    go false = ask_plain (Age (age_bits n)) true s (refl, age_bits-clear n) k
 
-followed_plain : (counted : ℕ) (op : Op) (s : State) → AsksLocks s → Gives StaysPlain (followed counted op s)
-unfolding followed
+followed_plain : (counted : ℕ) (op : Op) (s : State) → AsksLocks s → Gives StaysPlain (rule_of counted op s)
+unfolding rule_of
 followed_plain counted (Push item) s k = (tt, push_plain (Const item) s tt k)
 followed_plain counted (SmallNumber n) s k = (tt, push_plain (Const (n ∷ [])) s tt k)
 followed_plain counted If s k =
@@ -290,70 +290,70 @@ followed_plain counted CheckSequenceVerify s k =
     gives_any StaysPlain (lock_of (pop s).0) _ (λ n. (tt, push_plain (pop s).0 (ask_age n (pop s).1) p.0 (age_plain n (pop s).1 p.1)))
 
 -- the ways on, and the paths that end
-ways_plain : (turn : Turn) (rest : List Op) (s : State) → IsPlainTurn turn → AsksLocks s → Each AsksLocks (ways_by turn rest s)
-ways_plain Onward rest s h k = (k, tt)
-ways_plain PastElse rest s h k = (record { syms = k.syms; facts = k.facts }, tt)
-ways_plain PastEnd rest s h k = (record { syms = k.syms; facts = k.facts }, tt)
+ways_plain : (turn : SymbolicJump) (rest : List Op) (s : State) → IsPlainTurn turn → AsksLocks s → Each AsksLocks (states_after_jump turn rest s)
+ways_plain Next rest s h k = (k, tt)
+ways_plain AfterElse rest s h k = (record { syms = k.syms; facts = k.facts }, tt)
+ways_plain AfterEndIf rest s h k = (record { syms = k.syms; facts = k.facts }, tt)
 ways_plain (Splits fact runs) rest s h k =
     let other : AsksLocks (ask fact (not runs) s) = ask_plain fact (not runs) s (no_lock_asked fact (not runs) h) k in
     (ask_plain fact runs s (no_lock_asked fact runs h) k, (record { syms = other.syms; facts = other.facts }, tt))
 
-halted_plain : {A : Type 0} (P : A → Type 0) (at : ℕ) (none : A) (h : Halt) → P none → Gives P (halted at none h)
+halted_plain : {A : Type 0} (P : A → Type 0) (at : ℕ) (none : A) (h : Halt) → P none → Gives P (refusal_at at none h)
 halted_plain P at none NoMemory p = tt
 halted_plain P at none Dead p = p
 halted_plain P at none Undecided p = tt
 halted_plain P at none TooManyOps p = tt
 
-arrived_plain : (at : ℕ) (rest : List Op) (r : Result (Turn × State) Halt) → Gives StaysPlain r → Gives (Each AsksLocks) (arrived at rest r)
+arrived_plain : (at : ℕ) (rest : List Op) (r : Result (SymbolicJump × State) Halt) → Gives StaysPlain r → Gives (Each AsksLocks) (states_after_rule at rest r)
 arrived_plain at rest (Ok (turn, s)) h =
-    gives_checked (Each AsksLocks) (is_low (measured s)) TooTall (Ok (ways_by turn rest (measured s))) (λ e. ways_plain turn rest (measured s) h.0 (record { syms = h.1.syms; facts = h.1.facts }))
+    gives_result_if (Each AsksLocks) (is_low (with_excess s)) TooTall (Ok (states_after_jump turn rest (with_excess s))) (λ e. ways_plain turn rest (with_excess s) h.0 (record { syms = h.1.syms; facts = h.1.facts }))
 arrived_plain at rest (Err h) k = halted_plain (Each AsksLocks) at [] h tt
 
-ways_from-plain : (counted at : ℕ) (op : Op) (rest : List Op) (s : State) (n : ℕ) → AsksLocks s → Gives (Each AsksLocks) (ways_from counted at op rest s n)
-ways_from-plain counted at op rest s zero k = arrived_plain at rest (followed counted op s) (followed_plain counted op s k)
-ways_from-plain counted at op rest s (suc n) k = (record { syms = k.syms; facts = k.facts }, tt)
+states_after-plain : (counted at : ℕ) (op : Op) (rest : List Op) (s : State) (n : ℕ) → AsksLocks s → Gives (Each AsksLocks) (states_after counted at op rest s n)
+states_after-plain counted at op rest s zero k = arrived_plain at rest (rule_of counted op s) (followed_plain counted op s k)
+states_after-plain counted at op rest s (suc n) k = (record { syms = k.syms; facts = k.facts }, tt)
 
 -- a path's locks are asked, and its numbers are the greatest of them
 pub record TellsLocks (p : Path) : Type 0 where
   pub asked : Each IsAskedIn p.facts
-  pub lock : p.lock ≡ lock_in p.facts
-  pub age : p.age ≡ age_in p.facts
+  pub lock : p.lock ≡ greatest_lock_in p.facts
+  pub age : p.age ≡ greatest_age_in p.facts
 
 end_plain : (xs : List Sym) (x : Sym) (s : State) → IsPlain x → AsksLocks s → Gives AsksLocks (end_of xs x s)
 end_plain [] x s h k = gives_then IsPlainCondition AsksLocks (condition_of x) (λ c. insist c s) (condition_plain x h) (λ c d. insist_plain c s d k)
 end_plain (y ∷ ys) x s h k = tt
 
-closed_plain : (counted at : ℕ) (r : Result State Halt) → Gives AsksLocks r → Gives (Each TellsLocks) (closed counted at r)
-closed_plain counted at (Ok s) k = gives_checked (Each TellsLocks) (is_low s) TooTall (Ok (path_of counted s ∷ [])) (λ e. (record { asked = k.facts; lock = refl; age = refl }, tt))
+closed_plain : (counted at : ℕ) (r : Result State Halt) → Gives AsksLocks r → Gives (Each TellsLocks) (path_at_end counted at r)
+closed_plain counted at (Ok s) k = gives_result_if (Each TellsLocks) (is_low s) TooTall (Ok (path_of counted s ∷ [])) (λ e. (record { asked = k.facts; lock = refl; age = refl }, tt))
 closed_plain counted at (Err h) k = halted_plain (Each TellsLocks) at [] h tt
 
 abbrev AllTell : Listed → Type 0
 AllTell l = Each TellsLocks l.paths
 
-listed_plain : (l : Listed) (r : Result (List Path) CheckError) → AllTell l → Gives (Each TellsLocks) r → Gives AllTell (listed_with l r)
+listed_plain : (l : Listed) (r : Result (List Path) CheckError) → AllTell l → Gives (Each TellsLocks) r → Gives AllTell (with_paths l r)
 listed_plain l (Ok paths) h k = each_append TellsLocks l.paths paths h k
 listed_plain l (Err e) h k = tt
 
-along_plain : (go : State → Listed → Result Listed CheckError) → ((s : State) (l : Listed) → AsksLocks s → AllTell l → Gives AllTell (go s l)) → (r : Result (List State) CheckError) (l : Listed) → Gives (Each AsksLocks) r → AllTell l → Gives AllTell (along go r l)
+along_plain : (go : State → Listed → Result Listed CheckError) → ((s : State) (l : Listed) → AsksLocks s → AllTell l → Gives AllTell (go s l)) → (r : Result (List State) CheckError) (l : Listed) → Gives (Each AsksLocks) r → AllTell l → Gives AllTell (walk_along go r l)
 along_plain go f (Err e) l ways h = tt
 along_plain go f (Ok []) l ways h = h
 along_plain go f (Ok (s ∷ [])) l ways h = f s l ways.0 h
 along_plain go f (Ok (s ∷ t ∷ more)) l ways h =
     gives_then AllTell AllTell (go s l) (λ l'. begins l' >>= go t) (f s l ways.0 h) (λ l' h'.
-    gives_then AllTell AllTell (begins l') (go t) (gives_checked AllTell (nat_lt l'.begun 64) TooManyPaths (Ok (record l' { begun = l'.begun + 1 })) (λ e. h')) (λ l2 h2. f t l2 ways.1.0 h2))
+    gives_then AllTell AllTell (begins l') (go t) (gives_result_if AllTell (nat_lt l'.begun 64) TooManyPaths (Ok (record l' { begun = l'.begun + 1 })) (λ e. h')) (λ l2 h2. f t l2 ways.1.0 h2))
 
 walk_plain : (counted : ℕ) (rest : List Op) (at : ℕ) (s : State) (l : Listed) → AsksLocks s → AllTell l → Gives AllTell (walk counted at rest s l)
 walk_plain counted [] at s l k h =
     let p = pop_plain s k in
-    listed_plain l (ended counted at s) h (closed_plain counted at (end_of (pop s).1.stack (pop s).0 (pop s).1) (end_plain (pop s).1.stack (pop s).0 (pop s).1 p.0 p.1))
+    listed_plain l (paths_at_end counted at s) h (closed_plain counted at (end_of (pop s).1.stack (pop s).0 (pop s).1) (end_plain (pop s).1.stack (pop s).0 (pop s).1 p.0 p.1))
 walk_plain counted (op ∷ rest) at s l k h =
-    along_plain (walk counted (at + 1) rest) (λ s' l' k' h'. walk_plain counted rest (at + 1) s' l' k' h') (ways_from counted at op rest s s.ahead) l (ways_from-plain counted at op rest s s.ahead k) h
+    along_plain (walk counted (at + 1) rest) (λ s' l' k' h'. walk_plain counted rest (at + 1) s' l' k' h') (states_after counted at op rest s s.ahead) l (states_after-plain counted at op rest s s.ahead k) h
 
 listing_plain : (ops : List Op) → Gives (Each TellsLocks) (listing ops)
 unfolding listing
 listing_plain ops =
-    gives_checked (Each TellsLocks) (is_balanced ops []) OpenBranch _ (λ b.
-    gives_checked (Each TellsLocks) (nat_le (counted_in ops) 201) TooMany _ (λ few.
+    gives_result_if (Each TellsLocks) (is_balanced ops []) OpenBranch _ (λ b.
+    gives_result_if (Each TellsLocks) (nat_le (counted_in ops) 201) TooMany _ (λ few.
     gives_then AllTell (Each TellsLocks) (walk (counted_in ops) 0 ops beginning (record { begun = 1; paths = [] })) (λ l. Ok l.paths) (walk_plain (counted_in ops) ops 0 beginning (record { begun = 1; paths = [] }) (record { syms = tt; facts = tt }) tt) (λ l h. h)))
 
 pub listing-tells : (ops : List Op) (paths : List Path) → listing ops ≡ Ok paths → Each TellsLocks paths
@@ -373,13 +373,13 @@ greater_either : (P : ℕ → Type 0) (o : Option ℕ) (n : ℕ) → IfSome o P 
 greater_either P None n h q = q
 greater_either P (Some m) n h q = max_either P m n h q
 
-lock_met : (spend : Spend) (w : Entries) (fact : Fact) (b : Bool) (o : Option ℕ) → IsAsked fact b → holds_of spend w fact ≡ b → IfSome o (λ n. lock_passes spend n ≡ true) → IfSome (with_lock fact o) (λ n. lock_passes spend n ≡ true)
+lock_met : (spend : Spend) (w : Elements) (fact : Fact) (b : Bool) (o : Option ℕ) → IsAsked fact b → holds_of spend w fact ≡ b → IfSome o (λ n. lock_passes spend n ≡ true) → IfSome (with_lock fact o) (λ n. lock_passes spend n ≡ true)
 lock_met spend w (Lock n) b o k h q = greater_either (λ m. lock_passes spend m ≡ true) o n q (h ∙ k)
 lock_met spend w fact b o k h q = q
 
-locks_met : (spend : Spend) (w : Entries) (facts : List Stated) → Each IsAskedIn facts → AllStated spend w facts → IfSome (lock_in facts) (λ n. lock_passes spend n ≡ true)
+locks_met : (spend : Spend) (w : Elements) (facts : List Stated) → Each IsAskedIn facts → AllStated spend w facts → IfSome (greatest_lock_in facts) (λ n. lock_passes spend n ≡ true)
 locks_met spend w [] k h = tt
-locks_met spend w (s ∷ facts) k h = lock_met spend w s.fact s.holds (lock_in facts) k.0 h.0 (locks_met spend w facts k.1 h.1)
+locks_met spend w (s ∷ facts) k h = lock_met spend w s.fact s.holds (greatest_lock_in facts) k.0 h.0 (locks_met spend w facts k.1 h.1)
 
 -- an age in blocks has 16 bits
 low-passes : (spend : Spend) (n : ℕ) → bit_at 31 n ≡ false → bit_at 22 n ≡ false → age_passes spend (n % 2 ^ 16) ≡ age_passes spend n
@@ -400,14 +400,14 @@ age_met_by : (spend : Spend) (n : ℕ) (o : Option ℕ) (t : Bool) → bit_at 22
 age_met_by spend n o true f e h q = q
 age_met_by spend n o false f e h q = greater_either (λ m. age_passes spend m ≡ true) o (n % 2 ^ 16) q (low-passes spend n e f ∙ h)
 
-age_met : (spend : Spend) (w : Entries) (fact : Fact) (b : Bool) (o : Option ℕ) → IsAsked fact b → holds_of spend w fact ≡ b → IfSome o (λ n. age_passes spend n ≡ true) → IfSome (with_age fact o) (λ n. age_passes spend n ≡ true)
+age_met : (spend : Spend) (w : Elements) (fact : Fact) (b : Bool) (o : Option ℕ) → IsAsked fact b → holds_of spend w fact ≡ b → IfSome o (λ n. age_passes spend n ≡ true) → IfSome (with_age fact o) (λ n. age_passes spend n ≡ true)
 age_met spend w (Age n) b o k h q = age_met_by spend n o (bit_at 22 n) refl k.1 (h ∙ k.0) q
 age_met spend w fact b o k h q = q
 
-ages_met : (spend : Spend) (w : Entries) (facts : List Stated) → Each IsAskedIn facts → AllStated spend w facts → IfSome (age_in facts) (λ n. age_passes spend n ≡ true)
+ages_met : (spend : Spend) (w : Elements) (facts : List Stated) → Each IsAskedIn facts → AllStated spend w facts → IfSome (greatest_age_in facts) (λ n. age_passes spend n ≡ true)
 ages_met spend w [] k h = tt
-ages_met spend w (s ∷ facts) k h = age_met spend w s.fact s.holds (age_in facts) k.0 h.0 (ages_met spend w facts k.1 h.1)
+ages_met spend w (s ∷ facts) k h = age_met spend w s.fact s.holds (greatest_age_in facts) k.0 h.0 (ages_met spend w facts k.1 h.1)
 
 -- whatever meets a path's facts meets its greatest locks
-pub tells_met : (spend : Spend) (w : Entries) (p : Path) → TellsLocks p → AllStated spend w p.facts → MeetsLocks spend p
+pub tells_met : (spend : Spend) (w : Elements) (p : Path) → TellsLocks p → AllStated spend w p.facts → MeetsLocks spend p
 tells_met spend w p t h = record { lock = rw t.lock (locks_met spend w p.facts t.asked h); age = rw t.age (ages_met spend w p.facts t.asked h) }

@@ -3,13 +3,13 @@ use Rattle.std.proofs.Common.{◌≡◌, ℕ, ◌≤◌, Bool, true, false, List
 use Rattle.std.proofs.Math.Seq.{drop-cons}
 use Rattle.script.specs.declared.opcode.Op.{Op}
 use Rattle.script.specs.declared.spending.Spend.{Spend}
-use Rattle.script.specs.Step.{Entries, effect, plain, checked, ◌>>=◌}
+use Rattle.script.specs.Step.{Elements, effect, plain, result_if, ◌>>=◌}
 use Rattle.facts.specs.declared.symbols.Fact.{Fact}
 use Rattle.facts.specs.declared.symbols.Stated.{Stated}
 use Rattle.facts.specs.declared.symbols.Sym.{Sym}
 use Rattle.facts.specs.Meaning.{slot_of, item_for, holds_of, AllStated}
 use Rattle.paths.specs.declared.state.State.{State}
-use Rattle.paths.specs.declared.state.Turn.TheVariants.{Onward}
+use Rattle.paths.specs.declared.state.SymbolicJump.TheVariants.{Next}
 use Rattle.paths.specs.Rules.{pop_of, pop, push, ask}
 use Rattle.paths.proofs.SoundWords.{Gives, entries_of, IsShort, Grows, Asks, Follows}
 
@@ -25,24 +25,24 @@ pub gives_same : {A E : Type 0} (r : Result A E) → Gives (λ x. r ≡ Ok x) r
 gives_same (Ok x) = refl
 gives_same (Err e) = tt
 
-pub gives_checked : {A E : Type 0} (P : A → Type 0) (b : Bool) (e : E) (r : Result A E) → (b ≡ true → Gives P r) → Gives P (checked b e r)
-gives_checked P true e r h = h refl
-gives_checked P false e r h = tt
+pub gives_result_if : {A E : Type 0} (P : A → Type 0) (b : Bool) (e : E) (r : Result A E) → (b ≡ true → Gives P r) → Gives P (result_if b e r)
+gives_result_if P true e r h = h refl
+gives_result_if P false e r h = tt
 
-pub checked_yes : {A E : Type 0} (b : Bool) (e : E) (r : Result A E) → b ≡ true → checked b e r ≡ r
-checked_yes true e r h = refl
-checked_yes false e r h = absurd (cc)
+pub result_if-true : {A E : Type 0} (b : Bool) (e : E) (r : Result A E) → b ≡ true → result_if b e r ≡ r
+result_if-true true e r h = refl
+result_if-true false e r h = absurd (cc)
 
 -- facts in two parts
-pub stated_parts : (spend : Spend) (w : Entries) (xs ys : List Stated) → AllStated spend w (xs ++ ys) → AllStated spend w xs × AllStated spend w ys
+pub stated_parts : (spend : Spend) (w : Elements) (xs ys : List Stated) → AllStated spend w (xs ++ ys) → AllStated spend w xs × AllStated spend w ys
 stated_parts spend w [] ys h = (tt, h)
 stated_parts spend w (x ∷ xs) ys h = let r = stated_parts spend w xs ys h.1 in ((h.0, r.0), r.1)
 
-pub stated_join : (spend : Spend) (w : Entries) (xs ys : List Stated) → AllStated spend w xs → AllStated spend w ys → AllStated spend w (xs ++ ys)
+pub stated_join : (spend : Spend) (w : Elements) (xs ys : List Stated) → AllStated spend w xs → AllStated spend w ys → AllStated spend w (xs ++ ys)
 stated_join spend w [] ys h k = k
 stated_join spend w (x ∷ xs) ys h k = (h.0, stated_join spend w xs ys h.1 k)
 
-pub asked_now : (spend : Spend) (w : Entries) (fact : Fact) (b : Bool) (s : State) → AllStated spend w (ask fact b s).facts → holds_of spend w fact ≡ b
+pub asked_now : (spend : Spend) (w : Elements) (fact : Fact) (b : Bool) (s : State) → AllStated spend w (ask fact b s).facts → holds_of spend w fact ≡ b
 asked_now spend w fact b s h = (stated_parts spend w s.facts (record { fact = fact; holds = b } ∷ []) h).1.0
 
 pub grows_refl : (s : State) → Grows s s
@@ -88,24 +88,24 @@ asks_grows s t a = record {
   facts = a.facts;
 }
 
-pub asks_entries : (spend : Spend) (w : Entries) (s t : State) → Asks s t → entries_of spend w t ≡ entries_of spend w s
+pub asks_entries : (spend : Spend) (w : Elements) (s t : State) → Asks s t → entries_of spend w t ≡ entries_of spend w s
 asks_entries spend w s t a = ap (entries_of spend w) a.same
 
--- the top of the entries is the item of the symbol
-pub pop_entries : (spend : Spend) (w : Entries) (s : State) → (pop s).1.slots ≤ length w → entries_of spend w s ≡ item_for spend w (pop s).0 ∷ entries_of spend w (pop s).1
+-- the top of the elements is the item of the symbol
+pub pop_entries : (spend : Spend) (w : Elements) (s : State) → (pop s).1.slots ≤ length w → entries_of spend w s ≡ item_for spend w (pop s).0 ∷ entries_of spend w (pop s).1
 pop_entries spend w s l = go s.stack l
   where
     go : (xs : List Sym) → (pop_of xs s).1.slots ≤ length w → map (item_for spend w) xs ++ drop s.slots w ≡ item_for spend w (pop_of xs s).0 ∷ entries_of spend w (pop_of xs s).1
     go [] l = drop-cons w s.slots [] (omega arith) ∙ ap (λ k. slot_of w s.slots ∷ drop k w) (sym (add-one s.slots))
     go (x ∷ xs) l = refl
 
-pub pop_entries-2 : (spend : Spend) (w : Entries) (s : State) → (pop (pop s).1).1.slots ≤ length w → entries_of spend w s ≡ item_for spend w (pop s).0 ∷ item_for spend w (pop (pop s).1).0 ∷ entries_of spend w (pop (pop s).1).1
+pub pop_entries-2 : (spend : Spend) (w : Elements) (s : State) → (pop (pop s).1).1.slots ≤ length w → entries_of spend w s ≡ item_for spend w (pop s).0 ∷ item_for spend w (pop (pop s).1).0 ∷ entries_of spend w (pop (pop s).1).1
 pop_entries-2 spend w s l =
     let g = (pop_grows (pop s).1).more in
     pop_entries spend w s (omega arith) ∙ ap (λ r. item_for spend w (pop s).0 ∷ r) (pop_entries spend w (pop s).1 l)
 
 -- an opcode of no branch that counts no keys
-pub plain_follows : (counted : ℕ) (op : Op) (s s' : State) → Grows s s' → ((spend : Spend) (w : Entries) (c : ℕ) → IsShort w → s'.slots ≤ length w → AllStated spend w s'.facts → effect spend c op (entries_of spend w s) ≡ plain (entries_of spend w s')) → Follows counted op s Onward s'
+pub plain_follows : (counted : ℕ) (op : Op) (s s' : State) → Grows s s' → ((spend : Spend) (w : Elements) (c : ℕ) → IsShort w → s'.slots ≤ length w → AllStated spend w s'.facts → effect spend c op (entries_of spend w s) ≡ plain (entries_of spend w s')) → Follows counted op s Next s'
 plain_follows counted op s s' g st = record {
   ahead = g.ahead;
   excess = g.excess;

@@ -10,8 +10,9 @@ use Rattle.script.specs.declared.opcode.Op.{Op}
 use Rattle.script.specs.declared.spending.Spend.{Spend}
 use Rattle.script.specs.declared.stops.Cause.{Cause}
 use Rattle.script.specs.declared.stops.Cause.TheVariants.{TooManyOps as ManyCounted, StackTooTall, ItemTooLong, FalseEnd}
-use Rattle.script.specs.Step.{Entries, Onward as ToNext, PastElse as ToElse, truth, ◌>>=◌}
-use Rattle.script.specs.Run.{Place, weight, counted_in, over, jump_of, opens, settled, jumped_or_run, past, Clean, Stopped, at_end, onward, outcome_from, start, is_long}
+use Rattle.script.specs.declared.jumps.Jump.TheVariants.{Next as ToNext, AfterElse as ToElse}
+use Rattle.script.specs.Step.{Elements, truth, ◌>>=◌}
+use Rattle.script.specs.Run.{RunState, weight, counted_in, skip_length, jump_length, open_ifs_after, state_after_effect, state_after_skip_or_run, state_after, Clean, Stopped, at_end, onward, outcome_from, start, is_long}
 use Rattle.facts.specs.declared.symbols.Stated.{Stated}
 use Rattle.facts.specs.declared.symbols.Sym.{Sym}
 use Rattle.facts.specs.Meaning.{item_for, holds_of, AllStated}
@@ -20,28 +21,28 @@ use Rattle.paths.specs.declared.errors.CheckError.TheVariants.{OpenBranch, TooMa
 use Rattle.paths.specs.declared.state.State.{State}
 use Rattle.paths.specs.declared.state.Halt.{Halt}
 use Rattle.paths.specs.declared.state.Halt.TheVariants.{NoMemory, Dead, Undecided, TooManyOps}
-use Rattle.paths.specs.declared.state.Turn.{Turn}
-use Rattle.paths.specs.declared.state.Turn.TheVariants.{Onward, PastElse, PastEnd, Splits}
+use Rattle.paths.specs.declared.state.SymbolicJump.{SymbolicJump}
+use Rattle.paths.specs.declared.state.SymbolicJump.TheVariants.{Next, AfterElse, AfterEndIf, Splits}
 use Rattle.paths.specs.declared.state.Condition.{Condition}
 use Rattle.paths.specs.declared.state.Path.{Path}
 use Rattle.paths.specs.declared.state.Listed.{Listed}
-use Rattle.paths.specs.Rules.{pop, ask, condition_of, insist, followed}
-use Rattle.paths.specs.Listing.{goes_balanced, is_balanced, measured, is_low, ahead_by, ways_by, halted, arrived, ways_from, path_of, closed, end_of, ended, listed_with, begins, along, walk, beginning, listing}
+use Rattle.paths.specs.Rules.{pop, ask, condition_of, insist, rule_of}
+use Rattle.paths.specs.Listing.{balanced_with, is_balanced, with_excess, is_low, ahead_by, states_after_jump, refusal_at, states_after_rule, states_after, path_of, path_at_end, end_of, paths_at_end, with_paths, begins, walk_along, walk, beginning, listing}
 use Rattle.paths.specs.Sound.{IsSound}
-use Rattle.paths.proofs.SoundWords.{Gives, entries_of, IsShort, move_by, Grows, Follows, place_of, Fits, Comes}
-use Rattle.paths.proofs.SoundPops.{gives_then, gives_map, gives_checked, checked_yes, stated_parts, pop_grows, asks_grows, grows_trans, pop_entries}
-use Rattle.paths.proofs.SoundRules.{LeadsTo, IsDecided, condition_good, Insists, insist_good}
-use Rattle.paths.proofs.SoundFollowed.{followed-sound}
+use Rattle.paths.proofs.SoundWords.{Gives, entries_of, IsShort, move_by, Grows, Follows, run_state_of, Fits, Comes}
+use Rattle.paths.proofs.SoundPops.{gives_then, gives_map, gives_result_if, result_if-true, stated_parts, pop_grows, asks_grows, grows_trans, pop_entries}
+use Rattle.paths.proofs.SoundRules.{FollowsTo, IsDecided, condition_good, Insists, insist_good}
+use Rattle.paths.proofs.SoundFollowed.{rule_of-sound}
 
 -- past one opcode of the list
-past_open : (spend : Spend) (op : Op) (rest : List Op) (p : Place) (ifs : List Bool) → p.counted + weight op ≤ 201 → opens op p.open_ifs ≡ Ok ifs → past spend op rest p ≡ jumped_or_run spend op rest p.ahead p (p.counted + weight op) ifs
-unfolding past
+past_open : (spend : Spend) (op : Op) (rest : List Op) (p : RunState) (ifs : List Bool) → p.counted + weight op ≤ 201 → open_ifs_after op p.open_ifs ≡ Ok ifs → state_after spend op rest p ≡ state_after_skip_or_run spend op rest p.ahead p (p.counted + weight op) ifs
+unfolding state_after
 past_open spend op rest p ifs l e =
-    checked_yes (leb (p.counted + weight op) 201) ManyCounted _ (le-leb _ 201 l)
-    ∙ ap (λ o. o >>= jumped_or_run spend op rest p.ahead p (p.counted + weight op)) e
+    result_if-true (leb (p.counted + weight op) 201) ManyCounted _ (le-leb _ 201 l)
+    ∙ ap (λ o. o >>= state_after_skip_or_run spend op rest p.ahead p (p.counted + weight op)) e
 
 -- the list opens so
-balanced_step : (r : Result (List Bool) Cause) (go : List Bool → Bool) → goes_balanced r go ≡ true → (ifs : List Bool) × (r ≡ Ok ifs) × (go ifs ≡ true)
+balanced_step : (r : Result (List Bool) Cause) (go : List Bool → Bool) → balanced_with r go ≡ true → (ifs : List Bool) × (r ≡ Ok ifs) × (go ifs ≡ true)
 balanced_step (Ok ifs) go e = (ifs, refl, e)
 balanced_step (Err c) go e = absurd (true≢false (sym e))
 
@@ -49,11 +50,11 @@ pub balanced_end : (ifs : List Bool) → is_balanced [] ifs ≡ true → ifs ≡
 balanced_end [] e = refl
 balanced_end (b ∷ ifs) e = absurd (true≢false (sym e))
 
--- the number of entries, against that of the witness
-pub length_entries : (spend : Spend) (w : Entries) (s : State) → s.slots ≤ length w → length (entries_of spend w s) + s.slots ≡ length s.stack + length w
+-- the number of elements, against that of the witness
+pub length_entries : (spend : Spend) (w : Elements) (s : State) → s.slots ≤ length w → length (entries_of spend w s) + s.slots ≡ length s.stack + length w
 length_entries spend w s l = omega (arith, length-append (map (item_for spend w) s.stack) (drop s.slots w), length-map s.stack (item_for spend w), length-drop s.slots w)
 
-same_place : (n n' : ℕ) (stack : Entries) (c c' : ℕ) (ifs : List Bool) (h h' : ℕ) → n ≡ n' → c ≡ c' → h ≡ h' → ◌≡◌ {A = Result Place Cause} (Ok (record { ahead = n; stack = stack; counted = c; open_ifs = ifs; height = h })) (Ok (record { ahead = n'; stack = stack; counted = c'; open_ifs = ifs; height = h' }))
+same_place : (n n' : ℕ) (stack : Elements) (c c' : ℕ) (ifs : List Bool) (h h' : ℕ) → n ≡ n' → c ≡ c' → h ≡ h' → ◌≡◌ {A = Result RunState Cause} (Ok (record { ahead = n; stack = stack; counted = c; open_ifs = ifs; height = h })) (Ok (record { ahead = n'; stack = stack; counted = c'; open_ifs = ifs; height = h' }))
 same_place n n' stack c c' ifs h h' e f g = rw (e, f, g) refl
 
 pub summed : (a b c d : ℕ) → a + (b + c) ≡ d → a + b + c ≡ d
@@ -68,7 +69,7 @@ turned a k b = omega arith
 -- jumped over
 comes_jump : (ops : List Op) (at : ℕ) (op : Op) (rest : List Op) (s : State) (n : ℕ) → s.ahead ≡ suc n → Comes ops at (op ∷ rest) s → Comes ops (at + 1) rest (ahead_by n s)
 comes_jump ops at op rest s n z c =
-    let b = balanced_step (opens op c.ifs) (is_balanced rest) c.balanced in
+    let b = balanced_step (open_ifs_after op c.ifs) (is_balanced rest) c.balanced in
     let t : c.before + (weight op + counted_in rest) ≡ counted_in ops = c.total in
     let f : counted_in ops + s.keys ≤ 201 = c.few in
     record {
@@ -80,8 +81,8 @@ comes_jump ops at op rest s n z c =
       reached = λ spend w m.
           c.reached spend w (record { enough = m.enough; facts = m.facts; low = m.low; short = m.short })
           ∙ ap (λ r. onward at r (outcome_from spend (at + 1) rest)) (
-          past_open spend op rest (place_of spend w c.before c.ifs s) b.0 (below c.before s.keys (weight op) (counted_in rest) (counted_in ops) t f) b.1
-          ∙ ap (λ a. jumped_or_run spend op rest a (place_of spend w c.before c.ifs s) (c.before + s.keys + weight op) b.0) z
+          past_open spend op rest (run_state_of spend w c.before c.ifs s) b.0 (below c.before s.keys (weight op) (counted_in rest) (counted_in ops) t f) b.1
+          ∙ ap (λ a. state_after_skip_or_run spend op rest a (run_state_of spend w c.before c.ifs s) (c.before + s.keys + weight op) b.0) z
           ∙ same_place n n (entries_of spend w s) _ _ b.0 _ _ refl (turned c.before s.keys (weight op)) refl);
     }
 
@@ -96,9 +97,9 @@ pub counts : (a k b u k' : ℕ) → k' ≡ k + u → a + k + b + u ≡ a + b + k
 counts a k b u k' e = omega arith
 
 -- run
-comes_run : (ops : List Op) (at : ℕ) (op : Op) (rest : List Op) (s : State) (turn : Turn) (s' : State) (n : ℕ) (facts : List Stated) → s.ahead ≡ 0 → Follows (counted_in ops) op s turn s' → ((spend : Spend) (w : Entries) → AllStated spend w facts → AllStated spend w s'.facts × (jump_of (move_by spend w turn) rest ≡ n)) → Comes ops at (op ∷ rest) s → Comes ops (at + 1) rest (run_to n facts s')
+comes_run : (ops : List Op) (at : ℕ) (op : Op) (rest : List Op) (s : State) (turn : SymbolicJump) (s' : State) (n : ℕ) (facts : List Stated) → s.ahead ≡ 0 → Follows (counted_in ops) op s turn s' → ((spend : Spend) (w : Elements) → AllStated spend w facts → AllStated spend w s'.facts × (jump_length (move_by spend w turn) rest ≡ n)) → Comes ops at (op ∷ rest) s → Comes ops (at + 1) rest (run_to n facts s')
 comes_run ops at op rest s turn s' n facts z f h c =
-    let b = balanced_step (opens op c.ifs) (is_balanced rest) c.balanced in
+    let b = balanced_step (open_ifs_after op c.ifs) (is_balanced rest) c.balanced in
     let t : c.before + (weight op + counted_in rest) ≡ counted_in ops = c.total in
     let few : counted_in ops + s.keys ≤ 201 = c.few in
     record {
@@ -110,22 +111,22 @@ comes_run ops at op rest s turn s' n facts z f h c =
       reached = λ spend w m.
           c.reached spend w (fits spend w m)
           ∙ ap (λ r. onward at r (outcome_from spend (at + 1) rest)) (
-          past_open spend op rest (place_of spend w c.before c.ifs s) b.0 (below c.before s.keys (weight op) (counted_in rest) (counted_in ops) t few) b.1
-          ∙ ap (λ a. jumped_or_run spend op rest a (place_of spend w c.before c.ifs s) (c.before + s.keys + weight op) b.0) z
-          ∙ ap (λ x. x >>= settled rest (c.before + s.keys + weight op) b.0 (length w + s.excess)) (f.step spend w (c.before + s.keys + weight op) (above c.before s.keys (weight op) (counted_in rest) (counted_in ops) t) m.short m.enough (h spend w m.facts).0)
+          past_open spend op rest (run_state_of spend w c.before c.ifs s) b.0 (below c.before s.keys (weight op) (counted_in rest) (counted_in ops) t few) b.1
+          ∙ ap (λ a. state_after_skip_or_run spend op rest a (run_state_of spend w c.before c.ifs s) (c.before + s.keys + weight op) b.0) z
+          ∙ ap (λ x. x >>= state_after_effect rest (c.before + s.keys + weight op) b.0 (length w + s.excess)) (f.step spend w (c.before + s.keys + weight op) (above c.before s.keys (weight op) (counted_in rest) (counted_in ops) t) m.short m.enough (h spend w m.facts).0)
           ∙ settled_so spend w b.0 m (c.before + s.keys + weight op) (c.before + weight op + s'.keys) (counts c.before s.keys (weight op) f.used s'.keys f.keys));
     }
   where
-    fits : (spend : Spend) (w : Entries) → Fits spend w (run_to n facts s') → Fits spend w s
+    fits : (spend : Spend) (w : Elements) → Fits spend w (run_to n facts s') → Fits spend w s
     fits spend w m =
         let e = f.excess in let l = m.low in let k = f.more in let en = m.enough in
         record { enough = omega arith; facts = f.facts spend w (h spend w m.facts).0; low = omega arith; short = m.short }
 
-    settled_so : (spend : Spend) (w : Entries) (ifs : List Bool) → Fits spend w (run_to n facts s') → (k k' : ℕ) → k + f.used ≡ k' → settled rest k ifs (length w + s.excess) (record { move = move_by spend w turn; stack = entries_of spend w s'; keys = f.used }) ≡ Ok (record { ahead = n; stack = entries_of spend w s'; counted = k'; open_ifs = ifs; height = length w + max s'.excess (length s'.stack - s'.slots) })
+    settled_so : (spend : Spend) (w : Elements) (ifs : List Bool) → Fits spend w (run_to n facts s') → (k k' : ℕ) → k + f.used ≡ k' → state_after_effect rest k ifs (length w + s.excess) (record { jump = move_by spend w turn; stack = entries_of spend w s'; keys = f.used }) ≡ Ok (record { ahead = n; stack = entries_of spend w s'; counted = k'; open_ifs = ifs; height = length w + max s'.excess (length s'.stack - s'.slots) })
     settled_so spend w ifs m k k' e =
         let x = f.excess in let l = m.low in let en = m.enough in
         let long = length_entries spend w s' m.enough in
-        checked_yes (leb (length (entries_of spend w s')) 1000) StackTooTall _ (le-leb _ 1000 (omega arith))
+        result_if-true (leb (length (entries_of spend w s')) 1000) StackTooTall _ (le-leb _ 1000 (omega arith))
         ∙ same_place _ n (entries_of spend w s') _ k' ifs _ _ (h spend w m.facts).1 e (omega arith)
 
 pub same_runs : (t runs : Bool) → t ≡ runs → (if t then runs else not runs) ≡ true
@@ -141,52 +142,52 @@ other_runs false true e = refl
 other_runs false false e = sym e
 
 -- the ways on from an opcode that was run
-ways_good : (ops : List Op) (at : ℕ) (op : Op) (rest : List Op) (s : State) (turn : Turn) (s' : State) → s.ahead ≡ 0 → Follows (counted_in ops) op s turn s' → Comes ops at (op ∷ rest) s → All (Comes ops (at + 1) rest) (ways_by turn rest (measured s'))
-ways_good ops at op rest s Onward s' z f c =
-    All-cons (Comes ops (at + 1) rest) _ [] (comes_run ops at op rest s Onward s' s'.ahead s'.facts z f (λ spend w h. (h, sym (f.ahead ∙ z))) c) (All-nil (Comes ops (at + 1) rest))
-ways_good ops at op rest s PastElse s' z f c =
-    All-cons (Comes ops (at + 1) rest) _ [] (comes_run ops at op rest s PastElse s' (over true 0 rest) s'.facts z f (λ spend w h. (h, refl)) c) (All-nil (Comes ops (at + 1) rest))
-ways_good ops at op rest s PastEnd s' z f c =
-    All-cons (Comes ops (at + 1) rest) _ [] (comes_run ops at op rest s PastEnd s' (over false 0 rest) s'.facts z f (λ spend w h. (h, refl)) c) (All-nil (Comes ops (at + 1) rest))
+ways_good : (ops : List Op) (at : ℕ) (op : Op) (rest : List Op) (s : State) (turn : SymbolicJump) (s' : State) → s.ahead ≡ 0 → Follows (counted_in ops) op s turn s' → Comes ops at (op ∷ rest) s → All (Comes ops (at + 1) rest) (states_after_jump turn rest (with_excess s'))
+ways_good ops at op rest s Next s' z f c =
+    All-cons (Comes ops (at + 1) rest) _ [] (comes_run ops at op rest s Next s' s'.ahead s'.facts z f (λ spend w h. (h, sym (f.ahead ∙ z))) c) (All-nil (Comes ops (at + 1) rest))
+ways_good ops at op rest s AfterElse s' z f c =
+    All-cons (Comes ops (at + 1) rest) _ [] (comes_run ops at op rest s AfterElse s' (skip_length true 0 rest) s'.facts z f (λ spend w h. (h, refl)) c) (All-nil (Comes ops (at + 1) rest))
+ways_good ops at op rest s AfterEndIf s' z f c =
+    All-cons (Comes ops (at + 1) rest) _ [] (comes_run ops at op rest s AfterEndIf s' (skip_length false 0 rest) s'.facts z f (λ spend w h. (h, refl)) c) (All-nil (Comes ops (at + 1) rest))
 ways_good ops at op rest s (Splits fact runs) s' z f c =
-    All-cons (Comes ops (at + 1) rest) _ (run_to (over true 0 rest) (ask fact (not runs) s').facts s' ∷ []) (
+    All-cons (Comes ops (at + 1) rest) _ (run_to (skip_length true 0 rest) (ask fact (not runs) s').facts s' ∷ []) (
     comes_run ops at op rest s (Splits fact runs) s' s'.ahead (ask fact runs s').facts z f (λ spend w h.
     let p = stated_parts spend w s'.facts (record { fact = fact; holds = runs } ∷ []) h in
-    (p.0, ap (λ t. jump_of (if t then ToNext else ToElse) rest) (same_runs (holds_of spend w fact) runs p.1.0) ∙ sym (f.ahead ∙ z))) c
+    (p.0, ap (λ t. jump_length (if t then ToNext else ToElse) rest) (same_runs (holds_of spend w fact) runs p.1.0) ∙ sym (f.ahead ∙ z))) c
     ) (
     All-cons (Comes ops (at + 1) rest) _ [] (
-    comes_run ops at op rest s (Splits fact runs) s' (over true 0 rest) (ask fact (not runs) s').facts z f (λ spend w h.
+    comes_run ops at op rest s (Splits fact runs) s' (skip_length true 0 rest) (ask fact (not runs) s').facts z f (λ spend w h.
     let p = stated_parts spend w s'.facts (record { fact = fact; holds = not runs } ∷ []) h in
-    (p.0, ap (λ t. jump_of (if t then ToNext else ToElse) rest) (other_runs (holds_of spend w fact) runs p.1.0))) c
+    (p.0, ap (λ t. jump_length (if t then ToNext else ToElse) rest) (other_runs (holds_of spend w fact) runs p.1.0))) c
     ) (All-nil (Comes ops (at + 1) rest))
     )
 
-halted_good : {A : Type 0} (P : A → Type 0) (at : ℕ) (none : A) (h : Halt) → P none → Gives P (halted at none h)
+halted_good : {A : Type 0} (P : A → Type 0) (at : ℕ) (none : A) (h : Halt) → P none → Gives P (refusal_at at none h)
 halted_good P at none NoMemory p = tt
 halted_good P at none Dead p = p
 halted_good P at none Undecided p = tt
 halted_good P at none TooManyOps p = tt
 
-arrived_good : (ops : List Op) (at : ℕ) (op : Op) (rest : List Op) (s : State) (r : Result (Turn × State) Halt) → s.ahead ≡ 0 → Gives (LeadsTo (counted_in ops) op s) r → Comes ops at (op ∷ rest) s → Gives (All (Comes ops (at + 1) rest)) (arrived at rest r)
+arrived_good : (ops : List Op) (at : ℕ) (op : Op) (rest : List Op) (s : State) (r : Result (SymbolicJump × State) Halt) → s.ahead ≡ 0 → Gives (FollowsTo (counted_in ops) op s) r → Comes ops at (op ∷ rest) s → Gives (All (Comes ops (at + 1) rest)) (states_after_rule at rest r)
 arrived_good ops at op rest s (Ok (turn, s')) z f c =
-    gives_checked (All (Comes ops (at + 1) rest)) (is_low (measured s')) TooTall (Ok (ways_by turn rest (measured s'))) (λ e. ways_good ops at op rest s turn s' z f c)
+    gives_result_if (All (Comes ops (at + 1) rest)) (is_low (with_excess s')) TooTall (Ok (states_after_jump turn rest (with_excess s'))) (λ e. ways_good ops at op rest s turn s' z f c)
 arrived_good ops at op rest s (Err h) z f c = halted_good (All (Comes ops (at + 1) rest)) at [] h (All-nil (Comes ops (at + 1) rest))
 
-ways_from-good : (ops : List Op) (at : ℕ) (op : Op) (rest : List Op) (s : State) → Comes ops at (op ∷ rest) s → Gives (All (Comes ops (at + 1) rest)) (ways_from (counted_in ops) at op rest s s.ahead)
-ways_from-good ops at op rest s c = go s.ahead refl
+states_after-good : (ops : List Op) (at : ℕ) (op : Op) (rest : List Op) (s : State) → Comes ops at (op ∷ rest) s → Gives (All (Comes ops (at + 1) rest)) (states_after (counted_in ops) at op rest s s.ahead)
+states_after-good ops at op rest s c = go s.ahead refl
   where
-    go : (n : ℕ) → s.ahead ≡ n → Gives (All (Comes ops (at + 1) rest)) (ways_from (counted_in ops) at op rest s n)
-    go zero e = arrived_good ops at op rest s (followed (counted_in ops) op s) e (followed-sound (counted_in ops) op s) c
+    go : (n : ℕ) → s.ahead ≡ n → Gives (All (Comes ops (at + 1) rest)) (states_after (counted_in ops) at op rest s n)
+    go zero e = arrived_good ops at op rest s (rule_of (counted_in ops) op s) e (rule_of-sound (counted_in ops) op s) c
     go (suc n) e = All-cons (Comes ops (at + 1) rest) (ahead_by n s) [] (comes_jump ops at op rest s n e c) (All-nil (Comes ops (at + 1) rest))
 
--- the end of a path: one entry is left, and it is true
+-- the end of a path: one element is left, and it is true
 record Closes (s s' : State) : Type 0 where
   pub grows : Grows s s'
-  pub item : Spend → Entries → List ℕ
-  pub one : (spend : Spend) (w : Entries) → length w ≡ s'.slots → entries_of spend w s ≡ item spend w ∷ []
-  pub is_true : (spend : Spend) (w : Entries) → AllStated spend w s'.facts → truth (item spend w) ≡ true
+  pub item : Spend → Elements → List ℕ
+  pub one : (spend : Spend) (w : Elements) → length w ≡ s'.slots → entries_of spend w s ≡ item spend w ∷ []
+  pub is_true : (spend : Spend) (w : Elements) → AllStated spend w s'.facts → truth (item spend w) ≡ true
 
-drop_whole : (w : Entries) (n : ℕ) → length w ≡ n → drop n w ≡ []
+drop_whole : (w : Elements) (n : ℕ) → length w ≡ n → drop n w ≡ []
 drop_whole w n e = ap (λ k. drop k w) (sym e) ∙ drop-length w
 
 closes_by : (s : State) (c : Condition) (s' : State) → (pop s).1.stack ≡ [] → IsDecided (pop s).0 c → Insists c (pop s).1 s' → Closes s s'
@@ -210,12 +211,12 @@ end_good s = go (pop s).1.stack refl
     go (x ∷ xs) e = tt
 
 -- items of a witness, whichever end is first
-short_at : (xs : Entries) → list_any is_long xs ≡ false → IsShort xs
+short_at : (xs : Elements) → list_any is_long xs ≡ false → IsShort xs
 short_at [] e i = omega arith
 short_at (x ∷ xs) e zero = ltb-false 520 (length x) (or_parts (is_long x) (list_any is_long xs) e).0
 short_at (x ∷ xs) e (suc i) = short_at xs (or_parts (is_long x) (list_any is_long xs) e).1 i
 
-pub short_reversed : (xs : Entries) → list_any is_long xs ≡ false → IsShort (reverse xs)
+pub short_reversed : (xs : Elements) → list_any is_long xs ≡ false → IsShort (reverse xs)
 short_reversed xs e = short_at (reverse xs) (sym (list_any-IsPermutation is_long xs (reverse xs) (IsPermutation-reverse xs)) ∙ e)
 
 path_sound : (ops : List Op) (at : ℕ) (s s' : State) → Comes ops at [] s → Closes s s' → is_low s' ≡ true → IsSound ops (path_of (counted_in ops) s')
@@ -235,12 +236,12 @@ path_sound ops at s s' c k low =
       age = refl;
     }
   where
-    fits : (spend : Spend) (w : Entries) → length w ≡ s'.slots → AllStated spend w s'.facts → IsShort w → s'.slots + s'.excess ≤ 1000 → Fits spend w s
+    fits : (spend : Spend) (w : Elements) → length w ≡ s'.slots → AllStated spend w s'.facts → IsShort w → s'.slots + s'.excess ≤ 1000 → Fits spend w s
     fits spend w n h sh l =
         let more = k.grows.more in let ex = k.grows.excess in
         record { enough = omega arith; facts = k.grows.facts spend w h; low = omega arith; short = sh }
 
-    at_end_clean : (spend : Spend) (w : Entries) → length w ≡ s'.slots → AllStated spend w s'.facts → at_end at c.ifs (entries_of spend w s) (c.before + s.keys) (length w + s.excess) ≡ Clean (counted_in ops + s'.keys) (s'.slots + s'.excess)
+    at_end_clean : (spend : Spend) (w : Elements) → length w ≡ s'.slots → AllStated spend w s'.facts → at_end at c.ifs (entries_of spend w s) (c.before + s.keys) (length w + s.excess) ≡ Clean (counted_in ops + s'.keys) (s'.slots + s'.excess)
     at_end_clean spend w n h =
         let t : c.before + 0 ≡ counted_in ops = c.total in
         let keys = k.grows.keys in let ex = k.grows.excess in
@@ -251,31 +252,31 @@ path_sound ops at s s' c k low =
         ∙ ap (λ b. if b then Clean (c.before + s.keys) (length w + s.excess) else Stopped at FalseEnd) (k.is_true spend w h)
         ∙ rw (counted, height) refl
 
-closed_good : (ops : List Op) (at : ℕ) (s : State) (r : Result State Halt) → Comes ops at [] s → Gives (Closes s) r → Gives (All (IsSound ops)) (closed (counted_in ops) at r)
+closed_good : (ops : List Op) (at : ℕ) (s : State) (r : Result State Halt) → Comes ops at [] s → Gives (Closes s) r → Gives (All (IsSound ops)) (path_at_end (counted_in ops) at r)
 closed_good ops at s (Ok s') c k =
-    gives_checked (All (IsSound ops)) (is_low s') TooTall (Ok (path_of (counted_in ops) s' ∷ [])) (λ e. All-cons (IsSound ops) _ [] (path_sound ops at s s' c k e) (All-nil (IsSound ops)))
+    gives_result_if (All (IsSound ops)) (is_low s') TooTall (Ok (path_of (counted_in ops) s' ∷ [])) (λ e. All-cons (IsSound ops) _ [] (path_sound ops at s s' c k e) (All-nil (IsSound ops)))
 closed_good ops at s (Err h) c k = halted_good (All (IsSound ops)) at [] h (All-nil (IsSound ops))
 
 -- all paths that were listed are sound
 abbrev AllSound : List Op → Listed → Type 0
 AllSound ops l = All (IsSound ops) l.paths
 
-listed_good : (ops : List Op) (l : Listed) (r : Result (List Path) CheckError) → AllSound ops l → Gives (All (IsSound ops)) r → Gives (AllSound ops) (listed_with l r)
+listed_good : (ops : List Op) (l : Listed) (r : Result (List Path) CheckError) → AllSound ops l → Gives (All (IsSound ops)) r → Gives (AllSound ops) (with_paths l r)
 listed_good ops l (Ok paths) h k = All-append (IsSound ops) l.paths paths h k
 listed_good ops l (Err e) h k = tt
 
-along_good : (ops : List Op) (P : State → Type 0) (go : State → Listed → Result Listed CheckError) → ((s : State) (l : Listed) → P s → AllSound ops l → Gives (AllSound ops) (go s l)) → (r : Result (List State) CheckError) (l : Listed) → Gives (All P) r → AllSound ops l → Gives (AllSound ops) (along go r l)
+along_good : (ops : List Op) (P : State → Type 0) (go : State → Listed → Result Listed CheckError) → ((s : State) (l : Listed) → P s → AllSound ops l → Gives (AllSound ops) (go s l)) → (r : Result (List State) CheckError) (l : Listed) → Gives (All P) r → AllSound ops l → Gives (AllSound ops) (walk_along go r l)
 along_good ops P go f (Err e) l ways h = tt
 along_good ops P go f (Ok []) l ways h = h
 along_good ops P go f (Ok (s ∷ [])) l ways h = f s l (All-head P s [] ways) h
 along_good ops P go f (Ok (s ∷ t ∷ rest)) l ways h =
     gives_then (AllSound ops) (AllSound ops) (go s l) (λ l'. begins l' >>= go t) (f s l (All-head P s (t ∷ rest) ways) h) (λ l' h'.
-    gives_then (AllSound ops) (AllSound ops) (begins l') (go t) (gives_checked (AllSound ops) (nat_lt l'.begun 64) TooManyPaths (Ok (record l' { begun = l'.begun + 1 })) (λ e. h')) (λ l2 h2. f t l2 (All-head P t rest (All-tail P s (t ∷ rest) ways)) h2))
+    gives_then (AllSound ops) (AllSound ops) (begins l') (go t) (gives_result_if (AllSound ops) (nat_lt l'.begun 64) TooManyPaths (Ok (record l' { begun = l'.begun + 1 })) (λ e. h')) (λ l2 h2. f t l2 (All-head P t rest (All-tail P s (t ∷ rest) ways)) h2))
 
 walk_good : (ops rest : List Op) (at : ℕ) (s : State) (l : Listed) → Comes ops at rest s → AllSound ops l → Gives (AllSound ops) (walk (counted_in ops) at rest s l)
-walk_good ops [] at s l c h = listed_good ops l (ended (counted_in ops) at s) h (closed_good ops at s (end_of (pop s).1.stack (pop s).0 (pop s).1) c (end_good s))
+walk_good ops [] at s l c h = listed_good ops l (paths_at_end (counted_in ops) at s) h (closed_good ops at s (end_of (pop s).1.stack (pop s).0 (pop s).1) c (end_good s))
 walk_good ops (op ∷ rest) at s l c h =
-    along_good ops (Comes ops (at + 1) rest) (walk (counted_in ops) (at + 1) rest) (λ s' l' c' h'. walk_good ops rest (at + 1) s' l' c' h') (ways_from (counted_in ops) at op rest s s.ahead) l (ways_from-good ops at op rest s c) h
+    along_good ops (Comes ops (at + 1) rest) (walk (counted_in ops) (at + 1) rest) (λ s' l' c' h'. walk_good ops rest (at + 1) s' l' c' h') (states_after (counted_in ops) at op rest s s.ahead) l (states_after-good ops at op rest s c) h
 
 -- where a path begins
 comes_beginning : (ops : List Op) → is_balanced ops [] ≡ true → counted_in ops ≤ 201 → Comes ops 0 ops beginning
@@ -291,8 +292,8 @@ comes_beginning ops b few = record {
 listing_good : (ops : List Op) → Gives (All (IsSound ops)) (listing ops)
 unfolding listing
 listing_good ops =
-    gives_checked (All (IsSound ops)) (is_balanced ops []) OpenBranch _ (λ b.
-    gives_checked (All (IsSound ops)) (nat_le (counted_in ops) 201) TooMany _ (λ few.
+    gives_result_if (All (IsSound ops)) (is_balanced ops []) OpenBranch _ (λ b.
+    gives_result_if (All (IsSound ops)) (nat_le (counted_in ops) 201) TooMany _ (λ few.
     gives_then (AllSound ops) (All (IsSound ops)) (walk (counted_in ops) 0 ops beginning (record { begun = 1; paths = [] })) (λ l. Ok l.paths) (
     walk_good ops ops 0 beginning (record { begun = 1; paths = [] }) (comes_beginning ops b (leb-true (counted_in ops) 201 few)) (All-nil (IsSound ops))
     ) (λ l h. h)))

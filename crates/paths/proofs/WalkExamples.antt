@@ -3,13 +3,13 @@ use Rattle.std.proofs.Common.{◌≡◌, ℕ, true, false, List, [], ◌∷◌, 
 use Rattle.script.specs.declared.opcode.Op.{Op}
 use Rattle.script.specs.declared.opcode.Op.TheVariants.{Push, Number, If, Else, EndIf, Drop, Dup, Swap, Size, Equal, EqualVerify, Hash160, CheckSig, CheckMultiSig, CheckLockTimeVerify}
 use Rattle.script.specs.Token.{is_key, is_signature, is_token}
-use Rattle.script.specs.Number.{number_of, item_of, digits}
+use Rattle.script.specs.Number.{number_of, minimal_bytes_of, digits}
 use Rattle.facts.specs.declared.symbols.KeySource.TheVariants.{Const as FixedKey, Slot as SlotKey}
 use Rattle.facts.specs.declared.symbols.Fact.TheVariants.{Hash as HashIs, Size as SizeIs, Truth, Is, KeyForm, Form, Token, Assigned, Lock}
 use Rattle.facts.specs.declared.symbols.Stated.{Stated}
 use Rattle.facts.specs.declared.symbols.Fact.{Fact}
 use Rattle.paths.specs.declared.errors.CheckError.TheVariants.{TooManyOps, TooManyPaths}
-use Rattle.paths.specs.Rules.{followed, check_multi_sig}
+use Rattle.paths.specs.Rules.{rule_of, check_multi_sig}
 use Rattle.paths.specs.Listing.{listing}
 
 key_of : ℕ → List ℕ
@@ -26,7 +26,7 @@ key_hash : List Op
 key_hash = Dup ∷ Hash160 ∷ Push (replicate 20 0x33) ∷ EqualVerify ∷ CheckSig ∷ []
 
 key_hash-listed : listing key_hash ≡ Ok (record { arity = 2; facts = yes (HashIs 0 (replicate 20 0x33)) ∷ yes (KeyForm 0) ∷ yes (Form 1) ∷ yes (Token 1 (SlotKey 0)) ∷ []; ops = 4; height = 4; lock = None; age = None } ∷ [])
-unfolding yes key_hash listing followed check_multi_sig is_key is_signature is_token number_of item_of digits
+unfolding yes key_hash listing rule_of check_multi_sig is_key is_signature is_token number_of minimal_bytes_of digits
 key_hash-listed = refl
 
 -- the script of a received HTLC (BOLT 3) that expires at height 500
@@ -38,17 +38,17 @@ received-listed : listing received ≡ Ok (
     ∷ record { arity = 4; facts = no (HashIs 0 (replicate 20 0x33)) ∷ yes (SizeIs 0 32) ∷ yes (HashIs 0 (replicate 20 0x44)) ∷ yes (Form 2) ∷ yes (Form 1) ∷ yes (Is 3 []) ∷ yes (Assigned (2 ∷ 1 ∷ []) (FixedKey (key_of 17) ∷ FixedKey (key_of 34) ∷ [])) ∷ []; ops = 23; height = 7; lock = None; age = None }
     ∷ record { arity = 2; facts = no (HashIs 0 (replicate 20 0x33)) ∷ no (SizeIs 0 32) ∷ yes (Lock 500) ∷ yes (Form 1) ∷ yes (Token 1 (FixedKey (key_of 17))) ∷ []; ops = 21; height = 5; lock = Some 500; age = None }
     ∷ [])
-unfolding key_of yes no received listing followed check_multi_sig is_key is_signature is_token number_of item_of digits
+unfolding key_of yes no received listing rule_of check_multi_sig is_key is_signature is_token number_of minimal_bytes_of digits
 received-listed = refl
 
 -- a signature of bad form
 dead-listed : listing (Size ∷ Push (0x14 ∷ []) ∷ CheckSig ∷ []) ≡ Ok []
-unfolding listing followed check_multi_sig is_key is_signature is_token number_of item_of digits
+unfolding listing rule_of check_multi_sig is_key is_signature is_token number_of minimal_bytes_of digits
 dead-listed = refl
 
 -- a hundred opcodes that count twice, and one more
 counted-listed : listing (replicate 100 Dup ++ replicate 100 Drop ++ Number 1 ∷ Drop ∷ []) ≡ Ok (record { arity = 1; facts = yes (Truth 0) ∷ []; ops = 201; height = 101; lock = None; age = None } ∷ [])
-unfolding yes listing followed check_multi_sig
+unfolding yes listing rule_of check_multi_sig
 counted-listed = refl
 
 counted-refused : listing (replicate 101 Dup ++ replicate 101 Drop) ≡ Err TooManyOps
@@ -56,5 +56,5 @@ unfolding listing
 counted-refused = refl
 
 split-refused : listing (If ∷ Else ∷ EndIf ∷ If ∷ Else ∷ EndIf ∷ If ∷ Else ∷ EndIf ∷ If ∷ Else ∷ EndIf ∷ If ∷ Else ∷ EndIf ∷ If ∷ Else ∷ EndIf ∷ If ∷ Else ∷ EndIf ∷ []) ≡ Err TooManyPaths
-unfolding listing followed check_multi_sig
+unfolding listing rule_of check_multi_sig
 split-refused = refl

@@ -1,5 +1,5 @@
 -- What a listing says of whoever opens the script.
-use Rattle.std.specs.Prelude.{◌≡◌, ◌≢◌, ℕ, ◌%◌, ◌^◌, ◌≤◌, List, [], Ok, IfSome, IsTrue, IsFalse, Any}
+use Rattle.std.specs.Prelude.{◌≡◌, ℕ, true, List, [], Ok, IfSome, Any, ◌↔◌}
 use Rattle.script.specs.declared.opcode.Op.{Op}
 use Rattle.script.specs.declared.spending.Spend.{Spend}
 use Rattle.script.specs.Step.{lock_passes, age_passes}
@@ -7,6 +7,11 @@ use Rattle.script.specs.Run.{Clean, outcome}
 use Rattle.paths.specs.declared.state.Path.{Path}
 use Rattle.paths.specs.Listing.{listing}
 use Rattle.paths.specs.Exhaustive.{OpensBy}
+
+-- a listed script opens exactly for whoever meets a listed path, with that path's counted opcodes and height
+abbrev pub OpensExactly : Type 0
+OpensExactly =
+    (ops : List Op) (paths : List Path) (spend : Spend) (witness : List (List ℕ)) (counted height : ℕ) → listing ops ≡ Ok paths → (outcome spend ops witness ≡ Clean counted height) ↔ Any (OpensBy spend witness counted height) paths
 
 -- a script that is listed with no path runs clean on no witness, under no spend
 abbrev pub NoPathNoWitness : Type 0

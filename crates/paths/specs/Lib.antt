@@ -1,4 +1,5 @@
-pub mod Errors
+pub mod Refusals
+pub mod Answers
 pub mod Rules
 pub mod Following
 pub mod Doing

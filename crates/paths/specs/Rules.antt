@@ -1,4 +1,4 @@
--- What an opcode does to a path: the table of rules, by cases. Where a stated death and no rule meet, the death comes first.
+-- What an opcode does to a path: the table of rules, by cases. Where an opcode has both a dead operand and one that no rule decides, it is dead.
 use Rattle.std.specs.Prelude.{ℕ, zero, suc, ◌+◌, ◌*◌, ◌/◌, ◌%◌, ◌^◌, Bool, true, false, ◌&&◌, ◌||◌, not, nat_le, ◌==◌, if◌then◌else◌, List, [], ◌∷◌, ◌++◌, length, reverse, Option, Some, None, Result, Ok, Err}
 use Rattle.std.specs.Str.{bytes_eq}
 use Rattle.std.specs.List.{list_any}
@@ -7,9 +7,9 @@ use Rattle.script.specs.declared.opcode.Op.{Op}
 use Rattle.script.specs.declared.opcode.Op.TheVariants.{Push, Number as SmallNumber, If, NotIf, Else, EndIf, Drop, Dup, Swap, Size, Equal, EqualVerify, Hash160, CheckSig, CheckMultiSig, CheckLockTimeVerify, CheckSequenceVerify}
 use Rattle.script.specs.declared.num.Number.{Number as Signed}
 use Rattle.script.specs.Limits.{max_element_size, max_keys, max_ops}
-use Rattle.script.specs.Number.{number_of, item_of}
+use Rattle.script.specs.Number.{number_of, minimal_bytes_of}
 use Rattle.script.specs.Token.{is_key, is_signature}
-use Rattle.script.specs.Step.{◌>>=◌, checked, truth, flag, bit_at}
+use Rattle.script.specs.Step.{◌>>=◌, result_if, truth, flag, bit_at}
 use Rattle.facts.specs.declared.symbols.KeySource.{KeySource}
 use Rattle.facts.specs.declared.symbols.KeySource.TheVariants.{Const as FixedKey, Slot as SlotKey}
 use Rattle.facts.specs.declared.symbols.Fact.{Fact}
@@ -19,8 +19,8 @@ use Rattle.facts.specs.declared.symbols.Sym.TheVariants.{Slot, Const, HashOf, Si
 use Rattle.paths.specs.declared.state.State.{State}
 use Rattle.paths.specs.declared.state.Halt.{Halt}
 use Rattle.paths.specs.declared.state.Halt.TheVariants.{Dead, Undecided, TooManyOps}
-use Rattle.paths.specs.declared.state.Turn.{Turn}
-use Rattle.paths.specs.declared.state.Turn.TheVariants.{Onward, PastElse, PastEnd, Splits}
+use Rattle.paths.specs.declared.state.SymbolicJump.{SymbolicJump}
+use Rattle.paths.specs.declared.state.SymbolicJump.TheVariants.{Next, AfterElse, AfterEndIf, Splits}
 use Rattle.paths.specs.declared.state.Condition.{Condition}
 use Rattle.paths.specs.declared.state.Condition.TheVariants.{Known, Asked}
 
@@ -32,7 +32,7 @@ pop_of (x ∷ xs) s = (x, record s { stack = xs })
 abbrev pub pop : State → Sym × State
 pop s = pop_of s.stack s
 
--- so many symbols, the topmost first, and what is left
+-- n symbols, the topmost first, and what is left
 abbrev pub pops : ℕ → State → List Sym × State
 pops zero s = ([], s)
 pops (suc n) s = ((pop s).0 ∷ (pops n (pop s).1).0, (pops n (pop s).1).1)
@@ -44,14 +44,14 @@ push x s = record s { stack = x ∷ s.stack }
 abbrev pub ask : Fact → Bool → State → State
 ask fact holds s = record s { facts = s.facts ++ record { fact = fact; holds = holds } ∷ [] }
 
-abbrev pub goes_on : State → Result (Turn × State) Halt
-goes_on s = Ok (Onward, s)
+abbrev pub goes_on : State → Result (SymbolicJump × State) Halt
+goes_on s = Ok (Next, s)
 
 -- SIZE
 abbrev pub size_of : Sym → Result Sym Halt
 size_of (Slot i) = Ok (SizeOf i)
-size_of (Const b) = Ok (Const (item_of (length b)))
-size_of (HashOf i) = Ok (Const (item_of 20))
+size_of (Const b) = Ok (Const (minimal_bytes_of (length b)))
+size_of (HashOf i) = Ok (Const (minimal_bytes_of 20))
 size_of x = Err Undecided
 
 -- HASH160
@@ -64,10 +64,10 @@ hash_of x = Err Undecided
 abbrev pub hash_is : ℕ → List ℕ → Sym
 hash_is i h = if length h == 20 then Holds (HashIs i h) else Const []
 
--- the number from 0 to 520 whose shortest item these bytes are
+-- the number from 0 to 520 whose minimal encoding these bytes are
 abbrev pub named_size : List ℕ → Option Signed → Option ℕ
 named_size b None = None
-named_size b (Some z) = if not z.negative && nat_le z.magnitude max_element_size && bytes_eq (item_of z.magnitude) b then Some z.magnitude else None
+named_size b (Some z) = if not z.negative && nat_le z.magnitude max_element_size && bytes_eq (minimal_bytes_of z.magnitude) b then Some z.magnitude else None
 
 abbrev pub size_by : ℕ → Option ℕ → Sym
 size_by i (Some n) = Holds (SizeIs i n)
@@ -97,12 +97,12 @@ condition_of x = Err Undecided
 
 -- the condition has to hold
 abbrev pub insist : Condition → State → Result State Halt
-insist (Known b) s = checked b Dead (Ok s)
+insist (Known b) s = result_if b Dead (Ok s)
 insist (Asked fact) s = Ok (ask fact true s)
 
 -- IF (run where the condition is true) and NOTIF (where it is false)
-abbrev pub branch : Bool → Condition → State → Result (Turn × State) Halt
-branch runs (Known b) s = Ok (if (if b then runs else not runs) then Onward else PastElse, s)
+abbrev pub branch : Bool → Condition → State → Result (SymbolicJump × State) Halt
+branch runs (Known b) s = Ok (if (if b then runs else not runs) then Next else AfterElse, s)
 branch runs (Asked fact) s = Ok (Splits fact runs, s)
 
 -- a key, a signature and an extra item that no run takes
@@ -130,23 +130,23 @@ ask_key (FixedKey b) s = s
 ask_key (SlotKey i) s = ask (KeyForm i) true s
 
 -- CHECKSIG, with the key known
-abbrev pub signed : KeySource → Sym → State → Result State Halt
-signed key (Slot i) s = Ok (push (Holds (Token i key)) (ask (Form i) true (ask_key key s)))
-signed key (Const []) s = Ok (push (Const []) (ask_key key s))
-signed key x s = Err Undecided
+abbrev pub signature_rule : KeySource → Sym → State → Result State Halt
+signature_rule key (Slot i) s = Ok (push (Holds (Token i key)) (ask (Form i) true (ask_key key s)))
+signature_rule key (Const []) s = Ok (push (Const []) (ask_key key s))
+signature_rule key x s = Err Undecided
 
 -- CHECKSIG
 abbrev pub check_sig : Sym → Sym → State → Result State Halt
-check_sig key sig s = checked (not (is_bad_key key || is_bad_signature sig)) Dead (source_of key >>= λ source. signed source sig s)
+check_sig key sig s = result_if (not (is_bad_key key || is_bad_signature sig)) Dead (source_of key >>= λ source. signature_rule source sig s)
 
 -- a number that is not negative, of bytes
-abbrev pub counted_by : ℕ → Option Signed → Result ℕ Halt
-counted_by limit None = Err Dead
-counted_by limit (Some z) = checked (not z.negative && nat_le z.magnitude limit) Dead (Ok z.magnitude)
+abbrev pub count_by : ℕ → Option Signed → Result ℕ Halt
+count_by limit None = Err Dead
+count_by limit (Some z) = result_if (not z.negative && nat_le z.magnitude limit) Dead (Ok z.magnitude)
 
 -- a count of keys or signatures, from 0 to a limit
 abbrev pub count_of : ℕ → Sym → Result ℕ Halt
-count_of limit (Const b) = counted_by limit (number_of 4 b)
+count_of limit (Const b) = count_by limit (number_of 4 b)
 count_of limit x = Err Undecided
 
 -- the slots of symbols that are all slots
@@ -182,19 +182,19 @@ answer_of (i ∷ slots) keys = Holds (Assigned (i ∷ slots) keys)
 
 -- CHECKMULTISIG, given keys and signatures, the deepest first, and the extra item
 abbrev pub check_sigs : List Sym → List Sym → Sym → State → Result State Halt
-check_sigs keys sigs extra s = checked (not (list_any is_bad_key keys || is_bad_extra extra)) Dead (do
+check_sigs keys sigs extra s = result_if (not (list_any is_bad_key keys || is_bad_extra extra)) Dead (do
   slots ← slots_of sigs
   sources ← sources_of keys
   s' ← ask_extra extra (ask_keys sources (ask_forms slots s))
   Ok (push (answer_of slots sources) s'))
 
--- CHECKMULTISIG, where so many opcodes of the whole script count
+-- CHECKMULTISIG, where `counted` opcodes of the whole script count
 unfoldable pub check_multi_sig : ℕ → State → Result State Halt
 check_multi_sig counted s = do
   let top = pop s
   n ← count_of max_keys top.0
   let keys = pops n (record top.1 { keys = top.1.keys + n })
-  second ← checked (nat_le (counted + keys.1.keys) max_ops) TooManyOps (Ok (pop keys.1))
+  second ← result_if (nat_le (counted + keys.1.keys) max_ops) TooManyOps (Ok (pop keys.1))
   m ← count_of n second.0
   let sigs = pops m second.1
   let extra = pop sigs.1
@@ -203,40 +203,40 @@ check_multi_sig counted s = do
 -- a lock's number, of bytes
 abbrev pub lock_by : Option Signed → Result ℕ Halt
 lock_by None = Err Dead
-lock_by (Some z) = checked (not z.negative) Dead (Ok z.magnitude)
+lock_by (Some z) = result_if (not z.negative) Dead (Ok z.magnitude)
 
 abbrev pub lock_of : Sym → Result ℕ Halt
 lock_of (Const b) = lock_by (number_of 5 b)
 lock_of x = Err Undecided
 
 -- the bits of a relative lock that its check reads, those of 0x40ffff
-abbrev pub masked : ℕ → ℕ
-masked n = n % 2 ^ 16 + n / 2 ^ 22 % 2 * 2 ^ 22
+abbrev pub age_bits : ℕ → ℕ
+age_bits n = n % 2 ^ 16 + n / 2 ^ 22 % 2 * 2 ^ 22
 
 -- a relative lock; none where it is switched off
 abbrev pub ask_age : ℕ → State → State
-ask_age n s = if bit_at 31 n then s else ask (Age (masked n)) true s
+ask_age n s = if bit_at 31 n then s else ask (Age (age_bits n)) true s
 
--- what an opcode does to a path, where so many opcodes of the whole script count
-unfoldable pub followed : ℕ → Op → State → Result (Turn × State) Halt
-followed counted (Push item) s = goes_on (push (Const item) s)
-followed counted (SmallNumber n) s = goes_on (push (Const (n ∷ [])) s)
-followed counted If s = condition_of (pop s).0 >>= λ c. branch true c (pop s).1
-followed counted NotIf s = condition_of (pop s).0 >>= λ c. branch false c (pop s).1
-followed counted Else s = Ok (PastEnd, s)
-followed counted EndIf s = goes_on s
-followed counted Drop s = goes_on (pop s).1
-followed counted Dup s = goes_on (push (pop s).0 (push (pop s).0 (pop s).1))
-followed counted Swap s = goes_on (push (pop (pop s).1).0 (push (pop s).0 (pop (pop s).1).1))
-followed counted Size s = size_of (pop s).0 >>= λ x. goes_on (push x (push (pop s).0 (pop s).1))
-followed counted Equal s = equal_of (pop s).0 (pop (pop s).1).0 >>= λ x. goes_on (push x (pop (pop s).1).1)
-followed counted EqualVerify s = do
+-- what an opcode does to a path, where `counted` opcodes of the whole script count
+unfoldable pub rule_of : ℕ → Op → State → Result (SymbolicJump × State) Halt
+rule_of counted (Push item) s = goes_on (push (Const item) s)
+rule_of counted (SmallNumber n) s = goes_on (push (Const (n ∷ [])) s)
+rule_of counted If s = condition_of (pop s).0 >>= λ c. branch true c (pop s).1
+rule_of counted NotIf s = condition_of (pop s).0 >>= λ c. branch false c (pop s).1
+rule_of counted Else s = Ok (AfterEndIf, s)
+rule_of counted EndIf s = goes_on s
+rule_of counted Drop s = goes_on (pop s).1
+rule_of counted Dup s = goes_on (push (pop s).0 (push (pop s).0 (pop s).1))
+rule_of counted Swap s = goes_on (push (pop (pop s).1).0 (push (pop s).0 (pop (pop s).1).1))
+rule_of counted Size s = size_of (pop s).0 >>= λ x. goes_on (push x (push (pop s).0 (pop s).1))
+rule_of counted Equal s = equal_of (pop s).0 (pop (pop s).1).0 >>= λ x. goes_on (push x (pop (pop s).1).1)
+rule_of counted EqualVerify s = do
   x ← equal_of (pop s).0 (pop (pop s).1).0
   c ← condition_of x
   s' ← insist c (pop (pop s).1).1
   goes_on s'
-followed counted Hash160 s = hash_of (pop s).0 >>= λ x. goes_on (push x (pop s).1)
-followed counted CheckSig s = check_sig (pop s).0 (pop (pop s).1).0 (pop (pop s).1).1 >>= goes_on
-followed counted CheckMultiSig s = check_multi_sig counted s >>= goes_on
-followed counted CheckLockTimeVerify s = lock_of (pop s).0 >>= λ n. goes_on (push (pop s).0 (ask (Lock n) true (pop s).1))
-followed counted CheckSequenceVerify s = lock_of (pop s).0 >>= λ n. goes_on (push (pop s).0 (ask_age n (pop s).1))
+rule_of counted Hash160 s = hash_of (pop s).0 >>= λ x. goes_on (push x (pop s).1)
+rule_of counted CheckSig s = check_sig (pop s).0 (pop (pop s).1).0 (pop (pop s).1).1 >>= goes_on
+rule_of counted CheckMultiSig s = check_multi_sig counted s >>= goes_on
+rule_of counted CheckLockTimeVerify s = lock_of (pop s).0 >>= λ n. goes_on (push (pop s).0 (ask (Lock n) true (pop s).1))
+rule_of counted CheckSequenceVerify s = lock_of (pop s).0 >>= λ n. goes_on (push (pop s).0 (ask_age n (pop s).1))

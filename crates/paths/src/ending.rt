@@ -1,12 +1,12 @@
 // The end of a path.
 
 ghost use Rattle.std.specs.Prelude.{◌≡◌, ◌≤◌, ◌+◌, ◌<◌, Ok, OnOk};
-ghost use Rattle.paths.specs.Listing.{halted, end_of, path_of as path_for, ended as ended_of, listed_with};
-ghost use Rattle.paths.specs.Following.{Leaves};
-ghost use Rattle.paths.specs.Walking.{Gives, IsEnded};
+ghost use Rattle.paths.specs.Answers.{IfHalts, IfRefused, Leaves};
+ghost use Rattle.paths.specs.Listing.{refusal_at, end_of, path_of as path_for, paths_at_end as ended_of, with_paths};
+ghost use Rattle.paths.specs.Walking.{IsEnded};
 
 use crate::errors::CheckError;
-use crate::locks::{greatest_age, greatest_lock};
+use crate::greatest_locks::{greatest_age, greatest_lock};
 use crate::rules::{condition, insist, take};
 use crate::state::{Halt, Listed, Path, State};
 use facts::Sym;
@@ -14,7 +14,7 @@ use script::limits::{MAX_OPS_PER_SCRIPT, MAX_STACK_SIZE};
 
 /// The refusal for a halt at this position; none where the path dies.
 pub fn refusal(at: usize, halt: Halt) -> Result<(), CheckError>
-    ensures { result ≡ halted at tt halt }
+    ensures { result ≡ refusal_at at tt halt }
 {
     match halt {
         Halt::NoMemory => Err(CheckError::NoMemory),
@@ -28,7 +28,7 @@ pub fn refusal(at: usize, halt: Halt) -> Result<(), CheckError>
 pub fn end(counted: usize, at: usize, state: State, listed: &mut Listed) -> Result<(), CheckError>
     requires slots { state.slots ≤ MAX_STACK_SIZE }
     requires keys { counted + state.keys ≤ MAX_OPS_PER_SCRIPT }
-    ensures exact { Gives (listed_with listed.old (ended_of counted at state)) listed.new result }
+    ensures exact { Leaves IfRefused (with_paths listed.old (ended_of counted at state)) listed.new result }
     ensures begun { OnOk result (listed.new.begun ≡ listed.old.begun) }
 {
     if let Some(path) = ended(counted, at, state)? {
@@ -54,9 +54,9 @@ fn ended(counted: usize, at: usize, mut state: State) -> Result<Option<Path>, Ch
     Ok(Some(path_of(counted, state)))
 }
 
-// Insists that the last entry, below which there are none, is true.
+// Insists that the last element, below which there are none, is true.
 fn decide(state: &mut State, top: Sym) -> Result<(), Halt>
-    ensures exact { Leaves (end_of state.old.stack top state.old) state.new result }
+    ensures exact { Leaves IfHalts (end_of state.old.stack top state.old) state.new result }
     ensures keys { OnOk result (state.new.keys ≡ state.old.keys) }
 {
     if !state.stack.is_empty() {

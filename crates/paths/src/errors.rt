@@ -1,7 +1,7 @@
 // Why a script is not listed.
 
 ghost use Rattle.std.specs.Prelude.{◌≡◌};
-ghost use Rattle.paths.specs.Errors.{number_of};
+ghost use Rattle.paths.specs.Refusals.{refusal_number};
 ghost use Rattle.paths.specs.declared.errors.CheckError.TheVariants.{NoMemory};
 
 use std::alloc::{AllocError, AllocFailed};
@@ -26,15 +26,15 @@ pub enum CheckError {
     /// A 65th path begins.
     #[error("TooManyPaths")]
     TooManyPaths,
-    /// A path needs more than 1,000 entries.
+    /// A path needs more than 1,000 elements.
     #[error("TooTall")]
     TooTall,
 }
 
 impl CheckError {
-    /// The number of the refusal; 0 is want of memory.
+    /// The number of the refusal; 0 is out of memory.
     pub fn number(&self) -> u8
-        ensures { result ≡ number_of self.now }
+        ensures { result ≡ refusal_number self.now }
     {
         match self {
             CheckError::NoMemory => 0,

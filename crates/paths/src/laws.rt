@@ -1,6 +1,12 @@
 // Laws of the listing: who can open a script, and when.
 
-ghost use Rattle.paths.specs.Laws.{NoPathNoWitness, OpenersWait};
+ghost use Rattle.paths.specs.Laws.{OpensExactly, NoPathNoWitness, OpenersWait};
+
+/// A listed script opens exactly for whoever meets one of its paths: a run ends clean, with these counted opcodes and this height, exactly
+/// where the witness meets a listed path that has them, whatever the witness and the spend.
+pub fn listed_paths_open_exactly()
+    ensures { OpensExactly }
+{}
 
 /// A script that is listed with no path opens to nobody: no witness runs clean, under no spend.
 pub fn no_path_opens_to_nobody()

@@ -1,22 +1,33 @@
-// Lists every way through a script, over symbols.
+//! Lists every way in which a version 0 witness script (BIP 141) can be opened: [`check`] follows each branch over symbols, and writes down what
+//! each opcode asks of the witness and of the spend.
+//!
+//! The list is sound and exhaustive, whatever the witness and the spend: whoever meets a listed path runs the script clean, with that path's
+//! counted opcodes and height, and whoever runs it clean meets a listed path.
+//!
+//! ```
+//! // IF 1 ELSE 2 ENDIF
+//! let script = Script::parse(rt.alloc(), &[0x63, 0x51, 0x67, 0x52, 0x68])?;
+//! let checked = check(rt.alloc(), script)?;
+//! assert_eq!(rt; checked.paths().len(), 2);
+//! ```
 #![tactic(auto)]
 
 mod balance;
-mod branching;
-mod comparing;
+mod branch_opcodes;
+mod comparison_opcodes;
 mod ending;
-mod entries;
-pub mod errors;
+mod errors;
+mod greatest_locks;
 pub mod laws;
-pub mod listing;
-mod locking;
-mod locks;
+mod listing;
+mod lock_opcodes;
 mod multisig;
 #[cfg(test)]
 mod opcode_tests;
 mod rules;
-mod signing;
-pub mod state;
+mod signature_opcodes;
+mod stack_opcodes;
+mod state;
 #[cfg(test)]
 mod tests;
 mod walking;

@@ -25,9 +25,9 @@ pub struct Checked {
 
 impl Model for Checked {
     ghost use Rattle.std.specs.Prelude.{◌≡◌, Ok};
-    ghost use Rattle.paths.specs.Listing.{Ways, listing};
+    ghost use Rattle.paths.specs.Listing.{CheckedScript, listing};
 
-    ghost Value = { Ways };
+    ghost Value = { CheckedScript };
 
     ghost view = { λ c. record { ops = c.script; paths = c.paths } };
 
@@ -58,6 +58,7 @@ impl Checked {
         // Nothing else opens the script.
         ensures exhaustive { IsExhaustive self.now.ops self.now.paths }
     {
+        // Borrowing both fields gives the prover the invariant, which says that these are the script's paths.
         let _script = &self.script;
         self.paths.values()
     }
@@ -68,7 +69,7 @@ impl Checked {
 ///
 /// Refused are, first, branches of the whole script that do not close (`OpenBranch`), then more than 201 opcodes that count
 /// (`TooManyOps`), and then what the paths meet first: an opcode or an end that no rule decides (`Undecided`), keys of a CHECKMULTISIG
-/// that lift the count above 201 (`TooManyOps`), more than 1,000 entries (`TooTall`), or a 65th path that begins (`TooManyPaths`).
+/// that lift the count above 201 (`TooManyOps`), more than 1,000 elements (`TooTall`), or a 65th path that begins (`TooManyPaths`).
 /// `NoMemory` may come at any time.
 #[tactic(auto, using(crate::proofs::SoundListing::exact_sound))]
 pub fn check(alloc: Global, script: Script) -> Result<Checked, CheckError>

@@ -2,29 +2,33 @@
 
 ghost use Rattle.std.specs.Prelude.{◌≡◌, ◌<◌, ◌≤◌, ◌+◌, reverse, IfOk, OnOk};
 ghost use Rattle.std.specs.List.{list_any};
+ghost use Rattle.paths.specs.Answers.{Answers, IfHalts, Leaves};
 ghost use Rattle.paths.specs.Rules.{pops, count_of as count_for, is_bad_key as is_bad_key_of, is_bad_extra as is_bad_extra_of, slots_of as slots_for, sources_of as sources_for, ask_forms as forms_asked, ask_keys as keys_asked, ask_extra as extra_asked, answer_of as answer_for, check_sigs};
-ghost use Rattle.paths.specs.Following.{Answers, Leaves, IsFollowed};
+ghost use Rattle.paths.specs.Following.{IsRuleOf};
 ghost use Rattle.paths.specs.Doing.{IsNear, count_keys as keys_counted};
 
-use crate::comparing::flag;
-use crate::entries::{pull, put};
 use crate::rules::ask;
-use crate::signing::{ask_key, is_bad_key, source_of};
-use crate::state::{Halt, State, Turn};
+use crate::signature_opcodes::{ask_key, is_bad_key, source_of};
+use crate::stack_opcodes::{pull, put};
+use crate::state::{Halt, State, SymbolicJump};
 use facts::{Fact, KeySource, Sym};
 use lists::{ByteString, List, Stack};
 use script::limits::{MAX_OPS_PER_SCRIPT, MAX_PUBKEYS_PER_MULTISIG, MAX_STACK_SIZE};
 use script::num::Limit;
+use script::truths::flag;
 use script::{Op, num};
 use std::alloc::{AllocError, Global};
 
-/// CHECKMULTISIG, where so many opcodes of the whole script count.
-#[tactic(auto, unfolding(crate::specs::Rules::followed, crate::specs::Rules::check_multi_sig), using(crate::proofs::RulePops::pops_keys))]
-pub fn check_multi_sig(alloc: Global, counted: usize, state: &mut State) -> Result<Turn, Halt>
+/// CHECKMULTISIG, where `counted` opcodes of the whole script count.
+#[tactic(auto, unfolding(crate::specs::Rules::rule_of, crate::specs::Rules::check_multi_sig), using(crate::proofs::RulePops::pops_keys))]
+pub fn check_multi_sig(
+    alloc: Global,
+    counted: usize,
+    state: &mut State,
+) -> Result<SymbolicJump, Halt>
     requires slots { state.old.slots ≤ MAX_STACK_SIZE }
     requires keys { counted + state.old.keys ≤ MAX_OPS_PER_SCRIPT }
-    ensures exact { IsFollowed counted Op.CheckMultiSig state.old state.new result }
-    ensures slots_stay { OnOk result (state.new.slots ≤ 1100) }
+    ensures exact { IsRuleOf counted Op.CheckMultiSig state.old state.new result }
     ensures keys_stay { OnOk result (counted + state.new.keys ≤ MAX_OPS_PER_SCRIPT) }
 {
     let key_count = count_of(MAX_PUBKEYS_PER_MULTISIG, &pull(state))?;
@@ -34,12 +38,12 @@ pub fn check_multi_sig(alloc: Global, counted: usize, state: &mut State) -> Resu
     let signatures = pull_many(alloc, signature_count, state)?;
     let extra = pull(state);
     check(alloc, state, keys, signatures, extra)?;
-    Ok(Turn::Onward)
+    Ok(SymbolicJump::Next)
 }
 
 // A count of keys or signatures, from 0 to a limit.
 fn count_of(limit: usize, sym: &Sym) -> Result<usize, Halt>
-    ensures exact { Answers (count_for limit sym.now) result }
+    ensures exact { Answers IfHalts (count_for limit sym.now) result }
     ensures low { IfOk result (λ n. n ≤ limit) }
 {
     let Sym::Const(item) = sym else {
@@ -57,7 +61,7 @@ fn count_of(limit: usize, sym: &Sym) -> Result<usize, Halt>
 fn count_keys(counted: usize, more: usize, state: &mut State) -> Result<(), Halt>
     requires keys { counted + state.old.keys ≤ MAX_OPS_PER_SCRIPT }
     requires more { more ≤ 20 }
-    ensures { Leaves (keys_counted counted more state.old) state.new result }
+    ensures { Leaves IfHalts (keys_counted counted more state.old) state.new result }
 {
     state.keys += more;
     if counted + state.keys > MAX_OPS_PER_SCRIPT {
@@ -66,9 +70,9 @@ fn count_keys(counted: usize, more: usize, state: &mut State) -> Result<(), Halt
     Ok(())
 }
 
-// Takes so many symbols, the deepest of which is the top of the result. The only error is want of memory.
+// Takes n symbols, the deepest of which is the top of the result. The only error is that memory ran out.
 fn pull_many(alloc: Global, count: usize, state: &mut State) -> Result<Stack<Sym>, AllocError>
-    requires { state.old.slots + count < 2000 }
+    requires { state.old.slots + count < usize.MAX }
     ensures taken { IfOk result (λ p. p ≡ reverse (pops count state.old).0) }
     ensures left { OnOk result (state.new ≡ (pops count state.old).1) }
     ensures near { OnOk result (IsNear count state.old state.new) }
@@ -88,7 +92,7 @@ fn check(
     signatures: Stack<Sym>,
     extra: Sym,
 ) -> Result<(), Halt>
-    ensures exact { Leaves (check_sigs keys signatures extra state.old) state.new result }
+    ensures exact { Leaves IfHalts (check_sigs keys signatures extra state.old) state.new result }
     ensures near { OnOk result (IsNear 0 state.old state.new) }
 {
     if has_bad_key(&keys) || is_bad_extra(&extra) {
@@ -131,7 +135,7 @@ fn is_bad_extra(extra: &Sym) -> bool
 
 // The slots of symbols that are all slots, the deepest of which is the top.
 fn slots_of(alloc: Global, syms: Stack<Sym>) -> Result<List<usize>, Halt>
-    ensures { Answers (slots_for syms) result }
+    ensures { Answers IfHalts (slots_for syms) result }
 {
     let mut syms = syms;
     let mut slots = List::new(alloc);
@@ -146,7 +150,7 @@ fn slots_of(alloc: Global, syms: Stack<Sym>) -> Result<List<usize>, Halt>
 
 // Where keys come from, the deepest of which is the top.
 fn sources_of(alloc: Global, keys: Stack<Sym>) -> Result<List<KeySource>, Halt>
-    ensures { Answers (sources_for keys) result }
+    ensures { Answers IfHalts (sources_for keys) result }
 {
     let mut keys = keys;
     let mut sources = List::new(alloc);
@@ -156,7 +160,7 @@ fn sources_of(alloc: Global, keys: Stack<Sym>) -> Result<List<KeySource>, Halt>
     Ok(sources)
 }
 
-// Asks for the forms of signatures. The only error is want of memory.
+// Asks for the forms of signatures. The only error is that memory ran out.
 fn ask_forms(state: &mut State, slots: &[usize]) -> Result<(), AllocError>
     ensures exact { OnOk result (state.new ≡ forms_asked slots.now state.old) }
     ensures near { OnOk result (IsNear 0 state.old state.new) }
@@ -167,7 +171,7 @@ fn ask_forms(state: &mut State, slots: &[usize]) -> Result<(), AllocError>
     Ok(())
 }
 
-// Asks for the forms of those keys that are slots. The only error is want of memory.
+// Asks for the forms of those keys that are slots. The only error is that memory ran out.
 fn ask_keys(state: &mut State, keys: &[KeySource]) -> Result<(), AllocError>
     ensures exact { OnOk result (state.new ≡ keys_asked keys.now state.old) }
     ensures near { OnOk result (IsNear 0 state.old state.new) }
@@ -180,24 +184,20 @@ fn ask_keys(state: &mut State, keys: &[KeySource]) -> Result<(), AllocError>
 
 // Asks that the extra item be empty (BIP 147).
 fn ask_extra(alloc: Global, state: &mut State, extra: Sym) -> Result<(), Halt>
-    ensures exact { Leaves (extra_asked extra state.old) state.new result }
+    ensures exact { Leaves IfHalts (extra_asked extra state.old) state.new result }
     ensures near { OnOk result (IsNear 0 state.old state.new) }
 {
     match extra {
         Sym::Const(_item) => Ok(()),
         Sym::Slot(i) => {
-            ask(
-                state,
-                Fact::Is(i, ByteString::from_vec(Vec::new(alloc))),
-                true,
-            )?;
+            ask(state, Fact::Is(i, ByteString::new(alloc)), true)?;
             Ok(())
         }
         _other => Err(Halt::Undecided),
     }
 }
 
-// Whether the slots are tokens of an increasing choice of the keys; no slots are. The only error is want of memory.
+// Whether the slots are tokens of an increasing choice of the keys; no slots are. The only error is that memory ran out.
 fn answer_of(alloc: Global, slots: List<usize>, keys: List<KeySource>) -> Result<Sym, AllocError>
     ensures { IfOk result (λ s. s ≡ answer_for slots keys) }
 {

@@ -3,7 +3,7 @@
 ghost use Rattle.std.specs.Prelude.{◌≤◌};
 
 use crate::rules::follow;
-use crate::state::{Halt, State, Turn};
+use crate::state::{Halt, State, SymbolicJump};
 use facts::{Fact, Sym};
 use lists::{ByteString, List, Stack};
 use script::Op;
@@ -71,12 +71,12 @@ fn state(alloc: Global, parts: &[Part]) -> Result<State, AllocError> {
 }
 
 // Where a path goes.
-fn turn_text(alloc: Global, turn: &Turn) -> Result<String, Fail> {
+fn turn_text(alloc: Global, turn: &SymbolicJump) -> Result<String, Fail> {
     Ok(match turn {
-        Turn::Onward => format!(in alloc; "onward")?,
-        Turn::PastElse => format!(in alloc; "past else")?,
-        Turn::PastEnd => format!(in alloc; "past end")?,
-        Turn::Splits(fact, runs) => format!(in alloc; "{fact:?} {runs}")?,
+        SymbolicJump::Next => format!(in alloc; "onward")?,
+        SymbolicJump::AfterElse => format!(in alloc; "past else")?,
+        SymbolicJump::AfterEndIf => format!(in alloc; "past end")?,
+        SymbolicJump::Splits(fact, runs) => format!(in alloc; "{fact:?} {runs}")?,
     })
 }
 
@@ -89,7 +89,7 @@ fn state_text(alloc: Global, state: &State) -> Result<String, Fail> {
     Ok(format!(in alloc; "{text}; {} {}", state.slots, state.keys)?)
 }
 
-// What an opcode does to such a state, where so many opcodes count.
+// What an opcode does to such a state, where `counted` opcodes count.
 fn seen_at(alloc: Global, counted: usize, op: &Op, parts: &[Part]) -> Result<String, Fail> {
     let mut state = state(alloc, parts)?;
     if state.slots > 1000 || state.keys > 201 || counted > 201 - state.keys {

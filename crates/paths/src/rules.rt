@@ -1,17 +1,17 @@
 // What an opcode does to a path.
 
 ghost use Rattle.std.specs.Prelude.{◌≡◌, ◌<◌, ◌≤◌, ◌+◌, OnOk, OnErr};
-ghost use Rattle.paths.specs.Rules.{pop, ask as asked, condition_of, insist as insisted, followed};
-ghost use Rattle.paths.specs.Following.{IsFollowed, IsConditionOf, IsInsisted};
+ghost use Rattle.paths.specs.Rules.{pop, ask as asked, condition_of, insist as insisted, rule_of};
+ghost use Rattle.paths.specs.Following.{IsRuleOf, IsConditionOf, IsInsisted};
 ghost use Rattle.paths.specs.declared.state.Halt.TheVariants.{NoMemory};
 
-use crate::branching::{enter_if, enter_not_if};
-use crate::comparing::{equal, equal_verify, hash, size};
-use crate::entries::{discard, double, push_item, push_number, swap};
-use crate::locking::{check_lock_time, check_sequence};
+use crate::branch_opcodes::{enter_if, enter_not_if};
+use crate::comparison_opcodes::{equal, equal_verify, hash, size};
+use crate::lock_opcodes::{check_lock_time, check_sequence};
 use crate::multisig::check_multi_sig;
-use crate::signing::check_sig;
-use crate::state::{Condition, Halt, State, Turn};
+use crate::signature_opcodes::check_sig;
+use crate::stack_opcodes::{discard, double, push_item, push_number, swap};
+use crate::state::{Condition, Halt, State, SymbolicJump};
 use facts::{Fact, Stated, Sym};
 use script::Op;
 use script::limits::{MAX_OPS_PER_SCRIPT, MAX_STACK_SIZE};
@@ -28,7 +28,7 @@ impl From<AllocError> for Halt {
 
 /// Takes the top symbol, which is the next slot where there is none.
 pub fn take(state: &mut State) -> Sym
-    requires { state.old.slots < 2000 }
+    requires { state.old.slots < usize.MAX }
     ensures { pop state.old ≡ (result, state.new) }
 {
     match state.stack.pop() {
@@ -41,7 +41,7 @@ pub fn take(state: &mut State) -> Sym
     }
 }
 
-/// Asks for a fact. The only error is want of memory.
+/// Asks for a fact. The only error is that memory ran out.
 pub fn ask(state: &mut State, fact: Fact, holds: bool) -> Result<(), AllocError>
     ensures { OnOk result (state.new ≡ asked fact holds state.old) }
 {
@@ -74,15 +74,19 @@ pub fn insist(state: &mut State, condition: Condition) -> Result<(), Halt>
     }
 }
 
-/// Follows an opcode, where so many opcodes of the whole script count. After an error the path ends, and its state may be anything:
+/// Follows an opcode, where `counted` opcodes of the whole script count. After an error the path ends, and its state may be anything:
 /// `Dead` where no witness goes on, `Undecided` where no rule and no death decides, `TooManyOps` where the keys of a CHECKMULTISIG lift
 /// the count above 201, `NoMemory` where memory runs out.
-#[tactic(auto, unfolding(crate::specs::Rules::followed))]
-pub fn follow(alloc: Global, op: &Op, counted: usize, state: &mut State) -> Result<Turn, Halt>
+#[tactic(auto, unfolding(crate::specs::Rules::rule_of))]
+pub fn follow(
+    alloc: Global,
+    op: &Op,
+    counted: usize,
+    state: &mut State,
+) -> Result<SymbolicJump, Halt>
     requires slots { state.old.slots ≤ MAX_STACK_SIZE }
     requires keys { counted + state.old.keys ≤ MAX_OPS_PER_SCRIPT }
-    ensures exact { IsFollowed counted op.now state.old state.new result }
-    ensures slots_stay { OnOk result (state.new.slots ≤ 1100) }
+    ensures exact { IsRuleOf counted op.now state.old state.new result }
     ensures keys_stay { OnOk result (counted + state.new.keys ≤ MAX_OPS_PER_SCRIPT) }
 {
     match op {
@@ -90,8 +94,8 @@ pub fn follow(alloc: Global, op: &Op, counted: usize, state: &mut State) -> Resu
         Op::Number(number) => push_number(alloc, *number, state),
         Op::If => enter_if(state),
         Op::NotIf => enter_not_if(state),
-        Op::Else => Ok(Turn::PastEnd),
-        Op::EndIf => Ok(Turn::Onward),
+        Op::Else => Ok(SymbolicJump::AfterEndIf),
+        Op::EndIf => Ok(SymbolicJump::Next),
         Op::Drop => discard(state),
         Op::Dup => double(alloc, state),
         Op::Swap => swap(state),

@@ -1,8 +1,8 @@
 // Where a path stands, and where it ends.
 
 ghost use Rattle.std.specs.Prelude.{◌≡◌, IfOk};
-ghost use Rattle.script.specs.Step.{checked};
-ghost use Rattle.paths.specs.Listing.{beginning, measured, is_low as is_low_of};
+ghost use Rattle.script.specs.Step.{result_if};
+ghost use Rattle.paths.specs.Listing.{beginning, with_excess, is_low as is_low_of};
 
 use facts::{Fact, Stated, Sym};
 use lists::{List, Stack};
@@ -22,7 +22,7 @@ pub struct State {
     pub facts: List<Stated>,
     /// How many keys of CHECKMULTISIGs were counted.
     pub keys: usize,
-    /// By how much the number of entries has passed that of the witness, at the most.
+    /// By how much the number of elements has passed that of the witness, at the most.
     pub excess: usize,
 }
 
@@ -41,7 +41,7 @@ impl State {
         }
     }
 
-    /// An equal one. The only error is want of memory.
+    /// An equal one. The only error is that memory ran out.
     pub fn copy(&self) -> Result<Self, AllocError>
         ensures { IfOk result (λ s. s ≡ self.now) }
     {
@@ -57,16 +57,16 @@ impl State {
         })
     }
 
-    /// Whether the greatest number of entries of a run so far is at most 1,000.
+    /// Whether the greatest number of elements of a run so far is at most 1,000.
     pub fn is_low(&self) -> bool
         ensures { result ≡ is_low_of self.now }
     {
         self.slots <= MAX_STACK_SIZE && self.excess <= MAX_STACK_SIZE - self.slots
     }
 
-    /// Keeps by how much the entries pass those of the witness.
+    /// Keeps by how much the elements pass those of the witness.
     pub fn measure(&mut self)
-        ensures { self.new ≡ measured self.old }
+        ensures { self.new ≡ with_excess self.old }
     {
         let more = self.stack.len().saturating_sub(self.slots);
         self.excess = self.excess.max(more);
@@ -108,16 +108,16 @@ pub enum Halt {
     TooManyOps,
 }
 
-/// Where a path goes behind an opcode.
+/// Where a path goes after an opcode.
 #[derive(Drop)]
-pub enum Turn {
+pub enum SymbolicJump {
     /// To the next opcode.
-    Onward,
-    /// Behind the ELSE of this IF, or behind its ENDIF where it has no ELSE.
-    PastElse,
-    /// Behind the ENDIF of this ELSE.
-    PastEnd,
-    /// To the next opcode where the fact is as stated, and behind the ELSE where it is not.
+    Next,
+    /// After the ELSE of this IF, or after its ENDIF where it has no ELSE.
+    AfterElse,
+    /// After the ENDIF of this ELSE.
+    AfterEndIf,
+    /// To the next opcode where the fact is as stated, and after the ELSE where it is not.
     Splits(Fact, bool),
 }
 
@@ -139,7 +139,7 @@ pub struct Path {
     pub facts: List<Stated>,
     /// The counted opcodes of a run, keys of CHECKMULTISIGs included; at most 201.
     pub ops: usize,
-    /// The greatest number of entries of a run, at most 1,000.
+    /// The greatest number of elements of a run, at most 1,000.
     pub height: usize,
     /// The greatest absolute lock that the run checks (BIP 65).
     pub lock: Option<u64>,

@@ -229,3 +229,24 @@ fn lists_the_paths_of_a_received_htlc(rt: HostRuntime) -> Result<(), Fail> {
     );
     Ok(())
 }
+
+#[test]
+fn lists_both_branches_of_an_if(rt: HostRuntime) -> Result<(), Fail> {
+    let script = Script::parse(rt.alloc(), &[0x63, 0x51, 0x67, 0x52, 0x68])?;
+    let checked = check(rt.alloc(), script)?;
+    assert_eq!(rt; checked.paths().len(), 2);
+    assert!(rt; has_paths(&checked, &[free(1, 1, 3, 1), free(1, 1, 3, 1)]));
+    Ok(())
+}
+
+#[test]
+fn names_what_is_undecided_before_a_65th_path(rt: HostRuntime) -> Result<(), Fail> {
+    let parts: [(&[u8], usize); 3] = [
+        (&[0x63, 0x82, 0x82, 0x67], 1),
+        (&[0x63, 0x67, 0x68], 7),
+        (&[0x68], 1),
+    ];
+    let script = script_of(rt.alloc(), &parts)?;
+    assert!(rt; matches!(check(rt.alloc(), script), Err(CheckError::Undecided(2))));
+    Ok(())
+}

@@ -1,14 +1,15 @@
 // Walks along every way through a script.
 
 ghost use Rattle.std.specs.Prelude.{◌≡◌, ℕ, ◌<◌, ◌≤◌, ◌+◌, Ok, true, All, [], length, IfOk, OnOk};
-ghost use Rattle.script.specs.Run.{over};
-ghost use Rattle.paths.specs.Listing.{ways_by, arrived, ways_from, walk, begins as begins_of, beginning};
-ghost use Rattle.paths.specs.Walking.{ways_of, AreWays, AreKept, Gives, Gets, IsKept, IsWaiting, IsStep, IsWalked, left, paths_in};
+ghost use Rattle.script.specs.Run.{skip_length};
+ghost use Rattle.paths.specs.Answers.{Answers, IfRefused, Leaves};
+ghost use Rattle.paths.specs.Listing.{states_after_jump, states_after_rule, states_after, walk, begins as begins_of, beginning};
+ghost use Rattle.paths.specs.Walking.{states_of, AreStates, AreKept, IsKept, IsWaiting, IsStep, IsWalked, rest_of_walk, paths_in};
 
 use crate::ending::{end, refusal};
 use crate::errors::CheckError;
 use crate::rules::{ask, follow};
-use crate::state::{Listed, Path, State, Turn};
+use crate::state::{Listed, Path, State, SymbolicJump};
 use lists::{List, Stack};
 use script::Op;
 use script::limits::MAX_OPS_PER_SCRIPT;
@@ -17,18 +18,18 @@ use std::alloc::{AllocError, Global};
 /// The most paths that a script may begin.
 pub const MAX_PATHS: usize = 64;
 
-/// How a path goes on behind an opcode.
+/// How a path goes on after an opcode.
 #[derive(Drop)]
-pub enum Way {
+pub enum Successors {
     /// It ends there, and no witness goes on.
     Dies,
     /// It goes on.
     Goes,
-    /// It goes on, and a second one, which has yet to jump behind the ELSE, begins once all paths through the first have ended.
+    /// It goes on, and a second one, which has yet to jump after the ELSE, begins once all paths through the first have ended.
     Splits(State),
 }
 
-/// A path that waits for its turn: the second branch of a split, which has yet to jump behind the ELSE.
+/// A path that waits for its turn: the second branch of a split, which has yet to jump after the ELSE.
 #[derive(Drop)]
 pub struct Waiting {
     /// The position of the next opcode.
@@ -40,7 +41,7 @@ pub struct Waiting {
 /// Every path through opcodes of which so many count.
 pub fn walk_all(alloc: Global, ops: &[Op], counted: usize) -> Result<List<Path>, CheckError>
     requires { counted ≤ MAX_OPS_PER_SCRIPT }
-    ensures { Gets (paths_in (walk counted 0 ops.now beginning (record { begun = 1; paths = [] }))) result }
+    ensures { Answers IfRefused (paths_in (walk counted 0 ops.now beginning (record { begun = 1; paths = [] }))) result }
 {
     let mut listed = Listed {
         begun: 1,
@@ -62,7 +63,7 @@ pub fn walk_all(alloc: Global, ops: &[Op], counted: usize) -> Result<List<Path>,
 
 // Begins one more path.
 fn begins(listed: &mut Listed) -> Result<(), CheckError>
-    ensures exact { Gives (begins_of listed.old) listed.new result }
+    ensures exact { Leaves IfRefused (begins_of listed.old) listed.new result }
     ensures more { OnOk result (listed.old.begun < 64 × (listed.new.begun ≡ listed.old.begun + 1)) }
 {
     if listed.begun >= MAX_PATHS {
@@ -83,7 +84,7 @@ fn walk_path(
 ) -> Result<(), CheckError>
     requires path { IsWaiting counted (length ops.now) path }
     requires waiting { All (IsWaiting counted (length ops.now)) waiting.old }
-    ensures exact { IsWalked counted ops.now (left counted ops.now path.at path.state waiting.old listed.old) waiting.new listed.new result }
+    ensures exact { IsWalked counted ops.now (rest_of_walk counted ops.now path.at path.state waiting.old listed.old) waiting.new listed.new result }
     ensures begun { OnOk result (listed.new.begun ≡ listed.old.begun) }
     ensures kept { OnOk result (All (IsWaiting counted (length ops.now)) waiting.new) }
 {
@@ -113,10 +114,10 @@ fn step(
     ensures waiting { OnOk result (All (IsWaiting counted (length ops.now)) waiting.new) }
 {
     let rest = &ops[at + 1..];
-    match ways(alloc, counted, at, &ops[at], rest, state)? {
-        Way::Dies => Ok(false),
-        Way::Goes => Ok(true),
-        Way::Splits(second) => {
+    match next_states(alloc, counted, at, &ops[at], rest, state)? {
+        Successors::Dies => Ok(false),
+        Successors::Goes => Ok(true),
+        Successors::Splits(second) => {
             waiting.push(Waiting {
                 at: at + 1,
                 state: second,
@@ -126,22 +127,22 @@ fn step(
     }
 }
 
-// The ways on from the opcode at this position, where so many opcodes of the whole script count.
-fn ways(
+// The ways on from the opcode at this position, where `counted` opcodes of the whole script count.
+fn next_states(
     alloc: Global,
     counted: usize,
     at: usize,
     op: &Op,
     rest: &[Op],
     state: &mut State,
-) -> Result<Way, CheckError>
+) -> Result<Successors, CheckError>
     requires { IsKept counted state.old }
-    ensures exact { AreWays (ways_from counted at op.now rest.now state.old state.old.ahead) rest.now state.new result }
+    ensures exact { AreStates (states_after counted at op.now rest.now state.old state.old.ahead) rest.now state.new result }
     ensures kept { IfOk result (AreKept counted state.new) }
 {
     if state.ahead > 0 {
         state.ahead -= 1;
-        return Ok(Way::Goes);
+        return Ok(Successors::Goes);
     }
     match follow(alloc, op, counted, state) {
         Ok(turn) => {
@@ -149,41 +150,46 @@ fn ways(
             if !state.is_low() {
                 return Err(CheckError::TooTall);
             }
-            Ok(turns(alloc, turn, rest, state)?)
+            Ok(successors_of(alloc, turn, rest, state)?)
         }
         Err(halt) => {
             refusal(at, halt)?;
-            Ok(Way::Dies)
+            Ok(Successors::Dies)
         }
     }
 }
 
-// Where a turn leads a path. The only error is want of memory.
-fn turns(alloc: Global, turn: Turn, rest: &[Op], state: &mut State) -> Result<Way, AllocError>
-    ensures { IfOk result (λ way. ways_by turn rest.now state.old ≡ ways_of rest.now state.new way) }
+// Where a turn leads a path. The only error is that memory ran out.
+fn successors_of(
+    alloc: Global,
+    turn: SymbolicJump,
+    rest: &[Op],
+    state: &mut State,
+) -> Result<Successors, AllocError>
+    ensures { IfOk result (λ way. states_after_jump turn rest.now state.old ≡ states_of rest.now state.new way) }
 {
     match turn {
-        Turn::Onward => Ok(Way::Goes),
-        Turn::PastElse => {
+        SymbolicJump::Next => Ok(Successors::Goes),
+        SymbolicJump::AfterElse => {
             state.ahead = jump_len(rest, true);
-            Ok(Way::Goes)
+            Ok(Successors::Goes)
         }
-        Turn::PastEnd => {
+        SymbolicJump::AfterEndIf => {
             state.ahead = jump_len(rest, false);
-            Ok(Way::Goes)
+            Ok(Successors::Goes)
         }
-        Turn::Splits(fact, first) => {
+        SymbolicJump::Splits(fact, first) => {
             let mut second = state.copy()?;
             ask(&mut second, fact.copy()?, !first)?;
             ask(state, fact, first)?;
-            Ok(Way::Splits(second))
+            Ok(Successors::Splits(second))
         }
     }
 }
 
-// How many of these opcodes are jumped over, to behind the branch's end, or where `stop` to behind its ELSE.
+// How many of these opcodes are jumped over, to after the branch's end, or where `stop` to after its ELSE.
 fn jump_len(ops: &[Op], stop: bool) -> usize
-    ensures { result ≡ over stop 0 ops.now }
+    ensures { result ≡ skip_length stop 0 ops.now }
 {
     let mut depth: usize = 0;
     for (i, op) in ops.iter().enumerate() {

@@ -3,9 +3,10 @@ use Rattle.std.proofs.Common.{◌≡◌, ℕ, zero, suc, ◌+◌, ◌≤◌, Boo
 use Rattle.std.specs.Prelude.{IsTrue}
 use Rattle.script.specs.declared.opcode.Op.{Op}
 use Rattle.script.specs.declared.opcode.Op.TheVariants.{Push, Number, If, NotIf, Else, EndIf, Drop, Dup, Swap, Size, Equal, EqualVerify, Hash160, CheckSig, CheckMultiSig, CheckLockTimeVerify, CheckSequenceVerify}
-use Rattle.script.specs.Step.{Move, Onward, PastElse, PastEnd}
-use Rattle.script.specs.Run.{over, jump_of}
-use Rattle.script.specs.Clean.{is_opener, is_single, IsBlock, no_more, one_more, an_else, a_branch, LeadsBehind, Jumps, onward, past_else, past_end_for_else, to_list_end_for_else, past_end, to_list_end}
+use Rattle.script.specs.declared.jumps.Jump.{Jump}
+use Rattle.script.specs.declared.jumps.Jump.TheVariants.{Next, AfterElse, AfterEndIf}
+use Rattle.script.specs.Run.{skip_length, jump_length}
+use Rattle.script.specs.Clean.{is_opener, is_single, IsBlock, no_more, one_more, an_else, a_branch, LeadsAfter, Jumps, onward, after_else, after_endif_for_else, to_list_end_for_else, after_endif, to_list_end}
 
 -- the sorts of opcodes
 pub data Sort : Op → Type 0 where
@@ -45,7 +46,7 @@ found true (suc depth) (Else ∷ rest) = found true (suc depth) rest
 found stop depth (op ∷ rest) = found stop depth rest
 
 pub record Same (stop : Bool) (depth : ℕ) (xs : List Op) (n : ℕ) (stop' : Bool) (depth' : ℕ) (ys : List Op) : Type 0 where
-  pub counted : over stop depth xs ≡ n + over stop' depth' ys
+  pub counted : skip_length stop depth xs ≡ n + skip_length stop' depth' ys
   pub seen : found stop depth xs ≡ found stop' depth' ys
 
 same_single : (stop : Bool) (depth : ℕ) (op : Op) (rest : List Op) → IsTrue (is_single op) → Same stop depth (op ∷ rest) 1 stop depth rest
@@ -177,7 +178,7 @@ layers_else_false (suc depth) rest l = layers_else false depth rest l
 layers_end : (stop : Bool) (depth : ℕ) (rest : List Op) → Layers stop depth rest → Layers stop (suc depth) (EndIf ∷ rest)
 layers_end stop depth rest l = record { block = []; after = rest; same = refl; closed = no_more; others = l }
 
--- a list of two blocks behind an opener is one block
+-- a list of two blocks after an opener is one block
 wrapped : (op : Op) (inner block : List Op) (xs ys : List Op) (closer : Op) (after : List Op) → xs ≡ inner ++ EndIf ∷ ys → ys ≡ block ++ closer ∷ after → op ∷ xs ≡ (op ∷ (inner ++ EndIf ∷ block)) ++ closer ∷ after
 wrapped op inner block xs ys closer after e f = ap (λ t. op ∷ t) (e ∙ ap (λ t. inner ++ EndIf ∷ t) f ∙ sym (append_assoc inner (EndIf ∷ block) (closer ∷ after)))
 
@@ -203,7 +204,7 @@ pub layers_of : (stop : Bool) (depth : ℕ) (xs : List Op) → found stop depth 
 layers_of stop depth [] e = absurd (true≢false (sym e))
 layers_of stop depth (op ∷ rest) e = by_sort stop depth op rest (sort_of op) (λ d. layers_of stop d rest) e
 
-unseen_by_sort : (stop : Bool) (depth : ℕ) (op : Op) (rest : List Op) → Sort op → ((d : ℕ) → found stop d rest ≡ false → over stop d rest ≡ length rest) → found stop depth (op ∷ rest) ≡ false → over stop depth (op ∷ rest) ≡ length (op ∷ rest)
+unseen_by_sort : (stop : Bool) (depth : ℕ) (op : Op) (rest : List Op) → Sort op → ((d : ℕ) → found stop d rest ≡ false → skip_length stop d rest ≡ length rest) → found stop depth (op ∷ rest) ≡ false → skip_length stop depth (op ∷ rest) ≡ length (op ∷ rest)
 unseen_by_sort stop depth op rest (opening h) ih e =
     let s = same_opener stop depth op rest h in let c = s.counted in let d = ih (suc depth) (sym s.seen ∙ e) in omega arith
 unseen_by_sort true zero op rest elsing ih e = absurd (true≢false e)
@@ -215,43 +216,43 @@ unseen_by_sort stop depth op rest (single h) ih e =
     let s = same_single stop depth op rest h in let c = s.counted in let d = ih depth (sym s.seen ∙ e) in omega arith
 
 -- a search that finds nothing goes to the end of the list
-pub over_unseen : (stop : Bool) (depth : ℕ) (xs : List Op) → found stop depth xs ≡ false → over stop depth xs ≡ length xs
+pub over_unseen : (stop : Bool) (depth : ℕ) (xs : List Op) → found stop depth xs ≡ false → skip_length stop depth xs ≡ length xs
 over_unseen stop depth [] e = refl
 over_unseen stop depth (op ∷ rest) e = unseen_by_sort stop depth op rest (sort_of op) (λ d. over_unseen stop d rest) e
 
--- a search goes to behind this closer, if a block leads there
+-- a search goes to after this closer, if a block leads there
 skips_not : (stop : Bool) → Skips (not stop) stop 0
 skips_not true = tt
 skips_not false = tt
 
 record Reaches (stop : Bool) (xs : List Op) (n : ℕ) : Type 0 where
-  counted : over stop 0 xs ≡ n
+  counted : skip_length stop 0 xs ≡ n
   seen : found stop 0 xs ≡ true
 
 closes_at : (stop : Bool) (closer : Op) (after : List Op) → IsCloser stop closer → Reaches stop (closer ∷ after) 1
 closes_at stop closer after an_end = record { counted = refl; seen = refl }
 closes_at stop closer after an_else_too = record { counted = refl; seen = refl }
 
-reaches : (stop : Bool) (closer : Op) (xs : List Op) (n : ℕ) → IsCloser stop closer → LeadsBehind (not stop) closer xs n → Reaches stop xs n
+reaches : (stop : Bool) (closer : Op) (xs : List Op) (n : ℕ) → IsCloser stop closer → LeadsAfter (not stop) closer xs n → Reaches stop xs n
 reaches stop closer xs n c l =
     let s = over_block (not stop) l.block l.closed stop 0 (closer ∷ l.after) (skips_not stop) in
     let r = closes_at stop closer l.after c in
-    let p = s.counted in let q = r.counted in let d = l.place in let g = ap (over stop 0) l.same in
+    let p = s.counted in let q = r.counted in let d = l.place in let g = ap (skip_length stop 0) l.same in
     record { counted = omega arith; seen = ap (found stop 0) l.same ∙ s.seen ∙ r.seen }
 
--- what is found stands behind a block
-behind : (stop : Bool) (xs : List Op) (l : Nested stop xs) → LeadsBehind (not stop) l.closer xs (over stop 0 xs)
+-- what is found stands after a block
+behind : (stop : Bool) (xs : List Op) (l : Nested stop xs) → LeadsAfter (not stop) l.closer xs (skip_length stop 0 xs)
 behind stop xs l =
-    let h : LeadsBehind (not stop) l.closer xs (length l.block + 1) = record { block = l.block; after = l.after; same = l.same; closed = l.closed; place = refl } in
+    let h : LeadsAfter (not stop) l.closer xs (length l.block + 1) = record { block = l.block; after = l.after; same = l.same; closed = l.closed; place = refl } in
     record { block = l.block; after = l.after; same = l.same; closed = l.closed; place = (reaches stop l.closer xs (length l.block + 1) l.closes h).counted }
 
 -- which closer it is
 pub data Finding (stop : Bool) (xs : List Op) : Type 0 where
-  its_end : LeadsBehind (not stop) EndIf xs (over stop 0 xs) → Finding stop xs
-  its_else : stop ≡ true → LeadsBehind (not stop) Else xs (over stop 0 xs) → Finding stop xs
-  neither : found stop 0 xs ≡ false → over stop 0 xs ≡ length xs → Finding stop xs
+  its_end : LeadsAfter (not stop) EndIf xs (skip_length stop 0 xs) → Finding stop xs
+  its_else : stop ≡ true → LeadsAfter (not stop) Else xs (skip_length stop 0 xs) → Finding stop xs
+  neither : found stop 0 xs ≡ false → skip_length stop 0 xs ≡ length xs → Finding stop xs
 
-finding_of : (stop : Bool) (xs : List Op) (closer : Op) → IsCloser stop closer → LeadsBehind (not stop) closer xs (over stop 0 xs) → Finding stop xs
+finding_of : (stop : Bool) (xs : List Op) (closer : Op) → IsCloser stop closer → LeadsAfter (not stop) closer xs (skip_length stop 0 xs) → Finding stop xs
 finding_of stop xs closer an_end l = its_end l
 finding_of stop xs closer an_else_too l = its_else refl l
 
@@ -262,45 +263,45 @@ finding stop xs = by_seen (found stop 0 xs) refl
     by_seen true e = let l = layers_of stop 0 xs e in finding_of stop xs l.closer l.closes (behind stop xs l)
     by_seen false e = neither e (over_unseen stop 0 xs e)
 
-not_behind : (stop : Bool) (closer : Op) (xs : List Op) → IsCloser stop closer → found stop 0 xs ≡ false → (n : ℕ) → LeadsBehind (not stop) closer xs n → ⊥
+not_behind : (stop : Bool) (closer : Op) (xs : List Op) → IsCloser stop closer → found stop 0 xs ≡ false → (n : ℕ) → LeadsAfter (not stop) closer xs n → ⊥
 not_behind stop closer xs c e n l = true≢false (sym ((reaches stop closer xs n c l).seen) ∙ e)
 
 -- the function's jump is one
-pub jumps_made : (move : Move) (rest : List Op) → Jumps rest move (jump_of move rest)
-jumps_made Onward rest = onward
-jumps_made PastElse rest = by (finding true rest)
+pub jumps_made : (move : Jump) (rest : List Op) → Jumps rest move (jump_length move rest)
+jumps_made Next rest = onward
+jumps_made AfterElse rest = by (finding true rest)
   where
-    by : Finding true rest → Jumps rest PastElse (over true 0 rest)
-    by (its_end l) = past_end_for_else l
-    by (its_else e l) = past_else l
+    by : Finding true rest → Jumps rest AfterElse (skip_length true 0 rest)
+    by (its_end l) = after_endif_for_else l
+    by (its_else e l) = after_else l
     by (neither e f) = rw f (to_list_end_for_else (not_behind true Else rest an_else_too e) (not_behind true EndIf rest an_end e))
-jumps_made PastEnd rest = by (finding false rest)
+jumps_made AfterEndIf rest = by (finding false rest)
   where
-    by : Finding false rest → Jumps rest PastEnd (over false 0 rest)
-    by (its_end l) = past_end l
+    by : Finding false rest → Jumps rest AfterEndIf (skip_length false 0 rest)
+    by (its_end l) = after_endif l
     by (its_else e l) = absurd (true≢false (sym e))
     by (neither e f) = rw f (to_list_end (not_behind false EndIf rest an_end e))
 
 -- a jump is as long as the function says
-pub jumps_are : (rest : List Op) (move : Move) (n : ℕ) → Jumps rest move n → n ≡ jump_of move rest
+pub jumps_are : (rest : List Op) (move : Jump) (n : ℕ) → Jumps rest move n → n ≡ jump_length move rest
 jumps_are rest move n onward = refl
-jumps_are rest move n (past_else l) = sym ((reaches true Else rest n an_else_too l).counted)
-jumps_are rest move n (past_end_for_else l) = sym ((reaches true EndIf rest n an_end l).counted)
+jumps_are rest move n (after_else l) = sym ((reaches true Else rest n an_else_too l).counted)
+jumps_are rest move n (after_endif_for_else l) = sym ((reaches true EndIf rest n an_end l).counted)
 jumps_are rest move n (to_list_end_for_else h k) = by (finding true rest)
   where
-    by : Finding true rest → length rest ≡ over true 0 rest
-    by (its_end l) = absurd (k (over true 0 rest) l)
-    by (its_else e l) = absurd (h (over true 0 rest) l)
+    by : Finding true rest → length rest ≡ skip_length true 0 rest
+    by (its_end l) = absurd (k (skip_length true 0 rest) l)
+    by (its_else e l) = absurd (h (skip_length true 0 rest) l)
     by (neither e f) = sym f
-jumps_are rest move n (past_end l) = sym ((reaches false EndIf rest n an_end l).counted)
+jumps_are rest move n (after_endif l) = sym ((reaches false EndIf rest n an_end l).counted)
 jumps_are rest move n (to_list_end h) = by (finding false rest)
   where
-    by : Finding false rest → length rest ≡ over false 0 rest
-    by (its_end l) = absurd (h (over false 0 rest) l)
+    by : Finding false rest → length rest ≡ skip_length false 0 rest
+    by (its_end l) = absurd (h (skip_length false 0 rest) l)
     by (its_else e l) = absurd (true≢false (sym e))
     by (neither e f) = sym f
 
-behind_within : (elses : Bool) (closer : Op) (xs : List Op) (n : ℕ) → LeadsBehind elses closer xs n → n ≤ length xs
+behind_within : (elses : Bool) (closer : Op) (xs : List Op) (n : ℕ) → LeadsAfter elses closer xs n → n ≤ length xs
 behind_within elses closer xs n l =
     let e : length xs ≡ length (l.block ++ closer ∷ l.after) = ap length l.same in
     let f = length-append l.block (closer ∷ l.after) in
@@ -308,17 +309,17 @@ behind_within elses closer xs n l =
     omega arith
 
 -- a jump stays within the list
-pub jump_within : (move : Move) (rest : List Op) → jump_of move rest ≤ length rest
-jump_within Onward rest = omega arith
-jump_within PastElse rest = by (finding true rest)
+pub jump_within : (move : Jump) (rest : List Op) → jump_length move rest ≤ length rest
+jump_within Next rest = omega arith
+jump_within AfterElse rest = by (finding true rest)
   where
-    by : Finding true rest → over true 0 rest ≤ length rest
-    by (its_end l) = behind_within false EndIf rest (over true 0 rest) l
-    by (its_else e l) = behind_within false Else rest (over true 0 rest) l
+    by : Finding true rest → skip_length true 0 rest ≤ length rest
+    by (its_end l) = behind_within false EndIf rest (skip_length true 0 rest) l
+    by (its_else e l) = behind_within false Else rest (skip_length true 0 rest) l
     by (neither e f) = omega (arith, f)
-jump_within PastEnd rest = by (finding false rest)
+jump_within AfterEndIf rest = by (finding false rest)
   where
-    by : Finding false rest → over false 0 rest ≤ length rest
-    by (its_end l) = behind_within true EndIf rest (over false 0 rest) l
-    by (its_else e l) = behind_within true Else rest (over false 0 rest) l
+    by : Finding false rest → skip_length false 0 rest ≤ length rest
+    by (its_end l) = behind_within true EndIf rest (skip_length false 0 rest) l
+    by (its_else e l) = behind_within true Else rest (skip_length false 0 rest) l
     by (neither e f) = omega (arith, f)

@@ -5,7 +5,7 @@ use Rattle.script.specs.declared.opcode.Op.{Op}
 use Rattle.script.specs.declared.spending.Spend.{Spend}
 use Rattle.script.specs.declared.stops.Cause.{Cause}
 use Rattle.script.specs.Step.{Effect, effect}
-use Rattle.script.specs.Run.{counted_in, jump_of}
+use Rattle.script.specs.Run.{counted_in, jump_length}
 use Rattle.script.specs.Clean.{Point, Steps, Chain, ends, goes_on, RunsTo, start_on}
 use Rattle.script.proofs.Blocks.{jumps_are}
 use Rattle.script.proofs.Counting.{counted_in-append}
@@ -38,18 +38,18 @@ abbrev pub point_after : Point → Effect → ℕ → Point
 point_after x done over = record { at = x.at + 1 + over; stack = done.stack; keys = x.keys + done.keys; height = max x.height (length done.stack) }
 
 -- a step at an opcode that is known
-pub step_does : (spend : Spend) (ops : List Op) (x y : Point) (op : Op) (rest : List Op) (r : Result Effect Cause) → Steps spend ops x y → drop x.at ops ≡ op ∷ rest → effect spend (counted_in (take (x.at + 1) ops) + x.keys) op x.stack ≡ r → (done : Effect) × (r ≡ Ok done) × (y ≡ point_after x done (jump_of done.move rest))
+pub step_does : (spend : Spend) (ops : List Op) (x y : Point) (op : Op) (rest : List Op) (r : Result Effect Cause) → Steps spend ops x y → drop x.at ops ≡ op ∷ rest → effect spend (counted_in (take (x.at + 1) ops) + x.keys) op x.stack ≡ r → (done : Effect) × (r ≡ Ok done) × (y ≡ point_after x done (jump_length done.jump rest))
 step_does spend ops x y op rest r s h e =
     let f : s.op ≡ op = let g = s.here in cc in
     let g : s.rest ≡ rest = let g = s.here in cc in
     let does : r ≡ Ok s.done = sym e ∙ ap (λ o. effect spend (counted_in (take (x.at + 1) ops) + x.keys) o x.stack) (sym f) ∙ s.does in
-    (s.done, does, s.leads ∙ ap (point_after x s.done) (jumps_are s.rest s.done.move s.over s.jumps ∙ ap (jump_of s.done.move) g))
+    (s.done, does, s.leads ∙ ap (point_after x s.done) (jumps_are s.rest s.done.jump s.over s.jumps ∙ ap (jump_length s.done.jump) g))
 
 pub one_step : (spend : Spend) (ops : List Op) (x y z : Point) → Steps spend ops x y → Steps spend ops x z → y ≡ z
 one_step spend ops x y z s t =
     let p = step_does spend ops x y t.op t.rest (Ok t.done) s t.here t.does in
     let e : t.done ≡ p.0 = ok_same t.done p.0 p.1 in
-    p.2 ∙ ap (λ d. point_after x d (jump_of d.move t.rest)) (sym e) ∙ ap (point_after x t.done) (sym (jumps_are t.rest t.done.move t.over t.jumps)) ∙ sym t.leads
+    p.2 ∙ ap (λ d. point_after x d (jump_length d.jump t.rest)) (sym e) ∙ ap (point_after x t.done) (sym (jumps_are t.rest t.done.jump t.over t.jumps)) ∙ sym t.leads
   where
     ok_same : (a b : Effect) → ◌≡◌ {A = Result Effect Cause} (Ok a) (Ok b) → a ≡ b
     ok_same a b e = cc

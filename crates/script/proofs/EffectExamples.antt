@@ -9,8 +9,10 @@ use Rattle.script.specs.declared.stops.Kind.TheVariants.{Verify, Number, KeyForm
 use Rattle.script.specs.declared.stops.Cause.{Cause}
 use Rattle.script.specs.declared.stops.Cause.TheVariants.{MissingOperand, FailedCheck}
 use Rattle.script.specs.Token.{token_of, is_key, is_token, is_signature}
-use Rattle.script.specs.Number.{number_of, item_of, digits}
-use Rattle.script.specs.Step.{Entries, Move, Onward, PastElse, PastEnd, Effect, effect, multi_sig, truth, flag, lock_passes, age_passes}
+use Rattle.script.specs.Number.{number_of, minimal_bytes_of, digits}
+use Rattle.script.specs.declared.jumps.Jump.{Jump}
+use Rattle.script.specs.declared.jumps.Jump.TheVariants.{Next, AfterElse, AfterEndIf}
+use Rattle.script.specs.Step.{Elements, Effect, effect, multi_sig, truth, flag, lock_passes, age_passes}
 
 -- the empty item and zero bytes are false, and so are zero bytes ended by 80; 80 is no zero anywhere else
 false_items : map truth ([] ∷ (0 ∷ []) ∷ (0x80 ∷ []) ∷ (0 ∷ 0 ∷ []) ∷ (0 ∷ 0x80 ∷ []) ∷ (0 ∷ 0 ∷ 0 ∷ []) ∷ (0 ∷ 0 ∷ 0x80 ∷ []) ∷ []) ≡ false ∷ false ∷ false ∷ false ∷ false ∷ false ∷ false ∷ []
@@ -28,12 +30,12 @@ flags = (refl, refl)
 abbrev spend : Spend
 spend = record { version = 2; lock_time = 500; sequence = 144; digest = replicate 32 7 }
 
--- these entries are left, and the run goes on
-abbrev leaves : Entries → Result Effect Cause
-leaves stack = Ok (record { move = Onward; stack = stack; keys = 0 })
+-- these elements are left, and the run goes on
+abbrev leaves : Elements → Result Effect Cause
+leaves stack = Ok (record { jump = Next; stack = stack; keys = 0 })
 
-abbrev jumps : Move → Entries → Result Effect Cause
-jumps move stack = Ok (record { move = move; stack = stack; keys = 0 })
+abbrev jumps : Jump → Elements → Result Effect Cause
+jumps move stack = Ok (record { jump = move; stack = stack; keys = 0 })
 
 abbrev stops : Cause → Result Effect Cause
 stops cause = Err cause
@@ -41,11 +43,11 @@ stops cause = Err cause
 abbrev fails : Kind → Result Effect Cause
 fails kind = Err (FailedCheck kind)
 
--- an entry below the operands, which stays
+-- an element below the operands, which stays
 abbrev under : List ℕ
 under = 0xee ∷ []
 
-abbrev does : Op → Entries → Result Effect Cause
+abbrev does : Op → Elements → Result Effect Cause
 does op stack = effect spend 0 op stack
 
 pushes : map (λ op. does op (under ∷ [])) (Push [] ∷ Push (0x0a ∷ 0x0b ∷ []) ∷ SmallNumber 1 ∷ SmallNumber 2 ∷ SmallNumber 16 ∷ []) ≡
@@ -53,9 +55,9 @@ pushes : map (λ op. does op (under ∷ [])) (Push [] ∷ Push (0x0a ∷ 0x0b �
 unfolding effect
 pushes = refl
 
-branches : (does If ((1 ∷ []) ∷ under ∷ []) ≡ leaves (under ∷ [])) × (does If ([] ∷ under ∷ []) ≡ jumps PastElse (under ∷ [])) × (does If ((0x80 ∷ []) ∷ under ∷ []) ≡ jumps PastElse (under ∷ []))
-    × (does NotIf ([] ∷ under ∷ []) ≡ leaves (under ∷ [])) × (does NotIf ((1 ∷ []) ∷ under ∷ []) ≡ jumps PastElse (under ∷ [])) × (does NotIf ((0 ∷ []) ∷ under ∷ []) ≡ leaves (under ∷ []))
-    × (does Else (under ∷ []) ≡ jumps PastEnd (under ∷ [])) × (does EndIf (under ∷ []) ≡ leaves (under ∷ []))
+branches : (does If ((1 ∷ []) ∷ under ∷ []) ≡ leaves (under ∷ [])) × (does If ([] ∷ under ∷ []) ≡ jumps AfterElse (under ∷ [])) × (does If ((0x80 ∷ []) ∷ under ∷ []) ≡ jumps AfterElse (under ∷ []))
+    × (does NotIf ([] ∷ under ∷ []) ≡ leaves (under ∷ [])) × (does NotIf ((1 ∷ []) ∷ under ∷ []) ≡ jumps AfterElse (under ∷ [])) × (does NotIf ((0 ∷ []) ∷ under ∷ []) ≡ leaves (under ∷ []))
+    × (does Else (under ∷ []) ≡ jumps AfterEndIf (under ∷ [])) × (does EndIf (under ∷ []) ≡ leaves (under ∷ []))
 unfolding effect
 branches = (refl, refl, refl, refl, refl, refl, refl, refl)
 
@@ -65,7 +67,7 @@ moves = (refl, refl, refl)
 
 -- SIZE keeps its operand
 sizes : (does Size ([] ∷ under ∷ []) ≡ leaves ([] ∷ [] ∷ under ∷ [])) × (does Size ((9 ∷ 9 ∷ 9 ∷ []) ∷ under ∷ []) ≡ leaves ((3 ∷ []) ∷ (9 ∷ 9 ∷ 9 ∷ []) ∷ under ∷ [])) × (does Size (replicate 128 9 ∷ []) ≡ leaves ((0x80 ∷ 0 ∷ []) ∷ replicate 128 9 ∷ [])) × (does Size (replicate 520 9 ∷ []) ≡ leaves ((0x08 ∷ 0x02 ∷ []) ∷ replicate 520 9 ∷ []))
-unfolding effect item_of digits
+unfolding effect minimal_bytes_of digits
 sizes = (refl, refl, refl, refl)
 
 equal_items : (does Equal ((1 ∷ 2 ∷ []) ∷ (1 ∷ 2 ∷ []) ∷ under ∷ []) ≡ leaves ((1 ∷ []) ∷ under ∷ [])) × (does Equal ((1 ∷ 2 ∷ []) ∷ (1 ∷ []) ∷ under ∷ []) ≡ leaves ([] ∷ under ∷ [])) × (does Equal ([] ∷ (0 ∷ []) ∷ under ∷ []) ≡ leaves ([] ∷ under ∷ [])) × (does Equal ([] ∷ [] ∷ under ∷ []) ≡ leaves ((1 ∷ []) ∷ under ∷ []))
@@ -77,7 +79,7 @@ hashes : (x : List ℕ) → does Hash160 (x ∷ under ∷ []) ≡ leaves (hash16
 unfolding effect
 hashes x = refl
 
--- too few entries; both operands are taken before the first check
+-- too few elements; both operands are taken before the first check
 missing : map (λ op. does op []) (If ∷ NotIf ∷ Drop ∷ Dup ∷ Swap ∷ Size ∷ Equal ∷ EqualVerify ∷ Hash160 ∷ CheckSig ∷ CheckMultiSig ∷ CheckLockTimeVerify ∷ CheckSequenceVerify ∷ []) ≡ replicate 13 (stops MissingOperand)
 unfolding effect multi_sig
 missing = refl

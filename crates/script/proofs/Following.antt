@@ -9,8 +9,8 @@ use Rattle.script.specs.declared.opcode.Op.{Op}
 use Rattle.script.specs.declared.spending.Spend.{Spend}
 use Rattle.script.specs.declared.stops.Cause.{Cause}
 use Rattle.script.specs.declared.stops.Cause.TheVariants.{TooManyOps, StackTooTall, ItemTooLong, FalseEnd}
-use Rattle.script.specs.Step.{Entries, Effect, effect, truth, checked, ◌>>=◌}
-use Rattle.script.specs.Run.{weight, counted_in, jump_of, opens, Place, settled, jumped_or_run, past, Outcome, Clean, Stopped, at_end, onward, outcome_from, start, is_long, outcome}
+use Rattle.script.specs.Step.{Elements, Effect, effect, truth, result_if, ◌>>=◌}
+use Rattle.script.specs.Run.{weight, counted_in, jump_length, open_ifs_after, RunState, state_after_effect, state_after_skip_or_run, state_after, Outcome, Clean, Stopped, at_end, onward, outcome_from, start, is_long, outcome}
 use Rattle.script.specs.Clean.{no_more, HasOpen, MayFollow, IsMisplaced, ArePlaced, Point, Steps, ends, RunsTo, start_on, AreShort, IsClean, PassesLimit, FailsAt, Fails, FaultAt, too_many, misplaced, failing, AreFaultless, StopsAt, long_item, least_fault, open_end, not_one, false_end}
 use Rattle.script.proofs.Blocks.{jumps_made, jump_within}
 use Rattle.script.proofs.OpenIfs.{flags, Nest, nest_on, nest_open, flags_on, follows, refused, open_flags}
@@ -19,14 +19,14 @@ use Rattle.script.proofs.Counting.{counted_in-append}
 use Rattle.script.proofs.Limit.{Within, effect_within}
 
 -- where the chain stands when the function comes to opcode k
-abbrev pub point_of : ℕ → Place → ℕ → Point
+abbrev pub point_of : ℕ → RunState → ℕ → Point
 point_of k p keys = record { at = k + p.ahead; stack = p.stack; keys = keys; height = p.height }
 
 -- the opcodes before k may stand where they stand
 abbrev pub ArePlacedBefore : List Op → ℕ → Type 0
 ArePlacedBefore ops k = (j : ℕ) (op : Op) (rest : List Op) → j < k → drop j ops ≡ op ∷ rest → MayFollow (take j ops) op
 
-pub record Tied (spend : Spend) (ops : List Op) (witness : List (List ℕ)) (k : ℕ) (p : Place) : Type 0 where
+pub record Tied (spend : Spend) (ops : List Op) (witness : List (List ℕ)) (k : ℕ) (p : RunState) : Type 0 where
   pub keys : ℕ
   pub runs : RunsTo spend ops witness k (point_of k p keys)
   pub inside : k + p.ahead ≤ length ops
@@ -38,7 +38,7 @@ pub record Tied (spend : Spend) (ops : List Op) (witness : List (List ℕ)) (k :
   pub placed : ArePlacedBefore ops k
 
 -- one opcode further, or at its fault
-abbrev pub Passed : Spend → List Op → List (List ℕ) → ℕ → Result Place Cause → Type 0
+abbrev pub Passed : Spend → List Op → List (List ℕ) → ℕ → Result RunState Cause → Type 0
 Passed spend ops witness k (Ok p) = Tied spend ops witness (k + 1) p
 Passed spend ops witness k (Err c) = FaultAt spend ops witness k c
 
@@ -90,7 +90,7 @@ same_effect spend ops witness k x op rest c r e f =
     (sym (ap (λ y. y.at) p) ∙ f.comes, subst (λ o. Fails (effect spend (counted_in (take (k + 1) ops) + x.keys) o x.stack) c) q (subst (λ y. Fails (effect spend (counted_in (take (k + 1) ops) + y.keys) f.op y.stack) c) p f.fails))
 
 -- an opcode that is jumped over
-jumps_on : (spend : Spend) (ops : List Op) (witness : List (List ℕ)) (k : ℕ) (p : Place) (op : Op) (rest : List Op) (ifs : List Bool) (n : ℕ) → Tied spend ops witness k p → drop k ops ≡ op ∷ rest → p.counted + weight op ≤ 201 → opens op p.open_ifs ≡ Ok ifs → p.ahead ≡ suc n → Tied spend ops witness (k + 1) (record { ahead = n; stack = p.stack; counted = p.counted + weight op; open_ifs = ifs; height = p.height })
+jumps_on : (spend : Spend) (ops : List Op) (witness : List (List ℕ)) (k : ℕ) (p : RunState) (op : Op) (rest : List Op) (ifs : List Bool) (n : ℕ) → Tied spend ops witness k p → drop k ops ≡ op ∷ rest → p.counted + weight op ≤ 201 → open_ifs_after op p.open_ifs ≡ Ok ifs → p.ahead ≡ suc n → Tied spend ops witness (k + 1) (record { ahead = n; stack = p.stack; counted = p.counted + weight op; open_ifs = ifs; height = p.height })
 jumps_on spend ops witness k p op rest ifs n t e l o a =
     let more = counted_more k ops op rest e in
     let count = t.count in
@@ -114,13 +114,13 @@ jumps_on spend ops witness k p op rest ifs n t e l o a =
     }
 
 -- an opcode that the run comes to, and that has an effect
-runs_on : (spend : Spend) (ops : List Op) (witness : List (List ℕ)) (k : ℕ) (p : Place) (op : Op) (rest : List Op) (ifs : List Bool) (done : Effect) → Tied spend ops witness k p → drop k ops ≡ op ∷ rest → p.counted + weight op ≤ 201 → opens op p.open_ifs ≡ Ok ifs → p.ahead ≡ 0 → effect spend (p.counted + weight op) op p.stack ≡ Ok done → length done.stack ≤ 1000
-    → Tied spend ops witness (k + 1) (record { ahead = jump_of done.move rest; stack = done.stack; counted = p.counted + weight op + done.keys; open_ifs = ifs; height = max p.height (length done.stack) })
+runs_on : (spend : Spend) (ops : List Op) (witness : List (List ℕ)) (k : ℕ) (p : RunState) (op : Op) (rest : List Op) (ifs : List Bool) (done : Effect) → Tied spend ops witness k p → drop k ops ≡ op ∷ rest → p.counted + weight op ≤ 201 → open_ifs_after op p.open_ifs ≡ Ok ifs → p.ahead ≡ 0 → effect spend (p.counted + weight op) op p.stack ≡ Ok done → length done.stack ≤ 1000
+    → Tied spend ops witness (k + 1) (record { ahead = jump_length done.jump rest; stack = done.stack; counted = p.counted + weight op + done.keys; open_ifs = ifs; height = max p.height (length done.stack) })
 runs_on spend ops witness k p op rest ifs done t e l o a f low =
     let more = counted_more k ops op rest e in
     let count = t.count in
     let x : Point = record { at = k; stack = p.stack; keys = t.keys; height = p.height } in
-    let y : Point = point_after x done (jump_of done.move rest) in
+    let y : Point = point_after x done (jump_length done.jump rest) in
     let here : point_of k p t.keys ≡ x = ap (λ i. record { at = i; stack = p.stack; keys = t.keys; height = p.height }) (omega arith) in
     let runs : RunsTo spend ops witness k x = subst (RunsTo spend ops witness k) here t.runs in
     let same : p.counted + weight op ≡ counted_in (take (k + 1) ops) + t.keys = omega arith in
@@ -129,9 +129,9 @@ runs_on spend ops witness k p op rest ifs done t e l o a f low =
     let may : MayFollow (take k ops) op = follows (take k ops) op p.open_ifs ifs t.nest o in
     let sits : IsMisplaced ops k → ⊥ = not_misplaced ops k op rest e may in
     let front = take_one_more k ops op rest e in
-    let step : Steps spend ops x y = record { op = op; rest = rest; here = e; done = done; does = does; over = jump_of done.move rest; jumps = jumps_made done.move rest; leads = refl } in
+    let step : Steps spend ops x y = record { op = op; rest = rest; here = e; done = done; does = does; over = jump_length done.jump rest; jumps = jumps_made done.jump rest; leads = refl } in
     let few : p.counted + weight op + done.keys ≤ 201 = subst (Within (p.counted + weight op)) f (effect_within spend (p.counted + weight op) op p.stack l) in
-    let short = jump_within done.move rest in
+    let short = jump_within done.jump rest in
     let whole = stands_within k ops op rest e in
     record {
       keys = t.keys + done.keys;
@@ -149,7 +149,7 @@ runs_on spend ops witness k p op rest ifs done t e l o a f low =
     }
 
 -- an opcode that the run comes to, and that fails
-fails_at : (spend : Spend) (ops : List Op) (witness : List (List ℕ)) (k : ℕ) (p : Place) (op : Op) (rest : List Op) (ifs : List Bool) (c : Cause) → Tied spend ops witness k p → drop k ops ≡ op ∷ rest → p.counted + weight op ≤ 201 → opens op p.open_ifs ≡ Ok ifs → p.ahead ≡ 0 → Fails (effect spend (p.counted + weight op) op p.stack) c → FaultAt spend ops witness k c
+fails_at : (spend : Spend) (ops : List Op) (witness : List (List ℕ)) (k : ℕ) (p : RunState) (op : Op) (rest : List Op) (ifs : List Bool) (c : Cause) → Tied spend ops witness k p → drop k ops ≡ op ∷ rest → p.counted + weight op ≤ 201 → open_ifs_after op p.open_ifs ≡ Ok ifs → p.ahead ≡ 0 → Fails (effect spend (p.counted + weight op) op p.stack) c → FaultAt spend ops witness k c
 fails_at spend ops witness k p op rest ifs c t e l o a f =
     let more = counted_more k ops op rest e in
     let count = t.count in
@@ -163,21 +163,21 @@ fails_at spend ops witness k p op rest ifs c t e l o a f =
     (record { point = x; runs = runs; comes = refl; op = op; rest = rest; here = e; fails = subst (λ n. Fails (effect spend n op p.stack) c) same f })
 
 -- one opcode of the list
-module _ (spend : Spend) (ops : List Op) (witness : List (List ℕ)) (k : ℕ) (p : Place) (op : Op) (rest : List Op) (t : Tied spend ops witness k p) (e : drop k ops ≡ op ∷ rest) where
-  settles : (ifs : List Bool) (done : Effect) → p.counted + weight op ≤ 201 → opens op p.open_ifs ≡ Ok ifs → p.ahead ≡ 0 → effect spend (p.counted + weight op) op p.stack ≡ Ok done → (b : Bool) → nat_le (length done.stack) 1000 ≡ b
-      → Passed spend ops witness k (checked b StackTooTall (Ok (record { ahead = jump_of done.move rest; stack = done.stack; counted = p.counted + weight op + done.keys; open_ifs = ifs; height = max p.height (length done.stack) })))
+module _ (spend : Spend) (ops : List Op) (witness : List (List ℕ)) (k : ℕ) (p : RunState) (op : Op) (rest : List Op) (t : Tied spend ops witness k p) (e : drop k ops ≡ op ∷ rest) where
+  settles : (ifs : List Bool) (done : Effect) → p.counted + weight op ≤ 201 → open_ifs_after op p.open_ifs ≡ Ok ifs → p.ahead ≡ 0 → effect spend (p.counted + weight op) op p.stack ≡ Ok done → (b : Bool) → nat_le (length done.stack) 1000 ≡ b
+      → Passed spend ops witness k (result_if b StackTooTall (Ok (record { ahead = jump_length done.jump rest; stack = done.stack; counted = p.counted + weight op + done.keys; open_ifs = ifs; height = max p.height (length done.stack) })))
   settles ifs done l o a f true low = runs_on spend ops witness k p op rest ifs done t e l o a f (leb-true (length done.stack) 1000 low)
   settles ifs done l o a f false high = fails_at spend ops witness k p op rest ifs StackTooTall t e l o a (subst (λ r. Fails r StackTooTall) (sym f) (leb-false (length done.stack) 1000 high, refl))
 
-  does_it : (ifs : List Bool) → p.counted + weight op ≤ 201 → opens op p.open_ifs ≡ Ok ifs → p.ahead ≡ 0 → (r : Result Effect Cause) → effect spend (p.counted + weight op) op p.stack ≡ r → Passed spend ops witness k (r >>= settled rest (p.counted + weight op) ifs p.height)
+  does_it : (ifs : List Bool) → p.counted + weight op ≤ 201 → open_ifs_after op p.open_ifs ≡ Ok ifs → p.ahead ≡ 0 → (r : Result Effect Cause) → effect spend (p.counted + weight op) op p.stack ≡ r → Passed spend ops witness k (r >>= state_after_effect rest (p.counted + weight op) ifs p.height)
   does_it ifs l o a (Ok done) f = settles ifs done l o a f (nat_le (length done.stack) 1000) refl
   does_it ifs l o a (Err c) f = fails_at spend ops witness k p op rest ifs c t e l o a (subst (λ r. Fails r c) (sym f) refl)
 
-  jumps_or_runs : (ifs : List Bool) → p.counted + weight op ≤ 201 → opens op p.open_ifs ≡ Ok ifs → (n : ℕ) → p.ahead ≡ n → Passed spend ops witness k (jumped_or_run spend op rest n p (p.counted + weight op) ifs)
+  jumps_or_runs : (ifs : List Bool) → p.counted + weight op ≤ 201 → open_ifs_after op p.open_ifs ≡ Ok ifs → (n : ℕ) → p.ahead ≡ n → Passed spend ops witness k (state_after_skip_or_run spend op rest n p (p.counted + weight op) ifs)
   jumps_or_runs ifs l o zero a = does_it ifs l o a (effect spend (p.counted + weight op) op p.stack) refl
   jumps_or_runs ifs l o (suc n) a = jumps_on spend ops witness k p op rest ifs n t e l o a
 
-  placed_or_not : p.counted + weight op ≤ 201 → (r : Result (List Bool) Cause) → opens op p.open_ifs ≡ r → Passed spend ops witness k (r >>= jumped_or_run spend op rest p.ahead p (p.counted + weight op))
+  placed_or_not : p.counted + weight op ≤ 201 → (r : Result (List Bool) Cause) → open_ifs_after op p.open_ifs ≡ r → Passed spend ops witness k (r >>= state_after_skip_or_run spend op rest p.ahead p (p.counted + weight op))
   placed_or_not l (Ok ifs) o = jumps_or_runs ifs l o p.ahead refl
   placed_or_not l (Err c) o =
       let more = counted_more k ops op rest e in
@@ -185,8 +185,8 @@ module _ (spend : Spend) (ops : List Op) (witness : List (List ℕ)) (k : ℕ) (
       let r = refused (take k ops) op p.open_ifs c t.flagged o in
       subst (FaultAt spend ops witness k) (sym r.cause) (misplaced (not_over spend ops witness k (point_of k p t.keys) t.runs (omega arith)) (record { op = op; rest = rest; here = e; refused = r.never }))
 
-  counted_or_not : (b : Bool) → nat_le (p.counted + weight op) 201 ≡ b → Passed spend ops witness k (checked b TooManyOps (opens op p.open_ifs >>= jumped_or_run spend op rest p.ahead p (p.counted + weight op)))
-  counted_or_not true f = placed_or_not (leb-true (p.counted + weight op) 201 f) (opens op p.open_ifs) refl
+  counted_or_not : (b : Bool) → nat_le (p.counted + weight op) 201 ≡ b → Passed spend ops witness k (result_if b TooManyOps (open_ifs_after op p.open_ifs >>= state_after_skip_or_run spend op rest p.ahead p (p.counted + weight op)))
+  counted_or_not true f = placed_or_not (leb-true (p.counted + weight op) 201 f) (open_ifs_after op p.open_ifs) refl
   counted_or_not false f =
       let more = counted_more k ops op rest e in
       let count = t.count in
@@ -194,8 +194,8 @@ module _ (spend : Spend) (ops : List Op) (witness : List (List ℕ)) (k : ℕ) (
       let high : 201 < p.counted + weight op = leb-false (p.counted + weight op) 201 f in
       too_many (record { within = omega arith; point = point_of k p t.keys; runs = t.runs; above = omega arith })
 
-  pub passes : Passed spend ops witness k (past spend op rest p)
-  unfolding past
+  pub passes : Passed spend ops witness k (state_after spend op rest p)
+  unfolding state_after
   passes = counted_or_not (nat_le (p.counted + weight op) 201) refl
 
 -- what an outcome says
@@ -204,7 +204,7 @@ Verdict spend ops witness (Clean counted height) = IsClean spend ops witness cou
 Verdict spend ops witness (Stopped at cause) = StopsAt spend ops witness at cause
 
 -- the end of the list
-module _ (spend : Spend) (ops : List Op) (witness : List (List ℕ)) (short : AreShort witness) (p : Place) (t : Tied spend ops witness (length ops) p) where
+module _ (spend : Spend) (ops : List Op) (witness : List (List ℕ)) (short : AreShort witness) (p : RunState) (t : Tied spend ops witness (length ops) p) where
   runs_out : RunsTo spend ops witness (length ops) (record { at = length ops; stack = p.stack; keys = t.keys; height = p.height })
   runs_out =
       let inside = t.inside in
@@ -239,7 +239,7 @@ module _ (spend : Spend) (ops : List Op) (witness : List (List ℕ)) (short : Ar
   }
   true_or_not e last f false h = false_end short t.faultless (none_open e) runs_out f h
 
-  ends_so : (ifs : List Bool) (stack : Entries) → p.open_ifs ≡ ifs → p.stack ≡ stack → Verdict spend ops witness (at_end (length ops) ifs stack p.counted p.height)
+  ends_so : (ifs : List Bool) (stack : Elements) → p.open_ifs ≡ ifs → p.stack ≡ stack → Verdict spend ops witness (at_end (length ops) ifs stack p.counted p.height)
   ends_so (b ∷ ifs) stack e f = open_end short t.faultless (nest_open b ifs ops (subst (Nest (b ∷ ifs)) (take-length ops) (subst (λ fs. Nest fs (take (length ops) ops)) e t.nest)))
   ends_so [] [] e f = not_one short t.faultless (none_open e) runs_out (λ g. let h : length p.stack ≡ 0 = ap length f in omega arith)
   ends_so [] (x ∷ []) e f = true_or_not e x f (truth x) refl
@@ -248,16 +248,16 @@ module _ (spend : Spend) (ops : List Op) (witness : List (List ℕ)) (short : Ar
   pub finishes : Verdict spend ops witness (at_end (length ops) p.open_ifs p.stack p.counted p.height)
   finishes = ends_so p.open_ifs p.stack refl refl
 
-onward_so : (spend : Spend) (ops : List Op) (witness : List (List ℕ)) (k : ℕ) (rest : List Op) → AreShort witness → ((p : Place) → Tied spend ops witness (k + 1) p → Verdict spend ops witness (outcome_from spend (k + 1) rest p)) → (r : Result Place Cause) → AreFaultless spend ops witness k → Passed spend ops witness k r → Verdict spend ops witness (onward k r (outcome_from spend (k + 1) rest))
+onward_so : (spend : Spend) (ops : List Op) (witness : List (List ℕ)) (k : ℕ) (rest : List Op) → AreShort witness → ((p : RunState) → Tied spend ops witness (k + 1) p → Verdict spend ops witness (outcome_from spend (k + 1) rest p)) → (r : Result RunState Cause) → AreFaultless spend ops witness k → Passed spend ops witness k r → Verdict spend ops witness (onward k r (outcome_from spend (k + 1) rest))
 onward_so spend ops witness k rest short h (Ok p) n t = h p t
 onward_so spend ops witness k rest short h (Err c) n f = least_fault short n f
 
-goes_so : (spend : Spend) (ops : List Op) (witness : List (List ℕ)) → AreShort witness → (rest : List Op) (k : ℕ) (p : Place) → drop k ops ≡ rest → k + length rest ≡ length ops → Tied spend ops witness k p → Verdict spend ops witness (outcome_from spend k rest p)
+goes_so : (spend : Spend) (ops : List Op) (witness : List (List ℕ)) → AreShort witness → (rest : List Op) (k : ℕ) (p : RunState) → drop k ops ≡ rest → k + length rest ≡ length ops → Tied spend ops witness k p → Verdict spend ops witness (outcome_from spend k rest p)
 goes_so spend ops witness short [] k p e l t =
     let f : k ≡ length ops = omega arith in
     subst (λ j. Verdict spend ops witness (at_end j p.open_ifs p.stack p.counted p.height)) (sym f) (finishes spend ops witness short p (subst (λ j. Tied spend ops witness j p) f t))
 goes_so spend ops witness short (op ∷ rest) k p e l t =
-    onward_so spend ops witness k rest short (λ q. goes_so spend ops witness short rest (k + 1) q (drop_more k ops op rest e) (omega arith)) (past spend op rest p) t.faultless (passes spend ops witness k p op rest t e)
+    onward_so spend ops witness k rest short (λ q. goes_so spend ops witness short rest (k + 1) q (drop_more k ops op rest e) (omega arith)) (state_after spend op rest p) t.faultless (passes spend ops witness k p op rest t e)
 
 starts : (spend : Spend) (ops : List Op) (witness : List (List ℕ)) → Tied spend ops witness 0 (start (reverse witness))
 starts spend ops witness = record {

@@ -8,7 +8,8 @@ use Rattle.script.specs.declared.stops.Cause.{Cause}
 use Rattle.script.specs.declared.stops.Cause.TheVariants.{MissingOperand, FailedCheck, TooManyOps}
 use Rattle.script.specs.Token.{token_of, is_key, is_token, is_signature}
 use Rattle.script.specs.Number.{number_of}
-use Rattle.script.specs.Step.{Entries, Onward, Effect, effect, multi_sig}
+use Rattle.script.specs.declared.jumps.Jump.TheVariants.{Next}
+use Rattle.script.specs.Step.{Elements, Effect, effect, multi_sig}
 
 abbrev spend : Spend
 spend = record { version = 2; lock_time = 500; sequence = 144; digest = replicate 32 7 }
@@ -26,16 +27,16 @@ bad_key = 4 ∷ replicate 32 1
 abbrev bad_token : List ℕ
 bad_token = 2 ∷ replicate 65 9
 
--- an entry below the operands, which stays
+-- an element below the operands, which stays
 abbrev under : List ℕ
 under = 0xee ∷ []
 
--- this many opcodes are counted with it; the entries stand top first
-abbrev checks : ℕ → Entries → Result Effect Cause
+-- this many opcodes are counted with it; the elements stand top first
+abbrev checks : ℕ → Elements → Result Effect Cause
 checks counted stack = effect spend counted CheckMultiSig stack
 
 abbrev answers : List ℕ → ℕ → Result Effect Cause
-answers item keys = Ok (record { move = Onward; stack = item ∷ under ∷ []; keys = keys })
+answers item keys = Ok (record { jump = Next; stack = item ∷ under ∷ []; keys = keys })
 
 abbrev yes : ℕ → Result Effect Cause
 yes keys = answers (1 ∷ []) keys
@@ -50,7 +51,7 @@ abbrev stops : Cause → Result Effect Cause
 stops cause = Err cause
 
 -- signatures, the topmost first, before the keys 1, 2 and 3 of a script
-abbrev of_three : ℕ → Entries → Result Effect Cause
+abbrev of_three : ℕ → Elements → Result Effect Cause
 of_three m sigs = checks 1 ((3 ∷ []) ∷ key 3 ∷ key 2 ∷ key 1 ∷ (m ∷ []) ∷ (sigs ++ ([] ∷ under ∷ [])))
 
 -- the keys are counted, whatever the number of signatures is

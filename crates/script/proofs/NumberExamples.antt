@@ -1,8 +1,8 @@
--- Numbers of items, and items of numbers: little-endian with a sign bit, in the shortest form (Bitcoin's script numbers, BIP 62, rule 4).
+-- Numbers of items, and items of numbers: little-endian with a sign bit, minimally encoded (Bitcoin's script numbers, BIP 62, rule 4).
 use Rattle.std.proofs.Common.{◌≡◌, ℕ, true, false, [], ◌∷◌, map, refl, Option, Some, None}
 use Rattle.script.specs.declared.num.Number.{Number}
 use Rattle.script.specs.declared.num.Limit.TheVariants.{Count, Lock}
-use Rattle.script.specs.Number.{bytes_in, number_of, item_of, digits}
+use Rattle.script.specs.Number.{bytes_in, number_of, minimal_bytes_of, digits}
 
 abbrev plus : ℕ → Option Number
 plus n = Some (record { negative = false; magnitude = n })
@@ -46,11 +46,11 @@ locks = refl
 limits : (bytes_in Count ≡ 4) × (bytes_in Lock ≡ 5)
 limits = (refl, refl)
 
--- the shortest items
-written : map item_of (0 ∷ 1 ∷ 16 ∷ 17 ∷ 127 ∷ 128 ∷ 255 ∷ 256 ∷ 257 ∷ 32767 ∷ 32768 ∷ 32896 ∷ 40000 ∷ 65535 ∷ 65536 ∷ 8388607 ∷ 8388608 ∷ 16777215 ∷ 16777216 ∷ 2147483647 ∷ 2147483648 ∷ 4294967295 ∷ []) ≡
+-- minimal encodings
+written : map minimal_bytes_of (0 ∷ 1 ∷ 16 ∷ 17 ∷ 127 ∷ 128 ∷ 255 ∷ 256 ∷ 257 ∷ 32767 ∷ 32768 ∷ 32896 ∷ 40000 ∷ 65535 ∷ 65536 ∷ 8388607 ∷ 8388608 ∷ 16777215 ∷ 16777216 ∷ 2147483647 ∷ 2147483648 ∷ 4294967295 ∷ []) ≡
     [] ∷ (0x01 ∷ []) ∷ (0x10 ∷ []) ∷ (0x11 ∷ []) ∷ (0x7f ∷ []) ∷ (0x80 ∷ 0x00 ∷ []) ∷ (0xff ∷ 0x00 ∷ []) ∷ (0x00 ∷ 0x01 ∷ []) ∷ (0x01 ∷ 0x01 ∷ [])
     ∷ (0xff ∷ 0x7f ∷ []) ∷ (0x00 ∷ 0x80 ∷ 0x00 ∷ []) ∷ (0x80 ∷ 0x80 ∷ 0x00 ∷ []) ∷ (0x40 ∷ 0x9c ∷ 0x00 ∷ []) ∷ (0xff ∷ 0xff ∷ 0x00 ∷ []) ∷ (0x00 ∷ 0x00 ∷ 0x01 ∷ [])
     ∷ (0xff ∷ 0xff ∷ 0x7f ∷ []) ∷ (0x00 ∷ 0x00 ∷ 0x80 ∷ 0x00 ∷ []) ∷ (0xff ∷ 0xff ∷ 0xff ∷ 0x00 ∷ []) ∷ (0x00 ∷ 0x00 ∷ 0x00 ∷ 0x01 ∷ [])
     ∷ (0xff ∷ 0xff ∷ 0xff ∷ 0x7f ∷ []) ∷ (0x00 ∷ 0x00 ∷ 0x00 ∷ 0x80 ∷ 0x00 ∷ []) ∷ (0xff ∷ 0xff ∷ 0xff ∷ 0xff ∷ 0x00 ∷ []) ∷ []
-unfolding item_of digits
+unfolding minimal_bytes_of digits
 written = refl

@@ -6,14 +6,14 @@ use Rattle.script.specs.declared.opcode.Op.TheVariants.{Push, Number, If, NotIf,
 use Rattle.script.specs.declared.stops.Cause.{Cause}
 use Rattle.script.specs.declared.stops.Cause.TheVariants.{OpenBranch}
 use Rattle.script.specs.Step.{◌>>=◌}
-use Rattle.script.specs.Run.{opens}
+use Rattle.script.specs.Run.{open_ifs_after}
 use Rattle.script.specs.Clean.{is_opener, is_single, IsBlock, no_more, one_more, an_else, a_branch, HasOpen, MayFollow}
 use Rattle.script.proofs.Blocks.{Sort, opening, elsing, ending, single, sort_of}
 
--- the flags behind a list
+-- the flags after a list
 abbrev pub flags : List Op → List Bool → Result (List Bool) Cause
 flags [] ifs = Ok ifs
-flags (op ∷ ops) ifs = opens op ifs >>= flags ops
+flags (op ∷ ops) ifs = open_ifs_after op ifs >>= flags ops
 
 pub bind_ok : {A B E : Type 0} (r : Result A E) (f : A → Result B E) (y : B) → (r >>= f) ≡ Ok y → (x : A) × (r ≡ Ok x) × (f x ≡ Ok y)
 bind_ok (Ok x) f y e = (x, refl, e)
@@ -25,9 +25,9 @@ flags_later xs ys (Err c) h = refl
 
 pub flags-append : (xs ys : List Op) (ifs : List Bool) → flags (xs ++ ys) ifs ≡ (flags xs ifs >>= flags ys)
 flags-append [] ys ifs = refl
-flags-append (x ∷ xs) ys ifs = flags_later xs ys (opens x ifs) (flags-append xs ys)
+flags-append (x ∷ xs) ys ifs = flags_later xs ys (open_ifs_after x ifs) (flags-append xs ys)
 
-pub opens_single : (op : Op) (ifs : List Bool) → IsTrue (is_single op) → opens op ifs ≡ Ok ifs
+pub opens_single : (op : Op) (ifs : List Bool) → IsTrue (is_single op) → open_ifs_after op ifs ≡ Ok ifs
 opens_single (Push item) ifs h = refl
 opens_single (Number n) ifs h = refl
 opens_single If ifs h = absurd (true≢false (sym h))
@@ -46,7 +46,7 @@ opens_single CheckMultiSig ifs h = refl
 opens_single CheckLockTimeVerify ifs h = refl
 opens_single CheckSequenceVerify ifs h = refl
 
-pub opens_opener : (op : Op) (ifs : List Bool) → IsTrue (is_opener op) → opens op ifs ≡ Ok (false ∷ ifs)
+pub opens_opener : (op : Op) (ifs : List Bool) → IsTrue (is_opener op) → open_ifs_after op ifs ≡ Ok (false ∷ ifs)
 opens_opener (Push item) ifs h = absurd (true≢false (sym h))
 opens_opener (Number n) ifs h = absurd (true≢false (sym h))
 opens_opener If ifs h = refl
@@ -116,26 +116,26 @@ kept_same : (elses : Bool) (ifs ifs' : List Bool) → ifs ≡ ifs' → Kept else
 kept_same false ifs ifs' e = sym e
 kept_same true ifs ifs' e = λ b outer f. (b, sym e ∙ f)
 
-else_kept : (ifs more : List Bool) → opens Else ifs ≡ Ok more → (b : Bool) (outer : List Bool) → ifs ≡ b ∷ outer → more ≡ true ∷ outer
+else_kept : (ifs more : List Bool) → open_ifs_after Else ifs ≡ Ok more → (b : Bool) (outer : List Bool) → ifs ≡ b ∷ outer → more ≡ true ∷ outer
 else_kept [] more e b outer f = absurd (cc)
 else_kept (false ∷ ifs) more e b outer f = cc
 else_kept (true ∷ ifs) more e b outer f = absurd (cc)
 
-end_kept : (ifs more : List Bool) (b : Bool) (outer : List Bool) → ifs ≡ b ∷ outer → opens EndIf ifs ≡ Ok more → more ≡ outer
-end_kept ifs more b outer f e = let g : opens EndIf (b ∷ outer) ≡ Ok more = ap (opens EndIf) (sym f) ∙ e in cc
+end_kept : (ifs more : List Bool) (b : Bool) (outer : List Bool) → ifs ≡ b ∷ outer → open_ifs_after EndIf ifs ≡ Ok more → more ≡ outer
+end_kept ifs more b outer f e = let g : open_ifs_after EndIf (b ∷ outer) ≡ Ok more = ap (open_ifs_after EndIf) (sym f) ∙ e in cc
 
 kept_on : (elses : Bool) (block : List Op) → IsBlock elses block → (ifs ifs' : List Bool) → flags block ifs ≡ Ok ifs' → Kept elses ifs ifs'
 kept_on elses block no_more ifs ifs' e = kept_same elses ifs ifs' (cc)
 kept_on elses block (one_more {op = op} {rest = rest} h b) ifs ifs' e =
     kept_on elses rest b ifs ifs' (sym (ap (λ r. r >>= flags rest) (opens_single op ifs h)) ∙ e)
 kept_on elses block (an_else {rest = rest} b) ifs ifs' e =
-    let p = bind_ok (opens Else ifs) (flags rest) ifs' e in
+    let p = bind_ok (open_ifs_after Else ifs) (flags rest) ifs' e in
     λ b' outer f. kept_on true rest b p.0 ifs' p.2 true outer (else_kept ifs p.0 p.1 b' outer f)
 kept_on elses block (a_branch {op = op} {inner = inner} {rest = rest} h b b') ifs ifs' e =
     let p = sym (ap (λ r. r >>= flags (inner ++ EndIf ∷ rest)) (opens_opener op ifs h)) ∙ e in
     let q = bind_ok (flags inner (false ∷ ifs)) (flags (EndIf ∷ rest)) ifs' (sym (flags-append inner (EndIf ∷ rest) (false ∷ ifs)) ∙ p) in
     let k = kept_on true inner b (false ∷ ifs) q.0 q.1 false ifs refl in
-    let r = bind_ok (opens EndIf q.0) (flags rest) ifs' q.2 in
+    let r = bind_ok (open_ifs_after EndIf q.0) (flags rest) ifs' q.2 in
     let s : r.0 ≡ ifs = end_kept q.0 r.0 k.0 ifs k.1 r.1 in
     kept_on elses rest b' ifs ifs' (ap (flags rest) (sym s) ∙ r.2)
 
@@ -160,7 +160,7 @@ pub record Refused (before : List Op) (op : Op) (c : Cause) : Type 0 where
   pub cause : c ≡ OpenBranch
   pub never : MayFollow before op → ⊥
 
-refused_sort : (before : List Op) (op : Op) (ifs : List Bool) (c : Cause) → Sort op → flags before [] ≡ Ok ifs → opens op ifs ≡ Err c → Refused before op c
+refused_sort : (before : List Op) (op : Op) (ifs : List Bool) (c : Cause) → Sort op → flags before [] ≡ Ok ifs → open_ifs_after op ifs ≡ Err c → Refused before op c
 refused_sort before op ifs c (opening h) e f = absurd (let g = opens_opener op ifs h in cc)
 refused_sort before op [] c elsing e f = record { cause = cc; never = λ m. let o = open_flags false before [] m e in let g = o.1 in absurd (cc) }
 refused_sort before op (false ∷ ifs) c elsing e f = absurd (cc)
@@ -169,7 +169,7 @@ refused_sort before op [] c ending e f = record { cause = cc; never = λ m. let 
 refused_sort before op (b ∷ ifs) c ending e f = absurd (cc)
 refused_sort before op ifs c (single h) e f = absurd (let g = opens_single op ifs h in cc)
 
-pub refused : (before : List Op) (op : Op) (ifs : List Bool) (c : Cause) → flags before [] ≡ Ok ifs → opens op ifs ≡ Err c → Refused before op c
+pub refused : (before : List Op) (op : Op) (ifs : List Bool) (c : Cause) → flags before [] ≡ Ok ifs → open_ifs_after op ifs ≡ Err c → Refused before op c
 refused before op ifs c = refused_sort before op ifs c (sort_of op)
 
 -- the flags as a nest of open IFs, the innermost first
@@ -214,7 +214,7 @@ nest-append (b ∷ ifs) ops ys h n = record {
 nest_same : (ifs ifs' : List Bool) (ops : List Op) → ifs' ≡ ifs → Nest ifs ops → Nest ifs' ops
 nest_same ifs ifs' ops e n = rw e n
 
-nest_sort : (ifs ifs' : List Bool) (ops : List Op) (op : Op) → Sort op → Nest ifs ops → opens op ifs ≡ Ok ifs' → Nest ifs' (ops ++ op ∷ [])
+nest_sort : (ifs ifs' : List Bool) (ops : List Op) (op : Op) → Sort op → Nest ifs ops → open_ifs_after op ifs ≡ Ok ifs' → Nest ifs' (ops ++ op ∷ [])
 nest_sort ifs ifs' ops op (opening h) n e =
     let g = opens_opener op ifs h in let f : ifs' ≡ false ∷ ifs = cc in
     rw f (record { before = ops; opener = op; block = []; same = refl; opens = h; closed = no_more; outer = n })
@@ -241,16 +241,16 @@ nest_sort ifs ifs' ops op (single h) n e =
     rw f (nest-append ifs ops (op ∷ []) (λ elses. one_more h no_more) n)
 
 -- one opcode further
-pub nest_on : (ifs ifs' : List Bool) (ops : List Op) (op : Op) → Nest ifs ops → opens op ifs ≡ Ok ifs' → Nest ifs' (ops ++ op ∷ [])
+pub nest_on : (ifs ifs' : List Bool) (ops : List Op) (op : Op) → Nest ifs ops → open_ifs_after op ifs ≡ Ok ifs' → Nest ifs' (ops ++ op ∷ [])
 nest_on ifs ifs' ops op = nest_sort ifs ifs' ops op (sort_of op)
 
-pub flags_on : (ops : List Op) (op : Op) (ifs ifs' : List Bool) → flags ops [] ≡ Ok ifs → opens op ifs ≡ Ok ifs' → flags (ops ++ op ∷ []) [] ≡ Ok ifs'
+pub flags_on : (ops : List Op) (op : Op) (ifs ifs' : List Bool) → flags ops [] ≡ Ok ifs → open_ifs_after op ifs ≡ Ok ifs' → flags (ops ++ op ∷ []) [] ≡ Ok ifs'
 flags_on ops op ifs ifs' e f = flags-append ops (op ∷ []) [] ∙ ap (λ r. r >>= flags (op ∷ [])) e ∙ ap (λ r. r >>= flags []) f
 
 pub nest_open : (b : Bool) (ifs : List Bool) (ops : List Op) → Nest (b ∷ ifs) ops → HasOpen true ops
 nest_open b ifs ops n = record { before = n.before; opener = n.opener; block = n.block; same = n.same; opens = n.opens; closed = weaker b n.block n.closed }
 
-follows_sort : (before : List Op) (op : Op) (ifs ifs' : List Bool) → Sort op → Nest ifs before → opens op ifs ≡ Ok ifs' → MayFollow before op
+follows_sort : (before : List Op) (op : Op) (ifs ifs' : List Bool) → Sort op → Nest ifs before → open_ifs_after op ifs ≡ Ok ifs' → MayFollow before op
 follows_sort before op ifs ifs' (opening h) n e = may_follow_opener before op h
 follows_sort before op [] ifs' elsing n e = absurd (cc)
 follows_sort before op (false ∷ ifs) ifs' elsing n e = record { before = n.before; opener = n.opener; block = n.block; same = n.same; opens = n.opens; closed = n.closed }
@@ -260,5 +260,5 @@ follows_sort before op (b ∷ ifs) ifs' ending n e = nest_open b ifs before n
 follows_sort before op ifs ifs' (single h) n e = may_follow_single before op h
 
 -- an opcode that the function allows may follow
-pub follows : (before : List Op) (op : Op) (ifs ifs' : List Bool) → Nest ifs before → opens op ifs ≡ Ok ifs' → MayFollow before op
+pub follows : (before : List Op) (op : Op) (ifs ifs' : List Bool) → Nest ifs before → open_ifs_after op ifs ≡ Ok ifs' → MayFollow before op
 follows before op ifs ifs' = follows_sort before op ifs ifs' (sort_of op)

@@ -1,8 +1,8 @@
--- The shortest item of a number is read as that number.
+-- The minimal encoding of a number is read as that number.
 use Rattle.std.proofs.Common.{◌≡◌, ◌≢◌, ℕ, zero, suc, ◌+◌, ◌*◌, ◌/◌, ◌%◌, ◌^◌, ◌<◌, ◌≤◌, Bool, true, false, nat_le, nat_lt, ◌&&◌, List, [], ◌∷◌, ◌++◌, length, Some, sym, ap, ◌∙◌, refl, subst, arith, pow-suc, mod-eq_of_lt, eq-zero-or-pos, ⊎_elim}
 use Rattle.std.specs.Prelude.{if◌then◌else◌}
 use Rattle.std.proofs.lemmas.Bool.{lt-leb, leb-true, leb-false, ltb-true, ltb-false}
-use Rattle.script.specs.Number.{unsigned, lowest, digits, item_of, number_of}
+use Rattle.script.specs.Number.{unsigned, lowest, digits, minimal_bytes_of, number_of}
 use Rattle.script.proofs.Digits.{digits-zero, digits-suc}
 use Rattle.script.proofs.Numbers.{number_of-nil, number_of-good}
 
@@ -73,6 +73,6 @@ shortest_read limit n (x ∷ xs) s l =
     number_of-good limit (x ∷ xs) n (256 ^ suc (length xs)) (omega arith) l (sym s.0) refl (rw m (omega arith))
     ∙ rw (m, lt-leb (256 ^ suc (length xs) / 2) n h) refl
 
-pub read_back : (n : ℕ) → n < 2 ^ 32 → number_of 5 (item_of n) ≡ Some (record { negative = false; magnitude = n })
-unfolding item_of
-read_back n l = let f = fitting 4 5 n (omega arith) (omega arith) in shortest_read 5 n (digits 5 n) f.shortest f.long
+pub read_back : (n : ℕ) → n < 2 ^ 32 → number_of 5 (minimal_bytes_of n) ≡ Some (record { negative = false; magnitude = n })
+unfolding minimal_bytes_of
+read_back n l = let f = fitting 4 9 n (omega arith) (omega arith) in shortest_read 5 n (digits 9 n) f.shortest f.long

@@ -4,8 +4,8 @@ use Rattle.script.specs.declared.opcode.Op.TheVariants.{Push, Number, If, NotIf,
 use Rattle.script.specs.declared.parse.ParseError.TheVariants.{NoMemory, BadOpcode, Truncated, TooLong}
 use Rattle.script.specs.declared.stops.Cause.TheVariants.{MissingOperand, FailedCheck, OpenBranch, TooManyOps, StackTooTall, ItemTooLong, NotOneValue, FalseEnd}
 use Rattle.script.specs.declared.stops.Kind.TheVariants.{Verify, Sequence}
-use Rattle.script.specs.Spelling.{code_of, payload_of, IsOp, spelling, IsFault, number_of_error}
-use Rattle.script.specs.Stops.{number_of_cause}
+use Rattle.script.specs.Spelling.{code_of, payload_of, IsOp, spelling, IsFault}
+use Rattle.script.specs.Refusals.{refusal_number, stop_number}
 
 -- the opcodes' bytes, as Bitcoin's list of opcodes has them
 codes : map code_of (Push [] ∷ Push (9 ∷ []) ∷ Push (replicate 75 9) ∷ Number 1 ∷ Number 2 ∷ Number 16 ∷ If ∷ NotIf ∷ Else ∷ EndIf ∷ Drop ∷ Dup ∷ Swap ∷ Size ∷ Equal ∷ EqualVerify ∷ Hash160 ∷ CheckSig ∷ CheckMultiSig ∷ CheckLockTimeVerify ∷ CheckSequenceVerify ∷ []) ≡
@@ -42,8 +42,8 @@ too_long = lit< tt
 not_too_long : IsFault (replicate 10000 0x51) TooLong → ⊥
 not_too_long h = omega (arith, h)
 
-parse_numbers : map number_of_error (NoMemory ∷ BadOpcode 9 ∷ Truncated 9 ∷ TooLong ∷ []) ≡ 0 ∷ 1 ∷ 2 ∷ 3 ∷ []
+parse_numbers : map refusal_number (NoMemory ∷ BadOpcode 9 ∷ Truncated 9 ∷ TooLong ∷ []) ≡ 0 ∷ 1 ∷ 2 ∷ 3 ∷ []
 parse_numbers = refl
 
-stop_numbers : map number_of_cause (MissingOperand ∷ FailedCheck Verify ∷ FailedCheck Sequence ∷ OpenBranch ∷ TooManyOps ∷ StackTooTall ∷ ItemTooLong ∷ NotOneValue ∷ FalseEnd ∷ []) ≡ 1 ∷ 2 ∷ 2 ∷ 3 ∷ 4 ∷ 5 ∷ 6 ∷ 7 ∷ 8 ∷ []
+stop_numbers : map stop_number (MissingOperand ∷ FailedCheck Verify ∷ FailedCheck Sequence ∷ OpenBranch ∷ TooManyOps ∷ StackTooTall ∷ ItemTooLong ∷ NotOneValue ∷ FalseEnd ∷ []) ≡ 1 ∷ 2 ∷ 2 ∷ 3 ∷ 4 ∷ 5 ∷ 6 ∷ 7 ∷ 8 ∷ []
 stop_numbers = refl

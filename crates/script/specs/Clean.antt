@@ -7,9 +7,11 @@ use Rattle.script.specs.declared.spending.Spend.{Spend}
 use Rattle.script.specs.declared.stops.Cause.{Cause}
 use Rattle.script.specs.declared.stops.Cause.TheVariants.{OpenBranch, TooManyOps, StackTooTall, ItemTooLong, NotOneValue, FalseEnd}
 use Rattle.script.specs.Limits.{max_element_size, max_ops, max_stack_size}
-use Rattle.script.specs.Step.{Entries, Move, Onward, PastElse, PastEnd, Effect, effect, truth}
+use Rattle.script.specs.declared.jumps.Jump.{Jump}
+use Rattle.script.specs.declared.jumps.Jump.TheVariants.{Next, AfterElse, AfterEndIf}
+use Rattle.script.specs.Step.{Elements, Effect, effect, truth}
 use Rattle.script.specs.Token.{assigned, Assigned}
-use Rattle.script.specs.Run.{counted_in, jump_of, Clean, Stopped, outcome}
+use Rattle.script.specs.Run.{counted_in, jump_length, Clean, Stopped, outcome}
 
 -- the opcode opens a branch
 abbrev pub is_opener : Op → Bool
@@ -32,29 +34,29 @@ pub data IsBlock : Bool → List Op → Type 0 where
   an_else : {rest : List Op} → IsBlock true rest → IsBlock true (Else ∷ rest)
   a_branch : {elses : Bool} {op : Op} {inner rest : List Op} → IsTrue (is_opener op) → IsBlock true inner → IsBlock elses rest → IsBlock elses (op ∷ (inner ++ EndIf ∷ rest))
 
--- a block stands first on the list and this opcode behind it, and so many opcodes lead to what follows them both
-pub record LeadsBehind (elses : Bool) (closer : Op) (list : List Op) (n : ℕ) : Type 0 where
+-- a block stands first on the list and this opcode after it, and `counted` opcodes lead to what follows them both
+pub record LeadsAfter (elses : Bool) (closer : Op) (list : List Op) (n : ℕ) : Type 0 where
   pub block : List Op
   pub after : List Op
   pub same : list ≡ block ++ closer ∷ after
   pub closed : IsBlock elses block
   pub place : n ≡ length block + 1
 
--- a run jumps over so many of the opcodes that follow: to the next one; behind the ELSE, or behind the ENDIF where it has no ELSE; behind the
+-- a run jumps over so many of the opcodes that follow: to the next one; after the ELSE, or after the ENDIF where it has no ELSE; after the
 -- ENDIF; and to the end of the list where that closes what has no partner
-pub data Jumps (rest : List Op) : Move → ℕ → Type 0 where
-  onward : Jumps rest Onward 0
-  past_else : {n : ℕ} → LeadsBehind false Else rest n → Jumps rest PastElse n
-  past_end_for_else : {n : ℕ} → LeadsBehind false EndIf rest n → Jumps rest PastElse n
-  to_list_end_for_else : ((n : ℕ) → LeadsBehind false Else rest n → ⊥) → ((n : ℕ) → LeadsBehind false EndIf rest n → ⊥) → Jumps rest PastElse (length rest)
-  past_end : {n : ℕ} → LeadsBehind true EndIf rest n → Jumps rest PastEnd n
-  to_list_end : ((n : ℕ) → LeadsBehind true EndIf rest n → ⊥) → Jumps rest PastEnd (length rest)
+pub data Jumps (rest : List Op) : Jump → ℕ → Type 0 where
+  onward : Jumps rest Next 0
+  after_else : {n : ℕ} → LeadsAfter false Else rest n → Jumps rest AfterElse n
+  after_endif_for_else : {n : ℕ} → LeadsAfter false EndIf rest n → Jumps rest AfterElse n
+  to_list_end_for_else : ((n : ℕ) → LeadsAfter false Else rest n → ⊥) → ((n : ℕ) → LeadsAfter false EndIf rest n → ⊥) → Jumps rest AfterElse (length rest)
+  after_endif : {n : ℕ} → LeadsAfter true EndIf rest n → Jumps rest AfterEndIf n
+  to_list_end : ((n : ℕ) → LeadsAfter true EndIf rest n → ⊥) → Jumps rest AfterEndIf (length rest)
 
--- where a chain of steps has come to: the position in the list, the entries, the keys of the CHECKMULTISIGs so far, and the greatest number
--- of entries so far
+-- where a chain of steps has come to: the position in the list, the elements, the keys of the CHECKMULTISIGs so far, and the greatest number
+-- of elements so far
 pub record Point : Type 0 where
   pub at : ℕ
-  pub stack : Entries
+  pub stack : Elements
   pub keys : ℕ
   pub height : ℕ
 
@@ -62,7 +64,7 @@ pub record Point : Type 0 where
 abbrev pub start_on : List (List ℕ) → Point
 start_on witness = record { at = 0; stack = reverse witness; keys = 0; height = length witness }
 
--- one step: the opcode at the position does this, and the run goes on behind what it jumps over
+-- one step: the opcode at the position does this, and the run goes on after what it jumps over
 pub record Steps (spend : Spend) (ops : List Op) (x y : Point) : Type 0 where
   pub op : Op
   pub rest : List Op
@@ -70,10 +72,10 @@ pub record Steps (spend : Spend) (ops : List Op) (x y : Point) : Type 0 where
   pub done : Effect
   pub does : effect spend (counted_in (take (x.at + 1) ops) + x.keys) op x.stack ≡ Ok done
   pub over : ℕ
-  pub jumps : Jumps rest done.move over
+  pub jumps : Jumps rest done.jump over
   pub leads : y ≡ record { at = x.at + 1 + over; stack = done.stack; keys = x.keys + done.keys; height = max x.height (length done.stack) }
 
--- a chain of steps, each of which begins before position k and leaves at most 1,000 entries
+-- a chain of steps, each of which begins before position k and leaves at most 1,000 elements
 pub data Chain (spend : Spend) (ops : List Op) (k : ℕ) : Point → Point → Type 0 where
   ends : {x : Point} → Chain spend ops k x x
   goes_on : {x y z : Point} → x.at < k → Steps spend ops x y → length y.stack ≤ max_stack_size → Chain spend ops k y z → Chain spend ops k x z
@@ -92,7 +94,7 @@ pub record HasOpen (elses : Bool) (ops : List Op) : Type 0 where
   pub opens : IsTrue (is_opener opener)
   pub closed : IsBlock elses block
 
--- the opcode may stand behind these
+-- the opcode may stand after these
 abbrev pub MayFollow : List Op → Op → Type 0
 MayFollow before Else = HasOpen false before
 MayFollow before EndIf = HasOpen true before
@@ -113,7 +115,7 @@ ArePlaced ops = (before rest : List Op) (op : Op) → ops ≡ before ++ op ∷ r
 abbrev pub AreShort : List (List ℕ) → Type 0
 AreShort witness = All (λ item. length item ≤ max_element_size) witness
 
--- the script runs clean on the witness, with so many counted opcodes and so many entries at most
+-- the script runs clean on the witness, with so many counted opcodes and n elements at most
 pub record IsClean (spend : Spend) (ops : List Op) (witness : List (List ℕ)) (counted height : ℕ) : Type 0 where
   pub short : AreShort witness
   pub placed : ArePlaced ops
@@ -132,7 +134,7 @@ pub record PassesLimit (spend : Spend) (ops : List Op) (witness : List (List ℕ
   pub runs : RunsTo spend ops witness k point
   pub above : max_ops < counted_in (take (k + 1) ops) + point.keys
 
--- what an opcode did is a failure with this cause: its own, or more than 1,000 entries
+-- what an opcode did is a failure with this cause: its own, or more than 1,000 elements
 abbrev pub Fails : Result Effect Cause → Cause → Type 0
 Fails (Err c) cause = cause ≡ c
 Fails (Ok done) cause = (max_stack_size < length done.stack) × (cause ≡ StackTooTall)
@@ -168,7 +170,7 @@ pub data StopsAt (spend : Spend) (ops : List Op) (witness : List (List ℕ)) : �
 
 -- each opcode jumps in one way from each place, and as far as the function says
 abbrev pub JumpIsExact : Type 0
-JumpIsExact = (rest : List Op) (move : Move) (n : ℕ) → Jumps rest move n ↔ (n ≡ jump_of move rest)
+JumpIsExact = (rest : List Op) (move : Jump) (n : ℕ) → Jumps rest move n ↔ (n ≡ jump_length move rest)
 
 -- the function that computes says of each clean run that it is one, with these numbers, and of no other
 abbrev pub CleanIsExact : Type 0

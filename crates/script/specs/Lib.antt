@@ -1,4 +1,4 @@
-pub mod Stops
+pub mod Refusals
 pub mod Spelling
 pub mod Number
 pub mod Limits

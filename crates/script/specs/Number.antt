@@ -22,7 +22,7 @@ sign_bit bs = 256 ^ length bs / 2
 abbrev pub magnitude_of : List ℕ → ℕ
 magnitude_of bs = unsigned bs % sign_bit bs
 
--- the number of an item of at most so many bytes, where no shorter item has it: its magnitude passes what one byte less
+-- the number of an item of at most `limit` bytes, where no shorter item has it: its magnitude passes what one byte less
 -- could hold
 unfoldable pub number_of : ℕ → List ℕ → Option Number
 number_of limit [] = Some (record { negative = false; magnitude = 0 })
@@ -40,6 +40,6 @@ unfoldable pub digits : ℕ → ℕ → List ℕ
 digits zero n = []
 digits (suc more) n = if n == 0 then [] else (lowest n ++ digits more (n / 256))
 
--- the shortest item of a number that is not negative and below 2 ^ 32
-unfoldable pub item_of : ℕ → List ℕ
-item_of n = digits 5 n
+-- the minimal encoding of a number that is not negative and below 2 ^ 64
+unfoldable pub minimal_bytes_of : ℕ → List ℕ
+minimal_bytes_of n = digits 9 n

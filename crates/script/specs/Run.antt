@@ -1,5 +1,5 @@
 -- Runs of a script, computed: how a run ends, opcode by opcode. `Clean` says the same as a relation.
-use Rattle.std.specs.Prelude.{ℕ, zero, suc, ◌+◌, max, Bool, true, false, nat_lt, nat_le, if◌then◌else◌, List, [], ◌∷◌, length, reverse, Result, Ok, Err}
+use Rattle.std.specs.Prelude.{◌≡◌, ℕ, zero, suc, ◌+◌, max, Bool, true, false, nat_lt, nat_le, if◌then◌else◌, List, [], ◌∷◌, length, reverse, Result, Ok, Err}
 use Rattle.std.specs.List.{list_any}
 use Rattle.script.specs.declared.opcode.Op.{Op}
 use Rattle.script.specs.declared.opcode.Op.TheVariants.{If, NotIf, Else, EndIf}
@@ -8,7 +8,9 @@ use Rattle.script.specs.declared.stops.Cause.{Cause}
 use Rattle.script.specs.declared.stops.Cause.TheVariants.{OpenBranch, TooManyOps, StackTooTall, ItemTooLong, NotOneValue, FalseEnd}
 use Rattle.script.specs.Limits.{max_element_size, max_ops, max_stack_size}
 use Rattle.script.specs.Spelling.{code_of}
-use Rattle.script.specs.Step.{Entries, Move, Onward, PastElse, PastEnd, Effect, effect, truth, checked, ◌>>=◌}
+use Rattle.script.specs.declared.jumps.Jump.{Jump}
+use Rattle.script.specs.declared.jumps.Jump.TheVariants.{Next, AfterElse, AfterEndIf}
+use Rattle.script.specs.Step.{Elements, Effect, effect, truth, result_if, ◌>>=◌}
 
 -- 1 for an opcode that counts: its byte is above 60
 abbrev pub weight : Op → ℕ
@@ -19,84 +21,89 @@ abbrev pub counted_in : List Op → ℕ
 counted_in [] = 0
 counted_in (op ∷ ops) = weight op + counted_in ops
 
--- how many of these opcodes come before what stands behind the branch's end, or where `stop` behind its ELSE, if that is first, where so
+-- how many of these opcodes come before what stands after the branch's end, or where `stop` after its ELSE, if that is first, where so
 -- many IFs were opened on the way; all of them where neither comes
-abbrev pub over : Bool → ℕ → List Op → ℕ
-over stop depth [] = 0
-over stop depth (If ∷ rest) = suc (over stop (suc depth) rest)
-over stop depth (NotIf ∷ rest) = suc (over stop (suc depth) rest)
-over stop zero (EndIf ∷ rest) = 1
-over stop (suc depth) (EndIf ∷ rest) = suc (over stop depth rest)
-over true zero (Else ∷ rest) = 1
-over true (suc depth) (Else ∷ rest) = suc (over true (suc depth) rest)
-over stop depth (op ∷ rest) = suc (over stop depth rest)
+abbrev pub skip_length : Bool → ℕ → List Op → ℕ
+skip_length stop depth [] = 0
+skip_length stop depth (If ∷ rest) = suc (skip_length stop (suc depth) rest)
+skip_length stop depth (NotIf ∷ rest) = suc (skip_length stop (suc depth) rest)
+skip_length stop zero (EndIf ∷ rest) = 1
+skip_length stop (suc depth) (EndIf ∷ rest) = suc (skip_length stop depth rest)
+skip_length true zero (Else ∷ rest) = 1
+skip_length true (suc depth) (Else ∷ rest) = suc (skip_length true (suc depth) rest)
+skip_length stop depth (op ∷ rest) = suc (skip_length stop depth rest)
 
 -- how many opcodes a run jumps over, of those that follow
-abbrev pub jump_of : Move → List Op → ℕ
-jump_of Onward rest = 0
-jump_of PastElse rest = over true 0 rest
-jump_of PastEnd rest = over false 0 rest
+abbrev pub jump_length : Jump → List Op → ℕ
+jump_length Next rest = 0
+jump_length AfterElse rest = skip_length true 0 rest
+jump_length AfterEndIf rest = skip_length false 0 rest
 
--- the IFs that stand open behind an opcode, the innermost first, each with whether its ELSE has come
-abbrev pub opens : Op → List Bool → Result (List Bool) Cause
-opens If ifs = Ok (false ∷ ifs)
-opens NotIf ifs = Ok (false ∷ ifs)
-opens Else (false ∷ ifs) = Ok (true ∷ ifs)
-opens Else ifs = Err OpenBranch
-opens EndIf (b ∷ ifs) = Ok ifs
-opens EndIf [] = Err OpenBranch
-opens op ifs = Ok ifs
+-- the IFs that stand open after an opcode, the innermost first, each with whether its ELSE has come
+abbrev pub open_ifs_after : Op → List Bool → Result (List Bool) Cause
+open_ifs_after If ifs = Ok (false ∷ ifs)
+open_ifs_after NotIf ifs = Ok (false ∷ ifs)
+open_ifs_after Else (false ∷ ifs) = Ok (true ∷ ifs)
+open_ifs_after Else ifs = Err OpenBranch
+open_ifs_after EndIf (b ∷ ifs) = Ok ifs
+open_ifs_after EndIf [] = Err OpenBranch
+open_ifs_after op ifs = Ok ifs
+
+-- whether an opcode fits the IFs that stand open, and those that stand open after it
+abbrev pub IsOpened : Op → List Bool → List Bool → Bool → Type 0
+IsOpened op old new true = open_ifs_after op old ≡ Ok new
+IsOpened op old new false = open_ifs_after op old ≡ Err OpenBranch
 
 -- where a run stands as it comes to an opcode of the list
-pub record Place : Type 0 where
+pub record RunState : Type 0 where
   -- how many opcodes it jumps over from here on
   pub ahead : ℕ
-  pub stack : Entries
+  pub stack : Elements
   -- the opcodes that count so far, with the keys of the CHECKMULTISIGs that were run
   pub counted : ℕ
   -- the IFs that stand open here: a fact of the list alone
   pub open_ifs : List Bool
-  -- the greatest number of entries so far
+  -- the greatest number of elements so far
   pub height : ℕ
 
--- behind an opcode that was run: the entries are few enough, and the greatest number is kept
-abbrev pub settled : List Op → ℕ → List Bool → ℕ → Effect → Result Place Cause
-settled rest counted ifs height e =
-    checked (nat_le (length e.stack) max_stack_size) StackTooTall (Ok (record { ahead = jump_of e.move rest; stack = e.stack; counted = counted + e.keys; open_ifs = ifs; height = max height (length e.stack) }))
+-- after an opcode that was run: the elements are few enough, and the greatest number is kept
+abbrev pub state_after_effect : List Op → ℕ → List Bool → ℕ → Effect → Result RunState Cause
+state_after_effect rest counted ifs height e =
+    result_if (nat_le (length e.stack) max_stack_size) StackTooTall (Ok (record { ahead = jump_length e.jump rest; stack = e.stack; counted = counted + e.keys; open_ifs = ifs; height = max height (length e.stack) }))
 
 -- an opcode is jumped over, or run
-abbrev pub jumped_or_run : Spend → Op → List Op → ℕ → Place → ℕ → List Bool → Result Place Cause
-jumped_or_run spend op rest (suc n) p counted ifs = Ok (record { ahead = n; stack = p.stack; counted = counted; open_ifs = ifs; height = p.height })
-jumped_or_run spend op rest zero p counted ifs = effect spend counted op p.stack >>= settled rest counted ifs p.height
+abbrev pub state_after_skip_or_run : Spend → Op → List Op → ℕ → RunState → ℕ → List Bool → Result RunState Cause
+state_after_skip_or_run spend op rest (suc n) p counted ifs = Ok (record { ahead = n; stack = p.stack; counted = counted; open_ifs = ifs; height = p.height })
+state_after_skip_or_run spend op rest zero p counted ifs = effect spend counted op p.stack >>= state_after_effect rest counted ifs p.height
 
 -- past one opcode, which these follow
-unfoldable pub past : Spend → Op → List Op → Place → Result Place Cause
-past spend op rest p =
-    checked (nat_le (p.counted + weight op) max_ops) TooManyOps (opens op p.open_ifs >>= jumped_or_run spend op rest p.ahead p (p.counted + weight op))
+unfoldable pub state_after : Spend → Op → List Op → RunState → Result RunState Cause
+state_after spend op rest p =
+    result_if (nat_le (p.counted + weight op) max_ops) TooManyOps (open_ifs_after op p.open_ifs >>= state_after_skip_or_run spend op rest p.ahead p (p.counted + weight op))
 
--- how a run ends: clean, with the counted opcodes and the greatest number of entries, or stopped, with the position and the cause
+-- how a run ends: clean, with the counted opcodes and the greatest number of elements, or stopped, with the position and the cause
 pub data Outcome : Type 0 where
   Clean : (counted height : ℕ) → Outcome
   Stopped : (at : ℕ) (cause : Cause) → Outcome
 
--- the end of the list: no IF stands open, and there is one true entry
-abbrev pub at_end : ℕ → List Bool → Entries → ℕ → ℕ → Outcome
+-- the end of the list: no IF stands open, and there is one true element
+abbrev pub at_end : ℕ → List Bool → Elements → ℕ → ℕ → Outcome
 at_end at (b ∷ ifs) stack counted height = Stopped at OpenBranch
 at_end at [] (x ∷ []) counted height = if truth x then Clean counted height else Stopped at FalseEnd
 at_end at [] stack counted height = Stopped at NotOneValue
 
 -- goes on from a place, or stops at this position
-abbrev pub onward : ℕ → Result Place Cause → (Place → Outcome) → Outcome
+abbrev pub onward : ℕ → Result RunState Cause → (RunState → Outcome) → Outcome
 onward at (Ok p) go = go p
 onward at (Err c) go = Stopped at c
 
 -- the outcome from a position on, where these opcodes are left
-abbrev pub outcome_from : Spend → ℕ → List Op → Place → Outcome
+abbrev pub outcome_from : Spend → ℕ → List Op → RunState → Outcome
 outcome_from spend at [] p = at_end at p.open_ifs p.stack p.counted p.height
-outcome_from spend at (op ∷ rest) p = onward at (past spend op rest p) (outcome_from spend (at + 1) rest)
+outcome_from spend at (op ∷ rest) p = onward at (state_after spend op rest p) (outcome_from spend (at + 1) rest)
 
--- where a run starts, on these entries
-abbrev pub start : Entries → Place
+-- where a run starts, on these elements
+abbrev pub start : Elements → RunState
 start stack = record { ahead = 0; stack = stack; counted = 0; open_ifs = []; height = length stack }
 
 -- an item has more than 520 bytes

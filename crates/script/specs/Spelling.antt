@@ -85,10 +85,3 @@ Refuses first after at NoMemory = Unit {0}
 Refuses first after at (BadOpcode k) = (k ≡ at) × StartsNone first
 Refuses first after at (Truncated k) = (k ≡ at) × (first ≤ 75) × (length after < first)
 Refuses first after at TooLong = ⊥
-
--- the numbers of the refusals
-abbrev pub number_of_error : ParseError → ℕ
-number_of_error NoMemory = 0
-number_of_error (BadOpcode at) = 1
-number_of_error (Truncated at) = 2
-number_of_error TooLong = 3

@@ -1,6 +1,20 @@
-// Scripts of Bitcoin: their opcodes, the bytes that spell them, and the words in which their runs are defined.
+//! Scripts of Bitcoin: the opcodes of version 0 witness scripts (BIP 141), the bytes that spell them, and the words in which their runs are
+//! defined.
+//!
+//! [`Script::parse`] is Ok exactly where the bytes are at most 10,000 and split into opcodes of the table; else it names the first fault from the
+//! left. `specs/Clean.antt` says what a clean run is, in the standard's own terms, and [`laws::runs_are_exact`] that the words which compute
+//! agree with it.
+//!
+//! ```rust
+//! let script = Script::parse(alloc, &[0x52, 0x75, 0xac])?; // 2 DROP CHECKSIG
+//! assert_eq!(rt; script.ops().len(), 3);
+//! assert_eq!(rt; script.counted(), 2);
+//! assert!(rt; Script::parse(alloc, &[0xff]).is_err()); // no opcode has this byte
+//! ```
 #![tactic(auto)]
 
+pub mod branches;
+pub mod jumps;
 pub mod laws;
 pub mod limits;
 pub mod num;
@@ -13,6 +27,7 @@ mod tests;
 pub mod tokens;
 pub mod truths;
 
+pub use jumps::Jump;
 pub use opcode::Op;
 pub use parse::{ParseError, Script};
 pub use spending::Spend;

@@ -1,7 +1,7 @@
-// Numbers as items: little-endian, with a sign bit in the last byte, in the shortest form.
+// Numbers as items: little-endian, with a sign bit in the last byte, minimally encoded.
 
-ghost use Rattle.std.specs.Prelude.{◌≡◌, ◌≤◌, ◌++◌, Some, false, IfOk, OnOk};
-ghost use Rattle.script.specs.Number.{bytes_in, number_of, item_of, lowest};
+ghost use Rattle.std.specs.Prelude.{◌≡◌, ◌<◌, ◌≤◌, ◌^◌, ◌++◌, Some, false, IfOk, OnOk};
+ghost use Rattle.script.specs.Number.{bytes_in, number_of, minimal_bytes_of, lowest};
 
 use lists::ByteString;
 use std::alloc::{AllocError, Global};
@@ -22,7 +22,7 @@ pub enum Limit {
     Lock,
 }
 
-/// The number of an item; `None` where the item is longer than its limit or not the shortest item of its number.
+/// The number of an item; `None` where the item is longer than its limit or not minimally encoded.
 pub fn read(bytes: &[u8], limit: Limit) -> Option<Number>
     ensures { result ≡ number_of (bytes_in limit) bytes.now }
 {
@@ -64,16 +64,16 @@ fn read_up_to(bytes: &[u8], limit: usize) -> Option<Number>
     })
 }
 
-/// The shortest item of a number that is not negative. The only error is want of memory.
-pub fn write(alloc: Global, n: u32) -> Result<ByteString, AllocError>
-    ensures item { IfOk result (λ i. i ≡ item_of n) }
+/// The minimal encoding of a number that is not negative. The only error is that memory ran out.
+pub fn write(alloc: Global, n: u64) -> Result<ByteString, AllocError>
+    ensures item { IfOk result (λ i. i ≡ minimal_bytes_of n) }
 
-    // It is read as the same number.
-    ensures read { IfOk result (λ i. number_of 5 i ≡ Some (record { negative = false; magnitude = n })) }
+    // It is read as the same number, where that is one of 32 bits.
+    ensures read { IfOk result (λ i. n < 2 ^ 32 → number_of 5 i ≡ Some (record { negative = false; magnitude = n })) }
 {
     let mut bytes = Vec::new(alloc);
     let mut rest = n;
-    for _step in 0usize..5 {
+    for _step in 0usize..9 {
         if rest != 0 {
             push_lowest(&mut bytes, rest)?;
             rest /= 256;
@@ -83,7 +83,7 @@ pub fn write(alloc: Global, n: u32) -> Result<ByteString, AllocError>
 }
 
 // Puts the lowest digit at the end, with a byte for the sign where it needs one.
-fn push_lowest(bytes: &mut Vec<u8>, n: u32) -> Result<(), AllocError>
+fn push_lowest(bytes: &mut Vec<u8>, n: u64) -> Result<(), AllocError>
     ensures { OnOk result (bytes.new.items ≡ bytes.old.items ++ lowest n) }
 {
     if 128 <= n && n < 256 {
@@ -123,8 +123,12 @@ mod tests {
             [0x40, 0x9c, 0x00].as_slice()
         );
         assert_eq!(rt;
-            write(alloc, u32::MAX)?.bytes(),
+            write(alloc, 0xffff_ffff)?.bytes(),
             [0xff, 0xff, 0xff, 0xff, 0x00].as_slice()
+        );
+        assert_eq!(rt;
+            write(alloc, u64::MAX)?.bytes(),
+            [0xff, 0xff, 0xff, 0xff, 0xff, 0xff, 0xff, 0xff, 0x00].as_slice()
         );
         Ok(())
     }

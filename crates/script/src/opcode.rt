@@ -22,11 +22,11 @@ pub enum Op {
     Drop,
     /// 76: pushes the top once more.
     Dup,
-    /// 7c: exchanges the two topmost entries.
+    /// 7c: exchanges the two topmost elements.
     Swap,
     /// 82: pushes the length of the top.
     Size,
-    /// 87: whether the two topmost entries are equal.
+    /// 87: whether the two topmost elements are equal.
     Equal,
     /// 88: the same, and fails where they differ.
     EqualVerify,
@@ -90,7 +90,7 @@ impl Op {
         if self.code() > 0x60 { 1 } else { 0 }
     }
 
-    /// The same opcode once more. The only error is want of memory.
+    /// The same opcode once more. The only error is that memory ran out.
     pub fn copy(&self) -> Result<Op, AllocError>
         ensures { IfOk result (λ op. op ≡ self.now) }
     {

@@ -22,7 +22,7 @@ pub enum ParseError {
     /// No opcode has the byte at this position.
     #[error("BadOpcode {0}")]
     BadOpcode(usize),
-    /// The push whose opcode stands at this position has too few bytes behind it.
+    /// The push whose opcode stands at this position has too few bytes after it.
     #[error("Truncated {0}")]
     Truncated(usize),
     /// There are more than 10,000 bytes.
@@ -54,11 +54,11 @@ impl Model for Script {
 
 impl ParseError {
     ghost use Rattle.std.specs.Prelude.{◌≡◌};
-    ghost use Rattle.script.specs.Spelling.{number_of_error};
+    ghost use Rattle.script.specs.Refusals.{refusal_number};
 
-    /// The number of the refusal; 0 is want of memory.
+    /// The number of the refusal; 0 is out of memory.
     pub fn number(&self) -> u8
-        ensures { result ≡ number_of_error self.now }
+        ensures { result ≡ refusal_number self.now }
     {
         match self {
             ParseError::NoMemory => 0,
@@ -76,7 +76,7 @@ impl Script {
         ensures short { OnOk result (length bytes.now ≤ MAX_SCRIPT_SIZE) }
         ensures fault { IfErr result (IsFault bytes.now) }
 
-        // Bytes that are not too many and split into opcodes are refused for want of memory alone, and split in one way.
+        // Bytes that are not too many and split into opcodes are refused for running out of memory alone, and split in one way.
         ensures exact { (ops : List Opcode) → Spells ops bytes.now → length bytes.now ≤ MAX_SCRIPT_SIZE → MatchResult result (λ s. s ≡ ops) (λ e. e ≡ ParseError.NoMemory) }
     {
         read(alloc, bytes)
@@ -95,6 +95,7 @@ impl Script {
         ensures value { result.now ≡ self.now }
         ensures valid { All IsOp result.now }
     {
+        // Borrowing both fields gives the prover the script's invariant, which says that the opcodes are valid.
         let _bytes = &self.bytes;
         self.ops.as_slice()
     }
@@ -110,7 +111,7 @@ impl Script {
         counted
     }
 
-    /// The same script once more. The only error is want of memory.
+    /// The same script once more. The only error is that memory ran out.
     pub fn copy(&self) -> Result<Self, AllocError>
         ensures { IfOk result (λ s. s ≡ self.now) }
     {

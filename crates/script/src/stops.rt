@@ -1,7 +1,7 @@
 // Why a run of a script stops before a clean end.
 
 ghost use Rattle.std.specs.Prelude.{◌≡◌};
-ghost use Rattle.script.specs.Stops.{number_of_cause};
+ghost use Rattle.script.specs.Refusals.{stop_number};
 
 use thiserror::Error;
 
@@ -11,7 +11,7 @@ pub enum Kind {
     /// EQUALVERIFY of two items that differ.
     #[error("Verify")]
     Verify,
-    /// An item that is no number: too long, or not in its shortest form.
+    /// An element that is not a number: too long, or not minimally encoded.
     #[error("Number")]
     Number,
     /// A number of keys that is negative or above 20.
@@ -40,7 +40,7 @@ pub enum Kind {
 /// Why a run stops before a clean end.
 #[derive(Clone, Copy, PartialEq, Eq, Debug, Error)]
 pub enum Cause {
-    /// The stack has too few entries for the opcode.
+    /// The stack has too few elements for the opcode.
     #[error("MissingOperand")]
     MissingOperand,
     /// A check of the opcode fails.
@@ -52,16 +52,16 @@ pub enum Cause {
     /// More than 201 opcodes are counted.
     #[error("TooManyOps")]
     TooManyOps,
-    /// More than 1,000 entries stand on the stack after an opcode.
+    /// More than 1,000 elements stand on the stack after an opcode.
     #[error("StackTooTall")]
     StackTooTall,
     /// An item of the witness has more than 520 bytes.
     #[error("ItemTooLong")]
     ItemTooLong,
-    /// The run ends with another number of entries than one.
+    /// The run ends with another number of elements than one.
     #[error("NotOneValue")]
     NotOneValue,
-    /// The run ends with one entry, which is false.
+    /// The run ends with one element, which is false.
     #[error("FalseEnd")]
     FalseEnd,
 }
@@ -69,7 +69,7 @@ pub enum Cause {
 impl Cause {
     /// The number of the refusal, from 1.
     pub fn number(&self) -> u8
-        ensures { result ≡ number_of_cause self.now }
+        ensures { result ≡ stop_number self.now }
     {
         match self {
             Cause::MissingOperand => 1,

@@ -79,7 +79,7 @@ fn finds_memory_for_every_length(rt: HostRuntime) -> Result<(), Fail> {
     }
     for n in (0u32..=0xffff_0000).step_by(0x0fff_f123) {
         for low in [0, 1, 127, 128, 255, 256, 0x7fff, 0x8000, 0xffff] {
-            let item = num::write(alloc, n.saturating_add(low))?;
+            let item = num::write(alloc, u64::from(n.saturating_add(low)))?;
             assert!(rt; item.len() <= 5);
         }
     }
@@ -139,5 +139,16 @@ fn prints_every_name(rt: HostRuntime) -> Result<(), Fail> {
         assert_eq!(rt; format!(in alloc; "{refusal}")?.as_str(), text);
         assert_eq!(rt; refusal.number(), number);
     }
+    Ok(())
+}
+
+// The example of the crate's page.
+#[test]
+fn reads_opcodes(rt: HostRuntime) -> Result<(), Fail> {
+    let alloc = rt.alloc();
+    let script = Script::parse(alloc, &[0x52, 0x75, 0xac])?;
+    assert_eq!(rt; script.ops().len(), 3);
+    assert_eq!(rt; script.counted(), 2);
+    assert!(rt; Script::parse(alloc, &[0xff]).is_err());
     Ok(())
 }

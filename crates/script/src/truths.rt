@@ -1,8 +1,11 @@
 // What counts as true.
 
-ghost use Rattle.std.specs.Prelude.{◌≡◌, ◌==◌, not};
+ghost use Rattle.std.specs.Prelude.{◌≡◌, ◌==◌, not, IfOk};
 ghost use Rattle.std.specs.List.{list_any};
-ghost use Rattle.script.specs.Step.{truth};
+ghost use Rattle.script.specs.Step.{truth, flag as flag_of};
+
+use lists::ByteString;
+use std::alloc::{AllocError, Global};
 
 /// Whether an item counts as true: some byte is not zero, other than a last byte of 80 (in hexadecimal).
 pub fn is_true(item: &[u8]) -> bool
@@ -19,4 +22,32 @@ fn has_nonzero(bytes: &[u8]) -> bool
     ensures { result ≡ list_any (λ b. not (b == 0)) bytes.now }
 {
     bytes.iter().any(|byte| *byte != 0)
+}
+
+/// The element that a test pushes: 01 where it holds, else the empty one. The only error is that memory ran out.
+pub fn flag(alloc: Global, holds: bool) -> Result<ByteString, AllocError>
+    ensures { IfOk result (λ x. x ≡ flag_of holds) }
+{
+    if holds {
+        ByteString::from_slice(alloc, &[1])
+    } else {
+        Ok(ByteString::new(alloc))
+    }
+}
+
+#[cfg(test)]
+mod tests {
+    use super::*;
+    use std::test::Fail;
+
+    #[test]
+    fn flags_are_true_and_false(rt: HostRuntime) -> Result<(), Fail> {
+        assert_eq!(rt; flag(rt.alloc(), true)?.bytes(), [1].as_slice());
+        assert!(rt; flag(rt.alloc(), false)?.is_empty());
+        assert!(rt; is_true(&[1]));
+        assert!(rt; is_true(&[0x80, 0]));
+        assert!(rt; !is_true(&[]));
+        assert!(rt; !is_true(&[0, 0x80]));
+        Ok(())
+    }
 }

@@ -1,4 +1,4 @@
--- What a kept secret stands for: the place that reaches an index, before and after an insertion.
+-- What a kept secret stands for: the bucket that reaches an index, before and after an insertion.
 use Rattle.std.proofs.Common.{◌≡◌, ◌≢◌, ℕ, zero, suc, ◌+◌, ◌-◌, ◌*◌, ◌/◌, ◌^◌, ◌<◌, ◌≤◌, ◌⊎◌, Bool, List, refl, sym, ap, ◌∙◌, subst, inl, inr, arith}
 use Rattle.std.specs.Int.{bit_at}
 use Rattle.std.proofs.lemmas.Bool.{cases_lt, le-leb, lt-leb}
@@ -6,18 +6,18 @@ use Rattle.std.proofs.lemmas.Nat.{shr_high, pow_below, pow_pos}
 use Rattle.std.proofs.Math.Nat.{mul-div_cancel}
 use Rattle.sha2.specs.Sha256.{sha256}
 use Rattle.secrets.specs.Derivation.{flipped, derived_secret}
-use Rattle.secrets.specs.Places.{kept_at, floor_of, reached, secret_from}
+use Rattle.secrets.specs.Buckets.{kept_at, floor_of, reached, secret_from}
 use Rattle.secrets.proofs.Numbers.{doubled, floor_of-sum, multiple_of_lower, odd_is_no_floor, floor_below_odd, floor_above_odd}
 use Rattle.secrets.proofs.Deriving.{derived-zero, derived-clear, derived-set, derived-self, derived-one}
 
--- a place that reaches the index
+-- a bucket that reaches the index
 pub from-hit : (e : List (List ℕ)) (m j p : ℕ) → m ≤ floor_of (suc p) j → secret_from e m j (suc p) ≡ derived_secret (kept_at e (suc p)) (suc p) j
 unfolding secret_from
 from-hit e m j p h =
     let t = derived_secret (kept_at e (suc p)) (suc p) j in
     ap (λ (b : Bool). reached b t (secret_from e m j p)) (le-leb m (floor_of (suc p) j) h)
 
--- a place that does not
+-- a bucket that does not
 pub from-miss : (e : List (List ℕ)) (m j p : ℕ) → floor_of (suc p) j < m → secret_from e m j (suc p) ≡ secret_from e m j p
 unfolding secret_from
 from-miss e m j p h =
@@ -28,7 +28,7 @@ pub from-zero : (e : List (List ℕ)) (m j : ℕ) → secret_from e m j zero ≡
 unfolding secret_from
 from-zero e m j = sym (derived-zero (kept_at e 0) j)
 
--- past places that do not reach it
+-- past buckets that do not reach it
 pub from-down : (e : List (List ℕ)) (m j a b : ℕ) → a ≤ b → ((c : ℕ) → a < c → c ≤ b → floor_of c j < m) → secret_from e m j b ≡ secret_from e m j a
 from-down e m j a zero h miss = let z : zero ≡ a = omega arith in ap (secret_from e m j) z
 from-down e m j a (suc b) h miss =
@@ -39,7 +39,7 @@ from-down e m j a (suc b) h miss =
           ∙ from-down e m j a b le (λ c low high. miss c low (omega arith))
     ]
 
--- the highest place that reaches it
+-- the highest bucket that reaches it
 pub from-at : (e : List (List ℕ)) (m j p : ℕ) → m ≤ floor_of p j → secret_from e m j p ≡ derived_secret (kept_at e p) p j
 from-at e m j zero h = from-zero e m j
 from-at e m j (suc p) h = from-hit e m j p h
@@ -47,7 +47,7 @@ from-at e m j (suc p) h = from-hit e m j p h
 pub from-is : (e : List (List ℕ)) (m j p b : ℕ) → p ≤ b → m ≤ floor_of p j → ((c : ℕ) → p < c → c ≤ b → floor_of c j < m) → secret_from e m j b ≡ derived_secret (kept_at e p) p j
 from-is e m j p b h here miss = from-down e m j p b h miss ∙ from-at e m j p here
 
--- no place above that of i = q * 2^b reaches the indices from i on that share its leading bits
+-- no bucket above that of i = q * 2^b reaches the indices from i on that share its leading bits
 no_higher : (q b r : ℕ) → (b ≡ 48) ⊎ ((x : ℕ) × (q ≡ 2 * x + 1)) → r < 2 ^ b → (c : ℕ) → b < c → c ≤ 48 → floor_of c (q * 2 ^ b + r) < q * 2 ^ b
 no_higher q b r (inl top) small c low high = absurd (omega arith)
 no_higher q b r (inr (x, odd)) small c low high =
@@ -61,7 +61,7 @@ after_below e s q b r h odd small kept =
     from-is e (q * 2 ^ b) j b 48 h (omega (arith, f)) (no_higher q b r odd small)
     ∙ ap (λ (t : List ℕ). derived_secret t b j) kept
 
--- before it, by the lowest places, where each holds what s leads to by one bit
+-- before it, by the lowest buckets, where each holds what s leads to by one bit
 from_low : (e : List (List ℕ)) (s : List ℕ) (p i a r : ℕ) → i ≡ a * 2 ^ suc p → ((k : ℕ) → k ≤ p → kept_at e k ≡ sha256 (flipped k s)) → 0 < r → r < 2 ^ suc p → secret_from e (i + 1) (i + r) p ≡ derived_secret s (suc p) (i + r)
 from_low e s zero i a r is holds some small =
     let one : r ≡ 1 = omega arith in
@@ -114,7 +114,7 @@ before_below e s q (suc p) r h odd holds some small =
     from-down e (q * 2 ^ suc p + 1) j p 48 (omega arith) miss
     ∙ from_low e s p (q * 2 ^ suc p) q r refl (λ k l. holds k (omega arith)) some small
 
--- before i is inserted: what stands for the index one bit above it is what is kept at the bit's place
+-- before i is inserted: what stands for the index one bit above it is what is kept at the bit's bucket
 pub before_at : (e : List (List ℕ)) (q b k : ℕ) → b ≤ 48 → (b ≡ 48) ⊎ ((x : ℕ) × (q ≡ 2 * x + 1)) → k < b → secret_from e (q * 2 ^ b + 1) (q * 2 ^ b + 2 ^ k) 48 ≡ kept_at e k
 before_at e q b k h odd l =
     let i = q * 2 ^ b in

@@ -5,7 +5,7 @@ use Rattle.std.specs.Int.Count.{count_trailing_zeros, under}
 use Rattle.std.proofs.lemmas.Nat.{pow_pos, pow-add, shr-shr, shr_high}
 use Rattle.std.proofs.lemmas.Nat.Bits.{bit_at_cat_low, bit_at-zero}
 use Rattle.std.proofs.Math.Nat.{pow-suc, mul_assoc, mul_comm, div-mul-le_self, mul-le-mul_right, mul-div_cancel}
-use Rattle.secrets.specs.Places.{floor_of}
+use Rattle.secrets.specs.Buckets.{floor_of}
 
 -- a power by one more, with its double
 pub doubled : (p : ℕ) → 2 ^ suc p ≡ 2 ^ p * 2
@@ -65,7 +65,7 @@ floor_below_odd x b c r h small =
     let m : (q / w * 2 ^ d * 2 + 1) * 2 ^ b ≤ q * 2 ^ b = mul-le-mul_right (2 ^ b) lt in
     omega (arith, f, m, pow_pos b)
 
--- behind these, the next floor is above it
+-- after these, the next floor is above it
 pub floor_above_odd : (x b j : ℕ) → 2 * x + 1 < j / 2 ^ b → (2 * x + 1) * 2 ^ b + 1 ≤ floor_of (suc b) j
 floor_above_odd x b j h =
     let g = j / 2 ^ b in

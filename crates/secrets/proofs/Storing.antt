@@ -11,7 +11,7 @@ use Rattle.std.specs.Str.{bytes_eq}
 use Rattle.std.proofs.Math.Nat.{mul-div_cancel, mul-le-mul_right, mul-mod_left, div-mul-le_self, mod-eq_of_lt}
 use Rattle.sha2.specs.Sha256.{sha256}
 use Rattle.secrets.specs.Derivation.{flipped, derived_secret, commitment_secret}
-use Rattle.secrets.specs.Places.{kept_at, floor_of, secret_from, secrets_of}
+use Rattle.secrets.specs.Buckets.{kept_at, floor_of, secret_from, secrets_of}
 use Rattle.secrets.specs.Inserted.{inserted_at, IsNext, LeadsTo, AreOfSeed}
 use Rattle.secrets.proofs.Numbers.{trailing_splits, multiple_of_lower}
 use Rattle.secrets.proofs.Deriving.{derived-zero, derived-self, derived-one, derived-split}
@@ -101,7 +101,7 @@ pub secrets_of-none : (e : List (List ℕ)) → secrets_of e (2 ^ 48) ≡ []
 unfolding secrets_of
 secrets_of-none e = refl
 
--- ---- a write to a place
+-- ---- a write to a bucket
 
 pub kept_at-same : (e : List (List ℕ)) (b : ℕ) (s : List ℕ) → b < length e → kept_at (set e b s) b ≡ s
 kept_at-same e b s h = unwrap_or-slice_get (set e b s) b [] ∙ get_or-set_same e b s [] h
@@ -111,7 +111,7 @@ kept_at-other e b s k h = unwrap_or-slice_get (set e b s) k [] ∙ get_or-set_ot
 
 -- ---- the insertion at i = q * 2^b, where q is odd or b is 48
 
--- each place below b holds what s leads to by the place's bit
+-- each bucket below b holds what s leads to by the bucket's bit
 abbrev pub HoldsBits : List (List ℕ) → List ℕ → ℕ → Type 0
 HoldsBits e s b = (k : ℕ) → k < b → kept_at e k ≡ sha256 (flipped k s)
 
@@ -300,7 +300,7 @@ next-is e m i secrets within view next = omega (arith, length-secrets_of e m, ap
 pub next-from : (e : List (List ℕ)) (m i : ℕ) (secrets : List (List ℕ)) → m ≤ 2 ^ 48 → secrets_of e m ≡ secrets → m ≡ i + 1 → IsNext secrets i
 next-from e m i secrets within view is = omega (arith, length-secrets_of e m, ap length view)
 
--- a front of the places, as the code reads it
+-- a front of the buckets, as the code reads it
 abbrev pub HoldsFront : List (List ℕ) → List ℕ → Type 0
 HoldsFront front s = (b : ℕ) → b < length front → slice_get front b ≡ Some (sha256 (flipped b s))
 
@@ -361,7 +361,7 @@ same-tells e t b less eq =
     slice_get-get_or e b [] less
     ∙ ap Some ((bytes_eq-Decides (get_or e b []) t).0 (not-false (bytes_eq (get_or e b []) t) eq))
 
--- the place that reaches an index, as the code reads it
+-- the bucket that reaches an index, as the code reads it
 pub reached-is : (e : List (List ℕ)) (m : ℕ) (secrets : List (List ℕ)) (i p : ℕ) → IsStore e m secrets → m ≤ i → i < 2 ^ 48 → secret_from e m i 48 ≡ secret_from e m i p → m ≤ floor_of p i → inserted_at secrets i ≡ Some (derived_secret (get_or e p []) p i)
 reached-is e m secrets i p is low high so_far here =
     ap (λ (xs : List (List ℕ)). inserted_at xs i) (sym is.view)
@@ -378,17 +378,17 @@ floor-is i p high =
 pub floor-reaches : (m i p : ℕ) → i < 2 ^ 48 → m ≤ i / 2 ^ p * 2 ^ p % 2 ^ 64 → m ≤ floor_of p i
 floor-reaches m i p high h = subst (λ (n : ℕ). m ≤ n) (floor-is i p high) h
 
--- one place further down
-pub past-place : (e : List (List ℕ)) (m i p : ℕ) → i < 2 ^ 48 → 0 < p → i / 2 ^ p * 2 ^ p % 2 ^ 64 < m → secret_from e m i p ≡ secret_from e m i (p - 1)
-past-place e m i p high some h =
+-- one bucket further down
+pub past-bucket : (e : List (List ℕ)) (m i p : ℕ) → i < 2 ^ 48 → 0 < p → i / 2 ^ p * 2 ^ p % 2 ^ 64 < m → secret_from e m i p ≡ secret_from e m i (p - 1)
+past-bucket e m i p high some h =
     let is : p ≡ suc (p - 1) = omega arith in
     let below : floor_of p i < m = subst (λ (n : ℕ). n < m) (floor-is i p high) h in
     ap (secret_from e m i) is
     ∙ from-miss e m i (p - 1) (subst (λ (k : ℕ). floor_of k i < m) is below)
 
 -- and the last
-pub last-place : (e : List (List ℕ)) (m : ℕ) (secrets : List (List ℕ)) (i p : ℕ) → IsStore e m secrets → m ≤ i → i < 2 ^ 48 → secret_from e m i 48 ≡ secret_from e m i p → p ≡ 0 → inserted_at secrets i ≡ Some (get_or e 0 [])
-last-place e m secrets i p is low high so_far last =
+pub last-bucket : (e : List (List ℕ)) (m : ℕ) (secrets : List (List ℕ)) (i p : ℕ) → IsStore e m secrets → m ≤ i → i < 2 ^ 48 → secret_from e m i 48 ≡ secret_from e m i p → p ≡ 0 → inserted_at secrets i ≡ Some (get_or e 0 [])
+last-bucket e m secrets i p is low high so_far last =
     let whole : floor_of 0 i ≡ i = omega arith in
     reached-is e m secrets i 0 is low high (so_far ∙ ap (secret_from e m i) last) (omega (arith, whole))
     ∙ ap Some (derived-zero (get_or e 0 []) i)

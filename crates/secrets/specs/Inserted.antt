@@ -1,4 +1,4 @@
--- A store of secrets, as the list of what was inserted: the secret of index 2^48 - 1 first, that of the next lower index behind it.
+-- A store of secrets, as the list of what was inserted: the secret of index 2^48 - 1 first, that of the next lower index after it.
 -- So the secret of commitment number n stands at position n.
 use Rattle.std.specs.Prelude.{◌≡◌, ℕ, ◌+◌, ◌-◌, ◌/◌, ◌^◌, List, length, Option, Some, None, if◌then◌else◌, nat_lt, slice_get}
 use Rattle.std.specs.Int.Count.{count_trailing_zeros}

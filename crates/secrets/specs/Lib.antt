@@ -1,3 +1,4 @@
 pub mod Derivation
-pub mod Places
+pub mod Buckets
 pub mod Inserted
+pub mod Errors

@@ -1,4 +1,4 @@
-// The derivation of per-commitment secrets (BOLT 3, "Per-commitment Secret Requirements").
+//! The derivation of per-commitment secrets (BOLT 3, "Per-commitment Secret Requirements").
 
 ghost use Rattle.std.specs.Prelude.{◌≡◌, ℕ, ◌<◌, ◌≤◌, ◌/◌, ◌%◌, ◌^◌};
 ghost use Rattle.sha2.specs.Sha256.{sha256 as sha256_of};

@@ -1,4 +1,4 @@
-// The compact store of per-commitment secrets (BOLT 3, "Efficient Per-commitment Secret Storage").
+//! The compact store of per-commitment secrets (BOLT 3, "Efficient Per-commitment Secret Storage").
 
 ghost use Rattle.std.specs.Prelude.{◌≡◌, ℕ, ◌+◌, ◌≤◌, ◌<◌, ◌^◌, ◌↔◌, List, [], ◌∷◌, ◌++◌, IsTrue, IsOk, IsErrOf, OnOk, OnErr, length, slice_get};
 ghost use Rattle.std.specs.Int.Count.{count_trailing_zeros};
@@ -7,53 +7,29 @@ ghost use Rattle.secrets.specs.Derivation.{flipped, commitment_secret};
 ghost use Rattle.secrets.specs.Inserted.{inserted_at, IsNext, LeadsTo, AreOfSeed};
 
 use crate::derivation::{INDEX_BITS, derive, hash_flipped};
+use crate::errors::StoreError;
 use std::marker::Model;
-use thiserror::Error;
 
 /// How many secrets a store keeps: one for each count of trailing zeros that an index can have.
-const PLACES: usize = INDEX_BITS + 1;
+const BUCKETS: usize = INDEX_BITS + 1;
 
 /// One more than the greatest index.
 const INDEX_END: u64 = 1 << INDEX_BITS;
 
-/// Why a store refuses a secret. Each is numbered as `number` says.
-#[derive(Clone, Copy, Debug, Drop, Error, PartialEq, Eq)]
-pub enum StoreError {
-    /// 1: the index is not the next one.
-    #[error("OutOfTurn")]
-    OutOfTurn,
-    /// 2: a stored secret is not derived from this one.
-    #[error("NotOfThisSeed")]
-    NotOfThisSeed,
-}
-
-impl StoreError {
-    /// The number of the refusal. No refusal is for want of memory, which would be 0.
-    pub fn number(&self) -> u8
-        ensures out_of_turn { self.now ≡ StoreError.OutOfTurn → result ≡ 1 }
-        ensures not_of_this_seed { self.now ≡ StoreError.NotOfThisSeed → result ≡ 2 }
-    {
-        match self {
-            StoreError::OutOfTurn => 1,
-            StoreError::NotOfThisSeed => 2,
-        }
-    }
-}
-
-/// The secrets of one seed, inserted by falling index from 2^48 - 1, in 49 places of 32 bytes.
+/// The secrets of one seed, inserted by falling index from 2^48 - 1, in 49 buckets of 32 bytes.
 ///
 /// In clauses it is the list of all secrets inserted, the secret of index 2^48 - 1 first.
 #[derive(Drop)]
 pub struct Store {
     // the lowest index inserted, or 2^48
     lowest: u64,
-    // at place b, the last secret inserted whose index has b trailing zeros
-    entries: [[u8; 32]; PLACES],
+    // at bucket b, the last secret inserted whose index has b trailing zeros
+    entries: [[u8; 32]; BUCKETS],
 }
 
 impl Model for Store {
     ghost use Rattle.std.specs.Prelude.{ℕ, ◌≤◌, ◌^◌, List};
-    ghost use Rattle.secrets.specs.Places.{secrets_of};
+    ghost use Rattle.secrets.specs.Buckets.{secrets_of};
 
     ghost Value = { List (List ℕ) };
 
@@ -70,7 +46,17 @@ impl Store {
     {
         Store {
             lowest: INDEX_END,
-            entries: [[0; 32]; PLACES],
+            entries: [[0; 32]; BUCKETS],
+        }
+    }
+
+    /// An equal store. It takes no memory.
+    pub fn copy(&self) -> Store
+        ensures { result ≡ self.now }
+    {
+        Store {
+            lowest: self.lowest,
+            entries: self.entries,
         }
     }
 
@@ -95,7 +81,7 @@ impl Store {
         if !self.is_led_to(secret, i) {
             return Err(StoreError::NotOfThisSeed);
         }
-        self.entries[place_of(i)] = *secret;
+        self.entries[bucket_of(i)] = *secret;
         self.lowest = i;
         Ok(())
     }
@@ -112,7 +98,7 @@ impl Store {
         requires { IsNext self.now i }
         ensures { IsTrue result ↔ LeadsTo secret.now i self.now }
     {
-        leads_to(secret, &self.entries[..place_of(i)])
+        leads_to(secret, &self.entries[..bucket_of(i)])
     }
 
     /// The secret that was inserted at index `i`, if one was.
@@ -122,23 +108,23 @@ impl Store {
         if i < self.lowest || i >= INDEX_END {
             return None;
         }
-        for place in (1..PLACES).rev() {
-            if i >> place << place >= self.lowest {
-                return Some(derive(&self.entries[place], place, i));
+        for bucket in (1..BUCKETS).rev() {
+            if i >> bucket << bucket >= self.lowest {
+                return Some(derive(&self.entries[bucket], bucket, i));
             }
         }
         Some(self.entries[0])
     }
 }
 
-/// The place of the secret of index `i`: its count of trailing zeros, of its 48 bits.
-fn place_of(i: u64) -> usize
+/// The bucket of the secret of index `i`: its count of trailing zeros, of its 48 bits.
+fn bucket_of(i: u64) -> usize
     ensures { result ≡ count_trailing_zeros 48 i }
 {
     (i.trailing_zeros() as usize).min(INDEX_BITS)
 }
 
-/// Whether each of the lowest places holds what the secret leads to: its hash with the bit of the place flipped.
+/// Whether each of the lowest buckets holds what the secret leads to: its hash with the bit of the bucket flipped.
 fn leads_to(secret: &[u8; 32], lowest_entries: &[[u8; 32]]) -> bool
     requires { length lowest_entries.now ≤ 48 }
     ensures { IsTrue result

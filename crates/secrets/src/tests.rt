@@ -1,4 +1,4 @@
-// The generation and storage tests of BOLT 3's appendix D, and what the store says of small cases.
+//! The generation and storage tests of BOLT 3's appendix D, and what the store says of small cases.
 use crate::{Store, StoreError, from_seed};
 use hex::FromHex;
 use std::process::Abort;
@@ -134,18 +134,33 @@ fn counts_down_from_the_greatest_index(rt: HostRuntime) {
     }
 }
 
+/// A store of the first `count` secrets of a seed.
+fn store_of(seed: &[u8; 32], count: u64) -> Result<Store, StoreError> {
+    let mut store = Store::new();
+    for n in 0..count.min(1 << 48) {
+        let index = (1 << 48) - 1 - n;
+        store.insert(index, &from_seed(seed, index))?;
+    }
+    Ok(store)
+}
+
 #[test]
 fn gives_back_a_thousand_secrets(rt: HostRuntime) {
-    let mut store = Store::new();
     let seed = [0x5a; 32];
-    for n in 0..1000 {
-        let i = FIRST - n;
-        assert_eq!(rt; store.insert(i, &from_seed(&seed, i)), Ok(()), "at {i}");
-    }
+    let store = store_of(&seed, 1000);
+    assert!(rt; store.is_ok());
+    let Ok(store) = store else { return };
+    let mut copy = store.copy();
     for n in 0..1000 {
         let i = FIRST - n;
         assert_eq!(rt; store.get(i), Some(from_seed(&seed, i)), "at {i}");
+        assert_eq!(rt; copy.get(i), Some(from_seed(&seed, i)), "at {i}");
     }
+    assert_eq!(rt;
+        copy.insert(FIRST - 1000, &from_seed(&seed, FIRST - 1000)),
+        Ok(())
+    );
+    assert!(rt; copy.get(FIRST - 1000).is_some());
     assert!(rt; store.get(FIRST - 1000).is_none());
 }
 

@@ -3,7 +3,7 @@ use Rattle.std.proofs.Common.{◌≡◌, List, ℕ, [], ◌∷◌, ◌++◌, tru
 use Rattle.digest.specs.Hash.{sha256d}
 use Rattle.tx.specs.declared.input.TxIn.{TxIn}
 use Rattle.tx.specs.Fields.{Transaction}
-use Rattle.tx.specs.Spelling.{number, count, text, outpoint, output}
+use Rattle.tx.specs.Spelling.{number, compact_size, bytes_with_length, outpoint, output}
 use Rattle.script.specs.Token.{token_of, is_token}
 use Rattle.sighash.specs.Signing.{all_outpoints, all_sequences, all_outputs, signed_list}
 
@@ -39,5 +39,5 @@ second_is_signed : signed_list both second (0x52 ∷ 0x53 ∷ []) 7000 ≡
     ++ sha256d (0xe8 ∷ 0x03 ∷ 0 ∷ 0 ∷ 0 ∷ 0 ∷ 0 ∷ 0 ∷ 1 ∷ 0x51 ∷ []))
     ++ (0xf4 ∷ 0x01 ∷ 0 ∷ 0 ∷ [])
     ++ (1 ∷ 0 ∷ 0 ∷ 0 ∷ [])
-unfolding signed_list all_outpoints all_sequences all_outputs outpoint output text count number
+unfolding signed_list all_outpoints all_sequences all_outputs outpoint output bytes_with_length compact_size number
 second_is_signed = refl

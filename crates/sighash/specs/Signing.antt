@@ -5,7 +5,7 @@ use Rattle.digest.specs.Hash.{sha256d}
 use Rattle.tx.specs.declared.input.TxIn.{TxIn}
 use Rattle.tx.specs.Parts.{Output}
 use Rattle.tx.specs.Fields.{Transaction}
-use Rattle.tx.specs.Spelling.{number, text, outpoint, output}
+use Rattle.tx.specs.Spelling.{number, bytes_with_length, outpoint, output}
 
 unfoldable pub all_outpoints : List TxIn → List ℕ
 all_outpoints inputs = flat_map (λ i. outpoint i.outpoint) inputs
@@ -23,7 +23,7 @@ signed_list t input code value =
     ++ sha256d (all_outpoints t.inputs)
     ++ sha256d (all_sequences t.inputs)
     ++ outpoint input.outpoint
-    ++ text code
+    ++ bytes_with_length code
     ++ number 8 value
     ++ number 4 input.sequence
     ++ sha256d (all_outputs t.outputs)

@@ -1,5 +1,8 @@
 //! What a signature signs (BIP 143), and the tokens that stand for signatures.
 //!
+//! The main contract is that of [`digest_of`]: it is SHA-256 twice over the list of fields of BIP 143 for hash type ALL. Whoever signs more than one input of
+//! a transaction makes a [`SighashCache`] first.
+//!
 //! ```rust
 //! /// A token for each input of a transaction, which spend outputs of one value to one script.
 //! fn sign_all(
@@ -21,11 +24,14 @@
 //! ```
 #![tactic(auto)]
 
+mod errors;
+pub mod laws;
 mod signing;
 mod token;
 
-pub use signing::{DigestError, SighashCache, digest_of};
-pub use token::{Token, one_key_and_digest};
+pub use errors::DigestError;
+pub use signing::{SighashCache, digest_of};
+pub use token::Token;
 
 #[cfg(test)]
 mod tests;

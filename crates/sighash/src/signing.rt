@@ -4,31 +4,12 @@ ghost use Rattle.std.specs.Prelude.{◌≡◌, ok_or};
 ghost use Rattle.digest.specs.Hash.{sha256d as sha256d_of};
 ghost use Rattle.sighash.specs.Signing.{all_outpoints, all_sequences, all_outputs, signed_list, sighash};
 
+use crate::errors::DigestError;
 use digest::sha256;
 use sha2::{Digest, Sha256};
 use std::marker::Model;
-use thiserror::Error;
-use tx::hashing::{absorb_outpoint, absorb_outputs, absorb_text, absorb_u32, absorb_u64};
+use tx::hashing::{absorb_byte_string, absorb_outpoint, absorb_outputs, absorb_u32, absorb_u64};
 use tx::{Tx, TxIn, TxOut};
-
-/// Why there is no digest.
-#[derive(Clone, Copy, Debug, PartialEq, Eq, Drop, Error)]
-pub enum DigestError {
-    /// The transaction has no input of that index.
-    #[error("NoSuchInput")]
-    NoSuchInput,
-}
-
-impl DigestError {
-    /// The refusal's number.
-    pub fn number(&self) -> u8
-        ensures { result ≡ 1 }
-    {
-        match self {
-            DigestError::NoSuchInput => 1,
-        }
-    }
-}
 
 // SHA-256 twice over the outpoints of all inputs.
 #[tactic(auto, unfolding(crate::specs::Signing::all_outpoints))]
@@ -122,7 +103,7 @@ impl<'a> SighashCache<'a> {
         hasher.update(&self.outpoints);
         hasher.update(&self.sequences);
         absorb_outpoint(&mut hasher, &input.outpoint);
-        absorb_text(&mut hasher, code);
+        absorb_byte_string(&mut hasher, code);
         absorb_u64(&mut hasher, value);
         absorb_u32(&mut hasher, input.sequence);
         hasher.update(&self.outputs);
@@ -132,8 +113,8 @@ impl<'a> SighashCache<'a> {
     }
 }
 
-/// The digest for one input of a transaction, as `SighashCache::digest_of` gives it: for more than one
-/// input use that.
+/// The digest for one input of a transaction, as [`SighashCache::digest_of`] gives it. Each call hashes all inputs and all outputs of the
+/// transaction: for more than one input make a [`SighashCache`] once, and ask it.
 pub fn digest_of(tx: &Tx, index: usize, code: &[u8], value: u64) -> Result<[u8; 32], DigestError>
     ensures { result ≡ ok_or (sighash tx.now index code.now value) DigestError.NoSuchInput }
 {

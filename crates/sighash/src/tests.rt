@@ -1,7 +1,107 @@
 use super::*;
+use hex::FromHex;
+use lists::ByteString;
 use std::alloc::{AllocError, Global};
 use std::test::*;
-use tx::{Bytes, Inputs, LimitError, OutPoint, Outputs, Tx, TxIn, TxOut, Witness};
+use tx::{Inputs, OutPoint, Outputs, Tx, TxIn, TxOut, Witness, decode_stripped};
+
+/// The bytes that a hexadecimal text spells.
+fn bytes(alloc: Global, text: &str) -> Result<Vec<u8>, Fail> {
+    Ok(hex::decode(alloc, text)?)
+}
+
+/// The 32 bytes that a hexadecimal text spells.
+fn hash(text: &str) -> Result<[u8; 32], Fail> {
+    Ok(<[u8; 32] as FromHex>::from_hex(text)?)
+}
+
+// A digest from outside: a transaction without marker and witnesses, an input of it, the script code, the value that the input spends, and what
+// it signs.
+#[derive(Clone, Copy, Drop)]
+struct Row {
+    stripped: &'static str,
+    index: usize,
+    code: &'static str,
+    value: u64,
+    digest: &'static str,
+}
+
+const ROWS: [Row; 7] = [
+    // the native P2WPKH example of BIP 143, input 1
+    Row {
+        stripped: "0100000002fff7f7881a8099afa6940d42d1e7f6362bec38171ea3edf433541db4e4ad969f0000000000eeffffffef51e1b804cc89d182d279655c3aa89e815b1b309fe287d9b2b55d57b90ec68a0100000000ffffffff02202cb206000000001976a9148280b37df378db99f66f85c95a783a76ac7a6d5988ac9093510d000000001976a9143bde42dbee7e4dbe6a21b2d50ce2f0167faa815988ac11000000",
+        index: 1,
+        code: "76a9141d0f172a0ecb48aee1be1f2687d2963ae33f71a188ac",
+        value: 600000000,
+        digest: "c37af31116d1b27caf68aae9e3ac82f1477929014d5b917657d0eb49478cb670",
+    },
+    // the P2SH-P2WPKH example of BIP 143
+    Row {
+        stripped: "0100000001db6b1b20aa0fd7b23880be2ecbd4a98130974cf4748fb66092ac4d3ceb1a54770100000000feffffff02b8b4eb0b000000001976a914a457b684d7f0d539a46a45bbc043f35b59d0d96388ac0008af2f000000001976a914fd270b1ee6abcaea97fea7ad0402e8bd8ad6d77c88ac92040000",
+        index: 0,
+        code: "76a91479091972186c449eb1ded22b78e40d009bdf008988ac",
+        value: 1000000000,
+        digest: "64f3b0f4dd2bb3aa1ce8566d220cc74dda9df97d8490cc81d89d735c92e59fb6",
+    },
+    // the P2SH-P2WSH example of BIP 143, hash type ALL
+    Row {
+        stripped: "010000000136641869ca081e70f394c6948e8af409e18b619df2ed74aa106c1ca29787b96e0100000000ffffffff0200e9a435000000001976a914389ffce9cd9ae88dcc0631e88a821ffdbe9bfe2688acc0832f05000000001976a9147480a33f950689af511e6e84c138dbbd3c3ee41588ac00000000",
+        index: 0,
+        code: "56210307b8ae49ac90a048e9b53357a2354b3334e9c8bee813ecb98e99a7e07e8c3ba32103b28f0c28bfab54554ae8c658ac5c3e0ce6e79ad336331f78c428dd43eea8449b21034b8113d703413d57761b8b9781957b8c0ac1dfe69f492580ca4195f50376ba4a21033400f6afecb833092a9a21cfdf1ed1376e58c5d1f47de74683123987e967a8f42103a6d48b1131e94ba04d9737d61acdaa1322008af9602b3b14862c07a1789aac162102d8b661b0b3302ee2f162b09e07a55ad5dfbe673a9f01d9f0c19617681024306b56ae",
+        value: 987654321,
+        digest: "185c0be5263dce5b4bb50a047973c1b6272bfbd0103a89444597dc40b248ee7c",
+    },
+    // the commitment with no HTLCs of BOLT 3, appendix C, which spends the funding output (both signatures of the appendix verify against the digest)
+    Row {
+        stripped: "0200000001bef67e4e2fb9ddeeb3461973cd4c62abb35050b1add772995b820b584a488489000000000038b02b8002c0c62d0000000000160014ccf1af2f2aabee14bb40fa3851ab2301de84311054a56a00000000002200204adb4e2f00643db396dd120d4e7dc17625f5f2c11a40d857accc862d6b7dd80e3e195220",
+        index: 0,
+        code: "5221023da092f6980e58d2c037173180e9a465476026ee50f96695963e8efe436f54eb21030e9f7b623d2ccc7c9bd44d66d5ce21ce504c0acf6385a132cec6d3c39fa711c152ae",
+        value: 10000000,
+        digest: "b4a4ae8497dfb142d39f816d83289f8a56fa04778532d81e38609ba616fe0efb",
+    },
+    // three unlike inputs and outputs, input 0, by an independent script
+    Row {
+        stripped: "02000000030708090a0b0c0d0e0f101112131415161718191a1b1c1d1e1f202122232425260100000000fdffffff0e0f101112131415161718191a1b1c1d1e1f202122232425262728292a2b2c2dfeffffff009000000015161718191a1b1c1d1e1f202122232425262728292a2b2c2d2e2f3031323334030000000000000000030100000000000000000040075af0750700220020000102030405060708090a0b0c0d0e0f101112131415161718191a1b1c1d1e1f0504030201000000fdfd006a6a6a6a6a6a6a6a6a6a6a6a6a6a6a6a6a6a6a6a6a6a6a6a6a6a6a6a6a6a6a6a6a6a6a6a6a6a6a6a6a6a6a6a6a6a6a6a6a6a6a6a6a6a6a6a6a6a6a6a6a6a6a6a6a6a6a6a6a6a6a6a6a6a6a6a6a6a6a6a6a6a6a6a6a6a6a6a6a6a6a6a6a6a6a6a6a6a6a6a6a6a6a6a6a6a6a6a6a6a6a6a6a6a6a6a6a6a6a6a6a6a6a6a6a6a6a6a6a6a6a6a6a6a6a6a6a6a6a6a6a6a6a6a6a6a6a6a6a6a6a6a6a6a6a6a6a6a6a6a6a6a6a6a6a6a6a6a6a6a6a6a6a6a6a6a6a6a6a6a6a6a6a6a6a6a6a6a6a6a6a6a6a6a6a6a6a6a6a6a6a6a6a6a6a6a6a6a6a6a6a6a6a6a6a6a6a6a6a6a6a6a6a6a6a6a6a6a6a6a6a6a6a6a6a6a6a6a6a6a6a6a6a6a6a6a6a6a6a6a6a6a6a0165cd1d",
+        index: 0,
+        code: "000102030405060708090a0b0c0d0e0f101112131415161718191a1b1c1d1e1f202122232425262728292a2b2c2d2e2f303132333435363738393a3b3c3d3e3f404142434445464748494a4b4c4d4e4f505152535455565758595a5b5c5d5e5f606162636465666768696a6b6c6d6e6f707172737475767778797a7b7c7d7e7f808182838485868788898a8b8c8d8e8f909192939495969798999a9b9c9d9e9fa0a1a2a3a4a5a6a7a8a9aaabacadaeafb0b1b2b3b4b5b6b7b8b9babbbcbdbebfc0c1c2c3c4c5c6c7c8c9cacbcccdcecfd0d1d2d3d4d5d6d7d8d9dadbdcdddedfe0e1e2e3e4e5e6e7e8e9eaebecedeeeff0f1f2f3f4f5f6f7f8f9fafbfc",
+        value: 2100000000000000,
+        digest: "29d162951a9f9d1599140f98e0a4f66022dfe541622c7e2e0de57abc90ac06ab",
+    },
+    // three unlike inputs and outputs, input 1, by an independent script
+    Row {
+        stripped: "02000000030708090a0b0c0d0e0f101112131415161718191a1b1c1d1e1f202122232425260100000000fdffffff0e0f101112131415161718191a1b1c1d1e1f202122232425262728292a2b2c2dfeffffff009000000015161718191a1b1c1d1e1f202122232425262728292a2b2c2d2e2f3031323334030000000000000000030100000000000000000040075af0750700220020000102030405060708090a0b0c0d0e0f101112131415161718191a1b1c1d1e1f0504030201000000fdfd006a6a6a6a6a6a6a6a6a6a6a6a6a6a6a6a6a6a6a6a6a6a6a6a6a6a6a6a6a6a6a6a6a6a6a6a6a6a6a6a6a6a6a6a6a6a6a6a6a6a6a6a6a6a6a6a6a6a6a6a6a6a6a6a6a6a6a6a6a6a6a6a6a6a6a6a6a6a6a6a6a6a6a6a6a6a6a6a6a6a6a6a6a6a6a6a6a6a6a6a6a6a6a6a6a6a6a6a6a6a6a6a6a6a6a6a6a6a6a6a6a6a6a6a6a6a6a6a6a6a6a6a6a6a6a6a6a6a6a6a6a6a6a6a6a6a6a6a6a6a6a6a6a6a6a6a6a6a6a6a6a6a6a6a6a6a6a6a6a6a6a6a6a6a6a6a6a6a6a6a6a6a6a6a6a6a6a6a6a6a6a6a6a6a6a6a6a6a6a6a6a6a6a6a6a6a6a6a6a6a6a6a6a6a6a6a6a6a6a6a6a6a6a6a6a6a6a6a6a6a6a6a6a6a6a6a6a6a6a6a6a6a6a6a6a6a6a6a6a6a6a6a6a0165cd1d",
+        index: 1,
+        code: "000102030405060708090a0b0c0d0e0f101112131415161718191a1b1c1d1e1f202122232425262728292a2b2c2d2e2f303132333435363738393a3b3c3d3e3f404142434445464748494a4b4c4d4e4f505152535455565758595a5b5c5d5e5f606162636465666768696a6b6c6d6e6f707172737475767778797a7b7c7d7e7f808182838485868788898a8b8c8d8e8f909192939495969798999a9b9c9d9e9fa0a1a2a3a4a5a6a7a8a9aaabacadaeafb0b1b2b3b4b5b6b7b8b9babbbcbdbebfc0c1c2c3c4c5c6c7c8c9cacbcccdcecfd0d1d2d3d4d5d6d7d8d9dadbdcdddedfe0e1e2e3e4e5e6e7e8e9eaebecedeeeff0f1f2f3f4f5f6f7f8f9fafbfc",
+        value: 2100000000000000,
+        digest: "b41d5e078fde406001192ebb499628418e23e09c6ec2b29932b728e6c73a447d",
+    },
+    // three unlike inputs and outputs, input 2, by an independent script
+    Row {
+        stripped: "02000000030708090a0b0c0d0e0f101112131415161718191a1b1c1d1e1f202122232425260100000000fdffffff0e0f101112131415161718191a1b1c1d1e1f202122232425262728292a2b2c2dfeffffff009000000015161718191a1b1c1d1e1f202122232425262728292a2b2c2d2e2f3031323334030000000000000000030100000000000000000040075af0750700220020000102030405060708090a0b0c0d0e0f101112131415161718191a1b1c1d1e1f0504030201000000fdfd006a6a6a6a6a6a6a6a6a6a6a6a6a6a6a6a6a6a6a6a6a6a6a6a6a6a6a6a6a6a6a6a6a6a6a6a6a6a6a6a6a6a6a6a6a6a6a6a6a6a6a6a6a6a6a6a6a6a6a6a6a6a6a6a6a6a6a6a6a6a6a6a6a6a6a6a6a6a6a6a6a6a6a6a6a6a6a6a6a6a6a6a6a6a6a6a6a6a6a6a6a6a6a6a6a6a6a6a6a6a6a6a6a6a6a6a6a6a6a6a6a6a6a6a6a6a6a6a6a6a6a6a6a6a6a6a6a6a6a6a6a6a6a6a6a6a6a6a6a6a6a6a6a6a6a6a6a6a6a6a6a6a6a6a6a6a6a6a6a6a6a6a6a6a6a6a6a6a6a6a6a6a6a6a6a6a6a6a6a6a6a6a6a6a6a6a6a6a6a6a6a6a6a6a6a6a6a6a6a6a6a6a6a6a6a6a6a6a6a6a6a6a6a6a6a6a6a6a6a6a6a6a6a6a6a6a6a6a6a6a6a6a6a6a6a6a6a6a6a6a6a6a6a0165cd1d",
+        index: 2,
+        code: "000102030405060708090a0b0c0d0e0f101112131415161718191a1b1c1d1e1f202122232425262728292a2b2c2d2e2f303132333435363738393a3b3c3d3e3f404142434445464748494a4b4c4d4e4f505152535455565758595a5b5c5d5e5f606162636465666768696a6b6c6d6e6f707172737475767778797a7b7c7d7e7f808182838485868788898a8b8c8d8e8f909192939495969798999a9b9c9d9e9fa0a1a2a3a4a5a6a7a8a9aaabacadaeafb0b1b2b3b4b5b6b7b8b9babbbcbdbebfc0c1c2c3c4c5c6c7c8c9cacbcccdcecfd0d1d2d3d4d5d6d7d8d9dadbdcdddedfe0e1e2e3e4e5e6e7e8e9eaebecedeeeff0f1f2f3f4f5f6f7f8f9fafbfc",
+        value: 2100000000000000,
+        digest: "baf2b62934fd7455837b7b116c6d63e5b21f5a9f2305738d9db56eb7fe447807",
+    },
+];
+
+#[test]
+fn digests_from_outside(rt: HostRuntime) -> Result<(), Fail> {
+    let alloc = rt.alloc();
+    for row in ROWS {
+        let tx = decode_stripped(alloc, &bytes(alloc, row.stripped)?)?;
+        let code = bytes(alloc, row.code)?;
+        let wanted = hash(row.digest)?;
+        assert_eq!(rt; digest_of(&tx, row.index, &code, row.value), Ok(wanted));
+        let cache = SighashCache::new(&tx);
+        assert_eq!(rt; cache.digest_of(row.index, &code, row.value), Ok(wanted));
+        let past = tx.inputs().len();
+        let missing = Err(DigestError::NoSuchInput);
+        assert_eq!(rt; cache.digest_of(past, &code, row.value), missing);
+        assert_eq!(rt; digest_of(&tx, usize::MAX, &code, row.value), missing);
+    }
+    Ok(())
+}
 
 // An input with no witness: outpoint and sequence number.
 #[derive(Drop)]
@@ -24,7 +124,7 @@ fn unsigned(
     spent: &[Spent],
     paid: &[Paid<'_>],
     lock_time: u32,
-) -> Result<Tx, LimitError> {
+) -> Result<Tx, Fail> {
     let mut inputs = Inputs::new(alloc);
     for one in spent {
         inputs.push(TxIn {
@@ -38,195 +138,10 @@ fn unsigned(
     }
     let mut outputs = Outputs::new(alloc);
     for one in paid {
-        let script = Bytes::from_slice(alloc, one.script)?;
-        match TxOut::new(one.value, script) {
-            Ok(output) => outputs.push(output)?,
-            Err(_) => return Err(LimitError::OverLimit),
-        }
+        let script = ByteString::from_slice(alloc, one.script)?;
+        outputs.push(TxOut::new(one.value, script)?)?;
     }
-    match Tx::new(version, inputs, outputs, lock_time) {
-        Ok(tx) => Ok(tx),
-        Err(_) => Err(LimitError::OverLimit),
-    }
-}
-
-// The native P2WPKH example of BIP 143, input 1.
-#[test]
-fn native_key_hash(rt: HostRuntime) -> Result<(), Fail> {
-    let spent = [
-        Spent {
-            txid: [
-                0xff, 0xf7, 0xf7, 0x88, 0x1a, 0x80, 0x99, 0xaf, 0xa6, 0x94, 0x0d, 0x42, 0xd1, 0xe7,
-                0xf6, 0x36, 0x2b, 0xec, 0x38, 0x17, 0x1e, 0xa3, 0xed, 0xf4, 0x33, 0x54, 0x1d, 0xb4,
-                0xe4, 0xad, 0x96, 0x9f,
-            ],
-            index: 0,
-            sequence: 0xffffffee,
-        },
-        Spent {
-            txid: [
-                0xef, 0x51, 0xe1, 0xb8, 0x04, 0xcc, 0x89, 0xd1, 0x82, 0xd2, 0x79, 0x65, 0x5c, 0x3a,
-                0xa8, 0x9e, 0x81, 0x5b, 0x1b, 0x30, 0x9f, 0xe2, 0x87, 0xd9, 0xb2, 0xb5, 0x5d, 0x57,
-                0xb9, 0x0e, 0xc6, 0x8a,
-            ],
-            index: 1,
-            sequence: 0xffffffff,
-        },
-    ];
-    let paid = [
-        Paid {
-            value: 112340000,
-            script: &[
-                0x76, 0xa9, 0x14, 0x82, 0x80, 0xb3, 0x7d, 0xf3, 0x78, 0xdb, 0x99, 0xf6, 0x6f, 0x85,
-                0xc9, 0x5a, 0x78, 0x3a, 0x76, 0xac, 0x7a, 0x6d, 0x59, 0x88, 0xac,
-            ],
-        },
-        Paid {
-            value: 223450000,
-            script: &[
-                0x76, 0xa9, 0x14, 0x3b, 0xde, 0x42, 0xdb, 0xee, 0x7e, 0x4d, 0xbe, 0x6a, 0x21, 0xb2,
-                0xd5, 0x0c, 0xe2, 0xf0, 0x16, 0x7f, 0xaa, 0x81, 0x59, 0x88, 0xac,
-            ],
-        },
-    ];
-    let code = [
-        0x76, 0xa9, 0x14, 0x1d, 0x0f, 0x17, 0x2a, 0x0e, 0xcb, 0x48, 0xae, 0xe1, 0xbe, 0x1f, 0x26,
-        0x87, 0xd2, 0x96, 0x3a, 0xe3, 0x3f, 0x71, 0xa1, 0x88, 0xac,
-    ];
-    let wanted = [
-        0xc3, 0x7a, 0xf3, 0x11, 0x16, 0xd1, 0xb2, 0x7c, 0xaf, 0x68, 0xaa, 0xe9, 0xe3, 0xac, 0x82,
-        0xf1, 0x47, 0x79, 0x29, 0x01, 0x4d, 0x5b, 0x91, 0x76, 0x57, 0xd0, 0xeb, 0x49, 0x47, 0x8c,
-        0xb6, 0x70,
-    ];
-    let tx = unsigned(rt.alloc(), 1, &spent, &paid, 17)
-        .ok()
-        .ok_or("the limits are kept")?;
-    assert_eq!(rt; digest_of(&tx, 1, &code, 600000000), Ok(wanted));
-    assert_eq!(rt;
-        SighashCache::new(&tx).digest_of(1, &code, 600000000),
-        Ok(wanted)
-    );
-    assert_eq!(rt;
-        digest_of(&tx, 2, &code, 600000000),
-        Err(DigestError::NoSuchInput)
-    );
-    Ok(())
-}
-
-// The P2SH-P2WPKH example of BIP 143.
-#[test]
-fn nested_key_hash(rt: HostRuntime) -> Result<(), Fail> {
-    let spent = [Spent {
-        txid: [
-            0xdb, 0x6b, 0x1b, 0x20, 0xaa, 0x0f, 0xd7, 0xb2, 0x38, 0x80, 0xbe, 0x2e, 0xcb, 0xd4,
-            0xa9, 0x81, 0x30, 0x97, 0x4c, 0xf4, 0x74, 0x8f, 0xb6, 0x60, 0x92, 0xac, 0x4d, 0x3c,
-            0xeb, 0x1a, 0x54, 0x77,
-        ],
-        index: 1,
-        sequence: 0xfffffffe,
-    }];
-    let paid = [
-        Paid {
-            value: 199996600,
-            script: &[
-                0x76, 0xa9, 0x14, 0xa4, 0x57, 0xb6, 0x84, 0xd7, 0xf0, 0xd5, 0x39, 0xa4, 0x6a, 0x45,
-                0xbb, 0xc0, 0x43, 0xf3, 0x5b, 0x59, 0xd0, 0xd9, 0x63, 0x88, 0xac,
-            ],
-        },
-        Paid {
-            value: 800000000,
-            script: &[
-                0x76, 0xa9, 0x14, 0xfd, 0x27, 0x0b, 0x1e, 0xe6, 0xab, 0xca, 0xea, 0x97, 0xfe, 0xa7,
-                0xad, 0x04, 0x02, 0xe8, 0xbd, 0x8a, 0xd6, 0xd7, 0x7c, 0x88, 0xac,
-            ],
-        },
-    ];
-    let code = [
-        0x76, 0xa9, 0x14, 0x79, 0x09, 0x19, 0x72, 0x18, 0x6c, 0x44, 0x9e, 0xb1, 0xde, 0xd2, 0x2b,
-        0x78, 0xe4, 0x0d, 0x00, 0x9b, 0xdf, 0x00, 0x89, 0x88, 0xac,
-    ];
-    let wanted = [
-        0x64, 0xf3, 0xb0, 0xf4, 0xdd, 0x2b, 0xb3, 0xaa, 0x1c, 0xe8, 0x56, 0x6d, 0x22, 0x0c, 0xc7,
-        0x4d, 0xda, 0x9d, 0xf9, 0x7d, 0x84, 0x90, 0xcc, 0x81, 0xd8, 0x9d, 0x73, 0x5c, 0x92, 0xe5,
-        0x9f, 0xb6,
-    ];
-    let tx = unsigned(rt.alloc(), 1, &spent, &paid, 1170)
-        .ok()
-        .ok_or("the limits are kept")?;
-    assert_eq!(rt; digest_of(&tx, 0, &code, 1000000000), Ok(wanted));
-    assert_eq!(rt;
-        SighashCache::new(&tx).digest_of(0, &code, 1000000000),
-        Ok(wanted)
-    );
-    assert_eq!(rt;
-        digest_of(&tx, 1, &code, 1000000000),
-        Err(DigestError::NoSuchInput)
-    );
-    Ok(())
-}
-
-// The P2SH-P2WSH example of BIP 143, hash type ALL.
-#[test]
-fn nested_script_hash(rt: HostRuntime) -> Result<(), Fail> {
-    let spent = [Spent {
-        txid: [
-            0x36, 0x64, 0x18, 0x69, 0xca, 0x08, 0x1e, 0x70, 0xf3, 0x94, 0xc6, 0x94, 0x8e, 0x8a,
-            0xf4, 0x09, 0xe1, 0x8b, 0x61, 0x9d, 0xf2, 0xed, 0x74, 0xaa, 0x10, 0x6c, 0x1c, 0xa2,
-            0x97, 0x87, 0xb9, 0x6e,
-        ],
-        index: 1,
-        sequence: 0xffffffff,
-    }];
-    let paid = [
-        Paid {
-            value: 900000000,
-            script: &[
-                0x76, 0xa9, 0x14, 0x38, 0x9f, 0xfc, 0xe9, 0xcd, 0x9a, 0xe8, 0x8d, 0xcc, 0x06, 0x31,
-                0xe8, 0x8a, 0x82, 0x1f, 0xfd, 0xbe, 0x9b, 0xfe, 0x26, 0x88, 0xac,
-            ],
-        },
-        Paid {
-            value: 87000000,
-            script: &[
-                0x76, 0xa9, 0x14, 0x74, 0x80, 0xa3, 0x3f, 0x95, 0x06, 0x89, 0xaf, 0x51, 0x1e, 0x6e,
-                0x84, 0xc1, 0x38, 0xdb, 0xbd, 0x3c, 0x3e, 0xe4, 0x15, 0x88, 0xac,
-            ],
-        },
-    ];
-    let code = [
-        0x56, 0x21, 0x03, 0x07, 0xb8, 0xae, 0x49, 0xac, 0x90, 0xa0, 0x48, 0xe9, 0xb5, 0x33, 0x57,
-        0xa2, 0x35, 0x4b, 0x33, 0x34, 0xe9, 0xc8, 0xbe, 0xe8, 0x13, 0xec, 0xb9, 0x8e, 0x99, 0xa7,
-        0xe0, 0x7e, 0x8c, 0x3b, 0xa3, 0x21, 0x03, 0xb2, 0x8f, 0x0c, 0x28, 0xbf, 0xab, 0x54, 0x55,
-        0x4a, 0xe8, 0xc6, 0x58, 0xac, 0x5c, 0x3e, 0x0c, 0xe6, 0xe7, 0x9a, 0xd3, 0x36, 0x33, 0x1f,
-        0x78, 0xc4, 0x28, 0xdd, 0x43, 0xee, 0xa8, 0x44, 0x9b, 0x21, 0x03, 0x4b, 0x81, 0x13, 0xd7,
-        0x03, 0x41, 0x3d, 0x57, 0x76, 0x1b, 0x8b, 0x97, 0x81, 0x95, 0x7b, 0x8c, 0x0a, 0xc1, 0xdf,
-        0xe6, 0x9f, 0x49, 0x25, 0x80, 0xca, 0x41, 0x95, 0xf5, 0x03, 0x76, 0xba, 0x4a, 0x21, 0x03,
-        0x34, 0x00, 0xf6, 0xaf, 0xec, 0xb8, 0x33, 0x09, 0x2a, 0x9a, 0x21, 0xcf, 0xdf, 0x1e, 0xd1,
-        0x37, 0x6e, 0x58, 0xc5, 0xd1, 0xf4, 0x7d, 0xe7, 0x46, 0x83, 0x12, 0x39, 0x87, 0xe9, 0x67,
-        0xa8, 0xf4, 0x21, 0x03, 0xa6, 0xd4, 0x8b, 0x11, 0x31, 0xe9, 0x4b, 0xa0, 0x4d, 0x97, 0x37,
-        0xd6, 0x1a, 0xcd, 0xaa, 0x13, 0x22, 0x00, 0x8a, 0xf9, 0x60, 0x2b, 0x3b, 0x14, 0x86, 0x2c,
-        0x07, 0xa1, 0x78, 0x9a, 0xac, 0x16, 0x21, 0x02, 0xd8, 0xb6, 0x61, 0xb0, 0xb3, 0x30, 0x2e,
-        0xe2, 0xf1, 0x62, 0xb0, 0x9e, 0x07, 0xa5, 0x5a, 0xd5, 0xdf, 0xbe, 0x67, 0x3a, 0x9f, 0x01,
-        0xd9, 0xf0, 0xc1, 0x96, 0x17, 0x68, 0x10, 0x24, 0x30, 0x6b, 0x56, 0xae,
-    ];
-    let wanted = [
-        0x18, 0x5c, 0x0b, 0xe5, 0x26, 0x3d, 0xce, 0x5b, 0x4b, 0xb5, 0x0a, 0x04, 0x79, 0x73, 0xc1,
-        0xb6, 0x27, 0x2b, 0xfb, 0xd0, 0x10, 0x3a, 0x89, 0x44, 0x45, 0x97, 0xdc, 0x40, 0xb2, 0x48,
-        0xee, 0x7c,
-    ];
-    let tx = unsigned(rt.alloc(), 1, &spent, &paid, 0)
-        .ok()
-        .ok_or("the limits are kept")?;
-    assert_eq!(rt; digest_of(&tx, 0, &code, 987654321), Ok(wanted));
-    assert_eq!(rt;
-        SighashCache::new(&tx).digest_of(0, &code, 987654321),
-        Ok(wanted)
-    );
-    assert_eq!(rt;
-        digest_of(&tx, 1, &code, 987654321),
-        Err(DigestError::NoSuchInput)
-    );
-    Ok(())
+    Ok(Tx::new(version, inputs, outputs, lock_time)?)
 }
 
 // The digest for input 0 of a transaction of two inputs and two outputs.
@@ -235,7 +150,7 @@ fn digest_for(
     other_sequence: u32,
     value: u64,
     second_script: &[u8; 22],
-) -> Result<[u8; 32], LimitError> {
+) -> Result<[u8; 32], Fail> {
     let spent = [
         Spent {
             txid: [1; 32],
@@ -260,10 +175,7 @@ fn digest_for(
         },
     ];
     let tx = unsigned(alloc, 2, &spent, &paid, 500)?;
-    match digest_of(&tx, 0, &[0x51, 0x52, 0x53], value) {
-        Ok(digest) => Ok(digest),
-        Err(_) => Err(LimitError::OverLimit),
-    }
+    Ok(digest_of(&tx, 0, &[0x51, 0x52, 0x53], value)?)
 }
 
 // A version 0 program of a key hash of equal bytes.
@@ -281,48 +193,30 @@ fn every_part_counts(rt: HostRuntime) -> Result<(), Fail> {
             0xffff_fffe,
             7000,
             0x11,
-            [
-                0x16, 0x13, 0x67, 0x70, 0x2a, 0x3f, 0xf1, 0x8e, 0x25, 0xf3, 0x69, 0xfe, 0xf5, 0xb8,
-                0xfe, 0x2c, 0x90, 0xe6, 0x97, 0x65, 0xec, 0x75, 0x4f, 0xea, 0x09, 0xa0, 0xf8, 0x1c,
-                0x40, 0x8f, 0x47, 0x2c,
-            ],
+            "161367702a3ff18e25f369fef5b8fe2c90e69765ec754fea09a0f81c408f472c",
         ),
         (
             0xffff_fffd,
             7000,
             0x11,
-            [
-                0x06, 0x1d, 0x22, 0xe9, 0x52, 0x04, 0xcc, 0xa3, 0x93, 0x79, 0x44, 0xfe, 0x8e, 0x54,
-                0x44, 0xf6, 0x70, 0xa5, 0xd0, 0xbb, 0x05, 0xa4, 0x93, 0xa1, 0xc8, 0xf8, 0x20, 0xb7,
-                0x6f, 0xd3, 0x15, 0x54,
-            ],
+            "061d22e95204cca3937944fe8e5444f670a5d0bb05a493a1c8f820b76fd31554",
         ),
         (
             0xffff_fffe,
             7001,
             0x11,
-            [
-                0x00, 0xff, 0xe3, 0x64, 0x77, 0xac, 0xee, 0x64, 0x10, 0xc7, 0xa9, 0x68, 0x00, 0xc9,
-                0xe6, 0x90, 0xc9, 0xd5, 0x7d, 0x5d, 0xce, 0xdf, 0xd7, 0x4d, 0x00, 0xdc, 0x8a, 0x2a,
-                0x8e, 0x3a, 0x6b, 0xe2,
-            ],
+            "00ffe36477acee6410c7a96800c9e690c9d57d5dcedfd74d00dc8a2a8e3a6be2",
         ),
         (
             0xffff_fffe,
             7000,
             0x12,
-            [
-                0x1c, 0x14, 0x32, 0x7e, 0x7e, 0xfd, 0x4a, 0x24, 0x68, 0xf7, 0xfa, 0x60, 0x02, 0x08,
-                0x88, 0x48, 0xf1, 0xcf, 0x90, 0xbd, 0xc6, 0x69, 0xfd, 0x9e, 0xf7, 0x6f, 0xd4, 0xc1,
-                0xcf, 0xd1, 0x4c, 0x1d,
-            ],
+            "1c14327e7efd4a2468f7fa6002088848f1cf90bdc669fd9ef76fd4c1cfd14c1d",
         ),
     ];
     for (sequence, value, byte, wanted) in rows {
-        let digest = digest_for(rt.alloc(), sequence, value, &program(byte))
-            .ok()
-            .ok_or("the limits are kept")?;
-        assert_eq!(rt; digest, wanted);
+        let digest = digest_for(rt.alloc(), sequence, value, &program(byte))?;
+        assert_eq!(rt; digest, hash(wanted)?);
     }
     Ok(())
 }
@@ -398,9 +292,7 @@ fn signs_each_input(rt: HostRuntime) -> Result<(), Fail> {
             sequence: 6,
         },
     ];
-    let tx = unsigned(rt.alloc(), 2, &spent, &[], 0)
-        .ok()
-        .ok_or("the limits are kept")?;
+    let tx = unsigned(rt.alloc(), 2, &spent, &[], 0)?;
     let tokens = sign_all(rt.alloc(), &tx, &[3; 33], &[0x51], 900)?;
     assert_eq!(rt; tokens.len(), 2);
     assert!(rt; tokens[0] != tokens[1]);

@@ -1,6 +1,6 @@
 //! Signature tokens.
 
-ghost use Rattle.std.specs.Prelude.{◌≡◌, Some, None, if◌then◌else◌, length, ℕ, List};
+ghost use Rattle.std.specs.Prelude.{◌≡◌, Some, None, if◌then◌else◌};
 ghost use Rattle.script.specs.Token.{token_of, is_token};
 
 use std::marker::Model;
@@ -54,9 +54,3 @@ impl Token {
         &self.bytes
     }
 }
-
-/// A token names one key and one digest.
-pub fn one_key_and_digest()
-    ensures { (key other : List ℕ) (digest another : List ℕ) → length key ≡ length other
-        → token_of key digest ≡ token_of other another → (key ≡ other) × (digest ≡ another) }
-{}

@@ -4,10 +4,10 @@ use Rattle.std.proofs.lemmas.Bool.{cases_lt, ltb-false, le-ltb}
 use Rattle.std.proofs.lemmas.List.{take_at, drop_at, take-append-drop, length-append, length-take, get_or-drop, get_or-take, get_or_past}
 use Rattle.std.proofs.lemmas.Nat.{le_bytes_2, le_bytes_4, le_bytes_8, from_le_bytes-to_le_bytes_2, from_le_bytes-to_le_bytes_4, from_le_bytes-to_le_bytes_8}
 use Rattle.byteorder.specs.Endian.{little_number}
-use Rattle.tx.specs.declared.refusal.DecodeError.{DecodeError}
-use Rattle.tx.specs.declared.refusal.DecodeError.TheVariants.{Truncated, LongCount}
+use Rattle.tx.specs.declared.errors.DecodeError.{DecodeError}
+use Rattle.tx.specs.declared.errors.DecodeError.TheVariants.{Truncated, LongCount}
 use Rattle.tx.specs.Spelling.{number}
-use Rattle.tx.specs.Reading.{◌>>=◌, Field, taken, number_at, wide_at}
+use Rattle.tx.specs.Reading.{◌>>=◌, Field, bytes_at, number_at, wide_at}
 
 abbrev pub IsBytes : List ℕ → Type 0
 IsBytes bytes = (i : ℕ) → get_or bytes i 0 < 256
@@ -62,10 +62,10 @@ pub record Reads {A : Type 0} (read : List ℕ → Field A) (spell : A → List 
   pub takes : (bytes : List ℕ) (x : A × List ℕ) → IsBytes bytes → read bytes ≡ Ok x → Takes bytes (spell x.0) x.1 × Good x.0
   pub again : (a : A) (rest : List ℕ) → Good a → read (spell a ++ rest) ≡ Ok (a, rest)
 
--- ---- so many bytes
+-- ---- n bytes
 
-pub taken_reads : (k : ℕ) → Reads (taken k) (λ x. x) (λ x. length x ≡ k)
-unfolding taken
+pub taken_reads : (k : ℕ) → Reads (bytes_at k) (λ x. x) (λ x. length x ≡ k)
+unfolding bytes_at
 taken_reads k = record {
   takes = λ bytes x fits e.
       let g = guard_ok (ltb (length bytes) k) Truncated (done (take k bytes, drop k bytes)) x e in
@@ -77,8 +77,8 @@ taken_reads k = record {
       rw (long, take_at a rest k len, drop_at a rest k len) refl;
 }
 
-taken_fits : (k : ℕ) (bytes : List ℕ) (x : List ℕ × List ℕ) → IsBytes bytes → taken k bytes ≡ Ok x → IsBytes x.0
-unfolding taken
+taken_fits : (k : ℕ) (bytes : List ℕ) (x : List ℕ × List ℕ) → IsBytes bytes → bytes_at k bytes ≡ Ok x → IsBytes x.0
+unfolding bytes_at
 taken_fits k bytes x fits e =
     let g = guard_ok (ltb (length bytes) k) Truncated (done (take k bytes, drop k bytes)) x e in
     subst (λ (p : List ℕ × List ℕ). IsBytes p.0) (ok_is (take k bytes, drop k bytes) x g.1) (IsBytes-take k bytes fits)
@@ -123,7 +123,7 @@ pub number_reads : (k limit : ℕ) → IsWide k limit → Reads (number_at k) (n
 unfolding number_at
 number_reads k limit wide = record {
   takes = λ bytes x fits e.
-      let a = bind_ok (taken k bytes) (λ digits. Ok (little_number k digits.0, digits.1)) x e in
+      let a = bind_ok (bytes_at k bytes) (λ digits. Ok (little_number k digits.0, digits.1)) x e in
       let t = (taken_reads k).takes bytes a.0 fits a.1 in
       let f = taken_fits k bytes a.0 fits a.1 in
       let b = wide.back a.0.0 t.1 f in

@@ -2,13 +2,14 @@
 use Rattle.std.proofs.Common.{◌≡◌, ℕ, suc, ◌^◌, ◌<◌, ◌≤◌, false, cond, ltb, eqb, List, [], ◌∷◌, ◌++◌, length, map, Result, Ok, Err, refl, sym, ap, subst, ◌∙◌, append_assoc, arith}
 use Rattle.std.specs.List.{flat_map, AllByRecursion}
 use Rattle.std.proofs.lemmas.Bool.{ltb-false, le-ltb, eqb-true, eqb-false, ne_eqb}
-use Rattle.tx.specs.declared.refusal.DecodeError.{DecodeError}
-use Rattle.tx.specs.declared.refusal.DecodeError.TheVariants.{BadMarker, NoInputs, ValueTooLarge}
+use Rattle.tx.specs.declared.errors.DecodeError.{DecodeError}
+use Rattle.tx.specs.declared.errors.DecodeError.TheVariants.{BadMarker, NoInputs, ValueTooLarge}
 use Rattle.tx.specs.declared.input.TxIn.{TxIn}
-use Rattle.tx.specs.Parts.{IsItem, IsWitness, Output, IsOutput}
+use Rattle.tx.specs.Limits.{max_value, max_inputs, max_outputs, max_items, max_bytes}
+use Rattle.tx.specs.Parts.{IsBounded, IsWitness, Output, IsOutput}
 use Rattle.tx.specs.Fields.{IsInput}
-use Rattle.tx.specs.Spelling.{number, count, text, outpoint, input, output, witness, witnesses}
-use Rattle.tx.specs.Reading.{◌>>=◌, taken, number_at, count_up_to, text_at, marker_at, input_at, output_at, input_count_at, inputs_at, outputs_at, witness_at, signed_at, each_signed, version_at}
+use Rattle.tx.specs.Spelling.{number, compact_size, bytes_with_length, outpoint, input, output, witness, witnesses}
+use Rattle.tx.specs.Reading.{◌>>=◌, bytes_at, number_at, compact_size_up_to, byte_string_at, marker_at, input_at, output_at, input_count_at, inputs_at, outputs_at, witness_at, signed_input_at, signed_inputs_at, version_at}
 use Rattle.tx.proofs.Numbers.{IsBytes, IsBytes-rest, bind_ok, guard_ok, guard_passed, ok_is, Takes, Takes-then, Reads, taken_reads, wide32, wide64, number_reads}
 use Rattle.tx.proofs.Counts.{count_up_to_reads, text_reads, IsCounted, counted_reads}
 
@@ -36,7 +37,7 @@ unsigned_of txid index sequence = record { outpoint = record { txid = txid; inde
 no_count : (n : ℕ) → n ≤ 0 → n ≡ 0
 no_count n le = omega arith
 
-input_parts : (i : TxIn) (rest : List ℕ) → input i ++ rest ≡ i.outpoint.txid ++ (number 4 i.outpoint.index ++ (count 0 ++ (number 4 i.sequence ++ rest)))
+input_parts : (i : TxIn) (rest : List ℕ) → input i ++ rest ≡ i.outpoint.txid ++ (number 4 i.outpoint.index ++ (compact_size 0 ++ (number 4 i.sequence ++ rest)))
 unfolding input outpoint
 input_parts i rest = simp append_assoc
 
@@ -47,25 +48,25 @@ pub input_reads : Reads input_at input IsUnsigned
 unfolding input_at input outpoint
 input_reads = record {
   takes = λ bytes x fits e.
-      let a = bind_ok (taken 32 bytes) (λ txid. number_at 4 txid.1 >>= λ index. count_up_to 0 index.1 >>= λ script. number_at 4 script.1 >>= λ sequence. Ok (unsigned_of txid.0 index.0 sequence.0, sequence.1)) x e in
-      let b = bind_ok (number_at 4 a.0.1) (λ index. count_up_to 0 index.1 >>= λ script. number_at 4 script.1 >>= λ sequence. Ok (unsigned_of a.0.0 index.0 sequence.0, sequence.1)) x a.2 in
-      let c = bind_ok (count_up_to 0 b.0.1) (λ script. number_at 4 script.1 >>= λ sequence. Ok (unsigned_of a.0.0 b.0.0 sequence.0, sequence.1)) x b.2 in
+      let a = bind_ok (bytes_at 32 bytes) (λ txid. number_at 4 txid.1 >>= λ index. compact_size_up_to 0 index.1 >>= λ script. number_at 4 script.1 >>= λ sequence. Ok (unsigned_of txid.0 index.0 sequence.0, sequence.1)) x e in
+      let b = bind_ok (number_at 4 a.0.1) (λ index. compact_size_up_to 0 index.1 >>= λ script. number_at 4 script.1 >>= λ sequence. Ok (unsigned_of a.0.0 index.0 sequence.0, sequence.1)) x a.2 in
+      let c = bind_ok (compact_size_up_to 0 b.0.1) (λ script. number_at 4 script.1 >>= λ sequence. Ok (unsigned_of a.0.0 b.0.0 sequence.0, sequence.1)) x b.2 in
       let d = bind_ok (number_at 4 c.0.1) (λ sequence. Ok (unsigned_of a.0.0 b.0.0 sequence.0, sequence.1)) x c.2 in
       let ta = (taken_reads 32).takes bytes a.0 fits a.1 in
       let tb = u32_reads.takes a.0.1 b.0 ta.0.rest_fits b.1 in
       let tc = (count_up_to_reads 0 (omega arith)).takes b.0.1 c.0 tb.0.rest_fits c.1 in
       let td = u32_reads.takes c.0.1 d.0 tc.0.rest_fits d.1 in
-      let empty : Takes b.0.1 (count 0) c.0.1 = subst (λ (n : ℕ). Takes b.0.1 (count n) c.0.1) (no_count c.0.0 tc.1) tc.0 in
+      let empty : Takes b.0.1 (compact_size 0) c.0.1 = subst (λ (n : ℕ). Takes b.0.1 (compact_size n) c.0.1) (no_count c.0.0 tc.1) tc.0 in
       let point = Takes-then bytes a.0.0 a.0.1 (number 4 b.0.0) b.0.1 ta.0 tb.0 in
-      let script = Takes-then bytes (a.0.0 ++ number 4 b.0.0) b.0.1 (count 0) c.0.1 point empty in
-      let whole = Takes-then bytes ((a.0.0 ++ number 4 b.0.0) ++ count 0) c.0.1 (number 4 d.0.0) d.0.1 script td.0 in
+      let script = Takes-then bytes (a.0.0 ++ number 4 b.0.0) b.0.1 (compact_size 0) c.0.1 point empty in
+      let whole = Takes-then bytes ((a.0.0 ++ number 4 b.0.0) ++ compact_size 0) c.0.1 (number 4 d.0.0) d.0.1 script td.0 in
       subst (λ (p : TxIn × List ℕ). Takes bytes (input p.0) p.1 × IsUnsigned p.0) (ok_is (unsigned_of a.0.0 b.0.0 d.0.0, d.0.1) x d.2)
       (whole, record { txid = ta.1; index = tb.1; sequence = td.1; bare = refl });
   again = λ i rest good.
       ap input_at (input_parts i rest)
       ∙ rw (
-        (taken_reads 32).again i.outpoint.txid (number 4 i.outpoint.index ++ (count 0 ++ (number 4 i.sequence ++ rest))) good.txid,
-        u32_reads.again i.outpoint.index (count 0 ++ (number 4 i.sequence ++ rest)) good.index,
+        (taken_reads 32).again i.outpoint.txid (number 4 i.outpoint.index ++ (compact_size 0 ++ (number 4 i.sequence ++ rest))) good.txid,
+        u32_reads.again i.outpoint.index (compact_size 0 ++ (number 4 i.sequence ++ rest)) good.index,
         (count_up_to_reads 0 (omega arith)).again 0 (number 4 i.sequence ++ rest) (omega arith),
         u32_reads.again i.sequence rest good.sequence,
         is_unsigned_of i good.bare,
@@ -73,26 +74,26 @@ input_reads = record {
 }
 
 -- some, and not too many
-abbrev pub Some4000 : ℕ → Type 0
-Some4000 n = (0 < n) × (n ≤ 4000)
+abbrev pub SomeInputs : ℕ → Type 0
+SomeInputs n = (0 < n) × (n ≤ 4000)
 
-input_count_reads : Reads input_count_at count Some4000
+input_count_reads : Reads input_count_at compact_size SomeInputs
 unfolding input_count_at
 input_count_reads = record {
   takes = λ bytes x fits e.
-      let a = bind_ok (count_up_to 4000 bytes) (λ n. cond (eqb n.0 0) (Err NoInputs) (Ok n)) x e in
+      let a = bind_ok (compact_size_up_to 4000 bytes) (λ n. cond (eqb n.0 0) (Err NoInputs) (Ok n)) x e in
       let g = guard_ok (eqb a.0.0 0) NoInputs (done a.0) x a.2 in
       let t = (count_up_to_reads 4000 (omega arith)).takes bytes a.0 fits a.1 in
       let some : 0 < a.0.0 = omega (arith, eqb-false _ _ g.0) in
-      subst (λ (p : ℕ × List ℕ). Takes bytes (count p.0) p.1 × Some4000 p.0) (ok_is a.0 x g.1) (t.0, (some, t.1));
+      subst (λ (p : ℕ × List ℕ). Takes bytes (compact_size p.0) p.1 × SomeInputs p.0) (ok_is a.0 x g.1) (t.0, (some, t.1));
   again = λ n rest good.
       let nonzero : eqb n 0 ≡ false = ne_eqb _ _ (omega (arith, good.0)) in
       rw ((count_up_to_reads 4000 (omega arith)).again n rest good.1, nonzero) refl;
 }
 
-pub inputs_reads : Reads inputs_at (λ is. count (length is) ++ flat_map input is) (IsCounted Some4000 IsUnsigned)
+pub inputs_reads : Reads inputs_at (λ is. compact_size (length is) ++ flat_map input is) (IsCounted SomeInputs IsUnsigned)
 unfolding inputs_at
-inputs_reads = counted_reads input_count_at Some4000 input_count_reads input_at input IsUnsigned input_reads
+inputs_reads = counted_reads input_count_at SomeInputs input_count_reads input_at input IsUnsigned input_reads
 
 -- ---- outputs
 
@@ -103,36 +104,36 @@ output_reads : Reads output_at output IsOutput
 unfolding output_at output
 output_reads = record {
   takes = λ bytes x fits e.
-      let a = bind_ok (number_at 8 bytes) (λ value. cond (ltb 2100000000000000 value.0) (Err ValueTooLarge) (text_at value.1) >>= λ script. Ok (output_of value.0 script.0, script.1)) x e in
-      let b = bind_ok (cond (ltb 2100000000000000 a.0.0) (Err ValueTooLarge) (text_at a.0.1)) (λ script. Ok (output_of a.0.0 script.0, script.1)) x a.2 in
-      let g = guard_ok (ltb 2100000000000000 a.0.0) ValueTooLarge (text_at a.0.1) b.0 b.1 in
+      let a = bind_ok (number_at 8 bytes) (λ value. cond (ltb max_value value.0) (Err ValueTooLarge) (byte_string_at value.1) >>= λ script. Ok (output_of value.0 script.0, script.1)) x e in
+      let b = bind_ok (cond (ltb max_value a.0.0) (Err ValueTooLarge) (byte_string_at a.0.1)) (λ script. Ok (output_of a.0.0 script.0, script.1)) x a.2 in
+      let g = guard_ok (ltb max_value a.0.0) ValueTooLarge (byte_string_at a.0.1) b.0 b.1 in
       let ta = (number_reads 8 (2 ^ 64) wide64).takes bytes a.0 fits a.1 in
       let tb = text_reads.takes a.0.1 b.0 ta.0.rest_fits g.1 in
       subst (λ (p : Output × List ℕ). Takes bytes (output p.0) p.1 × IsOutput p.0) (ok_is (output_of a.0.0 b.0.0, b.0.1) x b.2)
-      (Takes-then bytes (number 8 a.0.0) a.0.1 (text b.0.0) b.0.1 ta.0 tb.0, record { value = ltb-false _ _ g.0; script = tb.1 });
+      (Takes-then bytes (number 8 a.0.0) a.0.1 (bytes_with_length b.0.0) b.0.1 ta.0 tb.0, record { value = ltb-false _ _ g.0; script = tb.1 });
   again = λ o rest good.
-      let regrouped : output o ++ rest ≡ number 8 o.value ++ (text o.script ++ rest) = append_assoc (number 8 o.value) (text o.script) rest in
+      let regrouped : output o ++ rest ≡ number 8 o.value ++ (bytes_with_length o.script ++ rest) = append_assoc (number 8 o.value) (bytes_with_length o.script) rest in
       let small : o.value < 2 ^ 64 = omega (arith, good.value) in
       ap output_at regrouped
-      ∙ rw ((number_reads 8 (2 ^ 64) wide64).again o.value (text o.script ++ rest) small, le-ltb _ _ good.value, text_reads.again o.script rest good.script) refl;
+      ∙ rw ((number_reads 8 (2 ^ 64) wide64).again o.value (bytes_with_length o.script ++ rest) small, le-ltb _ _ good.value, text_reads.again o.script rest good.script) refl;
 }
 
-abbrev pub Few4000 : ℕ → Type 0
-Few4000 n = n ≤ 4000
+abbrev pub FewOutputs : ℕ → Type 0
+FewOutputs n = n ≤ 4000
 
-pub outputs_reads : Reads outputs_at (λ os. count (length os) ++ flat_map output os) (IsCounted Few4000 IsOutput)
+pub outputs_reads : Reads outputs_at (λ os. compact_size (length os) ++ flat_map output os) (IsCounted FewOutputs IsOutput)
 unfolding outputs_at
-outputs_reads = counted_reads (count_up_to 4000) Few4000 (count_up_to_reads 4000 (omega arith)) output_at output IsOutput output_reads
+outputs_reads = counted_reads (compact_size_up_to 4000) FewOutputs (count_up_to_reads 4000 (omega arith)) output_at output IsOutput output_reads
 
 -- ---- witnesses
 
-abbrev Few1001 : ℕ → Type 0
-Few1001 n = n ≤ 1001
+abbrev FewItems : ℕ → Type 0
+FewItems n = n ≤ max_items
 
 witness_reads : Reads witness_at witness IsWitness
 unfolding witness_at witness
 witness_reads =
-    let r = counted_reads (count_up_to 1001) Few1001 (count_up_to_reads 1001 (omega arith)) text_at text IsItem text_reads in
+    let r = counted_reads (compact_size_up_to max_items) FewItems (count_up_to_reads max_items (omega arith)) byte_string_at bytes_with_length IsBounded text_reads in
     record {
       takes = λ bytes x fits e. let t = r.takes bytes x fits e in (t.0, record { count = t.1.count; each = t.1.each });
       again = λ items rest good. r.again items rest (record { count = good.count; each = good.each });
@@ -151,15 +152,15 @@ same_input : (i : TxIn) (items : List (List ℕ)) → input (with_witness i item
 unfolding input
 same_input i items = refl
 
-pub each_takes : (is : List TxIn) (bytes : List ℕ) (x : List TxIn × List ℕ) → IsBytes bytes → AllByRecursion IsUnsigned is → each_signed is bytes ≡ Ok x
+pub each_takes : (is : List TxIn) (bytes : List ℕ) (x : List TxIn × List ℕ) → IsBytes bytes → AllByRecursion IsUnsigned is → signed_inputs_at is bytes ≡ Ok x
     → Takes bytes (witnesses x.0) x.1 × Signed is x.0
-unfolding each_signed signed_at witnesses
+unfolding signed_inputs_at signed_input_at witnesses
 each_takes [] bytes x fits good e =
     subst (λ (p : List TxIn × List ℕ). Takes bytes (witnesses p.0) p.1 × Signed [] p.0) (ok_is ([], bytes) x e)
     (record { parts = refl; rest_fits = fits }, record { each = tt; same_count = refl; same_text = refl })
 each_takes (i ∷ is) bytes x fits good e =
-    let a = bind_ok (signed_at i bytes) (λ first. each_signed is first.1 >>= λ others. Ok (first.0 ∷ others.0, others.1)) x e in
-    let b = bind_ok (each_signed is a.0.1) (λ others. Ok (a.0.0 ∷ others.0, others.1)) x a.2 in
+    let a = bind_ok (signed_input_at i bytes) (λ first. signed_inputs_at is first.1 >>= λ others. Ok (first.0 ∷ others.0, others.1)) x e in
+    let b = bind_ok (signed_inputs_at is a.0.1) (λ others. Ok (a.0.0 ∷ others.0, others.1)) x a.2 in
     let w = bind_ok (witness_at bytes) (λ items. Ok (with_witness i items.0, items.1)) a.0 a.1 in
     let tw = witness_reads.takes bytes w.0 fits w.1 in
     let first = subst (λ (p : TxIn × List ℕ). Takes bytes (witness p.0.witness) p.1 × (p.0 ≡ with_witness i p.0.witness)) (ok_is (with_witness i w.0.0, w.0.1) a.0 w.2) (tw.0, refl) in
@@ -172,12 +173,12 @@ each_takes (i ∷ is) bytes x fits good e =
       record { each = (is_input, u.1.each); same_count = ap suc u.1.same_count; same_text = rw (same, u.1.same_text) refl },
     )
 
-pub each_again : (is : List TxIn) (rest : List ℕ) → AllByRecursion IsInput is → each_signed (map bare is) (witnesses is ++ rest) ≡ Ok (is, rest)
-unfolding each_signed signed_at witnesses bare
+pub each_again : (is : List TxIn) (rest : List ℕ) → AllByRecursion IsInput is → signed_inputs_at (map bare is) (witnesses is ++ rest) ≡ Ok (is, rest)
+unfolding signed_inputs_at signed_input_at witnesses bare
 each_again [] rest good = refl
 each_again (i ∷ is) rest good =
     let regrouped : witnesses (i ∷ is) ++ rest ≡ witness i.witness ++ (witnesses is ++ rest) = append_assoc (witness i.witness) (witnesses is) rest in
-    ap (each_signed (bare i ∷ map bare is)) regrouped
+    ap (signed_inputs_at (bare i ∷ map bare is)) regrouped
     ∙ rw (witness_reads.again i.witness (witnesses is ++ rest) good.0.witness, each_again is rest good.1) refl
 
 -- inputs without their witnesses

@@ -1,8 +1,9 @@
 -- The fields of a transaction, and the limits that they keep.
-use Rattle.std.specs.Prelude.{◌≡◌, ℕ, ◌≤◌, ◌<◌, ◌^◌, ◌==◌, Bool, not, List, length}
-use Rattle.std.specs.List.{AllByRecursion, list_any}
+use Rattle.std.specs.Prelude.{◌≡◌, ℕ, zero, suc, ◌≤◌, ◌<◌, ◌^◌, ◌==◌, Bool, not, List, [], ◌∷◌, length, map, sum_by}
+use Rattle.std.specs.List.{list_any}
 use Rattle.tx.specs.declared.input.TxIn.{TxIn}
-use Rattle.tx.specs.Parts.{IsWitness, Output, IsOutput}
+use Rattle.tx.specs.Limits.{max_inputs, max_outputs}
+use Rattle.tx.specs.Parts.{IsWithin, IsWitness, Output, IsOutput}
 
 pub record IsInput (i : TxIn) : Type 0 where
   pub txid : length i.outpoint.txid ≡ 32
@@ -16,13 +17,11 @@ pub record Transaction : Type 0 where
   pub outputs : List Output
   pub lock_time : ℕ
 
-pub record AreInputs (inputs : List TxIn) : Type 0 where
-  pub count : length inputs ≤ 4000
-  pub each : AllByRecursion IsInput inputs
+abbrev pub AreInputs : List TxIn → Type 0
+AreInputs inputs = IsWithin max_inputs IsInput inputs
 
-pub record AreOutputs (outputs : List Output) : Type 0 where
-  pub count : length outputs ≤ 4000
-  pub each : AllByRecursion IsOutput outputs
+abbrev pub AreOutputs : List Output → Type 0
+AreOutputs outputs = IsWithin max_outputs IsOutput outputs
 
 -- what every transaction keeps, whether or not it is signed
 pub record KeepsLimits (t : Transaction) : Type 0 where
@@ -35,3 +34,29 @@ pub record KeepsLimits (t : Transaction) : Type 0 where
 -- whether a witness has an item
 abbrev pub has_witness : List TxIn → Bool
 has_witness inputs = list_any (λ i. not (length i.witness == 0)) inputs
+
+-- the input with this witness
+abbrev pub signed_input : TxIn → List (List ℕ) → TxIn
+signed_input i items = record i { witness = items }
+
+-- the inputs, of which the one at an index has this witness
+abbrev pub inputs_with_witness : List TxIn → ℕ → List (List ℕ) → List TxIn
+inputs_with_witness [] index items = []
+inputs_with_witness (i ∷ is) zero items = signed_input i items ∷ is
+inputs_with_witness (i ∷ is) (suc index) items = i ∷ inputs_with_witness is index items
+
+-- the inputs with no witness item
+abbrev pub unsigned_inputs : List TxIn → List TxIn
+unsigned_inputs inputs = map (λ i. signed_input i []) inputs
+
+-- the transaction, of which the input at an index has this witness
+abbrev pub transaction_with_witness : Transaction → ℕ → List (List ℕ) → Transaction
+transaction_with_witness t index items = record t { inputs = inputs_with_witness t.inputs index items }
+
+-- the transaction with no witness item
+abbrev pub unsigned_transaction : Transaction → Transaction
+unsigned_transaction t = record t { inputs = unsigned_inputs t.inputs }
+
+-- the satoshis of outputs together
+abbrev pub total_value : List Output → ℕ
+total_value outputs = sum_by (λ o. o.value) outputs

@@ -1,6 +1,7 @@
+pub mod Limits
 pub mod Parts
 pub mod Fields
-pub mod Numbers
+pub mod Errors
 pub mod Spelling
 pub mod Reading
 pub mod Hashing

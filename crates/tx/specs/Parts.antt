@@ -1,15 +1,20 @@
 -- The parts of a transaction and their limits, without where they lie in memory.
 use Rattle.std.specs.Prelude.{ℕ, ◌≤◌, List, length}
 use Rattle.std.specs.List.{AllByRecursion}
+use Rattle.tx.specs.Limits.{max_value, max_items, max_bytes}
 
--- a witness item, or the script of an output
-abbrev pub IsItem : List ℕ → Type 0
-IsItem bytes = length bytes ≤ 10000
+-- at most `limit` elements, each of which keeps the limits of its kind
+pub record IsWithin {A : Type 0} (limit : ℕ) (Keeps : A → Type 0) (xs : List A) : Type 0 where
+  pub count : length xs ≤ limit
+  pub each : AllByRecursion Keeps xs
+
+-- the length of a witness item, or of the script of an output
+abbrev pub IsBounded : List ℕ → Type 0
+IsBounded bytes = length bytes ≤ max_bytes
 
 -- the witness of an input (BIP 141)
-pub record IsWitness (items : List (List ℕ)) : Type 0 where
-  pub count : length items ≤ 1001
-  pub each : AllByRecursion IsItem items
+abbrev pub IsWitness : List (List ℕ) → Type 0
+IsWitness items = IsWithin max_items IsBounded items
 
 -- an output: its value in satoshis, and its script
 pub record Output : Type 0 where
@@ -17,5 +22,5 @@ pub record Output : Type 0 where
   pub script : List ℕ
 
 pub record IsOutput (o : Output) : Type 0 where
-  pub value : o.value ≤ 2100000000000000
-  pub script : IsItem o.script
+  pub value : o.value ≤ max_value
+  pub script : IsBounded o.script

@@ -1,9 +1,10 @@
 -- Reading from left to right, with the first fault that is met.
 use Rattle.std.specs.Prelude.{◌≡◌, ℕ, zero, suc, ◌^◌, List, [], ◌∷◌, length, take, drop, Result, Ok, Err, nat_lt, ◌==◌, if◌then◌else◌}
 use Rattle.byteorder.specs.Endian.{little_number}
-use Rattle.tx.specs.declared.refusal.DecodeError.{DecodeError}
-use Rattle.tx.specs.declared.refusal.DecodeError.TheVariants.{NoMemory, Truncated, LongCount, BadMarker, NoInputs, NoWitness, ValueTooLarge, Trailing, OverLimit}
+use Rattle.tx.specs.declared.errors.DecodeError.{DecodeError}
+use Rattle.tx.specs.declared.errors.DecodeError.TheVariants.{NoMemory, Truncated, LongCount, BadMarker, NoInputs, NoWitness, ValueTooLarge, Trailing, OverLimit}
 use Rattle.tx.specs.declared.input.TxIn.{TxIn}
+use Rattle.tx.specs.Limits.{max_value, max_inputs, max_outputs, max_items, max_bytes}
 use Rattle.tx.specs.Parts.{Output}
 use Rattle.tx.specs.Fields.{Transaction, has_witness}
 
@@ -25,47 +26,49 @@ Gives view (Err e) read = Fails e read
 abbrev pub Field : Type 0 → Type 0
 Field A = Result (A × List ℕ) DecodeError
 
--- so many bytes
-unfoldable pub taken : ℕ → List ℕ → Field (List ℕ)
-taken k bytes = if nat_lt (length bytes) k then Err Truncated else Ok (take k bytes, drop k bytes)
+-- the first k bytes
+unfoldable pub bytes_at : ℕ → List ℕ → Field (List ℕ)
+bytes_at k bytes = if nat_lt (length bytes) k then Err Truncated else Ok (take k bytes, drop k bytes)
 
--- a number of so many bytes, the lowest first
+-- a little-endian number of k bytes
 unfoldable pub number_at : ℕ → List ℕ → Field ℕ
 number_at k bytes = do
-  digits ← taken k bytes
+  digits ← bytes_at k bytes
   Ok (little_number k digits.0, digits.1)
 
--- a number of so many bytes that fewer could not spell
+-- a number of k bytes, which is minimal from least on
 unfoldable pub wide_at : ℕ → ℕ → List ℕ → Field ℕ
 wide_at k least bytes = do
   n ← number_at k bytes
   if nat_lt n.0 least then Err LongCount else Ok n
 
-unfoldable pub count_at : List ℕ → Field ℕ
-count_at [] = Err Truncated
-count_at (b ∷ rest) =
+-- a minimal compactSize
+unfoldable pub compact_size_at : List ℕ → Field ℕ
+compact_size_at [] = Err Truncated
+compact_size_at (b ∷ rest) =
     if b == 0xfd then wide_at 2 0xfd rest
     else if b == 0xfe then wide_at 4 (2 ^ 16) rest
     else if b == 0xff then wide_at 8 (2 ^ 32) rest
     else Ok (b, rest)
 
--- a count of at most limit
-unfoldable pub count_up_to : ℕ → List ℕ → Field ℕ
-count_up_to limit bytes = do
-  n ← count_at bytes
+-- a minimal compactSize of at most limit
+unfoldable pub compact_size_up_to : ℕ → List ℕ → Field ℕ
+compact_size_up_to limit bytes = do
+  n ← compact_size_at bytes
   if nat_lt limit n.0 then Err OverLimit else Ok n
 
-unfoldable pub text_at : List ℕ → Field (List ℕ)
-text_at bytes = do
-  n ← count_up_to 10000 bytes
-  taken n.0 n.1
+-- bytes with their length before them
+unfoldable pub byte_string_at : List ℕ → Field (List ℕ)
+byte_string_at bytes = do
+  n ← compact_size_up_to max_bytes bytes
+  bytes_at n.0 n.1
 
--- so many fields of one kind
-unfoldable pub many : {A : Type 0} → (List ℕ → Field A) → ℕ → List ℕ → Field (List A)
-many read zero bytes = Ok ([], bytes)
-many read (suc n) bytes = do
+-- n fields of one kind
+unfoldable pub fields_at : {A : Type 0} → (List ℕ → Field A) → ℕ → List ℕ → Field (List A)
+fields_at read zero bytes = Ok ([], bytes)
+fields_at read (suc n) bytes = do
   first ← read bytes
-  others ← many read n first.1
+  others ← fields_at read n first.1
   Ok (first.0 ∷ others.0, others.1)
 
 -- the marker, or the flag
@@ -76,63 +79,63 @@ marker_at wanted (b ∷ rest) = if b == wanted then Ok rest else Err BadMarker
 -- an input, as yet with no witness
 unfoldable pub input_at : List ℕ → Field TxIn
 input_at bytes = do
-  txid ← taken 32 bytes
+  txid ← bytes_at 32 bytes
   index ← number_at 4 txid.1
-  script ← count_up_to 0 index.1
+  script ← compact_size_up_to 0 index.1
   sequence ← number_at 4 script.1
   Ok (record { outpoint = record { txid = txid.0; index = index.0 }; sequence = sequence.0; witness = [] }, sequence.1)
 
 unfoldable pub output_at : List ℕ → Field Output
 output_at bytes = do
   value ← number_at 8 bytes
-  script ← if nat_lt 2100000000000000 value.0 then Err ValueTooLarge else text_at value.1
+  script ← if nat_lt max_value value.0 then Err ValueTooLarge else byte_string_at value.1
   Ok (record { value = value.0; script = script.0 }, script.1)
 
 -- a count, and that many fields
-unfoldable pub counted : {A : Type 0} → (List ℕ → Field ℕ) → (List ℕ → Field A) → List ℕ → Field (List A)
-counted count read bytes = do
+unfoldable pub list_at : {A : Type 0} → (List ℕ → Field ℕ) → (List ℕ → Field A) → List ℕ → Field (List A)
+list_at count read bytes = do
   n ← count bytes
-  many read n.0 n.1
+  fields_at read n.0 n.1
 
--- how many inputs there are
+-- the number of inputs
 unfoldable pub input_count_at : List ℕ → Field ℕ
 input_count_at bytes = do
-  n ← count_up_to 4000 bytes
+  n ← compact_size_up_to max_inputs bytes
   if n.0 == 0 then Err NoInputs else Ok n
 
 unfoldable pub inputs_at : List ℕ → Field (List TxIn)
-inputs_at bytes = counted input_count_at input_at bytes
+inputs_at bytes = list_at input_count_at input_at bytes
 
 unfoldable pub outputs_at : List ℕ → Field (List Output)
-outputs_at bytes = counted (count_up_to 4000) output_at bytes
+outputs_at bytes = list_at (compact_size_up_to max_outputs) output_at bytes
 
 unfoldable pub witness_at : List ℕ → Field (List (List ℕ))
-witness_at bytes = counted (count_up_to 1001) text_at bytes
+witness_at bytes = list_at (compact_size_up_to max_items) byte_string_at bytes
 
 -- the input with its witness
-unfoldable pub signed_at : TxIn → List ℕ → Field TxIn
-signed_at i bytes = do
+unfoldable pub signed_input_at : TxIn → List ℕ → Field TxIn
+signed_input_at i bytes = do
   items ← witness_at bytes
   Ok (record i { witness = items.0 }, items.1)
 
 -- a witness for each input
-unfoldable pub each_signed : List TxIn → List ℕ → Field (List TxIn)
-each_signed [] bytes = Ok ([], bytes)
-each_signed (i ∷ is) bytes = do
-  first ← signed_at i bytes
-  others ← each_signed is first.1
+unfoldable pub signed_inputs_at : List TxIn → List ℕ → Field (List TxIn)
+signed_inputs_at [] bytes = Ok ([], bytes)
+signed_inputs_at (i ∷ is) bytes = do
+  first ← signed_input_at i bytes
+  others ← signed_inputs_at is first.1
   Ok (first.0 ∷ others.0, others.1)
 
 unfoldable pub witnesses_at : List TxIn → List ℕ → Field (List TxIn)
 witnesses_at unsigned bytes = do
-  inputs ← each_signed unsigned bytes
+  inputs ← signed_inputs_at unsigned bytes
   if has_witness inputs.0 then Ok inputs else Err NoWitness
 
 -- the end of the bytes
 unfoldable pub end_at : List ℕ → Transaction → Result Transaction DecodeError
 end_at bytes t = if length bytes == 0 then Ok t else Err Trailing
 
--- the version, with marker and flag behind it
+-- the version, and marker and flag after it
 unfoldable pub version_at : List ℕ → Field ℕ
 version_at bytes = do
   version ← number_at 4 bytes
@@ -140,7 +143,7 @@ version_at bytes = do
   flagged ← marker_at 1 marked
   Ok (version.0, flagged)
 
--- all of the bytes
+-- the transaction that all of the bytes spell
 unfoldable pub reading : List ℕ → Result Transaction DecodeError
 reading bytes = do
   version ← version_at bytes
@@ -148,4 +151,13 @@ reading bytes = do
   outputs ← outputs_at unsigned.1
   inputs ← witnesses_at unsigned.0 outputs.1
   lock_time ← number_at 4 inputs.1
+  end_at lock_time.1 (record { version = version.0; inputs = inputs.0; outputs = outputs.0; lock_time = lock_time.0 })
+
+-- the transaction that all of the bytes spell in the form without marker, flag and witnesses
+unfoldable pub stripped_reading : List ℕ → Result Transaction DecodeError
+stripped_reading bytes = do
+  version ← number_at 4 bytes
+  inputs ← inputs_at version.1
+  outputs ← outputs_at inputs.1
+  lock_time ← number_at 4 outputs.1
   end_at lock_time.1 (record { version = version.0; inputs = inputs.0; outputs = outputs.0; lock_time = lock_time.0 })

@@ -1,18 +1,20 @@
 //! Fields of a fixed or a stated length, read from the front of bytes.
 
 ghost use Rattle.std.specs.Prelude.{◌≡◌, ◌≤◌, ◌^◌, length, IfOk};
-ghost use Rattle.tx.specs.Reading.{Gives, taken, number_at, wide_at, count_at, count_up_to, text_at, marker_at};
+ghost use Rattle.tx.specs.Limits.{max_bytes};
+ghost use Rattle.tx.specs.Reading.{Gives, bytes_at, number_at, wide_at, compact_size_at, compact_size_up_to, byte_string_at, marker_at};
 
-use crate::bytes::{Bytes, MAX_BYTES};
-use crate::refusal::DecodeError;
+use crate::errors::DecodeError;
+use crate::limits::MAX_BYTES;
 use byteorder::{ByteOrder, LittleEndian};
+use lists::ByteString;
 use std::alloc::Global;
 
 /// The first `count` bytes, and those after them.
-#[tactic(auto, unfolding(crate::specs::Reading::taken))]
+#[tactic(auto, unfolding(crate::specs::Reading::bytes_at))]
 pub(crate) fn split(bytes: &[u8], count: usize) -> Result<(&[u8], &[u8]), DecodeError>
     ensures length { IfOk result (λ x. length x.0.now ≡ count) }
-    ensures value { Gives (λ x. (x.0.now, x.1.now)) result (taken count bytes.now) }
+    ensures value { Gives (λ x. (x.0.now, x.1.now)) result (bytes_at count bytes.now) }
 {
     if bytes.len() < count {
         return Err(DecodeError::Truncated);
@@ -20,7 +22,7 @@ pub(crate) fn split(bytes: &[u8], count: usize) -> Result<(&[u8], &[u8]), Decode
     Ok(bytes.split_at(count))
 }
 
-#[tactic(auto, unfolding(crate::specs::Reading::number_at, crate::specs::Reading::taken))]
+#[tactic(auto, unfolding(crate::specs::Reading::number_at, crate::specs::Reading::bytes_at))]
 fn u16_at(bytes: &[u8]) -> Result<(u16, &[u8]), DecodeError>
     ensures { Gives (λ x. (x.0, x.1.now)) result (number_at 2 bytes.now) }
 {
@@ -31,8 +33,8 @@ fn u16_at(bytes: &[u8]) -> Result<(u16, &[u8]), DecodeError>
     Ok((LittleEndian::read_u16(digits), rest))
 }
 
-/// A number of four bytes.
-#[tactic(auto, unfolding(crate::specs::Reading::number_at, crate::specs::Reading::taken))]
+/// A little-endian number of four bytes.
+#[tactic(auto, unfolding(crate::specs::Reading::number_at, crate::specs::Reading::bytes_at))]
 pub(crate) fn u32_at(bytes: &[u8]) -> Result<(u32, &[u8]), DecodeError>
     ensures { Gives (λ x. (x.0, x.1.now)) result (number_at 4 bytes.now) }
 {
@@ -43,8 +45,8 @@ pub(crate) fn u32_at(bytes: &[u8]) -> Result<(u32, &[u8]), DecodeError>
     Ok((LittleEndian::read_u32(digits), rest))
 }
 
-/// A number of eight bytes.
-#[tactic(auto, unfolding(crate::specs::Reading::number_at, crate::specs::Reading::taken))]
+/// A little-endian number of eight bytes.
+#[tactic(auto, unfolding(crate::specs::Reading::number_at, crate::specs::Reading::bytes_at))]
 pub(crate) fn u64_at(bytes: &[u8]) -> Result<(u64, &[u8]), DecodeError>
     ensures { Gives (λ x. (x.0, x.1.now)) result (number_at 8 bytes.now) }
 {
@@ -88,9 +90,9 @@ fn wide_u64_at(bytes: &[u8]) -> Result<(u64, &[u8]), DecodeError>
     Ok((count, rest))
 }
 
-#[tactic(auto, unfolding(crate::specs::Reading::count_at))]
-fn count_at(bytes: &[u8]) -> Result<(u64, &[u8]), DecodeError>
-    ensures { Gives (λ x. (x.0, x.1.now)) result (count_at bytes.now) }
+#[tactic(auto, unfolding(crate::specs::Reading::compact_size_at))]
+fn compact_size_at(bytes: &[u8]) -> Result<(u64, &[u8]), DecodeError>
+    ensures { Gives (λ x. (x.0, x.1.now)) result (compact_size_at bytes.now) }
 {
     match bytes {
         [] => Err(DecodeError::Truncated),
@@ -101,13 +103,13 @@ fn count_at(bytes: &[u8]) -> Result<(u64, &[u8]), DecodeError>
     }
 }
 
-/// A count of at most `limit`.
-#[tactic(auto, unfolding(crate::specs::Reading::count_up_to))]
-pub(crate) fn count_up_to(limit: usize, bytes: &[u8]) -> Result<(usize, &[u8]), DecodeError>
+/// A minimal compactSize of at most `limit`.
+#[tactic(auto, unfolding(crate::specs::Reading::compact_size_up_to))]
+pub(crate) fn compact_size_up_to(limit: usize, bytes: &[u8]) -> Result<(usize, &[u8]), DecodeError>
     ensures bound { IfOk result (λ x. x.0 ≤ limit) }
-    ensures value { Gives (λ x. (x.0, x.1.now)) result (count_up_to limit bytes.now) }
+    ensures value { Gives (λ x. (x.0, x.1.now)) result (compact_size_up_to limit bytes.now) }
 {
-    let (count, rest) = count_at(bytes)?;
+    let (count, rest) = compact_size_at(bytes)?;
     if count > limit as u64 {
         return Err(DecodeError::OverLimit);
     }
@@ -115,16 +117,20 @@ pub(crate) fn count_up_to(limit: usize, bytes: &[u8]) -> Result<(usize, &[u8]), 
 }
 
 /// Bytes with their length before them.
-#[tactic(auto, unfolding(crate::specs::Reading::text_at))]
-pub(crate) fn text_at(alloc: Global, bytes: &[u8]) -> Result<(Bytes, &[u8]), DecodeError>
-    ensures { Gives (λ x. (x.0, x.1.now)) result (text_at bytes.now) }
+#[tactic(auto, unfolding(crate::specs::Reading::byte_string_at))]
+pub(crate) fn byte_string_at(
+    alloc: Global,
+    bytes: &[u8],
+) -> Result<(ByteString, &[u8]), DecodeError>
+    ensures bound { IfOk result (λ x. length x.0 ≤ max_bytes) }
+    ensures value { Gives (λ x. (x.0, x.1.now)) result (byte_string_at bytes.now) }
 {
-    let (count, rest) = count_up_to(MAX_BYTES, bytes)?;
-    let (text, rest) = split(rest, count)?;
-    Ok((Bytes::from_slice(alloc, text)?, rest))
+    let (len, rest) = compact_size_up_to(MAX_BYTES, bytes)?;
+    let (string, rest) = split(rest, len)?;
+    Ok((ByteString::from_slice(alloc, string)?, rest))
 }
 
-/// The bytes behind the marker or the flag.
+/// The bytes after the marker or the flag.
 #[tactic(auto, unfolding(crate::specs::Reading::marker_at))]
 pub(crate) fn marker_at(wanted: u8, bytes: &[u8]) -> Result<&[u8], DecodeError>
     ensures { Gives (λ x. x.now) result (marker_at wanted bytes.now) }

@@ -3,7 +3,7 @@
 ghost use Rattle.std.specs.Prelude.{◌≡◌};
 ghost use Rattle.std.specs.List.{flat_map};
 ghost use Rattle.tx.specs.Hashing.{Absorbs};
-ghost use Rattle.tx.specs.Spelling.{number, count, text, outpoint, input, output, body, stripped, transaction_id};
+ghost use Rattle.tx.specs.Spelling.{number, compact_size, bytes_with_length, outpoint, input, output, body, stripped_spelling, transaction_id};
 
 use crate::input::{OutPoint, TxIn};
 use crate::output::TxOut;
@@ -11,7 +11,7 @@ use crate::transaction::Tx;
 use digest::sha256;
 use sha2::{Digest, Sha256};
 
-/// Gives a number to a hasher, as four bytes, the lowest first.
+/// Gives a number to a hasher, as four bytes, little-endian.
 #[tactic(auto, unfolding(crate::specs::Spelling::number))]
 pub fn absorb_u32(hasher: &mut Sha256, small: u32)
     ensures { Absorbs hasher.old hasher.new (number 4 small) }
@@ -19,7 +19,7 @@ pub fn absorb_u32(hasher: &mut Sha256, small: u32)
     hasher.update(&small.to_le_bytes());
 }
 
-/// Gives a number to a hasher, as eight bytes, the lowest first.
+/// Gives a number to a hasher, as eight bytes, little-endian.
 #[tactic(auto, unfolding(crate::specs::Spelling::number))]
 pub fn absorb_u64(hasher: &mut Sha256, large: u64)
     ensures { Absorbs hasher.old hasher.new (number 8 large) }
@@ -27,10 +27,10 @@ pub fn absorb_u64(hasher: &mut Sha256, large: u64)
     hasher.update(&large.to_le_bytes());
 }
 
-/// Gives a count to a hasher, in its shortest spelling.
-#[tactic(auto, unfolding(crate::specs::Spelling::count, crate::specs::Spelling::number))]
-pub fn absorb_count(hasher: &mut Sha256, n: usize)
-    ensures { Absorbs hasher.old hasher.new (count n) }
+/// Gives a count to a hasher, as a minimal compactSize.
+#[tactic(auto, unfolding(crate::specs::Spelling::compact_size, crate::specs::Spelling::number))]
+pub fn absorb_compact_size(hasher: &mut Sha256, n: usize)
+    ensures { Absorbs hasher.old hasher.new (compact_size n) }
 {
     let n = n as u64;
     if n < 0xfd {
@@ -48,11 +48,11 @@ pub fn absorb_count(hasher: &mut Sha256, n: usize)
 }
 
 /// Gives bytes with their length before them to a hasher.
-#[tactic(auto, unfolding(crate::specs::Spelling::text))]
-pub fn absorb_text(hasher: &mut Sha256, bytes: &[u8])
-    ensures { Absorbs hasher.old hasher.new (text bytes.now) }
+#[tactic(auto, unfolding(crate::specs::Spelling::bytes_with_length))]
+pub fn absorb_byte_string(hasher: &mut Sha256, bytes: &[u8])
+    ensures { Absorbs hasher.old hasher.new (bytes_with_length bytes.now) }
 {
-    absorb_count(hasher, bytes.len());
+    absorb_compact_size(hasher, bytes.len());
     hasher.update(bytes);
 }
 
@@ -71,7 +71,7 @@ pub fn absorb_output(hasher: &mut Sha256, o: &TxOut)
     ensures { Absorbs hasher.old hasher.new (output o.now) }
 {
     absorb_u64(hasher, o.value());
-    absorb_text(hasher, o.script().as_slice());
+    absorb_byte_string(hasher, o.script().bytes());
 }
 
 /// Gives outputs to a hasher, one after the other.
@@ -89,7 +89,7 @@ fn absorb_input(hasher: &mut Sha256, i: &TxIn)
     ensures { Absorbs hasher.old hasher.new (input i.now) }
 {
     absorb_outpoint(hasher, &i.outpoint);
-    absorb_count(hasher, 0);
+    absorb_compact_size(hasher, 0);
     absorb_u32(hasher, i.sequence);
 }
 
@@ -105,15 +105,15 @@ fn absorb_inputs(hasher: &mut Sha256, inputs: &[TxIn])
 fn absorb_body(hasher: &mut Sha256, inputs: &[TxIn], outputs: &[TxOut])
     ensures { Absorbs hasher.old hasher.new (body inputs.now outputs.now) }
 {
-    absorb_count(hasher, inputs.len());
+    absorb_compact_size(hasher, inputs.len());
     absorb_inputs(hasher, inputs);
-    absorb_count(hasher, outputs.len());
+    absorb_compact_size(hasher, outputs.len());
     absorb_outputs(hasher, outputs);
 }
 
 /// The id of a transaction: SHA-256 twice over its bytes without marker, flag and witnesses (BIP 141),
 /// in the hash's own byte order. An unsigned transaction has the id of the signed one.
-#[tactic(auto, unfolding(crate::specs::Spelling::stripped, crate::specs::Spelling::transaction_id))]
+#[tactic(auto, unfolding(crate::specs::Spelling::stripped_spelling, crate::specs::Spelling::transaction_id))]
 pub fn txid(tx: &Tx) -> [u8; 32]
     ensures { result ≡ transaction_id tx.now }
 {

@@ -1,17 +1,14 @@
 //! The inputs of a transaction.
 
-ghost use Rattle.std.specs.Prelude.{◌≡◌, ◌<◌, ◌≤◌, ◌↔◌, ◌==◌, [], ◌∷◌, ◌++◌, length, IfOk, OnOk, OnErr, IsErrOf};
-ghost use Rattle.tx.specs.Fields.{AreInputs};
+ghost use Rattle.std.specs.Prelude.{◌≡◌, ◌<◌, ◌↔◌, IsTrue, IfOk, length};
+ghost use Rattle.tx.specs.Fields.{inputs_with_witness, unsigned_inputs, AreInputs};
 
-use crate::refusal::LimitError;
+use crate::limited::{Element, LimitedList};
+use crate::limits::MAX_INPUTS;
 use crate::witness::Witness;
-use std::alloc::{AllocError, Global};
-use std::marker::Model;
+use std::alloc::AllocError;
 
-/// The greatest number of inputs of a transaction.
-pub const MAX_INPUTS: usize = 4_000;
-
-/// The output that an input spends.
+/// The output that an input spends. Outpoints stand in the order of their ids, byte by byte, and then of their indices.
 #[derive(Clone, Copy, Debug, PartialEq, Eq, PartialOrd, Ord, Hash, Drop)]
 pub struct OutPoint {
     /// The id of the transaction that has the output, in the hash's own byte order.
@@ -30,7 +27,7 @@ pub struct TxIn {
 }
 
 impl TxIn {
-    /// Another input with the same fields.
+    /// An equal input. The only error is that memory ran out.
     pub fn copy(&self) -> Result<Self, AllocError>
         ensures { IfOk result (λ i. i ≡ self.now) }
     {
@@ -40,91 +37,74 @@ impl TxIn {
             witness: self.witness.copy()?,
         })
     }
+
+    /// Whether the two inputs have the same outpoint, sequence number and witness.
+    pub fn equals(&self, other: &Self) -> bool
+        ensures { IsTrue result ↔ (self.now ≡ other.now) }
+    {
+        self.outpoint == other.outpoint
+            && self.sequence == other.sequence
+            && self.witness.equals(&other.witness)
+    }
 }
 
 /// At most 4,000 inputs.
-#[derive(Debug, Drop)]
-pub struct Inputs {
-    items: Vec<TxIn>,
+pub type Inputs = LimitedList<TxIn>;
+
+impl Element for TxIn {
+    ghost use Rattle.std.specs.Prelude.{true};
+    ghost use Rattle.tx.specs.Limits.{max_inputs};
+    ghost use Rattle.tx.specs.Fields.{IsInput};
+
+    const LIMIT: usize = MAX_INPUTS;
+
+    ghost LIMIT = { max_inputs };
+
+    ghost is_bounded = { λ _. true };
+
+    ghost Keeps = { IsInput };
+
+    fn is_bounded(&self) -> bool {
+        // The proof learns the range of each number, and the limits of the witness, where they are read.
+        let _index = self.outpoint.index;
+        let _sequence = self.sequence;
+        let _ = self.witness.as_slice();
+        true
+    }
+
+    fn copy(&self) -> Result<Self, AllocError> {
+        TxIn::copy(self)
+    }
+
+    fn equals(&self, other: &Self) -> bool {
+        TxIn::equals(self, other)
+    }
 }
 
-impl Model for Inputs {
-    ghost use Rattle.std.specs.Prelude.{List};
-    ghost use Rattle.tx.specs.declared.input.TxIn.{TxIn};
-
-    ghost Value = { List TxIn };
-
-    ghost use Rattle.tx.specs.Fields.{AreInputs};
-
-    ghost view = { λ a. a.items.items };
-
-    ghost invariant = { λ a. AreInputs a.items.items };
-}
-
-impl Inputs {
-    /// No inputs.
-    pub fn new(alloc: Global) -> Self
-        ensures { result ≡ [] }
+impl LimitedList<TxIn> {
+    /// Gives the input at `index`, from 0, this witness in place of its own.
+    pub fn set_witness(&mut self, index: usize, witness: Witness)
+        requires { index < length self.old }
+        ensures value { self.new ≡ inputs_with_witness self.old index witness }
+        ensures len { length self.new ≡ length self.old }
+        ensures limits { AreInputs self.new }
     {
-        Inputs {
-            items: Vec::new(alloc),
+        // The proof learns the witness's limits where it is read.
+        let _ = witness.as_slice();
+        let input = &mut self.items[index];
+        input.witness = witness;
+    }
+
+    /// Takes the witness items of all inputs away.
+    pub fn strip_witnesses(&mut self)
+        ensures value { self.new ≡ unsigned_inputs self.old }
+        ensures len { length self.new ≡ length self.old }
+        ensures limits { AreInputs self.new }
+    {
+        let alloc = *self.items.allocator();
+        for i in 0..self.items.len() {
+            let input = &mut self.items[i];
+            input.witness = Witness::new(alloc);
         }
-    }
-
-    /// Adds an input at the end. A refusal leaves the inputs as they were, and drops the new one.
-    pub fn push(&mut self, input: TxIn) -> Result<(), LimitError>
-        ensures ok { OnOk result (self.new ≡ self.old ++ input ∷ []) }
-        ensures err { OnErr result (self.new ≡ self.old) }
-        ensures over { IsErrOf result LimitError.OverLimit ↔ (4000 ≤ length self.old) }
-    {
-        let _ = input.witness.as_slice();
-        if self.items.len() >= MAX_INPUTS {
-            return Err(LimitError::OverLimit);
-        }
-        self.items.push(input)?;
-        Ok(())
-    }
-
-    /// The inputs.
-    pub fn as_slice(&self) -> &[TxIn]
-        ensures value { result.now ≡ self.now }
-        ensures limits { AreInputs result.now }
-    {
-        self.items.as_slice()
-    }
-
-    /// The inputs, with the memory that they lie in.
-    pub fn into_vec(self) -> Vec<TxIn>
-        ensures value { result.items ≡ self }
-        ensures limits { AreInputs result.items }
-    {
-        let Inputs { items } = self;
-        items
-    }
-
-    /// How many inputs there are.
-    pub fn len(&self) -> usize
-        ensures value { result ≡ length self.now }
-        ensures limit { result ≤ 4000 }
-    {
-        self.items.len()
-    }
-
-    /// Whether there is no input.
-    pub fn is_empty(&self) -> bool
-        ensures { result ≡ (length self.now == 0) }
-    {
-        self.items.is_empty()
-    }
-
-    /// The same inputs again.
-    pub fn copy(&self) -> Result<Self, AllocError>
-        ensures { IfOk result (λ i. i ≡ self.now) }
-    {
-        let mut items = Vec::new(*self.items.allocator());
-        for input in &self.items {
-            items.push(input.copy()?)?;
-        }
-        Ok(Inputs { items })
     }
 }

@@ -1,8 +1,9 @@
 //! Transactions with version 0 witnesses, and their bytes (BIP 141, BIP 144).
 //!
-//! Input scripts are empty, every count has its shortest spelling, marker and flag are always there, and
-//! at least one witness has an item. A transaction that is still to be signed is a [`Tx`] with empty
-//! witnesses: it has an id, and no bytes.
+//! The main contract is that of [`decode`]: it answers exactly the transaction that the bytes spell, or the first fault from left
+//! to right. Input scripts are empty, every compactSize is minimal, marker and flag are always there, and at least one
+//! witness has an item. A transaction that is still to be signed is a [`Tx`] with empty witnesses: it has an id and a stripped
+//! form ([`encode_stripped`]), and no other bytes.
 //!
 //! ```rust
 //! /// Whether the bytes are a transaction with an output of this value in satoshis.
@@ -13,26 +14,29 @@
 //! ```
 #![tactic(auto)]
 
-mod bytes;
+mod errors;
 mod fields;
 pub mod hashing;
 mod input;
+pub mod laws;
+mod limited;
+mod limits;
 mod output;
 mod reading;
-mod refusal;
 mod transaction;
 mod witness;
 mod writing;
 
-pub use bytes::{Bytes, MAX_BYTES};
+pub use errors::{DecodeError, EncodeError, FieldError, LimitError};
 pub use hashing::txid;
-pub use input::{Inputs, MAX_INPUTS, OutPoint, TxIn};
-pub use output::{MAX_OUTPUTS, MAX_VALUE, Outputs, TxOut};
-pub use reading::{decode, one_spelling};
-pub use refusal::{DecodeError, EncodeError, FieldError, LimitError};
-pub use transaction::Tx;
-pub use witness::{MAX_ITEMS, Witness};
-pub use writing::encode;
+pub use input::{Inputs, OutPoint, TxIn};
+pub use limited::{Element, LimitedList};
+pub use limits::{MAX_BYTES, MAX_INPUTS, MAX_ITEMS, MAX_OUTPUTS, MAX_VALUE};
+pub use output::{Outputs, TxOut, total_value};
+pub use reading::{decode, decode_stripped};
+pub use transaction::{Tx, TxParts};
+pub use witness::Witness;
+pub use writing::{encode, encode_stripped};
 
 #[cfg(test)]
 mod tests;

@@ -1,24 +1,21 @@
 //! The outputs of a transaction.
 
-ghost use Rattle.std.specs.Prelude.{◌≡◌, ◌<◌, ◌≤◌, ◌↔◌, ◌==◌, [], ◌∷◌, ◌++◌, length, nat_lt, if◌then◌else◌, IfOk, OnOk, OnErr, IsErrOf};
-ghost use Rattle.tx.specs.Fields.{AreOutputs};
+ghost use Rattle.std.specs.Prelude.{◌≡◌, ◌≤◌, ◌↔◌, nat_lt, length, IsTrue, IfOk, if◌then◌else◌};
+ghost use Rattle.tx.specs.Limits.{max_value, max_bytes};
+ghost use Rattle.tx.specs.Fields.{total_value};
 
-use crate::bytes::Bytes;
-use crate::refusal::{FieldError, LimitError};
-use std::alloc::{AllocError, Global};
+use crate::errors::FieldError;
+use crate::limited::{Element, LimitedList};
+use crate::limits::{MAX_BYTES, MAX_OUTPUTS, MAX_VALUE};
+use lists::ByteString;
+use std::alloc::AllocError;
 use std::marker::Model;
-
-/// The greatest value in satoshis.
-pub const MAX_VALUE: u64 = 2_100_000_000_000_000;
-
-/// The greatest number of outputs of a transaction.
-pub const MAX_OUTPUTS: usize = 4_000;
 
 /// An output.
 #[derive(Debug, Drop)]
 pub struct TxOut {
     value: u64,
-    script: Bytes,
+    script: ByteString,
 }
 
 impl Model for TxOut {
@@ -32,13 +29,18 @@ impl Model for TxOut {
 }
 
 impl TxOut {
-    /// An output of this value in satoshis, which `script` keeps.
-    pub fn new(value: u64, script: Bytes) -> Result<Self, FieldError>
-        ensures { result ≡ (if nat_lt 2100000000000000 value then Err FieldError.ValueTooLarge else Ok (record { value = value; script = script })) }
+    /// An output of this value in satoshis, which `script` keeps: ValueTooLarge where the value is above 21,000,000 bitcoins, else
+    /// OverLimit where the script has more than 10,000 bytes.
+    pub fn new(value: u64, script: ByteString) -> Result<Self, FieldError>
+        ensures { result ≡ (if nat_lt max_value value then Err FieldError.ValueTooLarge
+            else if nat_lt max_bytes (length script) then Err FieldError.OverLimit
+            else Ok (record { value = value; script = script })) }
     {
-        let _ = script.as_slice();
         if value > MAX_VALUE {
             return Err(FieldError::ValueTooLarge);
+        }
+        if script.len() > MAX_BYTES {
+            return Err(FieldError::OverLimit);
         }
         Ok(TxOut { value, script })
     }
@@ -46,19 +48,29 @@ impl TxOut {
     /// The value in satoshis.
     pub fn value(&self) -> u64
         ensures value { result ≡ self.now.value }
-        ensures limit { result ≤ 2100000000000000 }
+        ensures limit { result ≤ max_value }
     {
         self.value
     }
 
     /// The script that says who may spend it.
-    pub fn script(&self) -> &Bytes
-        ensures { result.now ≡ self.now.script }
+    pub fn script(&self) -> &ByteString
+        ensures value { result.now ≡ self.now.script }
+        ensures limit { length result.now ≤ max_bytes }
     {
         &self.script
     }
 
-    /// Another output of the same value and script.
+    /// The script, with the memory that it lies in.
+    pub fn into_script(self) -> ByteString
+        ensures value { result ≡ self.script }
+        ensures limit { length result ≤ max_bytes }
+    {
+        let TxOut { value: _, script } = self;
+        script
+    }
+
+    /// An equal output. The only error is that memory ran out.
     pub fn copy(&self) -> Result<Self, AllocError>
         ensures { IfOk result (λ o. o ≡ self.now) }
     {
@@ -67,90 +79,53 @@ impl TxOut {
             script: self.script.copy()?,
         })
     }
+
+    /// Whether the two outputs have the same value and script.
+    pub fn equals(&self, other: &Self) -> bool
+        ensures { IsTrue result ↔ (self.now ≡ other.now) }
+    {
+        self.value == other.value && self.script.equals(&other.script)
+    }
 }
 
 /// At most 4,000 outputs.
-#[derive(Debug, Drop)]
-pub struct Outputs {
-    items: Vec<TxOut>,
+pub type Outputs = LimitedList<TxOut>;
+
+impl Element for TxOut {
+    ghost use Rattle.std.specs.Prelude.{true};
+    ghost use Rattle.tx.specs.Limits.{max_outputs};
+    ghost use Rattle.tx.specs.Parts.{IsOutput};
+
+    const LIMIT: usize = MAX_OUTPUTS;
+
+    ghost LIMIT = { max_outputs };
+
+    ghost is_bounded = { λ _. true };
+
+    ghost Keeps = { IsOutput };
+
+    fn is_bounded(&self) -> bool {
+        // The proof learns the limits of the value and the script where they are read.
+        let _ = &self.value;
+        true
+    }
+
+    fn copy(&self) -> Result<Self, AllocError> {
+        TxOut::copy(self)
+    }
+
+    fn equals(&self, other: &Self) -> bool {
+        TxOut::equals(self, other)
+    }
 }
 
-impl Model for Outputs {
-    ghost use Rattle.std.specs.Prelude.{List};
-    ghost use Rattle.tx.specs.Parts.{Output};
-    ghost use Rattle.tx.specs.Fields.{AreOutputs};
-
-    ghost Value = { List Output };
-
-    ghost view = { λ a. a.items.items };
-
-    ghost invariant = { λ a. AreOutputs a.items.items };
-}
-
-impl Outputs {
-    /// No outputs.
-    pub fn new(alloc: Global) -> Self
-        ensures { result ≡ [] }
-    {
-        Outputs {
-            items: Vec::new(alloc),
-        }
+/// The satoshis of outputs together. No number of them passes the width.
+pub fn total_value(outputs: &[TxOut]) -> u128
+    ensures { result ≡ total_value outputs.now }
+{
+    let mut total = 0;
+    for output in outputs {
+        total += u128::from(output.value());
     }
-
-    /// Adds an output at the end. A refusal leaves the outputs as they were, and drops the new one.
-    pub fn push(&mut self, output: TxOut) -> Result<(), LimitError>
-        ensures ok { OnOk result (self.new ≡ self.old ++ output ∷ []) }
-        ensures err { OnErr result (self.new ≡ self.old) }
-        ensures over { IsErrOf result LimitError.OverLimit ↔ (4000 ≤ length self.old) }
-    {
-        let _ = &output.value;
-        if self.items.len() >= MAX_OUTPUTS {
-            return Err(LimitError::OverLimit);
-        }
-        self.items.push(output)?;
-        Ok(())
-    }
-
-    /// The outputs.
-    pub fn as_slice(&self) -> &[TxOut]
-        ensures value { result.now ≡ self.now }
-        ensures limits { AreOutputs result.now }
-    {
-        self.items.as_slice()
-    }
-
-    /// The outputs, with the memory that they lie in.
-    pub fn into_vec(self) -> Vec<TxOut>
-        ensures value { result.items ≡ self }
-        ensures limits { AreOutputs result.items }
-    {
-        let Outputs { items } = self;
-        items
-    }
-
-    /// How many outputs there are.
-    pub fn len(&self) -> usize
-        ensures value { result ≡ length self.now }
-        ensures limit { result ≤ 4000 }
-    {
-        self.items.len()
-    }
-
-    /// Whether there is no output.
-    pub fn is_empty(&self) -> bool
-        ensures { result ≡ (length self.now == 0) }
-    {
-        self.items.is_empty()
-    }
-
-    /// The same outputs again.
-    pub fn copy(&self) -> Result<Self, AllocError>
-        ensures { IfOk result (λ o. o ≡ self.now) }
-    {
-        let mut items = Vec::new(*self.items.allocator());
-        for output in &self.items {
-            items.push(output.copy()?)?;
-        }
-        Ok(Outputs { items })
-    }
+    total
 }

@@ -1,16 +1,18 @@
 //! From bytes to transactions.
 
 ghost use Rattle.std.specs.Prelude.{◌≡◌, ◌≤◌, ◌<◌, ℕ, List, length, IfOk, Ok};
+ghost use Rattle.tx.specs.Limits.{max_inputs, max_outputs, max_items};
 ghost use Rattle.tx.specs.Fields.{Transaction};
-ghost use Rattle.tx.specs.Spelling.{IsTransaction};
-ghost use Rattle.tx.specs.Reading.{Gives, many, text_at, input_at, output_at, inputs_at, outputs_at, witness_at, signed_at, each_signed, witnesses_at, version_at, reading};
+ghost use Rattle.tx.specs.Spelling.{IsTransaction, IsStripped};
+ghost use Rattle.tx.specs.Reading.{Gives, fields_at, byte_string_at, input_at, output_at, inputs_at, outputs_at, witness_at, signed_input_at, signed_inputs_at, witnesses_at, version_at, reading, stripped_reading};
 
-use crate::fields::{count_up_to, marker_at, split, text_at, u32_at, u64_at};
-use crate::input::{Inputs, MAX_INPUTS, OutPoint, TxIn};
-use crate::output::{MAX_OUTPUTS, MAX_VALUE, Outputs, TxOut};
-use crate::refusal::DecodeError;
+use crate::errors::DecodeError;
+use crate::fields::{byte_string_at, compact_size_up_to, marker_at, split, u32_at, u64_at};
+use crate::input::{Inputs, OutPoint, TxIn};
+use crate::limits::{MAX_INPUTS, MAX_ITEMS, MAX_OUTPUTS, MAX_VALUE};
+use crate::output::{Outputs, TxOut};
 use crate::transaction::{Tx, has_witness};
-use crate::witness::{MAX_ITEMS, Witness};
+use crate::witness::Witness;
 use std::alloc::Global;
 
 // An input, as yet with no witness.
@@ -22,7 +24,7 @@ fn input_at(alloc: Global, bytes: &[u8]) -> Result<(TxIn, &[u8]), DecodeError>
     let mut txid = [0; 32];
     txid.copy_from_slice(hash);
     let (index, rest) = u32_at(rest)?;
-    let (_, rest) = count_up_to(0, rest)?;
+    let (_, rest) = compact_size_up_to(0, rest)?;
     let (sequence, rest) = u32_at(rest)?;
     let input = TxIn {
         outpoint: OutPoint { txid, index },
@@ -40,7 +42,7 @@ fn output_at(alloc: Global, bytes: &[u8]) -> Result<(TxOut, &[u8]), DecodeError>
     if value > MAX_VALUE {
         return Err(DecodeError::ValueTooLarge);
     }
-    let (script, rest) = text_at(alloc, rest)?;
+    let (script, rest) = byte_string_at(alloc, rest)?;
     Ok((TxOut::new(value, script).unwrap(), rest))
 }
 
@@ -51,7 +53,7 @@ fn some_inputs_at(
     bytes: &[u8],
 ) -> Result<(Vec<TxIn>, &[u8]), DecodeError>
     ensures length { IfOk result (λ x. length x.0.items ≡ count) }
-    ensures value { Gives (λ x. (x.0.items, x.1.now)) result (many input_at count bytes.now) }
+    ensures value { Gives (λ x. (x.0.items, x.1.now)) result (fields_at input_at count bytes.now) }
 {
     let mut inputs = Vec::new(alloc);
     let mut rest = bytes;
@@ -68,69 +70,69 @@ fn some_outputs_at(
     count: usize,
     bytes: &[u8],
 ) -> Result<(Outputs, &[u8]), DecodeError>
-    requires { count ≤ 4000 }
-    ensures { Gives (λ x. (x.0, x.1.now)) result (many output_at count bytes.now) }
+    requires { count ≤ max_outputs }
+    ensures { Gives (λ x. (x.0, x.1.now)) result (fields_at output_at count bytes.now) }
 {
     let mut outputs = Outputs::new(alloc);
     let mut rest = bytes;
     for _ in 0..count {
         let (output, after) = output_at(alloc, rest)?;
-        outputs.push(output)?;
+        outputs.push_within_limit(output)?;
         rest = after;
     }
     Ok((outputs, rest))
 }
 
 fn some_items_at(alloc: Global, count: usize, bytes: &[u8]) -> Result<(Witness, &[u8]), DecodeError>
-    requires { count ≤ 1001 }
-    ensures { Gives (λ x. (x.0, x.1.now)) result (many text_at count bytes.now) }
+    requires { count ≤ max_items }
+    ensures { Gives (λ x. (x.0, x.1.now)) result (fields_at byte_string_at count bytes.now) }
 {
     let mut items = Witness::new(alloc);
     let mut rest = bytes;
     for _ in 0..count {
-        let (item, after) = text_at(alloc, rest)?;
-        items.push(item)?;
+        let (item, after) = byte_string_at(alloc, rest)?;
+        items.push_within_limit(item)?;
         rest = after;
     }
     Ok((items, rest))
 }
 
-#[tactic(auto, unfolding(crate::specs::Reading::inputs_at, crate::specs::Reading::counted, crate::specs::Reading::input_count_at))]
+#[tactic(auto, unfolding(crate::specs::Reading::inputs_at, crate::specs::Reading::list_at, crate::specs::Reading::input_count_at))]
 fn inputs_at(alloc: Global, bytes: &[u8]) -> Result<(Vec<TxIn>, &[u8]), DecodeError>
-    ensures length { IfOk result (λ x. length x.0.items ≤ 4000) }
+    ensures len { IfOk result (λ x. (0 < length x.0.items) × (length x.0.items ≤ max_inputs)) }
     ensures value { Gives (λ x. (x.0.items, x.1.now)) result (inputs_at bytes.now) }
 {
-    let (count, rest) = count_up_to(MAX_INPUTS, bytes)?;
+    let (count, rest) = compact_size_up_to(MAX_INPUTS, bytes)?;
     if count == 0 {
         return Err(DecodeError::NoInputs);
     }
     some_inputs_at(alloc, count, rest)
 }
 
-#[tactic(auto, unfolding(crate::specs::Reading::outputs_at, crate::specs::Reading::counted))]
+#[tactic(auto, unfolding(crate::specs::Reading::outputs_at, crate::specs::Reading::list_at))]
 fn outputs_at(alloc: Global, bytes: &[u8]) -> Result<(Outputs, &[u8]), DecodeError>
     ensures { Gives (λ x. (x.0, x.1.now)) result (outputs_at bytes.now) }
 {
-    let (count, rest) = count_up_to(MAX_OUTPUTS, bytes)?;
+    let (count, rest) = compact_size_up_to(MAX_OUTPUTS, bytes)?;
     some_outputs_at(alloc, count, rest)
 }
 
-#[tactic(auto, unfolding(crate::specs::Reading::witness_at, crate::specs::Reading::counted))]
+#[tactic(auto, unfolding(crate::specs::Reading::witness_at, crate::specs::Reading::list_at))]
 fn witness_at(alloc: Global, bytes: &[u8]) -> Result<(Witness, &[u8]), DecodeError>
     ensures { Gives (λ x. (x.0, x.1.now)) result (witness_at bytes.now) }
 {
-    let (count, rest) = count_up_to(MAX_ITEMS, bytes)?;
+    let (count, rest) = compact_size_up_to(MAX_ITEMS, bytes)?;
     some_items_at(alloc, count, rest)
 }
 
 // An input with its witness.
-#[tactic(auto, unfolding(crate::specs::Reading::signed_at))]
-fn signed_at<'a>(
+#[tactic(auto, unfolding(crate::specs::Reading::signed_input_at))]
+fn signed_input_at<'a>(
     alloc: Global,
     input: &TxIn,
     bytes: &'a [u8],
 ) -> Result<(TxIn, &'a [u8]), DecodeError>
-    ensures { Gives (λ x. (x.0, x.1.now)) result (signed_at input.now bytes.now) }
+    ensures { Gives (λ x. (x.0, x.1.now)) result (signed_input_at input.now bytes.now) }
 {
     let (witness, rest) = witness_at(alloc, bytes)?;
     let signed = TxIn {
@@ -142,19 +144,19 @@ fn signed_at<'a>(
 }
 
 // The inputs with their witnesses.
-fn each_signed<'a>(
+fn signed_inputs_at<'a>(
     alloc: Global,
     unsigned: &[TxIn],
     bytes: &'a [u8],
 ) -> Result<(Inputs, &'a [u8]), DecodeError>
-    requires { length unsigned.now ≤ 4000 }
-    ensures { Gives (λ x. (x.0, x.1.now)) result (each_signed unsigned.now bytes.now) }
+    requires { length unsigned.now ≤ max_inputs }
+    ensures { Gives (λ x. (x.0, x.1.now)) result (signed_inputs_at unsigned.now bytes.now) }
 {
     let mut inputs = Inputs::new(alloc);
     let mut rest = bytes;
     for input in unsigned {
-        let (signed, after) = signed_at(alloc, input, rest)?;
-        inputs.push(signed)?;
+        let (signed, after) = signed_input_at(alloc, input, rest)?;
+        inputs.push_within_limit(signed)?;
         rest = after;
     }
     Ok((inputs, rest))
@@ -167,18 +169,18 @@ fn witnesses_at<'a>(
     unsigned: &[TxIn],
     bytes: &'a [u8],
 ) -> Result<(Inputs, &'a [u8]), DecodeError>
-    requires { length unsigned.now ≤ 4000 }
+    requires { length unsigned.now ≤ max_inputs }
     ensures some { IfOk result (λ x. 0 < length x.0) }
     ensures value { Gives (λ x. (x.0, x.1.now)) result (witnesses_at unsigned.now bytes.now) }
 {
-    let (inputs, rest) = each_signed(alloc, unsigned, bytes)?;
+    let (inputs, rest) = signed_inputs_at(alloc, unsigned, bytes)?;
     if !has_witness(inputs.as_slice()) {
         return Err(DecodeError::NoWitness);
     }
     Ok((inputs, rest))
 }
 
-// The version, with marker and flag behind it.
+// The version, and marker and flag after it.
 #[tactic(auto, unfolding(crate::specs::Reading::version_at))]
 fn version_at(bytes: &[u8]) -> Result<(u32, &[u8]), DecodeError>
     ensures { Gives (λ x. (x.0, x.1.now)) result (version_at bytes.now) }
@@ -205,7 +207,8 @@ fn all(alloc: Global, bytes: &[u8]) -> Result<Tx, DecodeError>
 }
 
 /// The transaction that the bytes spell, all of the bytes (BIP 144). Marker and flag are always there,
-/// each count has its shortest spelling, and at least one witness has an item.
+/// each compactSize is minimal, and at least one witness has an item. The error is that memory ran out, or the first fault from left to
+/// right.
 pub fn decode(alloc: Global, bytes: &[u8]) -> Result<Tx, DecodeError>
     // What is read is spelled so.
     ensures found { IfOk result (λ t. IsTransaction t bytes.now) }
@@ -217,8 +220,30 @@ pub fn decode(alloc: Global, bytes: &[u8]) -> Result<Tx, DecodeError>
     all(alloc, bytes)
 }
 
-/// A transaction has one spelling, and bytes spell one transaction.
-pub fn one_spelling()
-    ensures of_value { (t : Transaction) (a b : List ℕ) → IsTransaction t a → IsTransaction t b → a ≡ b }
-    ensures of_bytes { (t u : Transaction) (bytes : List ℕ) → IsTransaction t bytes → IsTransaction u bytes → t ≡ u }
-{}
+#[tactic(auto, unfolding(crate::specs::Reading::stripped_reading, crate::specs::Reading::end_at))]
+fn all_stripped(alloc: Global, bytes: &[u8]) -> Result<Tx, DecodeError>
+    ensures { Gives (λ t. t) result (stripped_reading bytes.now) }
+{
+    let (version, rest) = u32_at(bytes)?;
+    let (inputs, rest) = inputs_at(alloc, rest)?;
+    let (outputs, rest) = outputs_at(alloc, rest)?;
+    let (lock_time, rest) = u32_at(rest)?;
+    if !rest.is_empty() {
+        return Err(DecodeError::Trailing);
+    }
+    let inputs = Inputs::from_vec(inputs).unwrap();
+    Ok(Tx::new(version, inputs, outputs, lock_time).unwrap())
+}
+
+/// The transaction that the bytes spell in the form without marker, flag and witnesses, over which its id is taken
+/// (BIP 141). It has no witness items. The error is that memory ran out, or the first fault from left to right.
+pub fn decode_stripped(alloc: Global, bytes: &[u8]) -> Result<Tx, DecodeError>
+    // What is read is spelled so.
+    ensures found { IfOk result (λ t. IsStripped t bytes.now) }
+    // What is spelled so is read, unless memory runs out.
+    ensures only { (t : Transaction) → IsStripped t bytes.now → Gives (λ t. t) result (Ok t) }
+    // Which fault it is: the first one from left to right.
+    ensures exact { Gives (λ t. t) result (stripped_reading bytes.now) }
+{
+    all_stripped(alloc, bytes)
+}

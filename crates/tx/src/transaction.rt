@@ -1,11 +1,12 @@
 //! Transactions.
 
-ghost use Rattle.std.specs.Prelude.{◌≡◌, ◌<◌, ◌≤◌, [], length, if◌then◌else◌, IfOk, ◌==◌};
-ghost use Rattle.tx.specs.Fields.{AreInputs, AreOutputs, KeepsLimits, has_witness};
+ghost use Rattle.std.specs.Prelude.{◌≡◌, ◌<◌, ◌↔◌, ◌==◌, length, IsTrue, IfOk, if◌then◌else◌};
+ghost use Rattle.tx.specs.Fields.{AreInputs, AreOutputs, KeepsLimits, has_witness, transaction_with_witness, unsigned_transaction};
 
+use crate::errors::FieldError;
 use crate::input::{Inputs, TxIn};
 use crate::output::{Outputs, TxOut};
-use crate::refusal::FieldError;
+use crate::witness::Witness;
 use std::alloc::AllocError;
 use std::marker::Model;
 
@@ -25,6 +26,15 @@ pub struct Tx {
     lock_time: u32,
 }
 
+/// The fields of a transaction that was taken apart.
+#[derive(Debug, Drop)]
+pub struct TxParts {
+    pub version: u32,
+    pub inputs: Inputs,
+    pub outputs: Outputs,
+    pub lock_time: u32,
+}
+
 impl Model for Tx {
     ghost use Rattle.tx.specs.Fields.{Transaction, KeepsLimits};
 
@@ -36,7 +46,7 @@ impl Model for Tx {
 }
 
 impl Tx {
-    /// A transaction of these fields.
+    /// A transaction of these fields, which takes no memory: NoInputs where there is no input.
     pub fn new(
         version: u32,
         inputs: Inputs,
@@ -46,6 +56,7 @@ impl Tx {
         ensures { result ≡ (if length inputs == 0 then Err FieldError.NoInputs
             else Ok (record { version = version; inputs = inputs; outputs = outputs; lock_time = lock_time })) }
     {
+        // The proof learns the limits of both lists where they are read.
         let _ = inputs.as_slice();
         let _ = outputs.as_slice();
         if inputs.is_empty() {
@@ -57,6 +68,28 @@ impl Tx {
             outputs,
             lock_time,
         })
+    }
+
+    /// The fields, with the memory that they lie in. `Tx::new` puts them together again.
+    pub fn into_parts(self) -> TxParts
+        ensures version { result.version ≡ self.version }
+        ensures inputs { result.inputs ≡ self.inputs }
+        ensures outputs { result.outputs ≡ self.outputs }
+        ensures lock_time { result.lock_time ≡ self.lock_time }
+        ensures some { 0 < length result.inputs }
+    {
+        let Tx {
+            version,
+            inputs,
+            outputs,
+            lock_time,
+        } = self;
+        TxParts {
+            version,
+            inputs,
+            outputs,
+            lock_time,
+        }
     }
 
     /// The version, which says whether sequence numbers are relative locks (BIP 68).
@@ -90,13 +123,6 @@ impl Tx {
         self.lock_time
     }
 
-    /// Every transaction keeps its limits.
-    pub fn keeps_limits(&self)
-        ensures { KeepsLimits self.now }
-    {
-        let _ = &self.version;
-    }
-
     /// Whether a witness has an item, so that the transaction has bytes.
     pub fn has_witness(&self) -> bool
         ensures { result ≡ has_witness self.now.inputs }
@@ -104,7 +130,22 @@ impl Tx {
         has_witness(self.inputs.as_slice())
     }
 
-    /// Another transaction of the same fields.
+    /// Gives the input at `index`, from 0, this witness in place of its own. It takes no memory.
+    pub fn set_witness(&mut self, index: usize, witness: Witness)
+        requires { index < length self.old.inputs }
+        ensures { self.new ≡ transaction_with_witness self.old index witness }
+    {
+        self.inputs.set_witness(index, witness);
+    }
+
+    /// Takes the witness items of all inputs away. It takes no memory.
+    pub fn strip_witnesses(&mut self)
+        ensures { self.new ≡ unsigned_transaction self.old }
+    {
+        self.inputs.strip_witnesses();
+    }
+
+    /// An equal transaction. The only error is that memory ran out.
     pub fn copy(&self) -> Result<Self, AllocError>
         ensures { IfOk result (λ t. t ≡ self.now) }
     {
@@ -114,5 +155,22 @@ impl Tx {
             outputs: self.outputs.copy()?,
             lock_time: self.lock_time,
         })
+    }
+
+    /// Whether the two transactions have equal fields, witnesses included.
+    pub fn equals(&self, other: &Self) -> bool
+        ensures { IsTrue result ↔ (self.now ≡ other.now) }
+    {
+        self.lock_time == other.lock_time
+            && self.version == other.version
+            && self.inputs.equals(&other.inputs)
+            && self.outputs.equals(&other.outputs)
+    }
+
+    // What the proof of `encode` learns: every transaction keeps its limits, which are seen where a field is read.
+    pub(crate) fn keeps_limits(&self)
+        ensures { KeepsLimits self.now }
+    {
+        let _ = &self.version;
     }
 }

@@ -3,19 +3,19 @@
 ghost use Rattle.std.specs.Prelude.{◌≡◌, ◌↔◌, ◌++◌, false, IfOk, OnOk, IsErrOf};
 ghost use Rattle.std.specs.List.{flat_map};
 ghost use Rattle.tx.specs.Fields.{has_witness};
-ghost use Rattle.tx.specs.Spelling.{count, text, outpoint, input, output, witness, body, witnesses, spelling, IsTransaction};
+ghost use Rattle.tx.specs.Spelling.{compact_size, bytes_with_length, outpoint, input, output, witness, body, witnesses, spelling, stripped_spelling, IsTransaction};
 
-use crate::bytes::Bytes;
+use crate::errors::EncodeError;
 use crate::input::TxIn;
 use crate::output::TxOut;
-use crate::refusal::EncodeError;
 use crate::transaction::Tx;
 use crate::witness::Witness;
+use lists::ByteString;
 use std::alloc::{AllocError, Global};
 
-#[tactic(auto, unfolding(crate::specs::Spelling::count, crate::specs::Spelling::number))]
-fn put_count(out: &mut Vec<u8>, n: usize) -> Result<(), AllocError>
-    ensures { OnOk result (out.new.items ≡ out.old.items ++ count n) }
+#[tactic(auto, unfolding(crate::specs::Spelling::compact_size, crate::specs::Spelling::number))]
+fn put_compact_size(out: &mut Vec<u8>, n: usize) -> Result<(), AllocError>
+    ensures { OnOk result (out.new.items ≡ out.old.items ++ compact_size n) }
 {
     let n = n as u64;
     if n < 0xfd {
@@ -33,11 +33,11 @@ fn put_count(out: &mut Vec<u8>, n: usize) -> Result<(), AllocError>
     Ok(())
 }
 
-#[tactic(auto, unfolding(crate::specs::Spelling::text))]
-fn put_text(out: &mut Vec<u8>, bytes: &[u8]) -> Result<(), AllocError>
-    ensures { OnOk result (out.new.items ≡ out.old.items ++ text bytes.now) }
+#[tactic(auto, unfolding(crate::specs::Spelling::bytes_with_length))]
+fn put_byte_string(out: &mut Vec<u8>, bytes: &[u8]) -> Result<(), AllocError>
+    ensures { OnOk result (out.new.items ≡ out.old.items ++ bytes_with_length bytes.now) }
 {
-    put_count(out, bytes.len())?;
+    put_compact_size(out, bytes.len())?;
     out.extend_from_slice(bytes)?;
     Ok(())
 }
@@ -48,7 +48,7 @@ fn put_input(out: &mut Vec<u8>, i: &TxIn) -> Result<(), AllocError>
 {
     out.extend_from_slice(&i.outpoint.txid)?;
     out.extend_from_slice(&i.outpoint.index.to_le_bytes())?;
-    put_count(out, 0)?;
+    put_compact_size(out, 0)?;
     out.extend_from_slice(&i.sequence.to_le_bytes())?;
     Ok(())
 }
@@ -58,7 +58,7 @@ fn put_output(out: &mut Vec<u8>, o: &TxOut) -> Result<(), AllocError>
     ensures { OnOk result (out.new.items ≡ out.old.items ++ output o.now) }
 {
     out.extend_from_slice(&o.value().to_le_bytes())?;
-    put_text(out, o.script().as_slice())?;
+    put_byte_string(out, o.script().bytes())?;
     Ok(())
 }
 
@@ -84,18 +84,18 @@ fn put_outputs(out: &mut Vec<u8>, outputs: &[TxOut]) -> Result<(), AllocError>
 fn put_body(out: &mut Vec<u8>, inputs: &[TxIn], outputs: &[TxOut]) -> Result<(), AllocError>
     ensures { OnOk result (out.new.items ≡ out.old.items ++ body inputs.now outputs.now) }
 {
-    put_count(out, inputs.len())?;
+    put_compact_size(out, inputs.len())?;
     put_inputs(out, inputs)?;
-    put_count(out, outputs.len())?;
+    put_compact_size(out, outputs.len())?;
     put_outputs(out, outputs)?;
     Ok(())
 }
 
-fn put_items(out: &mut Vec<u8>, items: &[Bytes]) -> Result<(), AllocError>
-    ensures { OnOk result (out.new.items ≡ out.old.items ++ flat_map text items.now) }
+fn put_items(out: &mut Vec<u8>, items: &[ByteString]) -> Result<(), AllocError>
+    ensures { OnOk result (out.new.items ≡ out.old.items ++ flat_map bytes_with_length items.now) }
 {
     for item in items {
-        put_text(out, item.as_slice())?;
+        put_byte_string(out, item.bytes())?;
     }
     Ok(())
 }
@@ -104,7 +104,7 @@ fn put_items(out: &mut Vec<u8>, items: &[Bytes]) -> Result<(), AllocError>
 fn put_witness(out: &mut Vec<u8>, items: &Witness) -> Result<(), AllocError>
     ensures { OnOk result (out.new.items ≡ out.old.items ++ witness items.now) }
 {
-    put_count(out, items.len())?;
+    put_compact_size(out, items.len())?;
     put_items(out, items.as_slice())?;
     Ok(())
 }
@@ -131,7 +131,17 @@ fn put_transaction(out: &mut Vec<u8>, tx: &Tx) -> Result<(), AllocError>
     Ok(())
 }
 
-/// The bytes of a transaction (BIP 144). It has none where no witness has an item.
+#[tactic(auto, unfolding(crate::specs::Spelling::stripped_spelling, crate::specs::Spelling::number))]
+fn put_stripped(out: &mut Vec<u8>, tx: &Tx) -> Result<(), AllocError>
+    ensures { OnOk result (out.new.items ≡ out.old.items ++ stripped_spelling tx.now) }
+{
+    out.extend_from_slice(&tx.version().to_le_bytes())?;
+    put_body(out, tx.inputs(), tx.outputs())?;
+    out.extend_from_slice(&tx.lock_time().to_le_bytes())?;
+    Ok(())
+}
+
+/// The bytes of a transaction (BIP 144): NoWitness where no witness has an item. The other error is that memory ran out.
 pub fn encode(alloc: Global, tx: &Tx) -> Result<Vec<u8>, EncodeError>
     ensures ok { IfOk result (λ bytes. IsTransaction tx.now bytes.items) }
     ensures no_witness { IsErrOf result EncodeError.NoWitness ↔ (has_witness tx.now.inputs ≡ false) }
@@ -142,5 +152,15 @@ pub fn encode(alloc: Global, tx: &Tx) -> Result<Vec<u8>, EncodeError>
     tx.keeps_limits();
     let mut out = Vec::new(alloc);
     put_transaction(&mut out, tx)?;
+    Ok(out)
+}
+
+/// The bytes of a transaction in the form without marker, flag and witnesses, over which its id is taken (BIP 141). The
+/// only error is that memory ran out.
+pub fn encode_stripped(alloc: Global, tx: &Tx) -> Result<Vec<u8>, AllocError>
+    ensures { IfOk result (λ bytes. bytes.items ≡ stripped_spelling tx.now) }
+{
+    let mut out = Vec::new(alloc);
+    put_stripped(&mut out, tx)?;
     Ok(out)
 }

@@ -2,9 +2,9 @@
 
 use super::{exact, key_bytes, key_of, sig};
 use crate::errors::AcceptError;
-use crate::judging::is_program;
+use crate::evidence::evidence_of;
+use crate::judgement::is_program;
 use crate::parts::{Slot, WitnessItem};
-use crate::showing::shown;
 use crate::{OutPoint, Place, Shell, accept};
 use digest::{hash160, ripemd160, sha256};
 use facts::{Fact, KeySource, Stated};
@@ -131,14 +131,14 @@ fn shows_hashes(rt: HostRuntime) -> Result<(), Fail> {
         (2, None, None),
     ] {
         let right = Fact::Hash(slot, ByteString::from_slice(alloc, &ripemd)?);
-        assert_eq!(rt; shown(&slots, &right), yes);
+        assert_eq!(rt; evidence_of(&slots, &right), yes);
         let wrong = Fact::Hash(slot, ByteString::from_slice(alloc, &[5; 20])?);
-        assert_eq!(rt; shown(&slots, &wrong), no);
+        assert_eq!(rt; evidence_of(&slots, &wrong), no);
     }
     let same = Fact::Is(0, ByteString::from_slice(alloc, &[5; 32])?);
-    assert_eq!(rt; shown(&slots, &same), None);
+    assert_eq!(rt; evidence_of(&slots, &same), None);
     let other = Fact::Is(0, ByteString::from_slice(alloc, &[6; 32])?);
-    assert_eq!(rt; shown(&slots, &other), Some(false));
+    assert_eq!(rt; evidence_of(&slots, &other), Some(false));
     Ok(())
 }
 

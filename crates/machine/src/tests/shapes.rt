@@ -52,39 +52,42 @@ fn runs_on_items_of_every_length(rt: HostRuntime) -> Result<(), Fail> {
     Ok(())
 }
 
-// So many items of a witness, so many pushes, and a script so long, most of which is jumped over.
+// The end of a run with so many true entries, at this place.
+fn end_of(count: usize, at: usize) -> Result<Run, Stop> {
+    if count == 1 {
+        return Ok(Run {
+            counted: 0,
+            height: 1,
+        });
+    }
+    Err(Stop::At(Cause::NotOneValue, at))
+}
+
+// So many items of a witness, and so many pushes.
 #[test]
 fn runs_on_every_count(rt: HostRuntime) -> Result<(), Fail> {
     let alloc = rt.alloc();
-    let one = Ok(Run {
-        counted: 0,
+    let mut items: Vec<&[u8]> = Vec::new(alloc);
+    for count in 0usize..=600 {
+        assert_eq!(rt; ran(alloc, &[], &items)?, end_of(count, 0), "{count}");
+        let pushes = repeated(alloc, &[0x51], count)?;
+        assert_eq!(rt; ran(alloc, &pushes, &[])?, end_of(count, count), "{count}");
+        items.push(&[1])?;
+    }
+    Ok(())
+}
+
+// A script so long, most of which is jumped over.
+#[test]
+fn runs_long_scripts(rt: HostRuntime) -> Result<(), Fail> {
+    let alloc = rt.alloc();
+    let clean = Ok(Run {
+        counted: 2,
         height: 1,
     });
-    for count in 0usize..=600 {
-        let mut items: Vec<&[u8]> = Vec::new(alloc);
-        for _item in 0..count {
-            items.push(&[1])?;
-        }
-        let several = |at| Err(Stop::At(Cause::NotOneValue, at));
-        let wanted = if count == 1 { one } else { several(0) };
-        assert_eq!(rt; ran(alloc, &[], &items)?, wanted, "{count}");
-        let pushes = repeated(alloc, &[0x51], count)?;
-        let wanted = if count == 1 { one } else { several(count) };
-        assert_eq!(rt; ran(alloc, &pushes, &[])?, wanted, "{count}");
-    }
     for len in (0usize..=9_996).step_by(357) {
-        let code = joined(
-            alloc,
-            &[
-                &[0x00, 0x63],
-                &repeated(alloc, &[0x51], len)?,
-                &[0x68, 0x51],
-            ],
-        )?;
-        let clean = Ok(Run {
-            counted: 2,
-            height: 1,
-        });
+        let pushes = repeated(alloc, &[0x51], len)?;
+        let code = joined(alloc, &[&[0x00, 0x63], &pushes, &[0x68, 0x51]])?;
         assert_eq!(rt; ran(alloc, &code, &[])?, clean, "{len}");
     }
     Ok(())

@@ -54,7 +54,7 @@ fn lists_every_opcode(rt: HostRuntime) -> Result<(), Fail> {
     Ok(())
 }
 
-// Pushes of every length, so many slots, so many paths, and long scripts.
+// Pushes of every length, every number of slots and of paths, and long scripts.
 #[test]
 fn lists_every_count(rt: HostRuntime) -> Result<(), Fail> {
     let alloc = rt.alloc();

@@ -1,5 +1,5 @@
 use Rattle.std.proofs.Common.{◌≡◌, ap, ◌∙◌, arith}
-use Rattle.script.specs.Number.{item_of, number_of}
+use Rattle.script.specs.Number.{minimal_bytes_of, number_of}
 use Rattle.script.proofs.RoundTrip.{read_back}
 use Rattle.script.proofs.Digits.{digit_more, digit_none, digits_done}
 use Rattle.script.proofs.num.write.Goals as goal
@@ -12,11 +12,11 @@ loop-step-preserved c =
       | else-rest-ne0 w ↦ rw (w.bytes-is, w.rest-is) (digit_none c.loop-step.bytes.items c.loop-step._step c.loop-step.rest w.if-rest-ne0.false ∙ c.loop-step.invariant)
     ]
 
-abbrev item_written : (c : goal.After-from_vec) → c.from_vec.result ≡ item_of c.args.n
+abbrev item_written : (c : goal.After-from_vec) → c.from_vec.result ≡ minimal_bytes_of c.args.n
 item_written c = c.from_vec.ensures ∙ digits_done c.loop-step.bytes.items c.loop-step._step c.loop-step.rest c.args.n c.loop-step-test.false c.loop-step.invariant
 
 pub returns-clause-item : goal.returns-clause-item
 returns-clause-item c = item_written c
 
 pub returns-clause-read : goal.returns-clause-read
-returns-clause-read c = ap (number_of 5) (item_written c) ∙ read_back c.args.n (omega arith)
+returns-clause-read c = λ small. ap (number_of 5) (item_written c) ∙ read_back c.args.n small

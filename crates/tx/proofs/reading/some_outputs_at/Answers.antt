@@ -9,7 +9,7 @@ returns-in_err-output c =
     rw (p.1, p.2) (ends c.in_err-output.field-0.0 output_at c.loop.outputs c.args.count c.loop.counter c.loop.rest.now c.args.bytes.now c.loop-test.true c.in_err-output.ensures c.loop.invariant)
 
 pub loop-preserved : goal.loop-preserved
-loop-preserved c = rw c.in_ok-push.ensures.ok (goes_on output_at c.loop.outputs c.args.count c.loop.counter c.loop.rest.now c.args.bytes.now c.in_ok-output.output c.in_ok-output.after.now c.loop-test.true c.in_ok-output.ensures c.loop.invariant)
+loop-preserved c = rw c.in_ok-push_within_limit.ensures.ok (goes_on output_at c.loop.outputs c.args.count c.loop.counter c.loop.rest.now c.args.bytes.now c.in_ok-output.output c.in_ok-output.after.now c.loop-test.true c.in_ok-output.ensures c.loop.invariant)
 
 pub returns : goal.returns
 returns c = is_done output_at c.loop.outputs c.args.count c.loop.counter c.loop.rest.now c.args.bytes.now c.loop-test.false c.loop.invariant

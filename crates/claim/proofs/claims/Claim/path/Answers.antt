@@ -8,7 +8,9 @@ pub returns-clause-value : goal.returns-clause-value
 returns-clause-value c = path-here c.args.self.now.checked c.args.self.now.index c.args.self.now.slots c.args.self.now.place c.paths.result.now c.path_at.result.now c.paths.ensures.value c.path_at.ensures c.args.self.now.accepted
 
 pub returns-clause-sound : goal.returns-clause-sound
-returns-clause-sound c = accepted-sound c.args.self.now.checked c.args.self.now.index c.args.self.now.slots c.args.self.now.place c.paths.ensures.sound c.args.self.now.accepted
+returns-clause-sound c =
+    accepted-sound c.args.self.now.checked c.args.self.now.index c.args.self.now.slots c.args.self.now.place c.path_at.result.now c.paths.ensures.sound
+    (path-here c.args.self.now.checked c.args.self.now.index c.args.self.now.slots c.args.self.now.place c.paths.result.now c.path_at.result.now c.paths.ensures.value c.path_at.ensures c.args.self.now.accepted)
 
 pub returns-clause-opens : goal.returns-clause-opens
-returns-clause-opens c = accepted-opens c.args.self.now.checked c.args.self.now.index c.args.self.now.slots c.args.self.now.place c.paths.ensures.sound c.args.self.now.accepted
+returns-clause-opens c = accepted-opens c.args.self.now.checked c.args.self.now.index c.args.self.now.slots c.args.self.now.place c.paths.ensures.sound

@@ -11,14 +11,14 @@ returns-then-not-is_led_to-clause-of_one_seed c = λ seed all next is.
 
 pub returns-clause-added : goal.returns-clause-added
 returns-clause-added c =
-    inserted-is c.self.inside.entries c.self.inside.lowest c.args.self.now c.args.secret.now c.args.i c.place_of.result
+    inserted-is c.self.inside.entries c.self.inside.lowest c.args.self.now c.args.secret.now c.args.i c.bucket_of.result
     (record { size = c.self.told; within = c.self.invariant; view = c.self.view_is })
-    (c.is_next.ensures.0 c.if-not-is_next.false) c.place_of.ensures (c.is_led_to.ensures.0 c.if-not-is_led_to.false)
+    (c.is_next.ensures.0 c.if-not-is_next.false) c.bucket_of.ensures (c.is_led_to.ensures.0 c.if-not-is_led_to.false)
 
 pub returns-clause-of_one_seed : goal.returns-clause-of_one_seed
 returns-clause-of_one_seed c = λ seed all next is.
     let added =
-    inserted-is c.self.inside.entries c.self.inside.lowest c.args.self.now c.args.secret.now c.args.i c.place_of.result
+    inserted-is c.self.inside.entries c.self.inside.lowest c.args.self.now c.args.secret.now c.args.i c.bucket_of.result
     (record { size = c.self.told; within = c.self.invariant; view = c.self.view_is })
-    next c.place_of.ensures (c.is_led_to.ensures.0 c.if-not-is_led_to.false) in
+    next c.bucket_of.ensures (c.is_led_to.ensures.0 c.if-not-is_led_to.false) in
     (refl, subst (AreOfSeed seed) (sym added) (more_of_seed seed c.args.secret.now c.args.i c.args.self.now all next is))

@@ -1,0 +1,5 @@
+pub mod Lists
+pub mod Tops
+pub mod Keeps
+pub mod Dealing
+pub mod Examples

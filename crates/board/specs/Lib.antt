@@ -1,0 +1,4 @@
+pub mod Order
+pub mod Rule
+pub mod Steps
+pub mod Seats

@@ -1,0 +1,30 @@
+//! The board: two words that threads share.
+//!
+//! One word is the top, the greatest [`Mark`] that any seat raised; the other counts the tickets that were drawn. Each thread
+//! has a [`Seat`] of its own, and `raise`, `look` and `draw` are one atomic step each: a maximum, a load and an addition. None of
+//! them waits for another thread, tries again or takes memory.
+//!
+//! Between any two steps the tickets that the seats drew are the numbers below the count, each once, and the top is the greatest
+//! mark that any seat raised, (0, 0) before (`IsDrawnOnce` of `specs/Rule.antt`).
+//!
+//! ```text
+//! let (board, mut seats) = Board::new(alloc, 2)?;
+//! let mut watcher = seats.pop().ok_or("no seat")?;
+//! let mut chain = seats.pop().ok_or("no seat")?;
+//! board.raise(&mut chain, 0, 9);
+//! board.raise(&mut chain, 1, 5);
+//! assert_eq!(rt; board.look(&mut watcher), Mark { round: 1, height: 5 });
+//! assert_eq!(rt; board.draw(&mut chain)?, 0);
+//! assert_eq!(rt; board.draw(&mut watcher)?, 1);
+//! ```
+#![tactic(auto)]
+
+mod board;
+mod marks;
+mod rule;
+#[cfg(test)]
+mod tests;
+
+pub use board::{Board, DrawError, Seat};
+pub use marks::Mark;
+pub use rule::SeatView;

@@ -1,0 +1,129 @@
+-- What slots show of a fact: that it holds (Some true), that it does not (Some false), or neither (None).
+use Rattle.std.specs.Prelude.{ℕ, ◌+◌, Bool, true, false, ◌&&◌, ◌||◌, not, ◌==◌, nat_lt, if◌then◌else◌, List, [], ◌∷◌, length, take, Option, Some, None, is_some, slice_get, slice_index}
+use Rattle.std.specs.Str.{bytes_eq}
+use Rattle.std.specs.List.{list_any, list_all}
+use Rattle.sha2.specs.Sha256.{sha256}
+use Rattle.digest.specs.Ripemd160.{ripemd160}
+use Rattle.digest.specs.Hash.{hash160}
+use Rattle.script.specs.Limits.{locktime_threshold}
+use Rattle.script.specs.Token.{is_key, is_signature}
+use Rattle.script.specs.Step.{truth, bit_at}
+use Rattle.facts.specs.declared.symbols.KeySource.{KeySource}
+use Rattle.facts.specs.declared.symbols.KeySource.TheVariants.{Const as FixedKey, Slot as SlotKey}
+use Rattle.facts.specs.declared.symbols.Fact.{Fact}
+use Rattle.facts.specs.declared.symbols.Fact.TheVariants.{Hash, Size, Truth, Is, KeyForm, Form, Token, Assigned, Lock, Age}
+use Rattle.claim.specs.declared.parts.Slot.{Slot}
+use Rattle.claim.specs.declared.parts.Slot.TheVariants.{Sig, Preimage, Exact}
+
+-- these bytes are a key, 32 bytes and the hash type ALL
+abbrev pub is_token_with : List ℕ → List ℕ → Bool
+is_token_with key b = length b == length key + 33 && bytes_eq (take (length key) b) key && slice_index b (length key + 32) == 1
+
+-- HASH160 of the slot is these bytes: the preimage of a SHA-256 has the RIPEMD-160 of it
+abbrev pub hash_evidence : List ℕ → Slot → Option Bool
+hash_evidence h (Sig k) = None
+hash_evidence h (Preimage ph) = Some (bytes_eq (ripemd160 ph) h)
+hash_evidence h (Exact b) = Some (bytes_eq (hash160 b.item) h)
+
+-- the slot has n bytes
+abbrev pub size_evidence : ℕ → Slot → Option Bool
+size_evidence n (Sig k) = Some (n == 66)
+size_evidence n (Preimage ph) = Some (n == 32)
+size_evidence n (Exact b) = Some (length b.item == n)
+
+-- the slot is true
+abbrev pub truth_evidence : Slot → Option Bool
+truth_evidence (Sig k) = Some true
+truth_evidence (Preimage ph) = None
+truth_evidence (Exact b) = Some (truth b.item)
+
+-- no, where a test fails; else it stays open
+abbrev pub no_unless : Bool → Option Bool
+no_unless true = None
+no_unless false = Some false
+
+-- these bytes are 32 of this SHA-256
+abbrev pub is_preimage : List ℕ → List ℕ → Bool
+is_preimage c ph = length c == 32 && bytes_eq (sha256 c) ph
+
+-- the slot is these bytes
+abbrev pub bytes_evidence : List ℕ → Slot → Option Bool
+bytes_evidence c (Sig k) = no_unless (is_token_with k.bytes c)
+bytes_evidence c (Preimage ph) = no_unless (is_preimage c ph)
+bytes_evidence c (Exact b) = Some (bytes_eq b.item c)
+
+-- the slot is empty or has the form of a token
+abbrev pub form_evidence : Slot → Option Bool
+form_evidence (Sig k) = Some true
+form_evidence (Preimage ph) = Some false
+form_evidence (Exact b) = Some (is_signature b.item)
+
+-- the slot has the form of a key
+abbrev pub key_form_evidence : Slot → Option Bool
+key_form_evidence (Exact b) = Some (is_key b.item)
+key_form_evidence slot = Some false
+
+-- the slot is the token of a key, whose bytes are known
+abbrev pub token_of_evidence : List ℕ → Slot → Option Bool
+token_of_evidence key (Sig k) = Some (bytes_eq k.bytes key)
+token_of_evidence key (Preimage ph) = Some false
+token_of_evidence key (Exact b) = no_unless (is_token_with key b.item)
+
+-- the bytes of a key, where they are known: those of the script, or of an exact slot
+abbrev pub exact_of : Option Slot → Option (List ℕ)
+exact_of (Some (Exact b)) = Some b.item
+exact_of slot = None
+
+abbrev pub known_key : List Slot → KeySource → Option (List ℕ)
+known_key slots (FixedKey b) = Some b
+known_key slots (SlotKey j) = exact_of (slice_get slots j)
+
+-- the slot is the token of a key
+abbrev pub slot_token_evidence : Option (List ℕ) → Slot → Option Bool
+slot_token_evidence (Some key) slot = token_of_evidence key slot
+slot_token_evidence None (Preimage ph) = Some false
+slot_token_evidence None slot = None
+
+-- what a slot shows, where it is there
+abbrev pub at_slot : (Slot → Option Bool) → Option Slot → Option Bool
+at_slot shows None = None
+at_slot shows (Some slot) = shows slot
+
+-- what the slots show of the token of a key in a slot
+abbrev pub token_evidence : List Slot → ℕ → KeySource → Option Bool
+token_evidence slots i key = at_slot (slot_token_evidence (known_key slots key)) (slice_get slots i)
+
+abbrev pub is_yes : Option Bool → Bool
+is_yes (Some b) = b
+is_yes None = false
+
+abbrev pub is_no : Option Bool → Bool
+is_no (Some b) = not b
+is_no None = false
+
+-- whether an increasing choice of keys exists that a test passes, one for each slot
+abbrev pub exists_choice : (ℕ → KeySource → Bool) → List ℕ → List KeySource → Bool
+exists_choice fits [] keys = true
+exists_choice fits (i ∷ is) [] = false
+exists_choice fits (i ∷ is) (key ∷ keys) = (fits i key && exists_choice fits is keys) || exists_choice fits (i ∷ is) keys
+
+-- whether a choice of keys is shown; that there is none is shown where a slot has no key, or where every token is decided
+abbrev pub assigned_evidence : List Slot → List ℕ → List KeySource → Option Bool
+assigned_evidence slots is keys =
+    if exists_choice (λ i key. is_yes (token_evidence slots i key)) is keys
+    then Some true
+    else (if list_any (λ i. list_all (λ key. is_no (token_evidence slots i key)) keys) is || list_all (λ i. list_all (λ key. is_some (token_evidence slots i key)) keys) is
+    then Some false else None)
+
+-- what the slots show of a fact, where the transaction may be any of version 2
+abbrev pub evidence_of : List Slot → Fact → Option Bool
+evidence_of slots (Hash i h) = at_slot (hash_evidence h) (slice_get slots i)
+evidence_of slots (Size i n) = at_slot (size_evidence n) (slice_get slots i)
+evidence_of slots (Truth i) = at_slot truth_evidence (slice_get slots i)
+evidence_of slots (Is i c) = at_slot (bytes_evidence c) (slice_get slots i)
+evidence_of slots (KeyForm i) = at_slot key_form_evidence (slice_get slots i)
+evidence_of slots (Form i) = at_slot form_evidence (slice_get slots i)
+evidence_of slots (Token i key) = token_evidence slots i key
+evidence_of slots (Assigned is keys) = assigned_evidence slots is keys
+evidence_of slots (Lock n) = if nat_lt n locktime_threshold then Some true else None
+evidence_of slots (Age n) = if bit_at 22 n then None else Some true

@@ -1,0 +1,187 @@
+// Whether a claim is accepted: or the first refusal.
+
+ghost use Rattle.std.specs.Prelude.{◌≡◌, ◌&&◌, not, ◌++◌, [], ◌∷◌, All, IsTrue, is_ok, Ok, Err, IfOk, MatchOption, MatchResult, if◌then◌else◌};
+ghost use Rattle.std.specs.Str.{bytes_eq};
+ghost use Rattle.facts.specs.Sameness.{same_fact, is_denied, contradicts};
+ghost use Rattle.paths.specs.declared.state.Path.{Path as PathOf};
+ghost use Rattle.claim.specs.declared.errors.AcceptError.TheVariants.{Unmet};
+ghost use Rattle.claim.specs.Judgement.{script_program, key_script, is_key_program, is_program, is_met, first_unmet_or, judgement_of_path, judgement_of};
+ghost use Rattle.claim.specs.Fitting.{IsRefusal, Opens};
+
+use crate::errors::AcceptError;
+use crate::evidence::evidence_of;
+use crate::parts::{Place, Slot};
+use digest::sha256;
+use facts::Stated;
+use paths::{Checked, Path};
+use std::alloc::Global;
+
+// Whether the program is that of the script by its SHA-256 (BIP 141).
+#[tactic(auto, using(crate::proofs::Programs::program_by, crate::proofs::Programs::program_short))]
+fn is_script_program(script: &[u8], program: &[u8]) -> bool
+    ensures { result ≡ bytes_eq program.now (script_program script.now) }
+{
+    program.len() >= 2
+        && program[0] == 0x00
+        && program[1] == 0x20
+        && &program[2..] == sha256(script).as_slice()
+}
+
+// Whether bytes are EQUALVERIFY and CHECKSIG.
+#[tactic(auto, using(crate::proofs::Programs::two_bytes, crate::proofs::Programs::other_length))]
+fn is_key_script_end(bytes: &[u8]) -> bool
+    ensures { result ≡ bytes_eq bytes.now (0x88 ∷ 0xac ∷ []) }
+{
+    bytes.len() == 2 && bytes[0] == 0x88 && bytes[1] == 0xac
+}
+
+// Whether bytes are a hash, EQUALVERIFY and CHECKSIG.
+fn ends_key_script(bytes: &[u8], hash: &[u8]) -> bool
+    ensures { result ≡ bytes_eq bytes.now (hash.now ++ 0x88 ∷ 0xac ∷ []) }
+{
+    match bytes.strip_prefix(hash) {
+        Some(end) => is_key_script_end(end),
+        None => false,
+    }
+}
+
+// Whether a script is DUP HASH160 hash EQUALVERIFY CHECKSIG.
+#[tactic(auto, using(crate::proofs::Programs::key_by, crate::proofs::Programs::key_short))]
+fn is_key_script(script: &[u8], hash: &[u8]) -> bool
+    ensures { result ≡ bytes_eq script.now (key_script hash.now) }
+{
+    script.len() >= 3
+        && script[0] == 0x76
+        && script[1] == 0xa9
+        && script[2] == 0x14
+        && ends_key_script(&script[3..], hash)
+}
+
+// Whether the program is that of the key hash whose script this is (BIP 141).
+#[tactic(auto, using(crate::proofs::Programs::front_by))]
+fn is_key_program(script: &[u8], program: &[u8]) -> bool
+    ensures { result ≡ is_key_program script.now program.now }
+{
+    program.len() == 22
+        && program[0] == 0x00
+        && program[1] == 0x14
+        && is_key_script(script, &program[2..])
+}
+
+// Whether the program stands for the script.
+pub(crate) fn is_program(script: &[u8], program: &[u8]) -> bool
+    ensures { result ≡ is_program script.now program.now }
+{
+    is_script_program(script, program) || is_key_program(script, program)
+}
+
+// Whether the two are one fact with both polarities.
+fn denies(stated: &Stated, other: &Stated) -> bool
+    ensures { result ≡ (same_fact stated.now.fact other.now.fact && (if stated.now.holds then not other.now.holds else other.now.holds)) }
+{
+    stated.fact.equals(&other.fact)
+        && (if stated.holds {
+            !other.holds
+        } else {
+            other.holds
+        })
+}
+
+// Whether a fact stands among others with the other polarity.
+fn is_denied(stated: &Stated, others: &[Stated]) -> bool
+    ensures { result ≡ is_denied stated.now others.now }
+{
+    others.iter().any(|other| denies(stated, other))
+}
+
+// Whether some fact stands there with both polarities.
+fn contradicts(facts: &[Stated]) -> bool
+    ensures { result ≡ contradicts facts.now }
+{
+    for (i, stated) in facts.iter().enumerate() {
+        if is_denied(stated, &facts[i + 1..]) {
+            return true;
+        }
+    }
+    false
+}
+
+// Whether a fact is shown with its polarity.
+fn is_met(slots: &[Slot], stated: &Stated) -> bool
+    ensures { result ≡ is_met slots.now stated.now }
+{
+    match evidence_of(slots, &stated.fact) {
+        None => false,
+        Some(answer) => if answer { stated.holds } else { !stated.holds },
+    }
+}
+
+// The first fact that is not shown.
+pub(crate) fn first_unmet<'a>(slots: &[Slot], facts: &'a [Stated]) -> Option<&'a Stated>
+    ensures { MatchOption result ((p : PathOf) → first_unmet_or slots.now facts.now p ≡ Ok p) (λ s. (p : PathOf) → first_unmet_or slots.now facts.now p ≡ Err (Unmet s.now)) }
+{
+    for stated in facts {
+        if !is_met(slots, stated) {
+            return Some(stated);
+        }
+    }
+    None
+}
+
+// Whether the facts are shown; the refusal names the first that is not.
+fn meet(alloc: Global, slots: &[Slot], facts: &[Stated]) -> Result<(), AcceptError>
+    ensures { MatchResult result (λ _. (p : PathOf) → first_unmet_or slots.now facts.now p ≡ Ok p) (λ e. (p : PathOf) → IsRefusal (first_unmet_or slots.now facts.now p) e) }
+{
+    match first_unmet(slots, facts) {
+        None => Ok(()),
+        Some(stated) => match stated.copy() {
+            Ok(stated) => Err(AcceptError::Unmet(stated)),
+            Err(_) => Err(AcceptError::NoMemory),
+        },
+    }
+}
+
+// Whether a path is accepted.
+fn judge_path(
+    alloc: Global,
+    script: &[u8],
+    slots: &[Slot],
+    program: &[u8],
+    path: &Path,
+) -> Result<(), AcceptError>
+    ensures { MatchResult result (λ _. judgement_of_path script.now slots.now program.now path.now ≡ Ok path.now) (IsRefusal (judgement_of_path script.now slots.now program.now path.now)) }
+{
+    if slots.len() != path.arity {
+        return Err(AcceptError::WrongArity);
+    }
+    if !is_program(script, program) {
+        return Err(AcceptError::WrongProgram);
+    }
+    if contradicts(path.facts.values()) {
+        return Err(AcceptError::Contradiction);
+    }
+    meet(alloc, slots, path.facts.values())
+}
+
+/// Whether a claim is accepted, or the first refusal.
+pub(crate) fn judge(
+    alloc: Global,
+    checked: &Checked,
+    index: usize,
+    slots: &[Slot],
+    place: &Place,
+) -> Result<(), AcceptError>
+    ensures judgement_of { MatchResult result (λ _. IsTrue (is_ok (judgement_of checked.now index slots.now place.now))) (IsRefusal (judgement_of checked.now index slots.now place.now)) }
+    ensures opens { IfOk result (λ _. (p : PathOf) → judgement_of checked.now index slots.now place.now ≡ Ok p → Opens checked.now.ops p slots.now) }
+{
+    match checked.paths().get(index) {
+        None => Err(AcceptError::NoSuchPath),
+        Some(path) => judge_path(
+            alloc,
+            checked.script().bytes(),
+            slots,
+            place.program.bytes(),
+            path,
+        ),
+    }
+}

@@ -1,0 +1,43 @@
+-- The rule of the queue of jobs: first in, first out, and no job lost or doubled.
+use Rattle.std.specs.Prelude.{◌≡◌, ℕ, ◌≤◌, ◌==◌, List, [], ◌++◌, length, map, filter, IsPermutation}
+use Rattle.std.specs.List.{flat_map}
+use mathlib.Core.Option.{some}
+use lib.ListN.{get_elem?}
+use Rattle.jobs.specs.declared.rule.Hand.{Hand}
+
+module _ {J : Type 0} where
+  abbrev pub hand : List J → List J → Hand J
+  hand put taken = record { put = put; taken = taken }
+
+  -- a pass that has put and taken nothing
+  abbrev pub idle : Hand J
+  idle = hand [] []
+
+  -- the jobs that all passes put, and those that they took
+  abbrev pub put_by_all : List (Hand J) → List J
+  put_by_all views = flat_map (λ v. v.put) views
+
+  abbrev pub taken_by_all : List (Hand J) → List J
+  taken_by_all views = flat_map (λ v. v.taken) views
+
+-- jobs in the order of their steps, each with the number of the pass that made the step
+abbrev pub Log : Type 0 → Type 0
+Log J = List (ℕ × J)
+
+module _ {J : Type 0} where
+  abbrev pub jobs_of : Log J → List J
+  jobs_of log = map (λ s. s.1) log
+
+  -- the jobs of one pass
+  abbrev pub by_pass : ℕ → Log J → List J
+  by_pass pass log = map (λ s. s.1) (filter (λ s. s.0 == pass) log)
+
+  -- What was put, in order, is what was taken, in order, and then what the queue holds: first in, first out. Each view has the puts and the takes of its
+  -- pass, and no others were made. What all passes put is, each job as often, what they took and what the queue holds.
+  pub record IsFair (items : List J) (views : List (Hand J)) : Type 0 where
+    pub puts : Log J
+    pub takes : Log J
+    pub in_order : jobs_of puts ≡ jobs_of takes ++ items
+    pub each : (pass : ℕ) (v : Hand J) → get_elem? views pass ≡ some v → (v.put ≡ by_pass pass puts) × (v.taken ≡ by_pass pass takes)
+    pub no_others : (pass : ℕ) → length views ≤ pass → (by_pass pass puts ≡ []) × (by_pass pass takes ≡ [])
+    pub balanced : IsPermutation (put_by_all views) (taken_by_all views ++ items)

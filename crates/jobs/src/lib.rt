@@ -1,0 +1,29 @@
+//! A queue of jobs that threads share: at most 64 jobs, first in, first out.
+//!
+//! [`job_queue`] makes a queue with its two ends and a first pass. A [`JobSender`] puts jobs in, a [`JobTaker`] takes them out, and each
+//! thread goes by a [`Pass`] of its own, which takes no bytes. Ends are copied for further threads, and the queue is closed once
+//! all senders are gone.
+//!
+//! At every moment what was put, in order, is what was taken, in order, and then what the queue holds; and the jobs that all passes put
+//! are, each as often, those that the passes took and those in the queue (`IsFair` of `specs/Rule.antt`). That a call returns is
+//! not proved: both may wait for another thread.
+//!
+//! ```text
+//! let (sender, taker, mut mine) = job_queue(alloc)?;
+//! let mut theirs = sender.pass(&mut mine);
+//! assert!(rt; sender.put(&rt, &mut mine, 7).is_ok());
+//! assert!(rt; sender.put(&rt, &mut mine, 5).is_ok());
+//! drop(sender);
+//! assert_eq!(rt; taker.take(&rt, &mut theirs), Some(7));
+//! assert_eq!(rt; taker.take(&rt, &mut theirs), Some(5));
+//! assert_eq!(rt; taker.take(&rt, &mut theirs), None);
+//! ```
+#![tactic(auto)]
+
+mod queue;
+mod rule;
+#[cfg(test)]
+mod tests;
+
+pub use queue::{CAPACITY, JobSender, JobTaker, Pass, job_queue};
+pub use rule::Hand;

@@ -1,0 +1,93 @@
+// The queue's two ends and its passes.
+
+ghost use Rattle.std.specs.Prelude.{◌≡◌, IfOk, MatchOption, MatchResult};
+ghost use Rattle.jobs.specs.Rule.{idle};
+ghost use Rattle.jobs.specs.Ends.{PutsWith, TakesWith, PutIntoOne, TakeFromOne, IsOneQueue, hand_of};
+ghost use Rattle.jobs.specs.Steps.{IsPut, IsTake, WasEmpty};
+
+use crate::rule::{Apart, Fair, Hand, Puts, Takes};
+use crossbeam_channel::{RuledReceiver, RuledSender, SendError, bounded_with};
+use std::alloc::{AllocError, Global};
+use std::sync::Wait;
+
+/// How many jobs a queue holds at most.
+pub const CAPACITY: usize = 64;
+
+/// A thread's right to use one queue, which takes no bytes. Contracts see in it what was put and taken by it.
+///
+/// A pass is to be kept as long as the queue is used: what a dropped pass put and took still counts, but nobody knows it any more.
+pub type Pass<J> = crossbeam_channel::Pass<J, Hand<J>>;
+
+/// The end of the queue into which jobs are put.
+#[derive(Drop)]
+pub struct JobSender<J: Drop> {
+    sender: RuledSender<J, Hand<J>, Fair>,
+}
+
+/// The end of the queue from which jobs are taken.
+#[derive(Drop)]
+pub struct JobTaker<J: Drop> {
+    taker: RuledReceiver<J, Hand<J>, Fair>,
+}
+
+/// An empty queue of at most 64 jobs: its two ends and its first pass. The only error is want of memory.
+pub fn job_queue<J: Drop>(alloc: Global) -> Result<(JobSender<J>, JobTaker<J>, Pass<J>), AllocError>
+    ensures { IfOk result (λ r. IsOneQueue r.0 r.1 × PutsWith r.0 r.2 × (hand_of r.2 ≡ idle)) }
+{
+    let (sender, taker, pass) = bounded_with(alloc, CAPACITY)?;
+    Ok((JobSender { sender }, JobTaker { taker }, pass))
+}
+
+impl<J: Drop> JobSender<J> {
+    /// A second sender to the same queue. The only error is want of memory.
+    pub fn copy(&self) -> Result<JobSender<J>, AllocError>
+        ensures { IfOk result (λ s. PutIntoOne s self.now) }
+    {
+        let sender = self.sender.try_clone()?;
+        Ok(JobSender { sender })
+    }
+
+    /// A second pass to the same queue, which has put and taken nothing.
+    pub fn pass(&self, pass: &mut Pass<J>) -> Pass<J>
+        requires { PutsWith self.now pass.old }
+        ensures same { PutsWith self.now pass.new × (hand_of pass.new ≡ hand_of pass.old) }
+        ensures new { PutsWith self.now result × (hand_of result ≡ idle) }
+    {
+        self.sender.another::<Apart>(pass)
+    }
+
+    /// Puts a job at the back, and waits while the queue holds 64. A job that comes back was not put, as where no taker is left.
+    pub fn put<R: Wait>(&self, rt: &R, pass: &mut Pass<J>, job: J) -> Result<(), J>
+        requires { PutsWith self.now pass.old }
+        ensures pass { PutsWith self.now pass.new }
+        ensures put { MatchResult result (λ _. IsPut (hand_of pass.old) job (hand_of pass.new))
+            (λ back. (back ≡ job) × (hand_of pass.new ≡ hand_of pass.old)) }
+    {
+        match self.sender.send_as::<Puts, R>(rt, pass, job) {
+            Ok(()) => Ok(()),
+            Err(SendError::Disconnected(job)) => Err(job),
+            Err(SendError::OutOfMemory(job)) => Err(job),
+        }
+    }
+}
+
+impl<J: Drop> JobTaker<J> {
+    /// A second taker of the same queue. The only error is want of memory.
+    pub fn copy(&self) -> Result<JobTaker<J>, AllocError>
+        ensures { IfOk result (λ t. TakeFromOne t self.now) }
+    {
+        let taker = self.taker.try_clone()?;
+        Ok(JobTaker { taker })
+    }
+
+    /// Takes the job at the front, and waits while the queue is empty and a sender is left. `None` comes only where the queue was empty
+    /// at some moment of the call.
+    pub fn take<R: Wait>(&self, rt: &R, pass: &mut Pass<J>) -> Option<J>
+        requires { TakesWith self.now pass.old }
+        ensures pass { TakesWith self.now pass.new }
+        ensures taken { MatchOption result ((hand_of pass.new ≡ hand_of pass.old) × WasEmpty (hand_of pass.old))
+            (λ job. IsTake (hand_of pass.old) job (hand_of pass.new)) }
+    {
+        self.taker.recv_as::<Takes, R>(rt, pass).ok()
+    }
+}

@@ -1,0 +1,3 @@
+pub mod Among
+pub mod Deciding
+pub mod Undoing

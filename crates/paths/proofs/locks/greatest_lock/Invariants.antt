@@ -1,6 +1,0 @@
-use Rattle.std.proofs.Common.{◌≡◌, map, reverse}
-use Rattle.paths.specs.Listing.{lock_in}
-use Rattle.paths.proofs.locks.greatest_lock.Given as goal
-
-abbrev pub invariant-loop-stated : goal.invariant-loop-stated
-invariant-loop-stated l = l.lock ≡ lock_in (reverse (map (λ s. s.now) l.yielded))

@@ -1,5 +1,0 @@
-use Rattle.tx.proofs.Loop.{SignedSoFar}
-use Rattle.tx.proofs.reading.each_signed.Given as goal
-
-abbrev pub invariant-loop-input : goal.invariant-loop-input
-invariant-loop-input l = SignedSoFar l.inputs l.unsigned l.input-index l.rest l.bytes
