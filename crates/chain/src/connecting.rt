@@ -35,7 +35,7 @@ pub(crate) fn grant_outpoint(before: u64) -> OutPoint
 pub(crate) fn grant<S: Store>(store: &mut S, output: TxOut) -> Result<OutPoint, Refusal>
     ensures { Grants (S.standing store.old) output result (S.standing store.new) }
 {
-    if !is_program(output.script().as_slice()) {
+    if !is_program(output.script().bytes()) {
         return Err(Refusal::BadProgram);
     }
     let outpoint = grant_outpoint(store.grants());

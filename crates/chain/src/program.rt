@@ -14,7 +14,7 @@ use machine::{Run, Stop, run};
 use script::{ParseError, Script, Spend};
 use sighash::SighashCache;
 use std::alloc::{AllocError, Global};
-use tx::{Bytes, Tx, TxIn, TxOut};
+use tx::{Tx, TxIn, TxOut};
 
 /// Whether bytes are the program of a key's hash: 00, 14 and 20 bytes.
 fn is_key_hash_program(program: &[u8]) -> bool
@@ -48,17 +48,6 @@ fn key_hash_script(alloc: Global, hash: &[u8]) -> Result<Vec<u8>, AllocError>
     Ok(script)
 }
 
-/// The items of a witness, as the script machine takes them.
-fn copied(alloc: Global, items: &[Bytes]) -> Result<Vec<ByteString>, AllocError>
-    ensures { IfOk result (λ v. v.items ≡ items.now) }
-{
-    let mut copies = Vec::new(alloc);
-    for item in items {
-        copies.push(ByteString::from_slice(alloc, item.as_slice())?)?;
-    }
-    Ok(copies)
-}
-
 /// Reads a script; `BadProgram` where the bytes are none.
 #[tactic(auto, using(crate::proofs::Parsing::parsed, crate::proofs::Parsing::unparsed))]
 fn parse(alloc: Global, bytes: &[u8]) -> Result<Script, Refusal>
@@ -82,7 +71,7 @@ fn run_script(
     input: &TxIn,
     value: u64,
     script: &[u8],
-    items: &[Bytes],
+    items: &[ByteString],
 ) -> Result<Run, Refusal>
     requires cached { cache.now ≡ tx.now }
     requires indexed { slice_get tx.now.inputs index ≡ Some input.now }
@@ -98,8 +87,7 @@ fn run_script(
         sequence: input.sequence,
         digest,
     };
-    let witness = copied(alloc, items)?;
-    match run(alloc, &parsed, &witness, &spend) {
+    match run(alloc, &parsed, items, &spend) {
         Ok(run) => Ok(run),
         Err(Stop::NoMemory) => Err(Refusal::NoMemory),
         Err(Stop::At(cause, at)) => Err(Refusal::Script(cause, at)),
@@ -122,7 +110,7 @@ pub fn run_program(
     requires indexed { slice_get tx.now.inputs index ≡ Some input.now }
     ensures { IsRun (run_of tx.now input.now output.now) result }
 {
-    let program = output.script().as_slice();
+    let program = output.script().bytes();
     let witness = input.witness.as_slice();
     if is_key_hash_program(program) {
         if witness.len() != 2 {
@@ -138,7 +126,7 @@ pub fn run_program(
     let Some((script, items)) = witness.split_last() else {
         return Err(Refusal::BadProgram);
     };
-    let code = script.as_slice();
+    let code = script.bytes();
     if sha256(code).as_slice() != &program[2..] {
         return Err(Refusal::BadProgram);
     }

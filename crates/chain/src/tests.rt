@@ -1,7 +1,8 @@
 use super::*;
+use lists::ByteString;
 use std::alloc::{AllocError, Global};
 use std::test::Fail;
-use tx::{Bytes, Inputs, LimitError, OutPoint, Outputs, Tx, TxIn, TxOut, Witness};
+use tx::{Inputs, LimitError, OutPoint, Outputs, Tx, TxIn, TxOut, Witness};
 
 mod rows;
 
@@ -56,14 +57,14 @@ fn open(value: u64) -> To<'static> {
 fn output(alloc: Global, to: &To<'_>) -> Result<TxOut, Fail> {
     Ok(TxOut::new(
         to.value,
-        Bytes::from_slice(alloc, to.script)?,
+        ByteString::from_slice(alloc, to.script)?,
     )?)
 }
 
 fn witness(alloc: Global, items: &[&[u8]]) -> Result<Witness, Fail> {
     let mut witness = Witness::new(alloc);
     for item in items {
-        witness.push(Bytes::from_slice(alloc, item)?)?;
+        witness.push(ByteString::from_slice(alloc, item)?)?;
     }
     Ok(witness)
 }
