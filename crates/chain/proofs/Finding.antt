@@ -46,15 +46,15 @@ grants_push height before [] o = rw add-zero refl
 grants_push height before (x ∷ os) o =
     ap (λ xs. record { outpoint = grant_outpoint before; output = x; height = height } ∷ xs)
     (grants_push height (before + 1) os o
-     ∙ ap (λ n. grants_from height (before + 1) os ++ record { outpoint = grant_outpoint n; output = o; height = height } ∷ []) (omega arith))
+    ∙ ap (λ n. grants_from height (before + 1) os ++ record { outpoint = grant_outpoint n; output = o; height = height } ∷ []) (omega arith))
 
 newest_grant_last : (height before : ℕ) (os : List Output) → granted_at height before os ≡ grants_from height before (reverse os)
 newest_grant_last height before [] = refl
 newest_grant_last height before (o ∷ os) =
     rw (reverse_onto os o [])
     (ap (λ xs. xs ++ record { outpoint = grant_outpoint (before + length os); output = o; height = height } ∷ []) (newest_grant_last height before os)
-     ∙ ap (λ n. grants_from height before (reverse os) ++ record { outpoint = grant_outpoint (before + n); output = o; height = height } ∷ []) (sym (length-reverse os))
-     ∙ sym (grants_push height before (reverse os) o))
+    ∙ ap (λ n. grants_from height before (reverse os) ++ record { outpoint = grant_outpoint (before + n); output = o; height = height } ∷ []) (sym (length-reverse os))
+    ∙ sym (grants_push height before (reverse os) o))
 
 pub granted_in_order : (height before : ℕ) (os : List Output) → granted_at height before (reverse os) ≡ grants_from height before os
 granted_in_order height before os = newest_grant_last height before (reverse os) ∙ ap (grants_from height before) (reverse-reverse os)
@@ -82,9 +82,9 @@ newest_block_last (b ∷ bs) =
     let here = λ (n g : ℕ). created_by_all n b.transactions ++ granted_at n g b.granted in
     rw (reverse_onto bs b [])
     (ap (λ xs. xs ++ here (length bs) (grants_in bs)) (newest_block_last bs)
-     ∙ ap (λ n. created_from 0 0 (reverse bs) ++ here n (grants_in bs)) (sym (length-reverse bs) ∙ sym (zero-add (length (reverse bs))))
-     ∙ ap (λ g. created_from 0 0 (reverse bs) ++ here (0 + length (reverse bs)) g) (sym (grants_reversed bs) ∙ sym (zero-add (grants_in (reverse bs))))
-     ∙ sym (created_push 0 0 (reverse bs) b))
+    ∙ ap (λ n. created_from 0 0 (reverse bs) ++ here n (grants_in bs)) (sym (length-reverse bs) ∙ sym (zero-add (length (reverse bs))))
+    ∙ ap (λ g. created_from 0 0 (reverse bs) ++ here (0 + length (reverse bs)) g) (sym (grants_reversed bs) ∙ sym (zero-add (grants_in (reverse bs))))
+    ∙ sym (created_push 0 0 (reverse bs) b))
 
 pub created_of_order : (bs : List Contents) → created_of (reverse bs) ≡ created_from 0 0 bs
 created_of_order bs = newest_block_last (reverse bs) ∙ ap (created_from 0 0) (reverse-reverse bs)

@@ -83,9 +83,10 @@ last_changed : (xs : List Contents) (n : ℕ) (b y : Contents) → n + 1 ≡ len
 last_changed xs n b y count last =
     let below : n < length xs = omega (arith, count) in
     let whole : take (n + 1) xs ≡ xs = ap (λ k. take k xs) count ∙ take-length xs in
-    let all : take (suc n) (set xs n y) ≡ set xs n y = ap (λ k. take k (set xs n y)) (sym (add-one n) ∙ count ∙ sym (length-set xs n y)) ∙ take-length (set xs n y) in
-    (ap reverse (sym whole) ∙ reverse_more xs n b below ∙ ap (λ x. x ∷ reverse (take n xs)) (sym last),
-     ap reverse (sym all ∙ take-suc-set xs n y below) ∙ reverse-append (take n xs) (y ∷ []))
+    let all : take (suc n) (set xs n y) ≡ set xs n y = ap (λ k. take k (set xs n y)) (sym (add-one n) ∙ count ∙ sym (length-set xs n y)) ∙ take-length (set xs n y) in (
+      ap reverse (sym whole) ∙ reverse_more xs n b below ∙ ap (λ x. x ∷ reverse (take n xs)) (sym last),
+      ap reverse (sym all ∙ take-suc-set xs n y below) ∙ reverse-append (take n xs) (y ∷ []),
+    )
 
 pub transaction_last : (xs : List Contents) (n : ℕ) (b y : Contents) (t : Transaction) → n + 1 ≡ length xs → b ≡ get_or xs n b → y ≡ record b { transactions = t ∷ b.transactions } → reverse (set xs n y) ≡ with_transaction (reverse xs) t
 transaction_last xs n b y t count last e =
@@ -148,9 +149,10 @@ false_above a b h = grind (arith, nat_tests)
 not_too_deep : (s : Standing) (k : ℕ) → is_too_deep s k ≡ false → (k ≤ height_of s.blocks) × (list_any has_grant (take k s.blocks) ≡ false)
 not_too_deep s k h =
     let first = nat_lt (height_of s.blocks) k in
-    let second = nat_lt (height_of s.blocks - k + 6) s.greatest in
-    (false_above (height_of s.blocks) k (or_left first second (or_left (first || second) (list_any has_grant (take k s.blocks)) h)),
-     or_right (first || second) (list_any has_grant (take k s.blocks)) h)
+    let second = nat_lt (height_of s.blocks - k + 6) s.greatest in (
+      false_above (height_of s.blocks) k (or_left first second (or_left (first || second) (list_any has_grant (take k s.blocks)) h)),
+      or_right (first || second) (list_any has_grant (take k s.blocks)) h,
+    )
 
 pub more_left : (s s' : Standing) (k i : ℕ) → is_too_deep s k ≡ false → i < k → s' ≡ record s { blocks = drop i s.blocks } → 1 < length s'.blocks
 more_left s s' k i h below e =

@@ -84,12 +84,14 @@ reads_all (op ∷ ops) zero rest valid enough = absurd (omega (arith, enough))
 reads_all (op ∷ ops) (suc n) rest valid enough =
     let same : (payload_of op ++ spelling ops) ++ rest ≡ payload_of op ++ (spelling ops ++ rest) = append_assoc (payload_of op) (spelling ops) rest in
     let fewer : length (spelling ops ++ rest) ≤ n = omega (arith, enough, ap length same, length-append (payload_of op) (spelling ops ++ rest)) in
-    let (m, more, e) = reads_all ops n rest (All-tail IsOp op ops valid) fewer in
-    (m, more,
-     ap (λ t. ops_within (suc n) (code_of op ∷ t)) same
-     ∙ reads_one op n (spelling ops ++ rest) (All-head IsOp op ops valid)
-     ∙ ap (op_before op) e
-     ∙ before_one op ops (ops_within m rest))
+    let (m, more, e) = reads_all ops n rest (All-tail IsOp op ops valid) fewer in (
+      m,
+      more,
+      ap (λ t. ops_within (suc n) (code_of op ∷ t)) same
+          ∙ reads_one op n (spelling ops ++ rest) (All-head IsOp op ops valid)
+          ∙ ap (op_before op) e
+          ∙ before_one op ops (ops_within m rest),
+    )
 
 reads_end : (m : ℕ) → ops_within m [] ≡ Some []
 reads_end zero = refl

@@ -51,8 +51,8 @@ pub grants_on : (blocks : List Contents) (height g i : ℕ) (os : List Output) (
 grants_on blocks height g i os x v v' whole e below pushed w =
     join v v' _ _ _ whole pushed
     (ap (λ xs. unspent_values blocks (grants_from height (g + i) xs)) (head_left os i x e below)
-     ∙ values_cons blocks _ _
-     ∙ ap (λ n. unspent_value blocks (grant_outpoint (g + i)) x.value ++ unspent_values blocks (grants_from height n (drop (i + 1) os))) (omega arith)) w
+    ∙ values_cons blocks _ _
+    ∙ ap (λ n. unspent_value blocks (grant_outpoint (g + i)) x.value ++ unspent_values blocks (grants_from height n (drop (i + 1) os))) (omega arith)) w
 
 pub blocks_on : (blocks bs : List Contents) (h g n : ℕ) (b : Contents) (ts : List Transaction) (os : List Output) (v v' v'' whole : List ℕ) → b ≡ get_or bs h b → h < length bs → ts ≡ reverse b.transactions → os ≡ reverse b.granted → v' ≡ v ++ unspent_values blocks (flat_map (created_by h) ts) → v'' ≡ v' ++ unspent_values blocks (grants_from h g os) → g + length b.granted ≡ n → v ++ unspent_values blocks (created_from h g (drop h bs)) ≡ whole → v'' ++ unspent_values blocks (created_from (h + 1) n (drop (h + 1) bs)) ≡ whole
 blocks_on blocks bs h g n b ts os v v' v'' whole e below slice given first second count w =
@@ -61,9 +61,9 @@ blocks_on blocks bs h g n b ts os v v' v'' whole e below slice given first secon
     let a : created_by_all h b.transactions ≡ flat_map (created_by h) ts = ap (created_by_all h) (sym (ap reverse slice ∙ reverse-reverse b.transactions)) ∙ created_in_order h ts in
     let c : granted_at h g b.granted ≡ grants_from h g os = ap (granted_at h g) (sym (ap reverse given ∙ reverse-reverse b.granted)) ∙ granted_in_order h g os in
     let same : u (created_from h g (drop h bs)) ≡ (u (flat_map (created_by h) ts) ++ u (grants_from h g os)) ++ u later =
-        ap (λ xs. u (created_from h g xs)) (head_left bs h b e below)
-        ∙ values_both blocks (created_by_all h b.transactions ++ granted_at h g b.granted) later
-        ∙ ap (λ x. x ++ u later) (values_both blocks (created_by_all h b.transactions) (granted_at h g b.granted) ∙ ap (λ x. u x ++ u (granted_at h g b.granted)) a ∙ ap (λ x. u (flat_map (created_by h) ts) ++ u x) c) in
+    ap (λ xs. u (created_from h g xs)) (head_left bs h b e below)
+    ∙ values_both blocks (created_by_all h b.transactions ++ granted_at h g b.granted) later
+    ∙ ap (λ x. x ++ u later) (values_both blocks (created_by_all h b.transactions) (granted_at h g b.granted) ∙ ap (λ x. u x ++ u (granted_at h g b.granted)) a ∙ ap (λ x. u (flat_map (created_by h) ts) ++ u x) c) in
     ap (λ m. v'' ++ u (created_from (h + 1) m (drop (h + 1) bs))) (sym count)
     ∙ ap (λ x. x ++ u later) (second ∙ ap (λ x. x ++ u (grants_from h g os)) first)
     ∙ append_assoc (v ++ u (flat_map (created_by h) ts)) (u (grants_from h g os)) (u later)
@@ -76,8 +76,8 @@ unspent_total blocks bs h g v count total slice w past c t =
     let value = λ (c : Creation). c.output.value in
     let none : unspent_values blocks (created_from h g (drop h bs)) ≡ [] = ap (λ xs. unspent_values blocks (created_from h g xs)) (drop-past bs h past) in
     let all : v ≡ map value (unspent_of blocks) =
-        sym (append-nil v) ∙ ap (λ x. v ++ x) (sym none) ∙ w
-        ∙ ap (unspent_values blocks) (sym (created_of_order bs) ∙ ap created_of (ap reverse slice ∙ reverse-reverse blocks)) in
+    sym (append-nil v) ∙ ap (λ x. v ++ x) (sym none) ∙ w
+    ∙ ap (unspent_values blocks) (sym (created_of_order bs) ∙ ap created_of (ap reverse slice ∙ reverse-reverse blocks)) in
     record {
       count = c ∙ ap length all ∙ length-map (unspent_of blocks) value;
       value = t ∙ ap sum all ∙ sum-map value (unspent_of blocks);

@@ -118,7 +118,16 @@ pub fn run_program(
         }
         let script = key_hash_script(alloc, &program[2..])?;
         let code = script.as_slice();
-        return run_script(alloc, tx, cache, index, input, output.value(), code, witness);
+        return run_script(
+            alloc,
+            tx,
+            cache,
+            index,
+            input,
+            output.value(),
+            code,
+            witness,
+        );
     }
     if !is_script_hash_program(program) {
         return Err(Refusal::BadProgram);

@@ -10,14 +10,12 @@ ghost use Rattle.chain.specs.Scanning.{found_in, at_height, with_height};
 use crate::blocks::{Block, Confirmed};
 use crate::chain_blocks::Blocks;
 use crate::coins::Coins;
-use crate::connecting;
 use crate::connecting::grant_outpoint;
 use crate::refusal::{BlockError, Refusal};
 use crate::store::{Found, Store};
-use crate::testing;
-use crate::totals;
-use crate::totals::Unspent;
 use crate::testing::{same_outpoint, some_input_names};
+use crate::totals::Unspent;
+use crate::{connecting, testing, totals};
 use std::alloc::{AllocError, Global};
 use std::marker::Model;
 use tx::{OutPoint, Tx, TxOut};
@@ -45,9 +43,7 @@ impl Model for Scan {
 fn some_names(transactions: &[Confirmed], outpoint: &OutPoint) -> bool
     ensures { result ≡ list_any (names outpoint.now) transactions.now }
 {
-    transactions
-        .iter()
-        .any(|confirmed| some_input_names(confirmed.tx().inputs(), outpoint))
+    transactions.iter().any(|confirmed| some_input_names(confirmed.tx().inputs(), outpoint))
 }
 
 /// Whether an input of a transaction of the block names the outpoint.

@@ -109,7 +109,12 @@ pub(crate) fn check_input<S: Store>(store: &S, tx: &Tx, index: usize) -> Result<
 }
 
 /// Tests inputs in their order: what they bring in satoshis, or the first refusal.
-fn check_inputs<S: Store>(store: &S, height: u64, tx: &Tx, cache: &SighashCache<'_>) -> Result<u64, Refusal>
+fn check_inputs<S: Store>(
+    store: &S,
+    height: u64,
+    tx: &Tx,
+    cache: &SighashCache<'_>,
+) -> Result<u64, Refusal>
     requires { cache.now ≡ tx.now }
     ensures answers { Answers (inputs_refusal (S.standing store.now).blocks height tx.now tx.now.inputs) result }
     ensures value { IfOk result (λ v. v ≡ paid_in (S.standing store.now).blocks tx.now.inputs) }

@@ -55,10 +55,7 @@ fn open(value: u64) -> To<'static> {
 }
 
 fn output(alloc: Global, to: &To<'_>) -> Result<TxOut, Fail> {
-    Ok(TxOut::new(
-        to.value,
-        ByteString::from_slice(alloc, to.script)?,
-    )?)
+    Ok(TxOut::new(to.value, ByteString::from_slice(alloc, to.script)?)?)
 }
 
 fn witness(alloc: Global, items: &[&[u8]]) -> Result<Witness, Fail> {

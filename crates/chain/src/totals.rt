@@ -57,7 +57,11 @@ fn paid_in<S: Store>(store: &S, inputs: &[TxIn]) -> u64
 }
 
 /// Adds the fees of transactions in satoshis.
-fn push_fees<S: Store>(store: &S, transactions: &[Confirmed], fees: &mut Vec<u64>) -> Result<(), AllocError>
+fn push_fees<S: Store>(
+    store: &S,
+    transactions: &[Confirmed],
+    fees: &mut Vec<u64>,
+) -> Result<(), AllocError>
     ensures { IfOk result (λ _. fees.new.items ≡ fees.old.items ++ map (fee_of (S.standing store.now).blocks) transactions.now) }
 {
     for confirmed in transactions {

@@ -1,16 +1,12 @@
 // What is asked of every chain, whatever keeps it.
 
 use super::*;
-use std::process::Abort;
 use script::Cause;
 use sighash::{Token, digest_of};
+use std::process::Abort;
 
 // A lock time of 500 is reached in block 501, not in its own.
-fn lock_time_500<C: Coins>(
-    rt: &impl Abort,
-    alloc: Global,
-    chain: &mut C,
-) -> Result<(), Fail> {
+fn lock_time_500<C: Coins>(rt: &impl Abort, alloc: Global, chain: &mut C) -> Result<(), Fail> {
     let coin = chain.grant(output(alloc, &open(1000))?)?;
     let tx = transaction(alloc, 2, &[opened(coin, 0)], &[open(900)], 500)?;
     raise(alloc, chain, 499)?;
@@ -81,7 +77,13 @@ fn times<C: Coins>(rt: &impl Abort, alloc: Global, chain: &mut C) -> Result<(), 
     let second = chain.grant(output(alloc, &open(10))?)?;
     let reached = transaction(alloc, 2, &[opened(first, 0)], &[open(10)], 553648127)?;
     let never = transaction(alloc, 2, &[opened(second, 0)], &[open(10)], 553648128)?;
-    let last = transaction(alloc, 2, &[opened(second, 0xffffffff)], &[open(10)], 553648128)?;
+    let last = transaction(
+        alloc,
+        2,
+        &[opened(second, 0xffffffff)],
+        &[open(10)],
+        553648128,
+    )?;
     let least = transaction(alloc, 2, &[opened(second, 0)], &[open(10)], 500000000)?;
     let height = transaction(alloc, 2, &[opened(second, 0)], &[open(10)], 499999999)?;
     assert_eq!(rt; chain.check_input(&never, 0), Err(Refusal::NotFinal));
@@ -136,14 +138,26 @@ fn within_a_block<C: Coins>(rt: &impl Abort, alloc: Global, chain: &mut C) -> Re
     assert_eq!(rt; chain.check_input(&make, 0), Ok(()));
     let repeated = vec![in alloc; make.copy()?, make.copy()?]?;
     assert_eq!(rt; chain.connect(repeated), refused(1, Refusal::Twice));
-    assert_eq!(rt; chain.unspent()?, Unspent { count: 1, value: 1000 });
+    assert_eq!(rt;
+        chain.unspent()?,
+        Unspent {
+            count: 1,
+            value: 1000
+        }
+    );
     let both = vec![in alloc; make.copy()?, spend.copy()?]?;
     assert_eq!(rt; chain.connect(both), Ok(1));
     assert_eq!(rt; chain.check_input(&again, 0), Err(Refusal::Spent));
     assert_eq!(rt; chain.check_input(&unknown, 0), Err(Refusal::Unknown));
     assert_eq!(rt; chain.check_input(&make, 0), Err(Refusal::Spent));
     assert_eq!(rt; chain.check_input(&make, 1), Err(Refusal::Unknown));
-    assert_eq!(rt; chain.unspent()?, Unspent { count: 2, value: 850 });
+    assert_eq!(rt;
+        chain.unspent()?,
+        Unspent {
+            count: 2,
+            value: 850
+        }
+    );
     assert_eq!(rt; chain.fees()?, 150);
     let blocks = chain.blocks();
     assert_eq!(rt; blocks.len(), 2);
@@ -167,9 +181,15 @@ fn refusals<C: Coins>(rt: &impl Abort, alloc: Global, chain: &mut C) -> Result<(
     };
     let keyed = chain.grant(output(alloc, &to_key)?)?;
     let twice = transaction(alloc, 2, &[opened(coin, 0), opened(coin, 0)], &[open(1)], 0)?;
-    assert_eq!(rt; chain.connect(block(alloc, &twice)?), refused(0, Refusal::Twice));
+    assert_eq!(rt;
+        chain.connect(block(alloc, &twice)?),
+        refused(0, Refusal::Twice)
+    );
     let more = transaction(alloc, 2, &[opened(coin, 0)], &[open(600), open(401)], 0)?;
-    assert_eq!(rt; chain.connect(block(alloc, &more)?), refused(0, Refusal::OutputsExceed));
+    assert_eq!(rt;
+        chain.connect(block(alloc, &more)?),
+        refused(0, Refusal::OutputsExceed)
+    );
     let one_item = transaction(alloc, 2, &[opened(keyed, 0)], &[open(1)], 0)?;
     assert_eq!(rt; chain.check_input(&one_item, 0), Err(Refusal::BadProgram));
     let two_items = From {
@@ -198,9 +218,18 @@ fn refusals<C: Coins>(rt: &impl Abort, alloc: Global, chain: &mut C) -> Result<(
         witness: &[&[0x52]],
     };
     let wrong_script = transaction(alloc, 2, &[other_script], &[open(1)], 0)?;
-    assert_eq!(rt; chain.check_input(&wrong_script, 0), Err(Refusal::BadProgram));
+    assert_eq!(rt;
+        chain.check_input(&wrong_script, 0),
+        Err(Refusal::BadProgram)
+    );
     assert_eq!(rt; chain.height(), 0);
-    assert_eq!(rt; chain.unspent()?, Unspent { count: 2, value: 2000 });
+    assert_eq!(rt;
+        chain.unspent()?,
+        Unspent {
+            count: 2,
+            value: 2000
+        }
+    );
     Ok(())
 }
 
@@ -222,7 +251,13 @@ fn reorganised<C: Coins>(rt: &impl Abort, alloc: Global, chain: &mut C) -> Resul
     assert_eq!(rt; tx::txid(&off[1]), tx::txid(&spend));
     assert_eq!(rt; chain.height(), 0);
     assert_eq!(rt; chain.fees()?, 0);
-    assert_eq!(rt; chain.unspent()?, Unspent { count: 1, value: 1000 });
+    assert_eq!(rt;
+        chain.unspent()?,
+        Unspent {
+            count: 1,
+            value: 1000
+        }
+    );
     assert_eq!(rt; chain.check_input(&make, 0), Ok(()));
     assert_eq!(rt; chain.check_input(&spend, 0), Err(Refusal::Unknown));
     assert_eq!(rt; chain.connect(off), Ok(1));

@@ -24,9 +24,10 @@ loop-height-preserved c =
     let h = c.loop-height.height in
     let g = grants_in (take h c.args.blocks.now) in
     let next = grants_next c.args.blocks.now h c.index-blocks-height.result c.index-blocks-height.is (omega arith) in
-    let count : length c.granted-in-loop-height.result.now ≡ length c.index-blocks-height.result.granted = ap length c.granted-in-loop-height.ensures ∙ length-reverse c.index-blocks-height.result.granted in
-    (counts_on c.loop-height.grants g (length c.granted-in-loop-height.result.now) c.loop-height.invariant.0 ∙ ap (λ n. n % 2 ^ 64) (ap (λ n. g + n) count ∙ next),
-     in_later c.args.outpoint.now h g (grants_in (take (h + 1) c.args.blocks.now)) c.args.blocks.now c.index-blocks-height.result c.transactions.result.now c.granted.result.now _ c.index-blocks-height.is (omega arith) c.transactions.ensures c.granted.ensures (c.in_default.ensures h) (c.in_default-find_in_grants.ensures h g c.loop-height.invariant.0) next c.loop-height.invariant.1)
+    let count : length c.granted-in-loop-height.result.now ≡ length c.index-blocks-height.result.granted = ap length c.granted-in-loop-height.ensures ∙ length-reverse c.index-blocks-height.result.granted in (
+      counts_on c.loop-height.grants g (length c.granted-in-loop-height.result.now) c.loop-height.invariant.0 ∙ ap (λ n. n % 2 ^ 64) (ap (λ n. g + n) count ∙ next),
+      in_later c.args.outpoint.now h g (grants_in (take (h + 1) c.args.blocks.now)) c.args.blocks.now c.index-blocks-height.result c.transactions.result.now c.granted.result.now _ c.index-blocks-height.is (omega arith) c.transactions.ensures c.granted.ensures (c.in_default.ensures h) (c.in_default-find_in_grants.ensures h g c.loop-height.invariant.0) next c.loop-height.invariant.1,
+    )
 
 pub returns : goal.returns
 returns c =

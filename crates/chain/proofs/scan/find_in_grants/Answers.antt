@@ -11,7 +11,7 @@ returns-then-same_outpoint c = λ height g e.
     sym (ap (found_in c.args.outpoint.now) (granted_in_order height g c.args.granted.now)
     ∙ sym (c.loop-index.invariant height g e)
     ∙ grants_here c.args.outpoint.now height g c.args.granted.now c.loop-index.index c.index-granted-index.result c.index-granted-index.is (omega arith)
-      (ap (λ p. same_outpoint p c.args.outpoint.now) (sym place) ∙ sym c.same_outpoint.ensures ∙ c.if-same_outpoint.true))
+    (ap (λ p. same_outpoint p c.args.outpoint.now) (sym place) ∙ sym c.same_outpoint.ensures ∙ c.if-same_outpoint.true))
 
 pub returns : goal.returns
 returns c = λ height g e.

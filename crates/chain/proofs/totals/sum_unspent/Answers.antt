@@ -13,9 +13,10 @@ loop-block-preserved g c =
     let h = c.loop-block.block-index in
     let before = grants_in (take h bs) in
     let next = grants_next bs h c.block-item.result c.block-item.is (omega arith) in
-    let count : length c.granted-in-loop-block.result.now ≡ length c.block-item.result.granted = ap length c.granted-in-loop-block.ensures ∙ length-reverse c.block-item.result.granted in
-    (counts_on c.loop-block.grants before (length c.granted-in-loop-block.result.now) c.loop-block.invariant.0 ∙ ap (λ n. n % 2 ^ 64) (ap (λ n. before + n) count ∙ next),
-     blocks_on blocks bs h before (grants_in (take (h + 1) bs)) c.block-item.result c.transactions.result.now c.granted.result.now c.loop-block.values.items c.push_transactions.new.values.items c.push_grants.new.values.items _ c.block-item.is (omega arith) c.transactions.ensures c.granted.ensures (c.in_ok-push_transactions.ensures h) (c.in_ok-push_grants.ensures h before c.loop-block.invariant.0) next c.loop-block.invariant.1)
+    let count : length c.granted-in-loop-block.result.now ≡ length c.block-item.result.granted = ap length c.granted-in-loop-block.ensures ∙ length-reverse c.block-item.result.granted in (
+      counts_on c.loop-block.grants before (length c.granted-in-loop-block.result.now) c.loop-block.invariant.0 ∙ ap (λ n. n % 2 ^ 64) (ap (λ n. before + n) count ∙ next),
+      blocks_on blocks bs h before (grants_in (take (h + 1) bs)) c.block-item.result c.transactions.result.now c.granted.result.now c.loop-block.values.items c.push_transactions.new.values.items c.push_grants.new.values.items _ c.block-item.is (omega arith) c.transactions.ensures c.granted.ensures (c.in_ok-push_transactions.ensures h) (c.in_ok-push_grants.ensures h before c.loop-block.invariant.0) next c.loop-block.invariant.1,
+    )
 
 pub returns : goal.returns
 returns g c =
