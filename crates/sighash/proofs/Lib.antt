@@ -1,3 +1,4 @@
 pub mod Tokens
 pub mod Witnesses
 pub mod Examples
+pub mod ProgramExamples
