@@ -9,7 +9,7 @@ ghost use Rattle.keys.specs.Keys.{is_among};
 use std::alloc::AllocError;
 use std::collections::BTreeSet;
 
-/// Adds keys to a set, all or none: want of memory leaves it with the keys that it had.
+/// Adds keys to a set, all or none: where memory runs out, the set keeps the keys that it had.
 pub(crate) fn insert_all(set: &mut BTreeSet<[u8; 33]>, keys: &[[u8; 33]]) -> Result<(), AllocError>
     ensures ok { OnOk result ((q : List ℕ) → contains (slice_cmp nat_cmp) set.new q ≡ (is_among q keys.now || contains (slice_cmp nat_cmp) set.old q)) }
     ensures err { OnErr result ((q : List ℕ) → contains (slice_cmp nat_cmp) set.new q ≡ contains (slice_cmp nat_cmp) set.old q) }

@@ -21,7 +21,7 @@ pub enum SignError {
 impl SignError {
     ghost use Rattle.std.specs.Prelude.{◌≡◌};
 
-    /// The number of the refusal. No refusal is for want of memory, which would be 0.
+    /// The number of the refusal. No refusal says that memory ran out, which would be 0.
     pub fn number(&self) -> u8
         ensures { result ≡ 1 }
     {
@@ -109,7 +109,7 @@ impl Signer {
     }
 
     /// Learns a per-commitment secret of the peer: from now on the signer may sign for the revocation keys of its bases at the secret's point.
-    /// Want of memory leaves it as it was.
+    /// Where memory runs out, it is as it was.
     pub fn learn_secret(&mut self, secret: &[u8; 32]) -> Result<(), AllocError>
         ensures ok { OnOk result (self.new ≡ record self.old { secrets = self.old.secrets ++ secret.now ∷ [] }) }
         ensures err { OnErr result (self.new ≡ self.old) }
@@ -139,7 +139,7 @@ impl Signer {
         Ok(Token::new(&key.bytes, digest))
     }
 
-    /// A signer with the same rights. The only error is want of memory.
+    /// A signer with the same rights. The only error is that memory ran out.
     pub fn copy(&self) -> Result<Signer, AllocError>
         ensures { IfOk result (λ s. s ≡ self.now) }
     {
