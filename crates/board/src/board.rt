@@ -30,7 +30,7 @@ pub enum DrawError {
 }
 
 impl DrawError {
-    /// The number of the refusal. No refusal is for want of memory, which would be 0.
+    /// The number of the refusal. Out of memory would be 0, and is no refusal here.
     pub fn number(&self) -> u8
         ensures { result ≡ 1 }
     {
@@ -97,7 +97,7 @@ impl Board {
         self.seat(list, dealer)
     }
 
-    /// A board on which nothing was raised or drawn, and so many seats at it, one at least. The only error is want of memory.
+    /// A board on which nothing was raised or drawn, and so many seats at it, one at least. The only error is that memory ran out.
     pub fn new(alloc: Global, seats: u16) -> Result<(Board, Vec<Seat>), AllocError>
         requires { 0 < seats }
         ensures { IfOk result (λ r. AreSeats r.0 seats r.1.items) }

@@ -39,7 +39,7 @@ key_slot b = Exact (record { item = key b; short = lit≤ tt })
 abbrev token_slot : ℕ → Slot
 token_slot b = Exact (record { item = token b; short = lit≤ tt })
 
--- 32 bytes whose SHA-256 is 5 so many times
+-- 32 bytes whose SHA-256 is 32 bytes of 5
 abbrev preimage : Slot
 preimage = Preimage (replicate 32 5)
 

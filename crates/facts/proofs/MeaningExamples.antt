@@ -78,7 +78,7 @@ symbols : (item_for spend items (Slot 0) ≡ 5 ∷ 6 ∷ []) × (item_for spend 
 unfolding items minimal_bytes_of digits
 symbols = (refl, refl, refl, refl, refl, refl, refl)
 
--- a witness, its last item the top: with every fact as it is stated, and just so many items
+-- a witness, its last item the top: with every fact as it is stated, and exactly that many items
 met : Meets spend ([] ∷ (1 ∷ []) ∷ []) 2 (record { fact = Truth 0; holds = true } ∷ record { fact = Truth 1; holds = false } ∷ [])
 met = record { exact = refl; short = refl; holds = (refl, (refl, tt)) }
 

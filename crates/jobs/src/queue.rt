@@ -30,7 +30,7 @@ pub struct JobTaker<J: Drop> {
     taker: RuledReceiver<J, Hand<J>, Fair>,
 }
 
-/// An empty queue of at most 64 jobs: its two ends and its first pass. The only error is want of memory.
+/// An empty queue of at most 64 jobs: its two ends and its first pass. The only error is that memory ran out.
 pub fn job_queue<J: Drop>(alloc: Global) -> Result<(JobSender<J>, JobTaker<J>, Pass<J>), AllocError>
     ensures { IfOk result (λ r. IsOneQueue r.0 r.1 × PutsWith r.0 r.2 × (hand_of r.2 ≡ idle)) }
 {
@@ -39,7 +39,7 @@ pub fn job_queue<J: Drop>(alloc: Global) -> Result<(JobSender<J>, JobTaker<J>, P
 }
 
 impl<J: Drop> JobSender<J> {
-    /// A second sender to the same queue. The only error is want of memory.
+    /// A second sender to the same queue. The only error is that memory ran out.
     pub fn copy(&self) -> Result<JobSender<J>, AllocError>
         ensures { IfOk result (λ s. PutIntoOne s self.now) }
     {
@@ -72,7 +72,7 @@ impl<J: Drop> JobSender<J> {
 }
 
 impl<J: Drop> JobTaker<J> {
-    /// A second taker of the same queue. The only error is want of memory.
+    /// A second taker of the same queue. The only error is that memory ran out.
     pub fn copy(&self) -> Result<JobTaker<J>, AllocError>
         ensures { IfOk result (λ t. TakeFromOne t self.now) }
     {

@@ -70,7 +70,7 @@ twenty : checks 181 ((20 ∷ []) ∷ (replicate 20 (key 1) ++ ((20 ∷ []) ∷ (
 unfolding effect multi_sig number_of token_of is_signature is_token is_key
 twenty = refl
 
--- the number of keys: of at most four bytes, shortest, from 0 to 20; it is tested before the keys are taken
+-- the number of keys: of at most four bytes, minimal, from 0 to 20; it is tested before the keys are taken
 key_counts : map (λ n. checks 1 (n ∷ under ∷ [])) ((21 ∷ []) ∷ (0x81 ∷ []) ∷ (0x94 ∷ []) ∷ (0x14 ∷ 0 ∷ []) ∷ (0 ∷ []) ∷ (0x80 ∷ []) ∷ (1 ∷ 0 ∷ 0 ∷ 0 ∷ 1 ∷ []) ∷ (0xff ∷ 0xff ∷ 0xff ∷ 0x7f ∷ []) ∷ (0 ∷ 1 ∷ []) ∷ []) ≡
     fails KeyCount ∷ fails KeyCount ∷ fails KeyCount ∷ fails Number ∷ fails Number ∷ fails Number ∷ fails Number ∷ fails KeyCount ∷ fails KeyCount ∷ []
 unfolding effect multi_sig number_of
@@ -85,7 +85,7 @@ counts : (checks 199 ((2 ∷ []) ∷ key 2 ∷ key 1 ∷ [] ∷ [] ∷ under ∷
 unfolding effect multi_sig number_of is_key
 counts = (refl, refl, refl, refl, refl, refl)
 
--- the number of signatures: of at most four bytes, shortest, from 0 to the number of keys; it is tested before they are taken
+-- the number of signatures: of at most four bytes, minimal, from 0 to the number of keys; it is tested before they are taken
 sig_counts : map (λ m. checks 1 ((2 ∷ []) ∷ key 2 ∷ key 1 ∷ m ∷ [])) ((3 ∷ []) ∷ (0x81 ∷ []) ∷ (0x82 ∷ []) ∷ (1 ∷ 0 ∷ []) ∷ (0x80 ∷ []) ∷ (1 ∷ 0 ∷ 0 ∷ 0 ∷ 1 ∷ []) ∷ (20 ∷ []) ∷ (0 ∷ 1 ∷ []) ∷ []) ≡
     fails SigCount ∷ fails SigCount ∷ fails SigCount ∷ fails Number ∷ fails Number ∷ fails Number ∷ fails SigCount ∷ fails SigCount ∷ []
 unfolding effect multi_sig number_of

@@ -56,10 +56,14 @@ fn ending(alloc: Global, count: usize, others: &[u8]) -> Result<Vec<u8>, Fail> {
     Ok(start)
 }
 
+// The transaction of unlike fields.
+fn unlike(alloc: Global) -> Result<Tx, Fail> {
+    Ok(decode(alloc, &bytes(alloc, OUTSIDE[2].0)?)?)
+}
+
 #[test]
-fn reads_each_field(rt: HostRuntime) -> Result<(), Fail> {
-    let whole = bytes(rt.alloc(), OUTSIDE[2].0)?;
-    let tx = decode(rt.alloc(), &whole)?;
+fn reads_each_input(rt: HostRuntime) -> Result<(), Fail> {
+    let tx = unlike(rt.alloc())?;
     assert_eq!(rt; tx.version(), 2);
     assert_eq!(rt; tx.lock_time(), 500_000_001);
     let wanted: [(&str, u32, u32, usize); 3] = [
@@ -88,18 +92,25 @@ fn reads_each_field(rt: HostRuntime) -> Result<(), Fail> {
         assert_eq!(rt; input.outpoint, OutPoint { txid, index });
         assert_eq!(rt; input.sequence, sequence);
         assert_eq!(rt; input.witness.len(), items);
-        assert_eq!(rt; input.witness.is_empty(), items == 0);
     }
-    let lengths: [(usize, usize); 5] = [(0, 0), (0, 3), (0, 254), (2, 1), (2, 2)];
-    let mut seen = 0;
-    for (k, input) in tx.inputs().iter().enumerate() {
-        for item in input.witness.as_slice() {
-            assert!(rt; seen < lengths.len());
-            assert_eq!(rt; (k, item.len()), lengths[seen]);
-            seen += 1;
+    Ok(())
+}
+
+#[test]
+fn reads_each_item(rt: HostRuntime) -> Result<(), Fail> {
+    let tx = unlike(rt.alloc())?;
+    let wanted: [&[usize]; 3] = [&[0, 3, 254], &[], &[1, 2]];
+    for (input, lengths) in tx.inputs().iter().zip(wanted) {
+        for (item, len) in input.witness.as_slice().iter().zip(lengths) {
+            assert_eq!(rt; item.len(), *len);
         }
     }
-    assert_eq!(rt; seen, 5);
+    Ok(())
+}
+
+#[test]
+fn reads_each_output(rt: HostRuntime) -> Result<(), Fail> {
+    let tx = unlike(rt.alloc())?;
     let wanted: [(u64, usize); 3] = [(1, 0), (2_100_000_000_000_000, 34), (0x01_0203_0405, 253)];
     assert_eq!(rt; tx.outputs().len(), 3);
     for (output, (value, len)) in tx.outputs().iter().zip(wanted) {
@@ -110,46 +121,75 @@ fn reads_each_field(rt: HostRuntime) -> Result<(), Fail> {
     Ok(())
 }
 
-#[test]
-fn outside_transactions(rt: HostRuntime) -> Result<(), Fail> {
-    let alloc = rt.alloc();
-    for (whole, stripped, id) in OUTSIDE {
-        let (whole, stripped) = (bytes(alloc, whole)?, bytes(alloc, stripped)?);
-        let id = <[u8; 32] as FromHex>::from_hex(id)?;
-        let tx = decode(alloc, &whole)?;
-        assert_eq!(rt; txid(&tx), id);
-        assert!(rt; tx.has_witness());
-        assert_eq!(rt; encode(alloc, &tx)?.as_slice(), whole.as_slice());
-        assert_eq!(rt;
-            encode_stripped(alloc, &tx)?.as_slice(),
-            stripped.as_slice()
-        );
-        let mut unsigned = tx.copy()?;
-        assert!(rt; unsigned.equals(&tx));
-        unsigned.strip_witnesses();
-        assert!(rt; !unsigned.equals(&tx));
-        assert!(rt; unsigned.equals(&decode_stripped(alloc, &stripped)?));
-        assert_eq!(rt; txid(&unsigned), id);
-        assert!(rt; matches!(encode(alloc, &unsigned), Err(EncodeError::NoWitness)));
-        for (index, input) in tx.inputs().iter().enumerate() {
-            assert!(rt; index < unsigned.inputs().len());
-            unsigned.set_witness(index, input.witness.copy()?);
-        }
-        assert!(rt; unsigned.equals(&tx));
-        let parts = unsigned.into_parts();
-        let again = Tx::new(parts.version, parts.inputs, parts.outputs, parts.lock_time)?;
-        assert_eq!(rt; encode(alloc, &again)?.as_slice(), whole.as_slice());
-        for end in 0..stripped.len() {
-            assert!(rt;
-                matches!(
-                    decode_stripped(alloc, &stripped[..end]),
-                    Err(DecodeError::Truncated)
-                )
-            );
+// A copy of a transaction whose witnesses were taken away and set again, one by one.
+fn signed_again(tx: &Tx) -> Result<Tx, AllocError> {
+    let mut copy = tx.copy()?;
+    copy.strip_witnesses();
+    for (index, input) in tx.inputs().iter().enumerate() {
+        if index < copy.inputs().len() {
+            copy.set_witness(index, input.witness.copy()?);
         }
     }
-    let small = decode(alloc, &bytes(alloc, SMALL)?)?;
+    Ok(copy)
+}
+
+// The transaction of another's fields.
+fn put_together(tx: Tx) -> Result<Tx, FieldError> {
+    let parts = tx.into_parts();
+    Tx::new(parts.version, parts.inputs, parts.outputs, parts.lock_time)
+}
+
+// A copy of a transaction with no witness item.
+fn unsigned_copy(tx: &Tx) -> Result<Tx, AllocError> {
+    let mut copy = tx.copy()?;
+    copy.strip_witnesses();
+    Ok(copy)
+}
+
+#[test]
+fn outside_transactions(rt: HostRuntime) -> Result<(), Fail> {
+    for (whole, _, id) in OUTSIDE {
+        let whole = bytes(rt.alloc(), whole)?;
+        let tx = decode(rt.alloc(), &whole)?;
+        assert_eq!(rt; txid(&tx), <[u8; 32] as FromHex>::from_hex(id)?);
+        assert_eq!(rt; encode(rt.alloc(), &tx)?.as_slice(), whole.as_slice());
+        let again = put_together(signed_again(&tx)?)?;
+        assert!(rt; again.equals(&tx));
+        assert_eq!(rt; encode(rt.alloc(), &again)?.as_slice(), whole.as_slice());
+    }
+    Ok(())
+}
+
+#[test]
+fn outside_transactions_stripped(rt: HostRuntime) -> Result<(), Fail> {
+    for (whole, stripped, id) in OUTSIDE {
+        let stripped = bytes(rt.alloc(), stripped)?;
+        let tx = decode(rt.alloc(), &bytes(rt.alloc(), whole)?)?;
+        assert_eq!(rt;
+            encode_stripped(rt.alloc(), &tx)?.as_slice(),
+            stripped.as_slice()
+        );
+        let unsigned = unsigned_copy(&tx)?;
+        assert!(rt; !unsigned.equals(&tx) && !unsigned.has_witness());
+        assert!(rt; unsigned.equals(&decode_stripped(rt.alloc(), &stripped)?));
+        assert_eq!(rt; txid(&unsigned), <[u8; 32] as FromHex>::from_hex(id)?);
+        assert!(rt; matches!(encode(rt.alloc(), &unsigned), Err(EncodeError::NoWitness)));
+    }
+    Ok(())
+}
+
+#[test]
+fn small_transaction(rt: HostRuntime) -> Result<(), Fail> {
+    let small = decode(rt.alloc(), &bytes(rt.alloc(), SMALL)?)?;
     assert_eq!(rt; txid(&small), <[u8; 32] as FromHex>::from_hex(SMALL_ID)?);
+    let stripped = encode_stripped(rt.alloc(), &small)?;
+    for end in 0..stripped.len() {
+        let answer = decode_stripped(rt.alloc(), &stripped[..end]);
+        assert!(rt;
+            matches!(answer, Err(DecodeError::Truncated)),
+            "{end} bytes"
+        );
+    }
     Ok(())
 }
 
@@ -428,6 +468,12 @@ fn above_the_limits(rt: HostRuntime) -> Result<(), Fail> {
     let mut items = witness.into_vec();
     items.push(ByteString::new(alloc))?;
     assert!(rt; matches!(Witness::from_vec(items), Err(LimitError::OverLimit)));
+    Ok(())
+}
+
+#[test]
+fn above_the_limits_of_lists(rt: HostRuntime) -> Result<(), Fail> {
+    let alloc = rt.alloc();
     let mut inputs = Inputs::new(alloc);
     let mut outputs = Outputs::new(alloc);
     for k in 0..4_000 {
@@ -518,6 +564,7 @@ fn equality_reads_every_field(rt: HostRuntime) -> Result<(), Fail> {
         }
     }
     let mut fewer = tx.copy()?;
+    assert_eq!(rt; fewer.inputs().len(), 3);
     fewer.set_witness(0, Witness::new(alloc));
     assert!(rt; !fewer.equals(&tx));
     assert_eq!(rt; txid(&fewer), txid(&tx));

@@ -52,7 +52,7 @@ fn runs_on_items_of_every_length(rt: HostRuntime) -> Result<(), Fail> {
     Ok(())
 }
 
-// The end of a run with so many true entries, at this place.
+// The end of a run with `count` true entries, at this place.
 fn end_of(count: usize, at: usize) -> Result<Run, Stop> {
     if count == 1 {
         return Ok(Run {
@@ -63,7 +63,7 @@ fn end_of(count: usize, at: usize) -> Result<Run, Stop> {
     Err(Stop::At(Cause::NotOneValue, at))
 }
 
-// So many items of a witness, and so many pushes.
+// Each number of items of a witness, and of pushes.
 #[test]
 fn runs_on_every_count(rt: HostRuntime) -> Result<(), Fail> {
     let alloc = rt.alloc();
@@ -77,7 +77,7 @@ fn runs_on_every_count(rt: HostRuntime) -> Result<(), Fail> {
     Ok(())
 }
 
-// A script so long, most of which is jumped over.
+// Long scripts, most of which is jumped over.
 #[test]
 fn runs_long_scripts(rt: HostRuntime) -> Result<(), Fail> {
     let alloc = rt.alloc();
