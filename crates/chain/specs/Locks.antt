@@ -1,7 +1,6 @@
 -- Time locks of a transaction (BIP 65, BIP 68), on a chain whose blocks have heights, and times past 0x20FFFFFF.
 use Rattle.std.specs.Prelude.{◌≡◌, ℕ, ◌+◌, ◌%◌, ◌^◌, Bool, false, ◌&&◌, ◌||◌, not, nat_lt, nat_le, ◌==◌, List, Some, IsTrue}
 use Rattle.std.specs.List.{list_all}
-use Rattle.script.specs.Limits.{locktime_threshold}
 use Rattle.script.specs.Step.{bit_at}
 use Rattle.tx.specs.declared.input.TxIn.{TxIn}
 use Rattle.tx.specs.Fields.{Transaction}
@@ -11,8 +10,8 @@ use Rattle.chain.specs.Blocks.{Contents, Coin, coin_at}
 -- passed and none above it; and the lock time counts for nothing where every input is final
 abbrev pub is_final : ℕ → ℕ → List TxIn → Bool
 is_final height lock_time inputs =
-    (nat_lt lock_time locktime_threshold && nat_lt lock_time height)
-    || (nat_le locktime_threshold lock_time && nat_le lock_time 0x20ffffff)
+    (nat_lt lock_time 500000000 && nat_lt lock_time height)
+    || (nat_le 500000000 lock_time && nat_le lock_time 0x20ffffff)
     || list_all (λ i. i.sequence == 0xffffffff) inputs
 
 -- a block of this height may hold a spend of a coin of that height: relative locks bind from version 2 on, where bit 31 of the sequence is

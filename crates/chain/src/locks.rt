@@ -4,11 +4,13 @@ ghost use Rattle.std.specs.Prelude.{◌≡◌, ◌==◌};
 ghost use Rattle.std.specs.List.{list_all};
 ghost use Rattle.chain.specs.Locks.{is_final, is_old_enough};
 
-use script::limits::LOCKTIME_THRESHOLD;
 use tx::{Tx, TxIn};
 
+/// Lock times from here on are times in seconds; those below are heights of blocks (BIP 65).
+const LEAST_TIME: u32 = 500_000_000;
+
 /// The greatest time that counts as passed, in every block.
-const PASSED_TIME: u64 = 0x20ff_ffff;
+const PASSED_TIME: u32 = 0x20ff_ffff;
 
 /// The sequence of a final input.
 const FINAL: u32 = 0xffff_ffff;
@@ -30,9 +32,9 @@ fn are_final(inputs: &[TxIn]) -> bool
 pub(crate) fn is_final(height: u64, tx: &Tx) -> bool
     ensures { result ≡ is_final height tx.now.lock_time tx.now.inputs }
 {
-    let lock_time = u64::from(tx.lock_time());
-    (lock_time < LOCKTIME_THRESHOLD && lock_time < height)
-        || (lock_time >= LOCKTIME_THRESHOLD && lock_time <= PASSED_TIME)
+    let lock_time = tx.lock_time();
+    (lock_time < LEAST_TIME && u64::from(lock_time) < height)
+        || (lock_time >= LEAST_TIME && lock_time <= PASSED_TIME)
         || are_final(tx.inputs())
 }
 

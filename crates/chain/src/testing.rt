@@ -4,7 +4,6 @@ ghost use Rattle.std.specs.Prelude.{◌≡◌, ◌≤◌, ◌*◌, ◌||◌, len
 ghost use Rattle.std.specs.List.{list_any};
 ghost use Rattle.tx.specs.Spelling.{transaction_id};
 ghost use Rattle.tx.specs.Fields.{AreInputs, AreOutputs};
-ghost use Rattle.tx.specs.Limits.{max_outputs};
 ghost use Rattle.chain.specs.Blocks.{Standing, height_of, same_outpoint, value_at, paid_in, paid_out};
 ghost use Rattle.chain.specs.Refusals.{Answers};
 ghost use Rattle.chain.specs.Storing.{found_coin};
@@ -130,7 +129,7 @@ fn check_inputs<S: Store>(
 
 /// What outputs pay in satoshis.
 pub(crate) fn paid_out(outputs: &[TxOut]) -> u64
-    requires { length outputs.now ≤ max_outputs }
+    requires { length outputs.now ≤ 4000 }
     ensures { result ≡ paid_out outputs.now }
 {
     let mut paid = 0u64;

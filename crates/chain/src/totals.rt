@@ -2,7 +2,6 @@
 
 ghost use Rattle.std.specs.Prelude.{◌≡◌, ℕ, ◌++◌, ◌≤◌, ◌%◌, ◌^◌, length, map, sum, IfOk, OnOk};
 ghost use Rattle.std.specs.List.{flat_map};
-ghost use Rattle.tx.specs.Limits.{max_value, max_inputs};
 ghost use Rattle.chain.specs.Blocks.{created_by, fee_of, fees_of, paid_in, value_at};
 ghost use Rattle.chain.specs.Totals.{IsUnspent, unspent_value, unspent_values};
 ghost use Rattle.chain.specs.Scanning.{grants_from};
@@ -37,7 +36,7 @@ fn sum_of(amounts: &[u64]) -> u128
 /// The value in satoshis of the output at an outpoint, 0 where there is none.
 fn value_at<S: Store>(store: &S, outpoint: &OutPoint) -> u64
     ensures value { result ≡ value_at (S.standing store.now).blocks outpoint.now }
-    ensures limit { result ≤ max_value }
+    ensures limit { result ≤ 2100000000000000 }
 {
     match store.find(outpoint) {
         Some(found) => found.output.value(),
@@ -47,7 +46,7 @@ fn value_at<S: Store>(store: &S, outpoint: &OutPoint) -> u64
 
 /// What inputs bring in satoshis.
 fn paid_in<S: Store>(store: &S, inputs: &[TxIn]) -> u64
-    requires { length inputs.now ≤ max_inputs }
+    requires { length inputs.now ≤ 4000 }
     ensures { result ≡ paid_in (S.standing store.now).blocks inputs.now }
 {
     let mut paid = 0u64;
