@@ -15,7 +15,7 @@ number_of OutputsExceed = 7
 number_of Twice = 8
 number_of TooDeep = 9
 
--- want of memory may stand in place of any answer
+-- where memory ran out, NoMemory may stand in place of any answer
 abbrev pub UnlessMemory : Refusal → Type 0 → Type 0
 UnlessMemory NoMemory P = Unit {0}
 UnlessMemory refusal P = P

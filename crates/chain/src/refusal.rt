@@ -54,7 +54,7 @@ impl Refusal {
     ghost use Rattle.std.specs.Prelude.{◌≡◌};
     ghost use Rattle.chain.specs.Refusals.{number_of};
 
-    /// The number of the refusal; 0 is want of memory.
+    /// The number of the refusal; 0 where memory ran out.
     pub fn number(&self) -> u8
         ensures { result ≡ number_of self.now }
     {

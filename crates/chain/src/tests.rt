@@ -4,6 +4,7 @@ use std::alloc::{AllocError, Global};
 use std::test::Fail;
 use tx::{Inputs, LimitError, OutPoint, Outputs, Tx, TxIn, TxOut, Witness};
 
+mod plain;
 mod rows;
 
 // The hash of a key, as 20 bytes 11, and the program 00 14 of it.
