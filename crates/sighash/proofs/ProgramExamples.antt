@@ -1,6 +1,5 @@
 -- Witness programs at work on known values: the opcodes of the table in BIP 141's scripts, and each form of program.
 use Rattle.std.proofs.Common.{◌≡◌, List, ℕ, [], ◌∷◌, ◌++◌, true, false, Some, None, refl, replicate, map}
-
 use Rattle.script.specs.declared.opcode.Op.TheVariants.{Push, Number, If, NotIf, Else, EndIf, Drop, Dup, Swap, Size, Equal, EqualVerify, Hash160, CheckSig, CheckMultiSig, CheckLockTimeVerify, CheckSequenceVerify}
 use Rattle.sighash.specs.Programs.{single_op, script_ops, is_key_hash_program, is_script_hash_program, given_of}
 
