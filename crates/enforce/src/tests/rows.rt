@@ -124,7 +124,7 @@ impl io::Write for Unflushed {
 }
 
 // The status of words, whose texts can't be flushed.
-fn unflushed(alloc: Global, words: &[&str]) -> Result<u8, Fail> {
+fn status_unflushed(alloc: Global, words: &[&str]) -> Result<u8, Fail> {
     let all = words_of(alloc, words)?;
     let mut input: &[u8] = &[];
     Ok(run_words(
@@ -139,8 +139,8 @@ fn unflushed(alloc: Global, words: &[&str]) -> Result<u8, Fail> {
 #[test]
 fn tells_a_failed_flush(rt: HostRuntime) -> Result<(), Fail> {
     let alloc = rt.alloc();
-    assert_eq!(rt; unflushed(alloc, &["ripemd", ""])?, 1);
-    assert_eq!(rt; unflushed(alloc, &["paths", "6351"])?, 1);
-    assert_eq!(rt; unflushed(alloc, &["paths"])?, 1);
+    assert_eq!(rt; status_unflushed(alloc, &["ripemd", ""])?, 1);
+    assert_eq!(rt; status_unflushed(alloc, &["paths", "6351"])?, 1);
+    assert_eq!(rt; status_unflushed(alloc, &["paths"])?, 1);
     Ok(())
 }

@@ -1,6 +1,0 @@
-pub mod Parsing
-pub mod Lists
-pub mod Finding
-pub mod Growing
-pub mod Sums
-pub mod Examples
