@@ -1,4 +1,5 @@
 pub mod Examples
+pub mod RuleExamples
 pub mod WalkExamples
 pub mod ListingExamples
 pub mod RuleLists

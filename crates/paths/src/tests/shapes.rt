@@ -1,22 +1,9 @@
 //! Scripts of many shapes under ample memory, each with its paths or its refusal, and the printed names of refusals.
 
-use super::{Wanted, free, has_paths, script_of};
+use super::{Wanted, free, lists, script_of};
 use crate::{CheckError, check};
 use std::alloc::{AllocError, Global};
-use std::process::Abort;
 use std::test::Fail;
-
-// Asserts the paths of a script of these parts, each so many times.
-fn lists(
-    rt: &impl Abort,
-    alloc: Global,
-    parts: &[(&[u8], usize)],
-    wanted: &[Wanted],
-) -> Result<(), Fail> {
-    let checked = check(alloc, script_of(alloc, parts)?)?;
-    assert!(rt; has_paths(&checked, wanted), "{parts:?}");
-    Ok(())
-}
 
 // Each opcode alone, on slots.
 #[test]
