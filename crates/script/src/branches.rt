@@ -29,24 +29,3 @@ pub fn pass_branch(op: &Op, ifs: &mut Stack<bool>) -> Result<bool, AllocError>
         _ => Ok(true),
     }
 }
-
-#[cfg(test)]
-mod tests {
-    use super::*;
-    use std::test::Fail;
-
-    #[test]
-    fn nests_branches(rt: HostRuntime) -> Result<(), Fail> {
-        let mut ifs = Stack::new(rt.alloc());
-        assert!(rt; !pass_branch(&Op::EndIf, &mut ifs)?);
-        assert!(rt; pass_branch(&Op::If, &mut ifs)?);
-        assert!(rt; pass_branch(&Op::NotIf, &mut ifs)?);
-        assert_eq!(rt; ifs.values(), [false, false].as_slice());
-        assert!(rt; pass_branch(&Op::Else, &mut ifs)?);
-        assert!(rt; pass_branch(&Op::Drop, &mut ifs)?);
-        assert_eq!(rt; ifs.values(), [false, true].as_slice());
-        assert!(rt; pass_branch(&Op::EndIf, &mut ifs)?);
-        assert_eq!(rt; ifs.values(), [false].as_slice());
-        Ok(())
-    }
-}

@@ -115,23 +115,3 @@ impl Op {
         })
     }
 }
-
-#[cfg(test)]
-mod tests {
-    use super::*;
-    use std::test::Fail;
-
-    #[test]
-    fn copies_an_opcode(rt: HostRuntime) -> Result<(), Fail> {
-        let push = Op::Push(ByteString::from_slice(rt.alloc(), &[1, 2, 3])?).copy()?;
-        assert_eq!(rt; push.code(), 3);
-        assert_eq!(rt; push.payload_len(), 3);
-        assert_eq!(rt; push.weight(), 0);
-        assert_eq!(rt; Op::Number(16).copy()?.code(), 0x60);
-        assert_eq!(rt; Op::Number(16).weight(), 0);
-        assert_eq!(rt; Op::If.copy()?.code(), 0x63);
-        assert_eq!(rt; Op::If.weight(), 1);
-        assert_eq!(rt; Op::CheckSequenceVerify.copy()?.code(), 0xb2);
-        Ok(())
-    }
-}

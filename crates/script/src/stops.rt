@@ -83,22 +83,3 @@ impl Cause {
         }
     }
 }
-
-#[cfg(test)]
-mod tests {
-    use super::*;
-    use std::test::Fail;
-
-    #[test]
-    fn prints_its_name(rt: HostRuntime) -> Result<(), Fail> {
-        let printed = format!(in rt.alloc();
-            "{}, {}",
-            Cause::FailedCheck(Kind::Extra),
-            Cause::OpenBranch
-        )?;
-        assert_eq!(rt; printed.as_str(), "FailedCheck Extra, OpenBranch");
-        assert_eq!(rt; Cause::FailedCheck(Kind::Extra).number(), 2);
-        assert_eq!(rt; Cause::FalseEnd.number(), 8);
-        Ok(())
-    }
-}
