@@ -205,39 +205,3 @@ fn runs_the_script_of_a_key_hash(rt: HostRuntime) -> Result<(), Fail> {
     assert_eq!(rt; ran(alloc, &code, &[&token(alloc, &key)?, &key])?, clean);
     Ok(())
 }
-
-// Heights pass heights, times pass times (BIP 65), and a final input has no lock.
-#[test]
-fn checks_absolute_locks(rt: HostRuntime) -> Result<(), Fail> {
-    let alloc = rt.alloc();
-    let late = Err(Stop::At(Cause::FailedCheck(Kind::LockTime), 1));
-    let clean = Ok(Run {
-        counted: 1,
-        height: 1,
-    });
-    assert_eq!(rt; ran(alloc, &[0x02, 0x58, 0x02, 0xb1], &[])?, clean);
-    assert_eq!(rt; ran(alloc, &[0x02, 0x59, 0x02, 0xb1], &[])?, late);
-    assert_eq!(rt; ran(alloc, &[0x01, 0x81, 0xb1], &[])?, late);
-    Ok(())
-}
-
-#[test]
-fn prints_the_cause_and_its_place(rt: HostRuntime) -> Result<(), Fail> {
-    let alloc = rt.alloc();
-    let extra = Stop::At(Cause::FailedCheck(Kind::Extra), 4);
-    assert_eq!(rt;
-        format!(in alloc; "{extra}")?.as_str(),
-        "FailedCheck Extra 4"
-    );
-    assert_eq!(rt;
-        format!(in alloc; "{}", Stop::At(Cause::OpenBranch, 2))?.as_str(),
-        "OpenBranch 2"
-    );
-    assert_eq!(rt;
-        format!(in alloc; "{}", Stop::NoMemory)?.as_str(),
-        "NoMemory"
-    );
-    assert_eq!(rt; extra.number(), 2);
-    assert_eq!(rt; Stop::NoMemory.number(), 0);
-    Ok(())
-}

@@ -1,4 +1,4 @@
 pub mod Derivation
 pub mod Buckets
 pub mod Inserted
-pub mod Errors
+pub mod Refusals

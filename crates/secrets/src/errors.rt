@@ -1,7 +1,7 @@
 //! Why a store refuses a secret.
 
 ghost use Rattle.std.specs.Prelude.{◌≡◌};
-ghost use Rattle.secrets.specs.Errors.{store_error_number};
+ghost use Rattle.secrets.specs.Refusals.{refusal_number};
 
 use thiserror::Error;
 
@@ -19,7 +19,7 @@ pub enum StoreError {
 impl StoreError {
     /// The refusal's number.
     pub fn number(&self) -> u8
-        ensures { result ≡ store_error_number self.now }
+        ensures { result ≡ refusal_number self.now }
     {
         match self {
             StoreError::OutOfTurn => 1,

@@ -1,3 +1,3 @@
 pub mod Signing
-pub mod Errors
+pub mod Refusals
 pub mod Programs

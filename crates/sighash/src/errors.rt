@@ -1,7 +1,7 @@
 //! Why there is no digest.
 
 ghost use Rattle.std.specs.Prelude.{◌≡◌};
-ghost use Rattle.sighash.specs.Errors.{digest_error_number};
+ghost use Rattle.sighash.specs.Refusals.{refusal_number};
 
 use thiserror::Error;
 
@@ -16,7 +16,7 @@ pub enum DigestError {
 impl DigestError {
     /// The refusal's number.
     pub fn number(&self) -> u8
-        ensures { result ≡ digest_error_number self.now }
+        ensures { result ≡ refusal_number self.now }
     {
         match self {
             DigestError::NoSuchInput => 1,

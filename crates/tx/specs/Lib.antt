@@ -1,7 +1,7 @@
 pub mod Limits
 pub mod Parts
 pub mod Fields
-pub mod Errors
+pub mod Refusals
 pub mod Spelling
 pub mod Reading
 pub mod Hashing

@@ -1,7 +1,7 @@
 //! Why a transaction is refused. Each refusal has a number, which is the same in every call of the crate.
 
 ghost use Rattle.std.specs.Prelude.{◌≡◌};
-ghost use Rattle.tx.specs.Errors.{limit_number, field_number, decode_number, encode_number, decoding};
+ghost use Rattle.tx.specs.Refusals.{limit_refusal_number, field_refusal_number, decode_refusal_number, encode_refusal_number, decoding};
 ghost use Rattle.tx.specs.declared.errors.LimitError.TheVariants as limit;
 ghost use Rattle.tx.specs.declared.errors.DecodeError.TheVariants as decode;
 ghost use Rattle.tx.specs.declared.errors.EncodeError.TheVariants as encode;
@@ -80,7 +80,7 @@ pub enum EncodeError {
 impl LimitError {
     /// The refusal's number.
     pub fn number(&self) -> u8
-        ensures { result ≡ limit_number self.now }
+        ensures { result ≡ limit_refusal_number self.now }
     {
         match self {
             LimitError::NoMemory => 0,
@@ -92,7 +92,7 @@ impl LimitError {
 impl FieldError {
     /// The refusal's number.
     pub fn number(&self) -> u8
-        ensures { result ≡ field_number self.now }
+        ensures { result ≡ field_refusal_number self.now }
     {
         match self {
             FieldError::NoInputs => 4,
@@ -105,7 +105,7 @@ impl FieldError {
 impl DecodeError {
     /// The refusal's number.
     pub fn number(&self) -> u8
-        ensures { result ≡ decode_number self.now }
+        ensures { result ≡ decode_refusal_number self.now }
     {
         match self {
             DecodeError::NoMemory => 0,
@@ -124,7 +124,7 @@ impl DecodeError {
 impl EncodeError {
     /// The refusal's number.
     pub fn number(&self) -> u8
-        ensures { result ≡ encode_number self.now }
+        ensures { result ≡ encode_refusal_number self.now }
     {
         match self {
             EncodeError::NoMemory => 0,

@@ -147,5 +147,8 @@ fn prints_every_stop(rt: HostRuntime) -> Result<(), Fail> {
     }
     let late = Stop::At(Cause::FalseEnd, 1234);
     assert_eq!(rt; format!(in alloc; "{late}")?.as_str(), "FalseEnd 1234");
+    let none = Stop::NoMemory;
+    assert_eq!(rt; format!(in alloc; "{none}")?.as_str(), "NoMemory");
+    assert_eq!(rt; none.number(), 0);
     Ok(())
 }

@@ -4,6 +4,6 @@ use Rattle.secrets.specs.declared.errors.StoreError.{StoreError}
 use Rattle.secrets.specs.declared.errors.StoreError.TheVariants.{OutOfTurn, NotOfThisSeed}
 
 -- 0, that memory ran out, is not there: a store takes none
-abbrev pub store_error_number : StoreError → ℕ
-store_error_number OutOfTurn = 1
-store_error_number NotOfThisSeed = 2
+abbrev pub refusal_number : StoreError → ℕ
+refusal_number OutOfTurn = 1
+refusal_number NotOfThisSeed = 2

@@ -4,5 +4,5 @@ use Rattle.sighash.specs.declared.errors.DigestError.{DigestError}
 use Rattle.sighash.specs.declared.errors.DigestError.TheVariants.{NoSuchInput}
 
 -- 0, that memory ran out, is not there: a digest takes none
-abbrev pub digest_error_number : DigestError → ℕ
-digest_error_number NoSuchInput = 1
+abbrev pub refusal_number : DigestError → ℕ
+refusal_number NoSuchInput = 1
