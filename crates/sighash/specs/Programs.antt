@@ -7,6 +7,7 @@ use Rattle.digest.specs.Hash.{sha256d}
 use Rattle.script.specs.declared.opcode.Op.{Op}
 use Rattle.script.specs.declared.opcode.Op.TheVariants.{Push, Number, If, NotIf, Else, EndIf, Drop, Dup, Swap, Size, Equal, EqualVerify, Hash160, CheckSig, CheckMultiSig, CheckLockTimeVerify, CheckSequenceVerify}
 use Rattle.script.specs.declared.spending.Spend.{Spend}
+use Rattle.script.specs.Limits.{max_script_size}
 use Rattle.script.specs.Spelling.{code_of}
 use Rattle.script.specs.Run.{Outcome, outcome}
 use Rattle.tx.specs.declared.input.TxIn.{TxIn}
@@ -41,7 +42,7 @@ ops_within (suc n) (b ∷ rest) =
 
 -- the opcodes of a script, where the bytes are one: at most 10,000, and split into opcodes
 unfoldable pub script_ops : List ℕ → Option (List Op)
-script_ops bytes = if nat_le (length bytes) 10000 then ops_within (length bytes) bytes else None
+script_ops bytes = if nat_le (length bytes) max_script_size then ops_within (length bytes) bytes else None
 
 -- version 0 and the hash of a key
 abbrev pub is_key_hash_program : List ℕ → Bool

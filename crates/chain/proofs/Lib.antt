@@ -1,0 +1,6 @@
+pub mod Parsing
+pub mod Lists
+pub mod Finding
+pub mod Growing
+pub mod Sums
+pub mod Examples

@@ -1,0 +1,7 @@
+use Rattle.std.proofs.Common.{◌≡◌, drop}
+use Rattle.chain.proofs.connecting.disconnect.Given as goal
+
+abbrev pub invariant-loop-taken : goal.invariant-loop-taken
+invariant-loop-taken g l =
+    let standing = g.S.Store.standing in
+    standing l.store ≡ record (standing l.fn.store) { blocks = drop l._taken (standing l.fn.store).blocks }

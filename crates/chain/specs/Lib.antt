@@ -1,0 +1,9 @@
+pub mod Blocks
+pub mod Locks
+pub mod Refusals
+pub mod Running
+pub mod Tests
+pub mod Connecting
+pub mod Storing
+pub mod Scanning
+pub mod Totals

@@ -1,0 +1,118 @@
+//! Blocks, and the transactions in them.
+
+ghost use Rattle.std.specs.Prelude.{◌≡◌, ◌∷◌, reverse, OnOk, OnErr, MatchOption, [], List};
+ghost use Rattle.tx.specs.Spelling.{transaction_id};
+ghost use Rattle.tx.specs.Fields.{Transaction};
+ghost use Rattle.tx.specs.Parts.{Output};
+ghost use Rattle.chain.specs.Blocks.{empty_block, Contents};
+
+use lists::Stack;
+use std::alloc::{AllocError, Global};
+use std::marker::Model;
+use tx::{Tx, TxOut, txid};
+
+/// A transaction in a block, with its id.
+#[derive(Debug, Drop)]
+pub struct Confirmed {
+    id: [u8; 32],
+    tx: Tx,
+}
+
+impl Model for Confirmed {
+    ghost use Rattle.std.specs.Prelude.{◌≡◌};
+    ghost use Rattle.tx.specs.Fields.{Transaction};
+    ghost use Rattle.tx.specs.Spelling.{transaction_id};
+
+    ghost Value = { Transaction };
+
+    ghost view = { λ c. c.tx };
+
+    ghost invariant = { λ c. c.id ≡ transaction_id c.tx };
+}
+
+impl Confirmed {
+    /// The transaction with its id.
+    pub fn new(tx: Tx) -> Self
+        ensures { result ≡ tx }
+    {
+        Confirmed { id: txid(&tx), tx }
+    }
+
+    /// The id: SHA-256 twice of the transaction without its witnesses, in the hash's own byte order.
+    pub fn id(&self) -> &[u8; 32]
+        ensures { result.now ≡ transaction_id self.now }
+    {
+        &self.id
+    }
+
+    /// The transaction.
+    pub fn tx(&self) -> &Tx
+        ensures { result.now ≡ self.now }
+    {
+        &self.tx
+    }
+}
+
+/// A block: its transactions, and the outputs that were granted while it was the newest.
+#[derive(Debug, Drop)]
+pub struct Block {
+    transactions: Stack<Confirmed>,
+    granted: Stack<TxOut>,
+}
+
+impl Model for Block {
+    ghost use Rattle.chain.specs.Blocks.{Contents};
+
+    ghost Value = { Contents };
+
+    ghost view = { λ b. record { transactions = b.transactions; granted = b.granted } };
+}
+
+impl Block {
+    /// An empty block.
+    pub(crate) fn new(alloc: Global) -> Self
+        ensures { result ≡ empty_block }
+    {
+        Block {
+            transactions: Stack::new(alloc),
+            granted: Stack::new(alloc),
+        }
+    }
+
+    /// The transactions in their order.
+    pub fn transactions(&self) -> &[Confirmed]
+        ensures { result.now ≡ reverse self.now.transactions }
+    {
+        self.transactions.values()
+    }
+
+    /// The outputs that were granted, in their order.
+    pub fn granted(&self) -> &[TxOut]
+        ensures { result.now ≡ reverse self.now.granted }
+    {
+        self.granted.values()
+    }
+
+    // Adds a transaction at the end.
+    pub(crate) fn push(&mut self, confirmed: Confirmed) -> Result<(), AllocError>
+        ensures ok { OnOk result (self.new ≡ record self.old { transactions = confirmed ∷ self.old.transactions }) }
+        ensures err { OnErr result (self.new ≡ self.old) }
+    {
+        self.transactions.push(confirmed)
+    }
+
+    // Adds a granted output at the end.
+    pub(crate) fn grant(&mut self, output: TxOut) -> Result<(), AllocError>
+        ensures ok { OnOk result (self.new ≡ record self.old { granted = output ∷ self.old.granted }) }
+        ensures err { OnErr result (self.new ≡ self.old) }
+    {
+        self.granted.push(output)
+    }
+
+    // Takes the last transaction off.
+    pub(crate) fn pop(&mut self) -> Option<Confirmed>
+        ensures { MatchOption result ((self.old.transactions ≡ []) × (self.new ≡ self.old)) (λ t. self.old ≡ record self.new { transactions = t ∷ self.new.transactions }) }
+    {
+        self.transactions.pop()
+    }
+}

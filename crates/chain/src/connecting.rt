@@ -1,0 +1,164 @@
+//! How a chain grows and shrinks by whole blocks.
+
+ghost use Rattle.std.specs.Prelude.{◌≡◌, ℕ, ◌-◌, ◌≤◌, ◌%◌, ◌^◌, ◌++◌, length, drop, reverse, Ok, Err, IfOk, OnOk, MatchResult};
+ghost use Rattle.std.specs.List.{list_any};
+ghost use Rattle.chain.specs.Blocks.{grant_outpoint, transactions_of};
+ghost use Rattle.chain.specs.Connecting.{Connects, Disconnects, Grants, has_grant, is_too_deep};
+ghost use Rattle.chain.specs.Storing.{AddsOne, AddsAll};
+
+use crate::blocks::{Block, Confirmed};
+use crate::program::is_program;
+use crate::refusal::{BlockError, Refusal};
+use crate::store::Store;
+use crate::testing::check_transaction;
+use digest::sha256;
+use sha2::{Digest, Sha256};
+use std::alloc::{AllocError, Global};
+use tx::hashing::absorb_u64;
+use tx::{OutPoint, Tx, TxOut};
+
+/// The outpoint of the grant that so many came before.
+#[tactic(auto, unfolding(crate::specs::Blocks::grant_id))]
+pub(crate) fn grant_outpoint(before: u64) -> OutPoint
+    ensures { (g : ℕ) → before ≡ g % 2 ^ 64 → result ≡ grant_outpoint g }
+{
+    let mut hasher = Sha256::new();
+    hasher.update(b"grant");
+    absorb_u64(&mut hasher, before);
+    OutPoint {
+        txid: sha256(&hasher.finalize()),
+        index: 0,
+    }
+}
+
+/// Adds a granted output to the newest block.
+pub(crate) fn grant<S: Store>(store: &mut S, output: TxOut) -> Result<OutPoint, Refusal>
+    ensures { Grants (S.standing store.old) output result (S.standing store.new) }
+{
+    if !is_program(output.script().bytes()) {
+        return Err(Refusal::BadProgram);
+    }
+    let outpoint = grant_outpoint(store.grants());
+    store.add_grant(output)?;
+    Ok(outpoint)
+}
+
+/// Adds one transaction to the newest block, where it passes its tests.
+fn add_one<S: Store>(store: &mut S, tx: Tx) -> Result<(), Refusal>
+    ensures { AddsOne (S.standing store.old) tx result (S.standing store.new) }
+{
+    let confirmed = Confirmed::new(tx);
+    check_transaction(&*store, &confirmed)?;
+    store.add(confirmed)?;
+    Ok(())
+}
+
+/// Adds transactions to the newest block, up to the first that is refused.
+fn add_all<S: Store>(store: &mut S, txs: Vec<Tx>) -> Result<(), BlockError>
+    ensures { AddsAll (S.standing store.old) txs.items result (S.standing store.new) }
+{
+    let mut index = 0usize;
+    for tx in txs {
+        if let Err(refusal) = add_one(store, tx) {
+            return Err(BlockError { index, refusal });
+        }
+        index += 1;
+    }
+    Ok(())
+}
+
+/// Adds the next block. A refusal changes nothing.
+#[tactic(auto, using(crate::proofs::Growing::more_than_one))]
+pub(crate) fn connect<S: Store>(store: &mut S, txs: Vec<Tx>) -> Result<u64, BlockError>
+    ensures { Connects (S.standing store.old) txs.items result (S.standing store.new) }
+{
+    let height = store.blocks().len() as u64;
+    if store.begin().is_err() {
+        return Err(BlockError {
+            index: 0,
+            refusal: Refusal::NoMemory,
+        });
+    }
+    if let Err(error) = add_all(store, txs) {
+        store.take_off();
+        return Err(error);
+    }
+    store.note_height();
+    Ok(height)
+}
+
+/// How far the height may fall below the greatest that the chain ever had.
+const MAX_DEPTH: u64 = 6;
+
+/// Whether so many blocks can't be taken off.
+#[tactic(auto, using(crate::proofs::Growing::grants_among_newest))]
+fn is_too_deep<S: Store>(store: &S, k: u64) -> bool
+    ensures { result ≡ is_too_deep (S.standing store.now) k }
+{
+    let blocks = store.blocks();
+    let height = blocks.len() as u64 - 1;
+    if height < k || height - k + MAX_DEPTH < store.greatest() {
+        return true;
+    }
+    have_grant(newest(blocks, k))
+}
+
+/// So many of the newest blocks.
+fn newest(blocks: &[Block], k: u64) -> &[Block]
+    requires { k ≤ length blocks.now }
+    ensures { result.now ≡ drop (length blocks.now - k) blocks.now }
+{
+    let before = blocks.len() - k as usize;
+    blocks.split_at(before).1
+}
+
+/// Whether outputs were granted in the block.
+fn has_grant(block: &Block) -> bool
+    ensures { result ≡ has_grant block.now }
+{
+    !block.granted().is_empty()
+}
+
+/// Whether one of the blocks holds a grant.
+fn have_grant(blocks: &[Block]) -> bool
+    ensures { result ≡ list_any has_grant blocks.now }
+{
+    blocks.iter().any(|block| has_grant(block))
+}
+
+/// Copies the transactions of blocks, in their order.
+fn copied(alloc: Global, blocks: &[Block]) -> Result<Vec<Tx>, AllocError>
+    ensures { IfOk result (λ txs. txs.items ≡ reverse (transactions_of (reverse blocks.now))) }
+{
+    let mut txs = Vec::new(alloc);
+    for block in blocks {
+        copy_onto(block.transactions(), &mut txs)?;
+    }
+    Ok(txs)
+}
+
+/// Copies transactions behind others.
+fn copy_onto(transactions: &[Confirmed], txs: &mut Vec<Tx>) -> Result<(), AllocError>
+    ensures { OnOk result (txs.new.items ≡ txs.old.items ++ transactions.now) }
+{
+    for confirmed in transactions {
+        txs.push(confirmed.tx().copy()?)?;
+    }
+    Ok(())
+}
+
+/// Takes so many of the newest blocks off, and gives their transactions in their order.
+#[tactic(auto, using(crate::proofs::Growing::more_left, crate::proofs::Growing::none_granted_left, crate::proofs::Growing::one_fewer, crate::proofs::Growing::transactions_of_newest))]
+pub(crate) fn disconnect<S: Store>(store: &mut S, k: u64) -> Result<Vec<Tx>, Refusal>
+    ensures { MatchResult result (λ txs. Disconnects (S.standing store.old) k (Ok txs.items) (S.standing store.new)) (λ e. Disconnects (S.standing store.old) k (Err e) (S.standing store.new)) }
+{
+    if is_too_deep(&*store, k) {
+        return Err(Refusal::TooDeep);
+    }
+    let blocks = store.blocks();
+    let txs = copied(store.allocator(), newest(blocks, k))?;
+    for _taken in 0..k {
+        store.take_off();
+    }
+    Ok(txs)
+}

@@ -1,0 +1,36 @@
+//! The simulated chain: blocks of transactions, the outputs that they create and spend, time locks, and blocks taken off again.
+//!
+//! [`Coins`] has the calls. A call speaks of the list of blocks as it stands: an input passes exactly where its output was created and
+//! is unspent, its locks are reached (BIP 65, BIP 68), and the output's program runs clean on its witness (BIP 141); a block is connected
+//! exactly where each of its transactions passes, and else the first at fault is named and nothing changes. [`Scan`] looks through its
+//! blocks for every answer.
+//!
+//! ```rust
+//! /// Grants an output, and spends it in the next block.
+//! fn spend<C: Coins>(chain: &mut C, output: TxOut, tx: Vec<Tx>) -> Result<u64, BlockError> {
+//!     let _ = chain.grant(output);
+//!     chain.connect(tx)
+//! }
+//! ```
+#![tactic(auto)]
+
+mod blocks;
+mod chain_blocks;
+mod coins;
+mod connecting;
+mod locks;
+mod program;
+mod refusal;
+mod scan;
+mod store;
+mod testing;
+#[cfg(test)]
+mod tests;
+mod totals;
+
+pub use blocks::{Block, Confirmed};
+pub use coins::Coins;
+pub use program::run_program;
+pub use refusal::{BlockError, Refusal};
+pub use scan::Scan;
+pub use totals::Unspent;

@@ -1,0 +1,143 @@
+//! Runs of the version 0 witness programs of outputs (BIP 141).
+
+ghost use Rattle.std.specs.Prelude.{◌≡◌, ◌==◌, ◌≤◌, length, drop, map, Some, None, IfOk, option_map, slice_get, reverse};
+ghost use Rattle.std.specs.Str.{bytes_eq};
+ghost use Rattle.script.specs.Run.{outcome};
+ghost use Rattle.sighash.specs.Programs.{is_key_hash_program, is_script_hash_program, key_hash_script, script_ops, spend_of, run_of, run_of_given, given_by_hash, given_of};
+ghost use Rattle.chain.specs.Connecting.{is_program};
+ghost use Rattle.chain.specs.Running.{IsRun, IsParsed};
+
+use crate::refusal::Refusal;
+use digest::sha256;
+use lists::ByteString;
+use machine::{Run, Stop, run};
+use script::{ParseError, Script, Spend};
+use sighash::SighashCache;
+use std::alloc::{AllocError, Global};
+use tx::{Tx, TxIn, TxOut};
+
+/// Whether bytes are the program of a key's hash: 00, 14 and 20 bytes.
+fn is_key_hash_program(program: &[u8]) -> bool
+    ensures { result ≡ is_key_hash_program program.now }
+{
+    program.len() == 22 && program[..2] == [0x00, 0x14]
+}
+
+/// Whether bytes are the program of a script's hash: 00, 20 and 32 bytes.
+fn is_script_hash_program(program: &[u8]) -> bool
+    ensures { result ≡ is_script_hash_program program.now }
+{
+    program.len() == 34 && program[..2] == [0x00, 0x20]
+}
+
+/// Whether bytes are a program of version 0 in one of its two forms.
+pub(crate) fn is_program(program: &[u8]) -> bool
+    ensures { result ≡ is_program program.now }
+{
+    is_key_hash_program(program) || is_script_hash_program(program)
+}
+
+/// DUP HASH160 hash EQUALVERIFY CHECKSIG.
+fn key_hash_script(alloc: Global, hash: &[u8]) -> Result<Vec<u8>, AllocError>
+    ensures { IfOk result (λ s. s.items ≡ key_hash_script hash.now) }
+{
+    let mut script = Vec::new(alloc);
+    script.extend_from_slice(&[0x76, 0xa9, 0x14])?;
+    script.extend_from_slice(hash)?;
+    script.extend_from_slice(&[0x88, 0xac])?;
+    Ok(script)
+}
+
+/// Reads a script; `BadProgram` where the bytes are none.
+#[tactic(auto, using(crate::proofs::Parsing::parsed, crate::proofs::Parsing::unparsed))]
+fn parse(alloc: Global, bytes: &[u8]) -> Result<Script, Refusal>
+    ensures { IsParsed (script_ops bytes.now) result }
+{
+    match Script::parse(alloc, bytes) {
+        Ok(script) => Ok(script),
+        Err(error) => match error {
+            ParseError::NoMemory => Err(Refusal::NoMemory),
+            _ => Err(Refusal::BadProgram),
+        },
+    }
+}
+
+/// Runs a script on items. `index` is that of the input, and `cache` that of the transaction.
+fn run_script(
+    alloc: Global,
+    tx: &Tx,
+    cache: &SighashCache<'_>,
+    index: usize,
+    input: &TxIn,
+    value: u64,
+    script: &[u8],
+    items: &[ByteString],
+) -> Result<Run, Refusal>
+    requires cached { cache.now ≡ tx.now }
+    requires indexed { slice_get tx.now.inputs index ≡ Some input.now }
+    ensures { IsRun (run_of_given tx.now input.now value (record { script = script.now; items = items.now })) result }
+{
+    let parsed = parse(alloc, script)?;
+    let Ok(digest) = cache.digest_of(index, script, value) else {
+        unreachable!()
+    };
+    let spend = Spend {
+        version: tx.version(),
+        lock_time: tx.lock_time(),
+        sequence: input.sequence,
+        digest,
+    };
+    match run(alloc, &parsed, items, &spend) {
+        Ok(run) => Ok(run),
+        Err(Stop::NoMemory) => Err(Refusal::NoMemory),
+        Err(Stop::At(cause, at)) => Err(Refusal::Script(cause, at)),
+    }
+}
+
+/// Runs the program of an output on the witness of the input that spends it (BIP 141). `index` is that of the input, and `cache` that of
+/// the transaction, so that what the digests of its inputs share is hashed once. `BadProgram` where the program is not of version 0, or
+/// the witness or its script has not the program's form; `Script` where the script stops.
+#[tactic(auto, unfolding(sighash::specs::Programs::run_of, sighash::specs::Programs::given_of))]
+pub fn run_program(
+    alloc: Global,
+    tx: &Tx,
+    cache: &SighashCache<'_>,
+    index: usize,
+    input: &TxIn,
+    output: &TxOut,
+) -> Result<Run, Refusal>
+    requires cached { cache.now ≡ tx.now }
+    requires indexed { slice_get tx.now.inputs index ≡ Some input.now }
+    ensures { IsRun (run_of tx.now input.now output.now) result }
+{
+    let program = output.script().bytes();
+    let witness = input.witness.as_slice();
+    if is_key_hash_program(program) {
+        if witness.len() != 2 {
+            return Err(Refusal::BadProgram);
+        }
+        let script = key_hash_script(alloc, &program[2..])?;
+        let code = script.as_slice();
+        return run_script(
+            alloc,
+            tx,
+            cache,
+            index,
+            input,
+            output.value(),
+            code,
+            witness,
+        );
+    }
+    if !is_script_hash_program(program) {
+        return Err(Refusal::BadProgram);
+    }
+    let Some((script, items)) = witness.split_last() else {
+        return Err(Refusal::BadProgram);
+    };
+    let code = script.bytes();
+    if sha256(code).as_slice() != &program[2..] {
+        return Err(Refusal::BadProgram);
+    }
+    run_script(alloc, tx, cache, index, input, output.value(), code, items)
+}
