@@ -13,12 +13,6 @@ const BYTES: [u8; 87] = [
     0x01, 0x01, 0x01, 0x00, 0x00, 0x00, 0x00,
 ];
 
-// SHA-256 twice over the bytes without marker, flag and witnesses.
-const ID: [u8; 32] = [
-    0xd9, 0x14, 0xe1, 0x17, 0x58, 0x49, 0x69, 0x5a, 0xf5, 0x60, 0x6e, 0x0c, 0xb9, 0xf0, 0x55, 0x51,
-    0x40, 0xe8, 0x08, 0x37, 0xf5, 0xe9, 0x2a, 0x70, 0x7f, 0x0d, 0x7d, 0x24, 0x8b, 0x1a, 0xc8, 0x90,
-];
-
 // The number of the refusal that `decode` answers, or 100.
 fn answer(alloc: Global, bytes: &[u8]) -> u8 {
     match decode(alloc, bytes) {
@@ -35,40 +29,6 @@ fn ending(alloc: Global, count: usize, others: &[u8]) -> Result<Vec<u8>, AllocEr
     }
     bytes.extend_from_slice(others)?;
     Ok(bytes)
-}
-
-#[test]
-fn reads_and_writes(rt: HostRuntime) -> Result<(), Fail> {
-    let tx = decode(rt.alloc(), &BYTES)
-        .ok()
-        .ok_or("the bytes are a transaction")?;
-    assert_eq!(rt; tx.version(), 2);
-    assert_eq!(rt; tx.inputs().len(), 1);
-    for input in tx.inputs() {
-        assert_eq!(rt;
-            input.outpoint,
-            OutPoint {
-                txid: [0; 32],
-                index: 0
-            }
-        );
-        assert_eq!(rt; input.sequence, 0);
-        for item in input.witness.as_slice() {
-            assert_eq!(rt; item.bytes(), [1].as_slice());
-        }
-    }
-    for output in tx.outputs() {
-        assert_eq!(rt; output.value(), 1000);
-        assert_eq!(rt; output.script().bytes(), &BYTES[58..80]);
-    }
-    assert_eq!(rt; tx.lock_time(), 0);
-    assert_eq!(rt; txid(&tx), ID);
-    let copy = tx.copy()?;
-    let bytes = encode(rt.alloc(), &copy)
-        .ok()
-        .ok_or("the transaction has bytes")?;
-    assert_eq!(rt; bytes.as_slice(), BYTES.as_slice());
-    Ok(())
 }
 
 #[test]
@@ -191,146 +151,160 @@ fn first_faults(rt: HostRuntime) -> Result<(), Fail> {
     Ok(())
 }
 
-// Whether the bytes are a transaction with an output of this value in satoshis.
-fn pays(alloc: Global, bytes: &[u8], value: u64) -> Result<bool, DecodeError> {
-    let tx = decode(alloc, bytes)?;
-    Ok(tx.outputs().iter().any(|output| output.value() == value))
+// The sizes of a transaction: how many inputs and outputs, items of each input, bytes of each item and script.
+#[derive(Clone, Copy, Drop)]
+struct Sizes {
+    inputs: usize,
+    outputs: usize,
+    items: usize,
+    item: usize,
+    script: usize,
 }
 
-#[test]
-fn greatest_value(rt: HostRuntime) -> Result<(), Fail> {
-    let mut bytes = ending(
-        rt.alloc(),
-        49,
-        &[0x00, 0x40, 0x07, 0x5a, 0xf0, 0x75, 0x07, 0x00],
-    )?;
-    bytes.extend_from_slice(&BYTES[57..])?;
-    assert!(rt; matches!(pays(rt.alloc(), &bytes, MAX_VALUE), Ok(true)));
-    assert!(rt; matches!(pays(rt.alloc(), &BYTES, MAX_VALUE), Ok(false)));
-    assert!(rt; TxOut::new(MAX_VALUE + 1, ByteString::new(rt.alloc())).is_err());
-    Ok(())
-}
-
-// An input with these items.
-fn input_of(alloc: Global, count: usize) -> Result<TxIn, LimitError> {
-    let mut witness = Witness::new(alloc);
+// Bytes of one value.
+fn repeated(alloc: Global, byte: usize, count: usize) -> Result<ByteString, AllocError> {
+    let mut all = Vec::new(alloc);
     for _ in 0..count {
-        witness.push(ByteString::from_slice(alloc, b"item")?)?;
+        all.push((byte % 251) as u8)?;
+    }
+    Ok(ByteString::from_vec(all))
+}
+
+// The k-th input, with this many items of this length.
+fn input_of(alloc: Global, k: usize, items: usize, len: usize) -> Result<TxIn, LimitError> {
+    let mut witness = Witness::new(alloc);
+    for q in 0..items {
+        witness.push(repeated(alloc, k.wrapping_add(q), len)?)?;
     }
     Ok(TxIn {
         outpoint: OutPoint {
-            txid: [7; 32],
-            index: 1,
+            txid: [(k % 256) as u8; 32],
+            index: (k % 5_000) as u32,
         },
         sequence: 144,
         witness,
     })
 }
 
-// A transaction of `count` inputs with `items` items each, and as many outputs.
-fn transaction_of(alloc: Global, count: usize, items: usize) -> Result<Tx, LimitError> {
+// A transaction of these sizes.
+fn transaction_of(alloc: Global, sizes: Sizes) -> Result<Tx, Fail> {
     let mut inputs = Inputs::new(alloc);
+    for k in 0..sizes.inputs {
+        inputs.push(input_of(alloc, k, sizes.items, sizes.item)?)?;
+    }
     let mut outputs = Outputs::new(alloc);
-    for _ in 0..count {
-        inputs.push(input_of(alloc, items)?)?;
-        let script = ByteString::from_slice(alloc, &[0x51; 300])?;
-        match TxOut::new(5000, script) {
-            Ok(output) => outputs.push(output)?,
-            Err(_) => return Err(LimitError::OverLimit),
+    for k in 0..sizes.outputs {
+        let value = (k % 5_000) as u64 * 1_000;
+        outputs.push(TxOut::new(value, repeated(alloc, k, sizes.script)?)?)?;
+    }
+    Ok(Tx::new(2, inputs, outputs, 500)?)
+}
+
+// Whether a transaction of these sizes is encoded, decoded, copied, stripped and compared.
+fn goes_round(alloc: Global, sizes: Sizes) -> Result<bool, Fail> {
+    let tx = transaction_of(alloc, sizes)?;
+    let read = decode(alloc, &encode(alloc, &tx)?)?;
+    let mut bare = read.copy()?;
+    bare.strip_witnesses();
+    let stripped = decode_stripped(alloc, &encode_stripped(alloc, &tx)?)?;
+    let unsigned = matches!(encode(alloc, &bare), Err(EncodeError::NoWitness));
+    Ok(read.equals(&tx) && bare.equals(&stripped) && !bare.equals(&tx) && unsigned)
+}
+
+const PLAIN: Sizes = Sizes {
+    inputs: 1,
+    outputs: 1,
+    items: 1,
+    item: 1,
+    script: 22,
+};
+
+// At each limit, and at lengths on the way: memory that is there is found.
+#[test]
+fn goes_round_in_every_shape(rt: HostRuntime) -> Result<(), Fail> {
+    for n in (1usize..=600).step_by(7) {
+        for sizes in [
+            Sizes { item: n, ..PLAIN },
+            Sizes { script: n, ..PLAIN },
+            Sizes { items: n, ..PLAIN },
+            Sizes { inputs: n, ..PLAIN },
+            Sizes {
+                outputs: n,
+                ..PLAIN
+            },
+        ] {
+            assert!(rt; goes_round(rt.alloc(), sizes)?, "{n}");
         }
     }
-    match Tx::new(2, inputs, outputs, 500) {
-        Ok(tx) => Ok(tx),
-        Err(_) => Err(LimitError::OverLimit),
+    for sizes in [
+        Sizes {
+            inputs: 4_000,
+            outputs: 4_000,
+            ..PLAIN
+        },
+        Sizes {
+            items: 1_001,
+            item: 0,
+            ..PLAIN
+        },
+        Sizes {
+            item: 10_000,
+            script: 10_000,
+            ..PLAIN
+        },
+    ] {
+        assert!(rt; goes_round(rt.alloc(), sizes)?);
     }
-}
-
-#[test]
-fn made_by_hand(rt: HostRuntime) -> Result<(), Fail> {
-    let signed = transaction_of(rt.alloc(), 260, 2)
-        .ok()
-        .ok_or("the limits are kept")?;
-    let bytes = encode(rt.alloc(), &signed)
-        .ok()
-        .ok_or("the transaction has bytes")?;
-    let read = decode(rt.alloc(), &bytes)
-        .ok()
-        .ok_or("the bytes are a transaction")?;
-    assert_eq!(rt; txid(&read), txid(&signed));
-    let unsigned = transaction_of(rt.alloc(), 260, 0)
-        .ok()
-        .ok_or("the limits are kept")?;
-    assert_eq!(rt; txid(&unsigned), txid(&signed));
-    match encode(rt.alloc(), &unsigned) {
-        Ok(_) => assert!(rt; false, "it has no witness"),
-        Err(error) => assert_eq!(rt; error.number(), 5),
-    }
-    assert!(rt; Tx::new(2, Inputs::new(rt.alloc()), Outputs::new(rt.alloc()), 0).is_err());
     Ok(())
 }
 
 #[test]
-fn limits_of_bytes(rt: HostRuntime) -> Result<(), Fail> {
-    let mut long = Vec::new(rt.alloc());
-    for _ in 0..10_000 {
-        long.push(0)?;
-    }
-    let longest = ByteString::from_vec(long);
-    let mut witness = Witness::new(rt.alloc());
-    assert!(rt; witness.push(longest.copy()?).is_ok());
-    assert!(rt; TxOut::new(0, longest.copy()?).is_ok());
-    let mut long = longest.into_vec();
-    long.push(0)?;
-    let longer = ByteString::from_vec(long);
-    assert!(rt; TxOut::new(0, longer.copy()?).is_err());
-    assert!(rt; witness.push(longer).is_err());
-    assert_eq!(rt; witness.len(), 1);
+fn refuses_long_items_and_witnesses(rt: HostRuntime) -> Result<(), Fail> {
+    let alloc = rt.alloc();
+    let long = repeated(alloc, 0, 10_001)?;
+    assert!(rt; matches!(TxOut::new(0, long.copy()?), Err(FieldError::OverLimit)));
+    let mut full = input_of(alloc, 0, 1_001, 1)?;
+    let more = full.witness.push(ByteString::new(alloc));
+    assert!(rt; matches!(more, Err(LimitError::OverLimit)));
+    let mut witness = Witness::new(alloc);
+    assert!(rt; matches!(witness.push(long), Err(LimitError::OverLimit)));
+    assert!(rt; witness.is_empty());
     Ok(())
 }
 
 #[test]
-fn limits_of_lists(rt: HostRuntime) -> Result<(), Fail> {
-    let mut full = input_of(rt.alloc(), 1_001)
-        .ok()
-        .ok_or("1,001 items are a witness")?;
-    assert!(rt; full.witness.push(ByteString::new(rt.alloc())).is_err());
-    assert_eq!(rt; full.witness.len(), 1_001);
-    let mut inputs = Inputs::new(rt.alloc());
-    let mut outputs = Outputs::new(rt.alloc());
-    for _ in 0..4_000 {
-        assert!(rt;
-            inputs
-                .push(input_of(rt.alloc(), 0).ok().ok_or("an input")?)
-                .is_ok()
-        );
-        let output = TxOut::new(0, ByteString::new(rt.alloc()));
-        assert!(rt; outputs.push(output.ok().ok_or("an output")?).is_ok());
-    }
-    assert!(rt;
-        inputs
-            .push(input_of(rt.alloc(), 0).ok().ok_or("an input")?)
-            .is_err()
-    );
-    let output = TxOut::new(0, ByteString::new(rt.alloc()));
-    assert!(rt; outputs.push(output.ok().ok_or("an output")?).is_err());
+fn refuses_long_lists(rt: HostRuntime) -> Result<(), Fail> {
+    let alloc = rt.alloc();
+    let parts = transaction_of(
+        alloc,
+        Sizes {
+            inputs: 4_000,
+            outputs: 4_000,
+            ..PLAIN
+        },
+    )?
+    .into_parts();
+    let (mut inputs, mut outputs) = (parts.inputs, parts.outputs);
+    let input = inputs.push(input_of(alloc, 0, 0, 0)?);
+    assert!(rt; matches!(input, Err(LimitError::OverLimit)));
+    let output = outputs.push(TxOut::new(0, ByteString::new(alloc))?);
+    assert!(rt; matches!(output, Err(LimitError::OverLimit)));
+    assert!(rt; inputs.len() == 4_000 && outputs.len() == 4_000);
+    let none = Tx::new(2, Inputs::new(alloc), outputs, 0);
+    assert!(rt; matches!(none, Err(FieldError::NoInputs)));
+    let greatest = TxOut::new(MAX_VALUE + 1, ByteString::new(alloc));
+    assert!(rt; matches!(greatest, Err(FieldError::ValueTooLarge)));
     Ok(())
 }
 
-// The transaction of the bytes, with its witnesses taken away, and then set again.
+// Witnesses that are taken away and set again; the id is that of the form without them.
 #[test]
-fn stripped_and_signed_again(rt: HostRuntime) -> Result<(), Fail> {
-    let tx = decode(rt.alloc(), &BYTES)
-        .ok()
-        .ok_or("the bytes are a transaction")?;
+fn signs_again(rt: HostRuntime) -> Result<(), Fail> {
+    let tx = decode(rt.alloc(), &BYTES)?;
     let mut bare = tx.copy()?;
     bare.strip_witnesses();
     assert!(rt; !bare.has_witness() && !bare.equals(&tx));
-    assert_eq!(rt; txid(&bare), ID);
-    let stripped = encode_stripped(rt.alloc(), &tx)?;
-    let read = decode_stripped(rt.alloc(), &stripped)
-        .ok()
-        .ok_or("the bytes are a transaction")?;
-    assert!(rt; read.equals(&bare));
+    assert_eq!(rt; txid(&bare), txid(&tx));
     for input in tx.inputs() {
         if !bare.inputs().is_empty() {
             bare.set_witness(0, input.witness.copy()?);
@@ -341,23 +315,78 @@ fn stripped_and_signed_again(rt: HostRuntime) -> Result<(), Fail> {
     Ok(())
 }
 
+// Each field alone makes two transactions unlike: version, id, index, sequence, value, script, witness item and lock time.
 #[test]
-fn prints_refusals(rt: HostRuntime) -> Result<(), Fail> {
-    assert_eq!(rt;
-        format!(in rt.alloc(); "{}", DecodeError::ValueTooLarge)?.as_str(),
-        "ValueTooLarge"
-    );
-    assert_eq!(rt;
-        format!(in rt.alloc(); "{}", EncodeError::NoWitness)?.as_str(),
-        "NoWitness"
-    );
-    assert_eq!(rt;
-        format!(in rt.alloc(); "{}", LimitError::OverLimit)?.as_str(),
-        "OverLimit"
-    );
-    assert_eq!(rt;
-        format!(in rt.alloc(); "{}", FieldError::NoInputs)?.as_str(),
-        "NoInputs"
-    );
+fn compares_every_field(rt: HostRuntime) -> Result<(), Fail> {
+    let tx = decode(rt.alloc(), &BYTES)?;
+    for place in [0usize, 7, 39, 44, 49, 60, 82, 86] {
+        let mut bytes = BYTES;
+        bytes[place] ^= 1;
+        let other = decode(rt.alloc(), &bytes)?;
+        assert!(rt; !other.equals(&tx) && !tx.equals(&other), "{place}");
+    }
+    Ok(())
+}
+
+// Outpoints stand in the order of their ids, and then of their indices.
+#[test]
+fn orders_outpoints(rt: HostRuntime) {
+    let rising = [(0u8, 1u8, 9u32), (0, 2, 0), (0, 2, 256), (1, 0, 0)];
+    for (i, (first, last, index)) in rising.iter().enumerate() {
+        let mut txid = [*first; 32];
+        txid[31] = *last;
+        let point = OutPoint {
+            txid,
+            index: *index,
+        };
+        for (j, (first, last, index)) in rising.iter().enumerate() {
+            let mut txid = [*first; 32];
+            txid[31] = *last;
+            let other = OutPoint {
+                txid,
+                index: *index,
+            };
+            assert_eq!(rt; point < other, i < j);
+            assert_eq!(rt; point == other, i == j);
+        }
+    }
+}
+
+#[test]
+fn prints_every_refusal(rt: HostRuntime) -> Result<(), Fail> {
+    let alloc = rt.alloc();
+    for (error, number, name) in [
+        (DecodeError::NoMemory, 0, "NoMemory"),
+        (DecodeError::Truncated, 1, "Truncated"),
+        (DecodeError::LongCount, 2, "LongCount"),
+        (DecodeError::BadMarker, 3, "BadMarker"),
+        (DecodeError::NoInputs, 4, "NoInputs"),
+        (DecodeError::NoWitness, 5, "NoWitness"),
+        (DecodeError::ValueTooLarge, 6, "ValueTooLarge"),
+        (DecodeError::Trailing, 7, "Trailing"),
+        (DecodeError::OverLimit, 8, "OverLimit"),
+    ] {
+        assert_eq!(rt; error.number(), number);
+        assert_eq!(rt; format!(in alloc; "{error}")?.as_str(), name);
+    }
+    for (error, name) in [
+        (EncodeError::NoMemory, "NoMemory"),
+        (EncodeError::NoWitness, "NoWitness"),
+    ] {
+        assert_eq!(rt; format!(in alloc; "{error}")?.as_str(), name);
+    }
+    for (error, name) in [
+        (FieldError::NoInputs, "NoInputs"),
+        (FieldError::ValueTooLarge, "ValueTooLarge"),
+        (FieldError::OverLimit, "OverLimit"),
+    ] {
+        assert_eq!(rt; format!(in alloc; "{error}")?.as_str(), name);
+    }
+    for (error, name) in [
+        (LimitError::NoMemory, "NoMemory"),
+        (LimitError::OverLimit, "OverLimit"),
+    ] {
+        assert_eq!(rt; format!(in alloc; "{error}")?.as_str(), name);
+    }
     Ok(())
 }

@@ -1,0 +1,61 @@
+//! Reads transactions, a line of hexadecimal text each, and prints what they are: the id in the hash's own byte order, the numbers of inputs, witness items
+//! and outputs, and whether the bytes that `tx` writes for them, whole and without witnesses, are those that it read.
+//!
+//! `stdin` has published transactions and such that an independent script made; `stdout` has what that script says of them.
+#![tactic(auto)]
+
+use hex::FromHex;
+use std::alloc::{AllocError, Global};
+use std::io;
+use tx::{Tx, decode, decode_stripped, encode, encode_stripped, txid};
+
+// The number of witness items of all inputs.
+fn item_count(tx: &Tx) -> u64 {
+    let mut count = 0u64;
+    for input in tx.inputs() {
+        count = count.saturating_add(input.witness.len() as u64);
+    }
+    count
+}
+
+// Whether the bytes are written again for the transaction, and its form without witnesses reads as the transaction without them.
+fn comes_back(alloc: Global, bytes: &[u8], tx: &Tx) -> Result<bool, AllocError> {
+    let Ok(written) = encode(alloc, tx) else {
+        return Ok(false);
+    };
+    let stripped = encode_stripped(alloc, tx)?;
+    let Ok(read) = decode_stripped(alloc, &stripped) else {
+        return Ok(false);
+    };
+    let mut bare = tx.copy()?;
+    bare.strip_witnesses();
+    Ok(written.as_slice() == bytes && read.equals(&bare) && txid(&bare) == txid(tx))
+}
+
+// What a line's transaction is, or why it is none.
+fn line_of(alloc: Global, text: &str) -> Result<String, AllocError> {
+    let Ok(bytes) = hex::decode(alloc, text) else {
+        return format!(in alloc; "refused BadHex");
+    };
+    let tx = match decode(alloc, &bytes) {
+        Ok(tx) => tx,
+        Err(refusal) => return format!(in alloc; "refused {refusal}"),
+    };
+    let id = hex::encode(alloc, txid(&tx))?;
+    let (inputs, outputs) = (tx.inputs().len(), tx.outputs().len());
+    let items = item_count(&tx);
+    let back = if comes_back(alloc, &bytes, &tx)? {
+        "back"
+    } else {
+        "changed"
+    };
+    format!(in alloc; "{id} inputs {inputs} items {items} outputs {outputs} {back}")
+}
+
+fn main(rt: HostRuntime) -> io::Result<()> {
+    for line in rt.lines(rt.alloc()) {
+        let text = line_of(rt.alloc(), line?.as_str())?;
+        println!(rt; "{text}")?;
+    }
+    Ok(())
+}
