@@ -1,0 +1,2 @@
+pub mod Revealing
+pub mod NumberExamples

@@ -1,0 +1,27 @@
+-- What two sides can agree on (BOLT 2, `open_channel`).
+use Rattle.std.specs.Prelude.{◌≡◌, ℕ, ◌+◌, ◌*◌, ◌≤◌}
+use Rattle.tx.specs.Limits.{max_value}
+use Rattle.tx.specs.declared.input.OutPoint.{OutPoint}
+use Rattle.terms.specs.declared.sides.Side.{Side}
+use Rattle.terms.specs.declared.sides.Side.TheVariants.{A, B}
+use Rattle.terms.specs.declared.agreement.Party.{Party}
+use Rattle.terms.specs.declared.agreement.Terms.{Terms}
+
+-- of a capacity in satoshis, and what the two sides begin with in millisatoshis
+pub record CanAgree (capacity a b : ℕ) : Type 0 where
+  pub limited : capacity ≤ max_value
+  pub whole : a + b ≡ 1000 * capacity
+
+-- the terms have these values
+pub record HasFields (t : Terms) (funding : OutPoint) (capacity : ℕ) (opener : Side) (feerate : ℕ) (a b : Party) : Type 0 where
+  pub funding_is : t.funding ≡ funding
+  pub capacity_is : t.capacity ≡ capacity
+  pub opener_is : t.opener ≡ opener
+  pub feerate_is : t.feerate ≡ feerate
+  pub a_is : t.a ≡ a
+  pub b_is : t.b ≡ b
+
+-- what a side brought to the terms
+abbrev pub party : Side → Terms → Party
+party A t = t.a
+party B t = t.b

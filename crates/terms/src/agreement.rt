@@ -1,0 +1,99 @@
+//! The terms of a channel.
+
+ghost use Rattle.std.specs.Prelude.{◌≡◌, ◌+◌, ◌*◌, ◌≤◌};
+ghost use Rattle.tx.specs.Limits.{max_value};
+
+use crate::errors::TermsError;
+use crate::sides::Side;
+use keys::Key;
+use tx::{MAX_VALUE, OutPoint};
+
+/// The base keys of a side (BOLT 2, `open_channel` and `accept_channel`).
+#[derive(Clone, Copy, Debug, PartialEq, Eq, Drop)]
+pub struct BaseKeys {
+    /// `funding_pubkey`.
+    pub funding: Key,
+    /// `payment_basepoint`.
+    pub payment: Key,
+    /// `delayed_payment_basepoint`.
+    pub delayed: Key,
+    /// `htlc_basepoint`.
+    pub htlc: Key,
+    /// `revocation_basepoint`.
+    pub revocation: Key,
+}
+
+/// What one side brings to the terms.
+#[derive(Clone, Copy, Debug, PartialEq, Eq, Drop)]
+pub struct Party {
+    /// Satoshis below which its own commitments have no output (`dust_limit_satoshis`).
+    pub dust: u64,
+    /// Blocks that it waits for its own delayed outputs (the peer's `to_self_delay`).
+    pub delay: u16,
+    /// Millisatoshis that an HTLC offered to it has at least (`htlc_minimum_msat`).
+    pub minimum: u64,
+    /// Millisatoshis that it begins with.
+    pub start: u64,
+    pub bases: BaseKeys,
+}
+
+/// The terms of a channel.
+#[derive(Clone, Copy, Debug, PartialEq, Eq, Drop)]
+pub struct Terms {
+    /// The output that the channel spends.
+    pub funding: OutPoint,
+    /// Its value in satoshis.
+    pub capacity: u64,
+    /// Who opened the channel, pays the fee of its commitments, and alone may change the feerate.
+    pub opener: Side,
+    /// Satoshis for 1,000 units of weight, until the first change (`feerate_per_kw`).
+    pub feerate: u32,
+    pub a: Party,
+    pub b: Party,
+    pub ghost limited: { capacity ≤ max_value },
+    pub ghost whole: { a.start + b.start ≡ 1000 * capacity },
+}
+
+impl Terms {
+    ghost use Rattle.std.specs.Prelude.{◌≡◌, ◌↔◌, IsOk, IfOk};
+    ghost use Rattle.terms.specs.Agreement.{CanAgree, HasFields, party};
+
+    /// The terms of these values: BadTerms where the capacity is above 21,000,000 bitcoins, or what the two sides begin with is not the
+    /// capacity.
+    pub fn new(
+        funding: OutPoint,
+        capacity: u64,
+        opener: Side,
+        feerate: u32,
+        a: Party,
+        b: Party,
+    ) -> Result<Terms, TermsError>
+        ensures ok { IsOk result ↔ CanAgree capacity a.start b.start }
+        ensures fields { IfOk result (λ t. HasFields t funding capacity opener feerate a b) }
+    {
+        if capacity > MAX_VALUE {
+            return Err(TermsError::BadTerms);
+        }
+        if u128::from(a.start) + u128::from(b.start) != 1000 * u128::from(capacity) {
+            return Err(TermsError::BadTerms);
+        }
+        Ok(Terms {
+            funding,
+            capacity,
+            opener,
+            feerate,
+            a,
+            b,
+        })
+    }
+
+    /// What a side brought to the terms.
+    pub fn party(&self, side: Side) -> &Party
+        ensures { result.now ≡ party side self.now }
+    {
+        match side {
+            Side::A => &self.a,
+            Side::B => &self.b,
+        }
+    }
+}

@@ -1,0 +1,25 @@
+//! Why terms are refused.
+
+ghost use Rattle.std.specs.Prelude.{◌≡◌};
+ghost use Rattle.terms.specs.Errors.{terms_error_number};
+
+use thiserror::Error;
+
+/// Why terms are refused.
+#[derive(Clone, Copy, Debug, PartialEq, Eq, Drop, Error)]
+pub enum TermsError {
+    /// The capacity is above 21,000,000 bitcoins, or is not what the two sides begin with.
+    #[error("BadTerms")]
+    BadTerms,
+}
+
+impl TermsError {
+    /// The refusal's number.
+    pub fn number(&self) -> u8
+        ensures { result ≡ terms_error_number self.now }
+    {
+        match self {
+            TermsError::BadTerms => 1,
+        }
+    }
+}

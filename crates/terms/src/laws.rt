@@ -1,0 +1,10 @@
+//! Laws over the definitions alone.
+
+ghost use Rattle.terms.specs.Numbers.{NumbersComeBack, FieldsComeBack};
+
+/// Hiding a number in the fields and finding it there invert each other: each number below 2^48 comes back from the fields that carry it, and
+/// fields that carry a number are those of the number.
+pub fn numbers_come_back()
+    ensures numbers { NumbersComeBack }
+    ensures fields { FieldsComeBack }
+{}

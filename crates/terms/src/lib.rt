@@ -1,0 +1,32 @@
+//! What the two sides of a channel agreed on, and the words that its updates and its commitments share (BOLT 2, BOLT 3).
+//!
+//! [`Terms`] are the values of `open_channel` and `accept_channel`, the funding outpoint and both sides' base keys. Their type keeps what
+//! everything above rests on: the capacity is at most 21,000,000 bitcoins, and what the two sides begin with is the capacity.
+//! A [`View`] is what one commitment pays: each side's balance, its HTLCs, and the feerate.
+//!
+//! [`mask`], [`obscure`] and [`number_of`] are the number of a commitment and the fields of its transaction that carry it.
+//!
+//! ```rust
+//! /// Whether a transaction is commitment number `n` of the channel.
+//! fn is_commitment(terms: &Terms, tx: &Tx, n: u64) -> bool {
+//!     number_of(terms, tx) == Some(n)
+//! }
+//! ```
+#![tactic(auto)]
+
+mod agreement;
+mod errors;
+mod htlcs;
+pub mod laws;
+mod numbers;
+mod sides;
+#[cfg(test)]
+mod tests;
+mod views;
+
+pub use agreement::{BaseKeys, Party, Terms};
+pub use errors::TermsError;
+pub use htlcs::Htlc;
+pub use numbers::{Obscured, mask, number_of, obscure};
+pub use sides::Side;
+pub use views::{Share, View};

@@ -1,0 +1,69 @@
+//! What a commitment pays.
+
+ghost use Rattle.std.specs.Prelude.{◌≡◌};
+
+use crate::htlcs::Htlc;
+use crate::sides::Side;
+use lists::List;
+use std::alloc::AllocError;
+
+/// What a commitment gives to one side.
+#[derive(Debug, Drop)]
+pub struct Share {
+    /// Millisatoshis.
+    pub balance: u64,
+    /// The HTLCs that the side offered and that still stand, in the order of their ids.
+    pub offered: List<Htlc>,
+}
+
+/// What a commitment pays: to each side, and for the fee.
+#[derive(Debug, Drop)]
+pub struct View {
+    pub a: Share,
+    pub b: Share,
+    /// Satoshis for 1,000 units of weight.
+    pub feerate: u32,
+}
+
+impl Share {
+    ghost use Rattle.std.specs.Prelude.{◌≡◌, IfOk};
+
+    /// An equal share. The only error is that memory ran out.
+    pub fn copy(&self) -> Result<Share, AllocError>
+        ensures { IfOk result (λ s. s ≡ self.now) }
+    {
+        let htlcs = self.offered.values();
+        let mut offered = Vec::new(self.offered.allocator());
+        offered.extend_from_slice(htlcs)?;
+        Ok(Share {
+            balance: self.balance,
+            offered: List::from_vec(offered),
+        })
+    }
+}
+
+impl View {
+    ghost use Rattle.std.specs.Prelude.{◌≡◌, IfOk};
+    ghost use Rattle.terms.specs.Views.{share};
+
+    /// What it gives to a side.
+    pub fn share(&self, side: Side) -> &Share
+        ensures { result.now ≡ share side self.now }
+    {
+        match side {
+            Side::A => &self.a,
+            Side::B => &self.b,
+        }
+    }
+
+    /// An equal view. The only error is that memory ran out.
+    pub fn copy(&self) -> Result<View, AllocError>
+        ensures { IfOk result (λ v. v ≡ self.now) }
+    {
+        Ok(View {
+            a: self.a.copy()?,
+            b: self.b.copy()?,
+            feerate: self.feerate,
+        })
+    }
+}
