@@ -4,7 +4,7 @@ use Rattle.std.specs.Prelude.{IsTrue}
 use Rattle.std.specs.Str.{bytes_eq}
 use Rattle.digest.specs.Ripemd160.{ripemd160}
 use Rattle.digest.specs.Hash.{hash160}
-use Rattle.script.specs.Token.{is_key, is_token, is_signature}
+use Rattle.script.specs.Token.{token_of, is_key, is_token, is_signature}
 use Rattle.facts.specs.declared.symbols.KeySource.TheVariants.{Const as FixedKey, Slot as SlotKey}
 use Rattle.facts.specs.declared.symbols.Fact.{Fact}
 use Rattle.facts.specs.declared.symbols.Fact.TheVariants.{Hash, Size, Truth, Is, KeyForm, Form, Token, Assigned, Lock, Age}
@@ -48,7 +48,7 @@ abbrev slots : List Slot
 slots = sig 1 ∷ preimage ∷ one ∷ empty ∷ key_slot 2 ∷ token_slot 2 ∷ []
 
 abbrev shows : List Fact → List (Option Bool)
-shows facts = map (evidence_of slots) facts
+shows facts = map (evidence_of None slots) facts
 
 abbrev yes : Option Bool
 yes = Some true
@@ -57,11 +57,11 @@ abbrev no : Option Bool
 no = Some false
 
 -- a slot that is not there shows nothing
-no_slot : map (evidence_of slots) (Hash 6 [] ∷ Size 6 0 ∷ Truth 6 ∷ Is 6 [] ∷ KeyForm 6 ∷ Form 6 ∷ Token 6 (FixedKey (key 1)) ∷ []) ≡ replicate 7 None
+no_slot : map (evidence_of None slots) (Hash 6 [] ∷ Size 6 0 ∷ Truth 6 ∷ Is 6 [] ∷ KeyForm 6 ∷ Form 6 ∷ Token 6 (FixedKey (key 1)) ∷ []) ≡ replicate 7 None
 no_slot = refl
 
 -- the RIPEMD-160 of the hash, and the HASH160 of exact bytes
-hashes : (h : List ℕ) → (evidence_of slots (Hash 0 h) ≡ None) × (evidence_of slots (Hash 1 h) ≡ Some (bytes_eq (ripemd160 (replicate 32 5)) h)) × (evidence_of slots (Hash 2 h) ≡ Some (bytes_eq (hash160 (1 ∷ [])) h))
+hashes : (h : List ℕ) → (evidence_of None slots (Hash 0 h) ≡ None) × (evidence_of None slots (Hash 1 h) ≡ Some (bytes_eq (ripemd160 (replicate 32 5)) h)) × (evidence_of None slots (Hash 2 h) ≡ Some (bytes_eq (hash160 (1 ∷ [])) h))
 hashes h = (refl, refl, refl)
 
 -- a token has 66 bytes, what a hash is of has 32
@@ -94,7 +94,7 @@ fixed_keys : shows (Token 0 (FixedKey (key 1)) ∷ Token 0 (FixedKey (key 2)) �
 fixed_keys = refl
 
 -- a key in a slot: known where that slot is exact
-slot_keys : (shows (Token 0 (SlotKey 4) ∷ Token 5 (SlotKey 4) ∷ Token 0 (SlotKey 1) ∷ Token 0 (SlotKey 0) ∷ Token 0 (SlotKey 9) ∷ Token 1 (SlotKey 0) ∷ Token 2 (SlotKey 0) ∷ []) ≡ no ∷ None ∷ None ∷ None ∷ None ∷ no ∷ None ∷ []) × (evidence_of (sig 1 ∷ key_slot 1 ∷ []) (Token 0 (SlotKey 1)) ≡ yes)
+slot_keys : (shows (Token 0 (SlotKey 4) ∷ Token 5 (SlotKey 4) ∷ Token 0 (SlotKey 1) ∷ Token 0 (SlotKey 0) ∷ Token 0 (SlotKey 9) ∷ Token 1 (SlotKey 0) ∷ Token 2 (SlotKey 0) ∷ []) ≡ no ∷ None ∷ None ∷ None ∷ None ∷ no ∷ None ∷ []) × (evidence_of None (sig 1 ∷ key_slot 1 ∷ []) (Token 0 (SlotKey 1)) ≡ yes)
 slot_keys = (refl, refl)
 
 -- locks below 500,000,000 are heights, and ages with bit 22 clear are in blocks: whatever fits the claim has reached them
@@ -102,13 +102,42 @@ locks : shows (Lock 0 ∷ Lock 499999999 ∷ Lock 500000000 ∷ Lock 500000001 �
 locks = refl
 
 -- an increasing choice of keys, each with a token that is shown
-chosen : map (λ is. evidence_of (sig 1 ∷ sig 2 ∷ sig 1 ∷ []) (Assigned is (FixedKey (key 1) ∷ FixedKey (key 2) ∷ FixedKey (key 3) ∷ []))) ((0 ∷ 1 ∷ []) ∷ (1 ∷ 0 ∷ []) ∷ (0 ∷ []) ∷ (1 ∷ []) ∷ (0 ∷ 2 ∷ []) ∷ (0 ∷ 1 ∷ 2 ∷ []) ∷ [] ∷ []) ≡ yes ∷ no ∷ yes ∷ yes ∷ no ∷ no ∷ yes ∷ []
+chosen : map (λ is. evidence_of None (sig 1 ∷ sig 2 ∷ sig 1 ∷ []) (Assigned is (FixedKey (key 1) ∷ FixedKey (key 2) ∷ FixedKey (key 3) ∷ []))) ((0 ∷ 1 ∷ []) ∷ (1 ∷ 0 ∷ []) ∷ (0 ∷ []) ∷ (1 ∷ []) ∷ (0 ∷ 2 ∷ []) ∷ (0 ∷ 1 ∷ 2 ∷ []) ∷ [] ∷ []) ≡ yes ∷ no ∷ yes ∷ yes ∷ no ∷ no ∷ yes ∷ []
 chosen = refl
 
 -- a slot that is no token of any key; one whose token is left open; no key at all
-not_chosen : map {A = List ℕ × List ℕ} (λ (is, ks). evidence_of slots (Assigned is (map (λ b. FixedKey (key b)) ks))) ((0 ∷ [], 2 ∷ 3 ∷ []) ∷ (5 ∷ [], 2 ∷ []) ∷ (5 ∷ [], 1 ∷ 3 ∷ []) ∷ (0 ∷ 5 ∷ [], 1 ∷ 2 ∷ []) ∷ (3 ∷ 5 ∷ [], 1 ∷ 2 ∷ []) ∷ (5 ∷ 0 ∷ [], 1 ∷ 2 ∷ []) ∷ (0 ∷ [], []) ∷ (9 ∷ [], 1 ∷ []) ∷ []) ≡ no ∷ None ∷ no ∷ None ∷ no ∷ None ∷ no ∷ None ∷ []
+not_chosen : map {A = List ℕ × List ℕ} (λ (is, ks). evidence_of None slots (Assigned is (map (λ b. FixedKey (key b)) ks))) ((0 ∷ [], 2 ∷ 3 ∷ []) ∷ (5 ∷ [], 2 ∷ []) ∷ (5 ∷ [], 1 ∷ 3 ∷ []) ∷ (0 ∷ 5 ∷ [], 1 ∷ 2 ∷ []) ∷ (3 ∷ 5 ∷ [], 1 ∷ 2 ∷ []) ∷ (5 ∷ 0 ∷ [], 1 ∷ 2 ∷ []) ∷ (0 ∷ [], []) ∷ (9 ∷ [], 1 ∷ []) ∷ []) ≡ no ∷ None ∷ no ∷ None ∷ no ∷ None ∷ no ∷ None ∷ []
 not_chosen = refl
 
+-- under a digest of bytes 7, which a fixed transaction has: a token counts as its bytes, and exact bytes are the token of a key or are not
+abbrev known : Option (List ℕ)
+known = Some (replicate 32 7)
+
+abbrev shows_known : List Fact → List (Option Bool)
+shows_known facts = map (evidence_of known slots) facts
+
+known_hash : (h : List ℕ) → (evidence_of known slots (Hash 0 h) ≡ Some (bytes_eq (hash160 (token 1)) h)) × (evidence_of known slots (Hash 1 h) ≡ Some (bytes_eq (ripemd160 (replicate 32 5)) h)) × (evidence_of known slots (Hash 2 h) ≡ Some (bytes_eq (hash160 (1 ∷ [])) h))
+unfolding token_of
+known_hash h = (refl, refl, refl)
+
+known_is : shows_known (Is 0 (token 1) ∷ Is 0 (2 ∷ (replicate 32 1 ++ (replicate 32 9 ++ 1 ∷ []))) ∷ Is 0 (token 2) ∷ Is 1 (replicate 31 5) ∷ Is 5 (token 2) ∷ []) ≡ yes ∷ no ∷ no ∷ no ∷ yes ∷ []
+unfolding token_of
+known_is = refl
+
+known_tokens : (shows_known (Token 0 (FixedKey (key 1)) ∷ Token 0 (FixedKey (key 2)) ∷ Token 5 (FixedKey (key 2)) ∷ Token 5 (FixedKey (key 1)) ∷ Token 1 (FixedKey (key 1)) ∷ Token 3 (FixedKey (key 1)) ∷ []) ≡ yes ∷ no ∷ yes ∷ no ∷ no ∷ no ∷ [])
+    × (evidence_of (Some (replicate 32 9)) slots (Token 5 (FixedKey (key 2))) ≡ no)
+    × (shows_known (Token 5 (SlotKey 4) ∷ Token 0 (SlotKey 4) ∷ Token 5 (SlotKey 0) ∷ Token 0 (SlotKey 0) ∷ Token 5 (SlotKey 1) ∷ Token 0 (SlotKey 9) ∷ []) ≡ yes ∷ no ∷ no ∷ no ∷ None ∷ None ∷ [])
+unfolding token_of
+known_tokens = (refl, refl, refl)
+
+known_chosen : map {A = List ℕ} (λ is. evidence_of known slots (Assigned is (FixedKey (key 1) ∷ FixedKey (key 2) ∷ []))) ((0 ∷ 5 ∷ []) ∷ (5 ∷ 0 ∷ []) ∷ (5 ∷ []) ∷ []) ≡ yes ∷ no ∷ yes ∷ []
+unfolding token_of
+known_chosen = refl
+
+-- the form of a token does not hang on its digest
+known_forms : shows_known (Size 0 66 ∷ Size 0 65 ∷ Truth 0 ∷ Form 0 ∷ KeyForm 0 ∷ Truth 1 ∷ []) ≡ shows (Size 0 66 ∷ Size 0 65 ∷ Truth 0 ∷ Form 0 ∷ KeyForm 0 ∷ Truth 1 ∷ [])
+known_forms = refl
+
 -- a fact is met where it is shown with its own polarity
-met : map (is_met slots) (record { fact = Truth 0; holds = true } ∷ record { fact = Truth 0; holds = false } ∷ record { fact = Truth 3; holds = false } ∷ record { fact = Truth 3; holds = true } ∷ record { fact = Truth 1; holds = true } ∷ record { fact = Truth 1; holds = false } ∷ []) ≡ true ∷ false ∷ true ∷ false ∷ false ∷ false ∷ []
+met : map (is_met None slots) (record { fact = Truth 0; holds = true } ∷ record { fact = Truth 0; holds = false } ∷ record { fact = Truth 3; holds = false } ∷ record { fact = Truth 3; holds = true } ∷ record { fact = Truth 1; holds = true } ∷ record { fact = Truth 1; holds = false } ∷ []) ≡ true ∷ false ∷ true ∷ false ∷ false ∷ false ∷ []
 met = refl

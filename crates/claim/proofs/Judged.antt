@@ -3,7 +3,7 @@ use Rattle.std.proofs.Common.{◌≡◌, ℕ, ◌<◌, ◌≤◌, Bool, true, fa
 use Rattle.std.specs.Prelude.{slice_get, IsTrue, if◌then◌else◌, nat_lt, unwrap_or, Result, Ok, Err, is_ok, All, MatchResult, IfOk}
 use Rattle.std.proofs.lemmas.Bool.{ltb-true, false≢true}
 use Rattle.std.proofs.lemmas.Option.{get_or_from_slice_get, slice_get_within, slice_get_read, slice_get_past}
-use Rattle.script.specs.Spelling.{spelling}
+use Rattle.script.specs.Spelling.{spelling, Spells}
 use Rattle.facts.specs.declared.symbols.Fact.{Fact}
 use Rattle.facts.specs.declared.symbols.Fact.TheVariants.{Lock}
 use Rattle.facts.specs.declared.symbols.Stated.{Stated}
@@ -13,44 +13,44 @@ use Rattle.paths.specs.Sound.{IsSound}
 use Rattle.claim.specs.declared.parts.Slot.{Slot}
 use Rattle.claim.specs.declared.parts.Place.{Place}
 use Rattle.claim.specs.declared.parts.Shell.{Shell}
-use Rattle.claim.specs.declared.claims.Claim.{Claim}
+use Rattle.claim.specs.declared.parts.Shell.TheVariants.{Open, Fixed}
 use Rattle.claim.specs.declared.errors.AcceptError.{AcceptError}
 use Rattle.claim.specs.declared.errors.AcceptError.TheVariants.{NoSuchPath}
 use Rattle.claim.specs.Evidence.{evidence_of}
 use Rattle.claim.specs.Fitting.{IsRefusal, Opens}
-use Rattle.claim.specs.Judgement.{has_polarity, is_met, first_unmet_or, judgement_of_path, judgement_of, height_of}
-use Rattle.claim.specs.Claims.{IsClaimOf, IsOpening}
+use Rattle.claim.specs.Judgement.{has_polarity, is_met, first_unmet_or, judgement_of_path, judgement_of, height_of, is_shell, known_digest, needed_height}
+use Rattle.claim.proofs.Shells.{fixed_of}
 use Rattle.claim.proofs.Meeting.{met_by, judgement_of-ok, judgement_of-opens, sound-at}
 
-pub judgement_of-some : (ways : CheckedScript) (index : ℕ) (slots : List Slot) (place : Place) (p : Path) → slice_get ways.paths index ≡ Some p → judgement_of ways index slots place ≡ judgement_of_path (spelling ways.ops) slots place.program p
+pub judgement_of-some : (ways : CheckedScript) (index : ℕ) (slots : List Slot) (place : Place) (shell : Shell) (p : Path) → slice_get ways.paths index ≡ Some p → judgement_of ways index slots place shell ≡ judgement_of_path (spelling ways.ops) slots place shell p
 unfolding judgement_of
-judgement_of-some ways index slots place p e = rw e refl
+judgement_of-some ways index slots place shell p e = rw e refl
 
-pub judgement_of-none : (ways : CheckedScript) (index : ℕ) (slots : List Slot) (place : Place) → slice_get ways.paths index ≡ None → judgement_of ways index slots place ≡ Err NoSuchPath
+pub judgement_of-none : (ways : CheckedScript) (index : ℕ) (slots : List Slot) (place : Place) (shell : Shell) → slice_get ways.paths index ≡ None → judgement_of ways index slots place shell ≡ Err NoSuchPath
 unfolding judgement_of
-judgement_of-none ways index slots place e = rw e refl
+judgement_of-none ways index slots place shell e = rw e refl
 
 ok-path : (r : Result Path AcceptError) → is_ok r ≡ true → (p : Path) × (r ≡ Ok p)
 ok-path (Ok p) e = (p, refl)
 ok-path (Err c) e = absurd (false≢true e)
 
-pub accepted-within : (ways : CheckedScript) (index : ℕ) (slots : List Slot) (place : Place) → is_ok (judgement_of ways index slots place) ≡ true → index < length ways.paths
-accepted-within ways index slots place e =
-    let o = ok-path (judgement_of ways index slots place) e in
-    slice_get_within ways.paths index o.0 (judgement_of-ok ways index slots place o.0 o.1).place
+pub accepted-within : (ways : CheckedScript) (index : ℕ) (slots : List Slot) (place : Place) (shell : Shell) → is_ok (judgement_of ways index slots place shell) ≡ true → index < length ways.paths
+accepted-within ways index slots place shell e =
+    let o = ok-path (judgement_of ways index slots place shell) e in
+    slice_get_within ways.paths index o.0 (judgement_of-ok ways index slots place shell o.0 o.1).at
 
 -- a claim takes one path
 pub one-path : (r : Result Path AcceptError) (p q : Path) → r ≡ Ok p → r ≡ Ok q → p ≡ q
 one-path r p q e g = cc
 
 -- where the paths were read
-pub path-within : (ways : CheckedScript) (index : ℕ) (slots : List Slot) (place : Place) (ps : List Path) → ps ≡ ways.paths → is_ok (judgement_of ways index slots place) ≡ true → index < length ps
-path-within ways index slots place ps e a = subst (λ l. index < length l) (sym e) (accepted-within ways index slots place a)
+pub path-within : (ways : CheckedScript) (index : ℕ) (slots : List Slot) (place : Place) (shell : Shell) (ps : List Path) → ps ≡ ways.paths → is_ok (judgement_of ways index slots place shell) ≡ true → index < length ps
+path-within ways index slots place shell ps e a = subst (λ l. index < length l) (sym e) (accepted-within ways index slots place shell a)
 
-pub path-here : (ways : CheckedScript) (index : ℕ) (slots : List Slot) (place : Place) (ps : List Path) (d : Path) → ps ≡ ways.paths → d ≡ get_or ps index d → is_ok (judgement_of ways index slots place) ≡ true → judgement_of ways index slots place ≡ Ok d
-path-here ways index slots place ps d e g a =
-    let o = ok-path (judgement_of ways index slots place) a in
-    let at : slice_get ways.paths index ≡ Some o.0 = (judgement_of-ok ways index slots place o.0 o.1).place in
+pub path-here : (ways : CheckedScript) (index : ℕ) (slots : List Slot) (place : Place) (shell : Shell) (ps : List Path) (d : Path) → ps ≡ ways.paths → d ≡ get_or ps index d → is_ok (judgement_of ways index slots place shell) ≡ true → judgement_of ways index slots place shell ≡ Ok d
+path-here ways index slots place shell ps d e g a =
+    let o = ok-path (judgement_of ways index slots place shell) a in
+    let at : slice_get ways.paths index ≡ Some o.0 = (judgement_of-ok ways index slots place shell o.0 o.1).at in
     let same : d ≡ o.0 = g ∙ ap (λ l. get_or l index d) e ∙ get_or_from_slice_get ways.paths index o.0 d at in
     o.1 ∙ ap Ok (sym same)
 
@@ -60,23 +60,19 @@ path-got ways ps i p e h g = ap (λ l. slice_get l i) (sym e) ∙ slice_get_read
 pub path-none : (ways : CheckedScript) (ps : List Path) (i : ℕ) → ps ≡ ways.paths → length ps ≤ i → slice_get ways.paths i ≡ None
 path-none ways ps i e h = ap (λ l. slice_get l i) (sym e) ∙ slice_get_past ps i h
 
-judgement_of-same : (ways : CheckedScript) (index : ℕ) (slots : List Slot) (place : Place) (p : Path) (script program : List ℕ) → slice_get ways.paths index ≡ Some p → spelling ways.ops ≡ script → program ≡ place.program → judgement_of ways index slots place ≡ judgement_of_path script slots program p
-judgement_of-same ways index slots place p script program at e f =
-    judgement_of-some ways index slots place p at ∙ ap (λ s. judgement_of_path s slots place.program p) e ∙ ap (λ t. judgement_of_path script slots t p) (sym f)
+judgement_of-same : (ways : CheckedScript) (index : ℕ) (slots : List Slot) (place : Place) (shell : Shell) (p : Path) (script : List ℕ) → slice_get ways.paths index ≡ Some p → spelling ways.ops ≡ script → judgement_of ways index slots place shell ≡ judgement_of_path script slots place shell p
+judgement_of-same ways index slots place shell p script at e =
+    judgement_of-some ways index slots place shell p at ∙ ap (λ s. judgement_of_path s slots place shell p) e
 
-pub judgement_of-from : {A : Type 0} (ways : CheckedScript) (index : ℕ) (slots : List Slot) (place : Place) (p : Path) (script program : List ℕ) (r : Result A AcceptError) → slice_get ways.paths index ≡ Some p → spelling ways.ops ≡ script → program ≡ place.program → MatchResult r (λ x. judgement_of_path script slots program p ≡ Ok p) (IsRefusal (judgement_of_path script slots program p)) → MatchResult r (λ x. IsTrue (is_ok (judgement_of ways index slots place))) (IsRefusal (judgement_of ways index slots place))
-judgement_of-from ways index slots place p script program (Ok x) at e f h = ap is_ok (judgement_of-same ways index slots place p script program at e f ∙ h)
-judgement_of-from ways index slots place p script program (Err c) at e f h = subst (λ j. IsRefusal j c) (sym (judgement_of-same ways index slots place p script program at e f)) h
+pub judgement_of-from : {A : Type 0} (ways : CheckedScript) (index : ℕ) (slots : List Slot) (place : Place) (shell : Shell) (p : Path) (script : List ℕ) (r : Result A AcceptError) → slice_get ways.paths index ≡ Some p → spelling ways.ops ≡ script → MatchResult r (λ x. judgement_of_path script slots place shell p ≡ Ok p) (IsRefusal (judgement_of_path script slots place shell p)) → MatchResult r (λ x. IsTrue (is_ok (judgement_of ways index slots place shell))) (IsRefusal (judgement_of ways index slots place shell))
+judgement_of-from ways index slots place shell p script (Ok x) at e h = ap is_ok (judgement_of-same ways index slots place shell p script at e ∙ h)
+judgement_of-from ways index slots place shell p script (Err c) at e h = subst (λ j. IsRefusal j c) (sym (judgement_of-same ways index slots place shell p script at e)) h
 
-pub accepted-opens : (ways : CheckedScript) (index : ℕ) (slots : List Slot) (place : Place) → All (IsSound ways.ops) ways.paths → (p : Path) → judgement_of ways index slots place ≡ Ok p → Opens ways.ops p slots
-accepted-opens ways index slots place all p e = judgement_of-opens ways index slots place p all e
+pub accepted-opens : (ways : CheckedScript) (index : ℕ) (slots : List Slot) (place : Place) (shell : Shell) (bytes : List ℕ) → Spells ways.ops bytes → length bytes ≤ 10000 → All (IsSound ways.ops) ways.paths → (p : Path) → judgement_of ways index slots place shell ≡ Ok p → Opens ways.ops p slots place shell
+accepted-opens ways index slots place shell bytes spells short all p e = judgement_of-opens ways index slots place shell p spells.each (subst (λ b. length b ≤ 10000) (sym spells.same) short) all e
 
-pub opens-from : {A : Type 0} (ways : CheckedScript) (index : ℕ) (slots : List Slot) (place : Place) (r : Result A AcceptError) → All (IsSound ways.ops) ways.paths → IfOk r (λ x. (p : Path) → judgement_of ways index slots place ≡ Ok p → Opens ways.ops p slots)
-opens-from ways index slots place (Ok x) all = accepted-opens ways index slots place all
-opens-from ways index slots place (Err c) all = tt
-
-pub accepted-sound : (ways : CheckedScript) (index : ℕ) (slots : List Slot) (place : Place) (p : Path) → All (IsSound ways.ops) ways.paths → judgement_of ways index slots place ≡ Ok p → IsSound ways.ops p
-accepted-sound ways index slots place p all e = sound-at ways.ops ways.paths index p all (judgement_of-ok ways index slots place p e).place
+pub accepted-sound : (ways : CheckedScript) (index : ℕ) (slots : List Slot) (place : Place) (shell : Shell) (p : Path) → All (IsSound ways.ops) ways.paths → judgement_of ways index slots place shell ≡ Ok p → IsSound ways.ops p
+accepted-sound ways index slots place shell p all e = sound-at ways.ops ways.paths index p all (judgement_of-ok ways index slots place shell p e).at
 
 -- the locks that are shown are heights
 low_by : (n : ℕ) (h b : Bool) → has_polarity h (if b then Some true else None) ≡ true → b ≡ true
@@ -87,25 +83,26 @@ greater-low : (n : ℕ) (o : Option ℕ) → n < 500000000 → unwrap_or o 0 < 5
 greater-low n None h e = h
 greater-low n (Some m) h e = omega arith
 
-fact-low : (slots : List Slot) (h : Bool) (fact : Fact) (o : Option ℕ) → has_polarity h (evidence_of slots fact) ≡ true → unwrap_or o 0 < 500000000 → unwrap_or (with_lock fact o) 0 < 500000000
-fact-low slots h (Lock n) o e l = greater-low n o (ltb-true n 500000000 (low_by n h (nat_lt n 500000000) e)) l
-fact-low slots h fact o e l = l
+fact-low : (known : Option (List ℕ)) (slots : List Slot) (h : Bool) (fact : Fact) (o : Option ℕ) → has_polarity h (evidence_of known slots fact) ≡ true → unwrap_or o 0 < 500000000 → unwrap_or (with_lock fact o) 0 < 500000000
+fact-low known slots h (Lock n) o e l = greater-low n o (ltb-true n 500000000 (low_by n h (nat_lt n 500000000) e)) l
+fact-low known slots h fact o e l = l
 
-met-low : (slots : List Slot) (facts : List Stated) (p q : Path) → first_unmet_or slots facts p ≡ Ok q → unwrap_or (greatest_lock_in facts) 0 < 500000000
-met-low slots [] p q e = omega arith
-met-low slots (s ∷ facts) p q e =
-    let w = met_by (is_met slots s) s (first_unmet_or slots facts p) q e in
-    fact-low slots s.holds s.fact (greatest_lock_in facts) w.0 (met-low slots facts p q w.1)
+met-low : (known : Option (List ℕ)) (slots : List Slot) (facts : List Stated) (p q : Path) → first_unmet_or known slots facts p ≡ Ok q → unwrap_or (greatest_lock_in facts) 0 < 500000000
+met-low known slots [] p q e = omega arith
+met-low known slots (s ∷ facts) p q e =
+    let w = met_by (is_met known slots s) s (first_unmet_or known slots facts p) q e in
+    fact-low known slots s.holds s.fact (greatest_lock_in facts) w.0 (met-low known slots facts p q w.1)
 
-pub accepted-low : (ways : CheckedScript) (index : ℕ) (slots : List Slot) (place : Place) (p : Path) → IsSound ways.ops p → judgement_of ways index slots place ≡ Ok p → height_of p < 500000000
-accepted-low ways index slots place p s e =
-    let j = judgement_of-ok ways index slots place p e in
-    subst (λ o. unwrap_or o 0 < 500000000) (sym s.lock) (met-low slots p.facts p p j.met)
+pub accepted-low : (ways : CheckedScript) (index : ℕ) (slots : List Slot) (place : Place) (shell : Shell) (p : Path) → IsSound ways.ops p → judgement_of ways index slots place shell ≡ Ok p → height_of p < 500000000
+accepted-low ways index slots place shell p s e =
+    let j = judgement_of-ok ways index slots place shell p e in
+    subst (λ o. unwrap_or o 0 < 500000000) (sym s.lock) (met-low (known_digest (spelling ways.ops) place shell) slots p.facts p p j.met)
 
--- a claim on these parts is opening, where what was judged is
-pub opening_of : (ways : CheckedScript) (index : ℕ) (slots : List Slot) (place : Place) (shell : Shell) (c : Claim) → IsClaimOf ways index slots place shell c → ((p : Path) → judgement_of ways index slots place ≡ Ok p → Opens ways.ops p slots) → IsOpening c
-opening_of ways index slots place shell c r h =
-    subst (λ w. (p : Path) → judgement_of w c.index c.slots c.place ≡ Ok p → Opens w.ops p c.slots) (sym r.checked)
-    (subst (λ i. (p : Path) → judgement_of ways i c.slots c.place ≡ Ok p → Opens ways.ops p c.slots) (sym r.index)
-    (subst (λ s. (p : Path) → judgement_of ways index s c.place ≡ Ok p → Opens ways.ops p s) (sym r.slots)
-    (subst (λ a. (p : Path) → judgement_of ways index slots a ≡ Ok p → Opens ways.ops p slots) (sym r.place) h)))
+needed-low_by : (p : Path) (place : Place) (shell : Shell) → height_of p < 500000000 → is_shell p place shell ≡ true → needed_height p shell < 500000000
+needed-low_by p place Open h e = h
+needed-low_by p place (Fixed t) h e = (fixed_of p place t e).height
+
+-- the lock time that a claim needs is a height
+pub needed-low : (ways : CheckedScript) (index : ℕ) (slots : List Slot) (place : Place) (shell : Shell) (p : Path) → IsSound ways.ops p → judgement_of ways index slots place shell ≡ Ok p → needed_height p shell < 500000000
+needed-low ways index slots place shell p s e =
+    needed-low_by p place shell (accepted-low ways index slots place shell p s e) (judgement_of-ok ways index slots place shell p e).stands

@@ -3,6 +3,10 @@ pub mod Telling
 pub mod Choosing
 pub mod Filled
 pub mod Locks
+pub mod Parsing
+pub mod KeyHash
+pub mod Opening
+pub mod Shells
 pub mod Meeting
 pub mod Programs
 pub mod Judged

@@ -16,6 +16,11 @@ use Rattle.claim.specs.Evidence.{is_token_with, hash_evidence, size_evidence, tr
 use Rattle.claim.specs.Fitting.{FillsSlot}
 use Rattle.claim.proofs.TokenForms.{token-length, token_with, token-injective, key-length, token-signature, token-no_key, token-true, token-apart}
 
+-- what is known of bytes is so
+abbrev pub Known : Option (List ℕ) → List ℕ → Type 0
+Known None key = Unit {0}
+Known (Some b) key = key ≡ b
+
 -- what is shown is so
 abbrev pub Tells : Option Bool → Bool → Type 0
 Tells None t = Unit {0}
@@ -28,10 +33,11 @@ no_unless-tells : (b t : Bool) → (b ≡ false → t ≡ false) → Tells (no_u
 no_unless-tells true t h = tt
 no_unless-tells false t h = h refl
 
-pub hash-tells : (spend : Spend) (h : List ℕ) (slot : Slot) (x : List ℕ) → length spend.digest ≡ 32 → FillsSlot spend slot x → Tells (hash_evidence h slot) (bytes_eq (hash160 x) h)
-hash-tells spend h (Sig k) x e f = tt
-hash-tells spend h (Preimage ph) x e f = ap (λ s. bytes_eq (ripemd160 s) h) f.1
-hash-tells spend h (Exact b) x e f = ap (λ s. bytes_eq (hash160 s) h) f
+pub hash-tells : (spend : Spend) (known : Option (List ℕ)) (h : List ℕ) (slot : Slot) (x : List ℕ) → Known known spend.digest → FillsSlot spend slot x → Tells (hash_evidence known h slot) (bytes_eq (hash160 x) h)
+hash-tells spend None h (Sig k) x n f = tt
+hash-tells spend (Some d) h (Sig k) x n f = ap (λ s. bytes_eq (hash160 s) h) (f ∙ ap (token_of k.bytes) n)
+hash-tells spend known h (Preimage ph) x n f = ap (λ s. bytes_eq (ripemd160 s) h) f.1
+hash-tells spend known h (Exact b) x n f = ap (λ s. bytes_eq (hash160 s) h) f
 
 pub size-tells : (spend : Spend) (n : ℕ) (slot : Slot) (x : List ℕ) → length spend.digest ≡ 32 → FillsSlot spend slot x → Tells (size_evidence n slot) (eqb (length x) n)
 size-tells spend n (Sig k) x e f =
@@ -51,10 +57,11 @@ preimage-apart ph x c l e h = false_from_ne_true _ (λ t.
     let yes = and_from (eqb (length c) 32) (bytes_eq (sha256 c) ph) (eq-eqb (length c) 32 (ap length (sym same) ∙ l)) ((bytes_eq-Decides (sha256 c) ph).1 (ap sha256 (sym same) ∙ e)) in
     true≢false (sym yes ∙ h))
 
-pub is-tells : (spend : Spend) (c : List ℕ) (slot : Slot) (x : List ℕ) → length spend.digest ≡ 32 → FillsSlot spend slot x → Tells (bytes_evidence c slot) (bytes_eq x c)
-is-tells spend c (Sig k) x e f = no_unless-tells _ _ (λ h. ap (λ s. bytes_eq s c) f ∙ token-apart k.bytes spend.digest c e h)
-is-tells spend c (Preimage ph) x e f = no_unless-tells _ _ (preimage-apart ph x c f.0 f.1)
-is-tells spend c (Exact b) x e f = ap (λ s. bytes_eq s c) f
+pub is-tells : (spend : Spend) (known : Option (List ℕ)) (c : List ℕ) (slot : Slot) (x : List ℕ) → length spend.digest ≡ 32 → Known known spend.digest → FillsSlot spend slot x → Tells (bytes_evidence known c slot) (bytes_eq x c)
+is-tells spend None c (Sig k) x e n f = no_unless-tells _ _ (λ h. ap (λ s. bytes_eq s c) f ∙ token-apart k.bytes spend.digest c e h)
+is-tells spend (Some d) c (Sig k) x e n f = ap (λ s. bytes_eq s c) (f ∙ ap (token_of k.bytes) n)
+is-tells spend known c (Preimage ph) x e n f = no_unless-tells _ _ (preimage-apart ph x c f.0 f.1)
+is-tells spend known c (Exact b) x e n f = ap (λ s. bytes_eq s c) f
 
 preimage-no_signature : (x : List ℕ) → length x ≡ 32 → is_signature x ≡ false
 unfolding is_signature is_token
@@ -74,24 +81,20 @@ key_form-tells spend (Sig k) x e f = ap is_key f ∙ token-no_key k.bytes spend.
 key_form-tells spend (Preimage ph) x e f = preimage-no_key x f.0
 key_form-tells spend (Exact b) x e f = ap is_key f
 
--- the bytes of a key, where they are known
-abbrev pub Known : Option (List ℕ) → List ℕ → Type 0
-Known None key = Unit {0}
-Known (Some b) key = key ≡ b
-
 preimage-no_token : (x k d : List ℕ) → length x ≡ 32 → length d ≡ 32 → bytes_eq x (token_of k d) ≡ false
 preimage-no_token x k d l e = false_from_ne_true _ (λ t. let same = (bytes_eq-Decides x (token_of k d)).0 t in let n = token-length k d e in let m = ap length same in omega arith)
 
 no_token-exact : (k b d : List ℕ) → length d ≡ 32 → is_token_with k b ≡ false → bytes_eq b (token_of k d) ≡ false
 no_token-exact k b d e h = false_from_ne_true _ (λ t. let same = (bytes_eq-Decides b (token_of k d)).0 t in true≢false (sym (token_with k d e) ∙ ap (is_token_with k) (sym same) ∙ h))
 
-token_of-tells : (spend : Spend) (key : List ℕ) (slot : Slot) (x : List ℕ) → length spend.digest ≡ 32 → FillsSlot spend slot x → Tells (token_of_evidence key slot) (bytes_eq x (token_of key spend.digest))
-token_of-tells spend key (Sig k) x e f = ap (λ s. bytes_eq s (token_of key spend.digest)) f ∙ token-injective k.bytes key spend.digest
-token_of-tells spend key (Preimage ph) x e f = preimage-no_token x key spend.digest f.0 e
-token_of-tells spend key (Exact b) x e f = no_unless-tells _ _ (λ h. ap (λ s. bytes_eq s (token_of key spend.digest)) f ∙ no_token-exact key b.item spend.digest e h)
+token_of-tells : (spend : Spend) (known : Option (List ℕ)) (key : List ℕ) (slot : Slot) (x : List ℕ) → length spend.digest ≡ 32 → Known known spend.digest → FillsSlot spend slot x → Tells (token_of_evidence known key slot) (bytes_eq x (token_of key spend.digest))
+token_of-tells spend known key (Sig k) x e n f = ap (λ s. bytes_eq s (token_of key spend.digest)) f ∙ token-injective k.bytes key spend.digest
+token_of-tells spend known key (Preimage ph) x e n f = preimage-no_token x key spend.digest f.0 e
+token_of-tells spend None key (Exact b) x e n f = no_unless-tells _ _ (λ h. ap (λ s. bytes_eq s (token_of key spend.digest)) f ∙ no_token-exact key b.item spend.digest e h)
+token_of-tells spend (Some d) key (Exact b) x e n f = ap (λ s. bytes_eq s (token_of key spend.digest)) f ∙ ap (λ s. bytes_eq b.item (token_of key s)) n
 
-pub token-tells : (spend : Spend) (known : Option (List ℕ)) (key : List ℕ) (slot : Slot) (x : List ℕ) → length spend.digest ≡ 32 → Known known key → FillsSlot spend slot x → Tells (slot_token_evidence known slot) (bytes_eq x (token_of key spend.digest))
-token-tells spend (Some b) key slot x e k f = rw k (token_of-tells spend b slot x e f)
-token-tells spend None key (Sig j) x e k f = tt
-token-tells spend None key (Preimage ph) x e k f = preimage-no_token x key spend.digest f.0 e
-token-tells spend None key (Exact b) x e k f = tt
+pub token-tells : (spend : Spend) (known named : Option (List ℕ)) (key : List ℕ) (slot : Slot) (x : List ℕ) → length spend.digest ≡ 32 → Known known spend.digest → Known named key → FillsSlot spend slot x → Tells (slot_token_evidence known named slot) (bytes_eq x (token_of key spend.digest))
+token-tells spend known (Some b) key slot x e n k f = rw k (token_of-tells spend known b slot x e n f)
+token-tells spend known None key (Sig j) x e n k f = tt
+token-tells spend known None key (Preimage ph) x e n k f = preimage-no_token x key spend.digest f.0 e
+token-tells spend known None key (Exact b) x e n k f = tt

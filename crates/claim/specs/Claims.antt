@@ -1,26 +1,44 @@
 -- What a claim is, by its parts.
-use Rattle.std.specs.Prelude.{◌≡◌, ℕ, List, Ok}
+use Rattle.std.specs.Prelude.{◌≡◌, ℕ, List, Ok, is_ok, IsTrue}
+use Rattle.script.specs.Spelling.{spelling}
+use Rattle.tx.specs.declared.input.TxIn.{TxIn}
+use Rattle.tx.specs.Fields.{Transaction}
 use Rattle.paths.specs.declared.state.Path.{Path}
 use Rattle.paths.specs.Listing.{CheckedScript}
 use Rattle.claim.specs.declared.parts.Slot.{Slot}
 use Rattle.claim.specs.declared.parts.Place.{Place}
 use Rattle.claim.specs.declared.parts.Shell.{Shell}
-use Rattle.claim.specs.declared.claims.Claim.{Claim}
-use Rattle.claim.specs.Judgement.{judgement_of}
-use Rattle.claim.specs.Fitting.{Opens}
+use Rattle.claim.specs.Judgement.{judgement_of, bare_shell}
+use Rattle.claim.specs.Fitting.{Fits, Opens}
 
--- the claim is the one on these
-pub record IsClaimOf (ways : CheckedScript) (path : ℕ) (fillings : List Slot) (at : Place) (round : Shell) (c : Claim) : Type 0 where
-  pub checked : c.checked ≡ ways
-  pub index : c.index ≡ path
-  pub slots : c.slots ≡ fillings
-  pub place : c.place ≡ at
-  pub shell : c.shell ≡ round
+-- a claim: the checked script of the claimed output, the index of the path that it takes, the slots, the top first, where the output stands,
+-- and the transaction round it, which has no witness item where it is fixed
+pub record ClaimParts : Type 0 where
+  pub ways : CheckedScript
+  pub index : ℕ
+  pub slots : List Slot
+  pub place : Place
+  pub shell : Shell
 
 -- the claim takes this path: the one on which it was accepted
-abbrev pub TakesPath : Claim → Path → Type 0
-TakesPath c p = judgement_of c.checked c.index c.slots c.place ≡ Ok p
+abbrev pub TakesPath : ClaimParts → Path → Type 0
+TakesPath c p = judgement_of c.ways c.index c.slots c.place c.shell ≡ Ok p
 
--- whatever fits a claim opens its script
-abbrev pub IsOpening : Claim → Type 0
-IsOpening c = (p : Path) → TakesPath c p → Opens c.checked.ops p c.slots
+-- a path was accepted for the claim
+abbrev pub IsAccepted : ClaimParts → Type 0
+IsAccepted c = IsTrue (is_ok (judgement_of c.ways c.index c.slots c.place c.shell))
+
+-- the claim is the one of these parts, of which a fixed transaction has lost its witness, and was accepted
+pub record IsAcceptedOf (ways : CheckedScript) (index : ℕ) (slots : List Slot) (place : Place) (shell : Shell) (c : ClaimParts) : Type 0 where
+  pub same : c ≡ record { ways = ways; index = index; slots = slots; place = place; shell = bare_shell shell }
+  pub accepted : IsAccepted c
+
+-- an input of a transaction fits the claim
+pub record FitsClaim (c : ClaimParts) (t : Transaction) (input : TxIn) : Type 0 where
+  pub path : Path
+  pub taken : TakesPath c path
+  pub fits : Fits (spelling c.ways.ops) path c.slots c.place c.shell t input
+
+-- whatever fits a claim opens its output
+abbrev pub IsOpening : ClaimParts → Type 0
+IsOpening c = (p : Path) → TakesPath c p → Opens c.ways.ops p c.slots c.place c.shell

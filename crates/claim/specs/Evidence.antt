@@ -1,4 +1,5 @@
--- What slots show of a fact: that it holds (Some true), that it does not (Some false), or neither (None).
+-- What slots show of a fact: that it holds (Some true), that it does not (Some false), or neither (None). Where the transaction is fixed, the digest
+-- is known, and a signature slot counts as the exact bytes of its token; what is said of one below without the digest is so of each token.
 use Rattle.std.specs.Prelude.{ℕ, ◌+◌, Bool, true, false, ◌&&◌, ◌||◌, not, ◌==◌, nat_lt, if◌then◌else◌, List, [], ◌∷◌, length, take, Option, Some, None, is_some, slice_get, slice_index}
 use Rattle.std.specs.Str.{bytes_eq}
 use Rattle.std.specs.List.{list_any, list_all}
@@ -6,7 +7,7 @@ use Rattle.sha2.specs.Sha256.{sha256}
 use Rattle.digest.specs.Ripemd160.{ripemd160}
 use Rattle.digest.specs.Hash.{hash160}
 use Rattle.script.specs.Limits.{locktime_threshold}
-use Rattle.script.specs.Token.{is_key, is_signature}
+use Rattle.script.specs.Token.{token_of, is_key, is_signature}
 use Rattle.script.specs.Step.{truth, bit_at}
 use Rattle.facts.specs.declared.symbols.KeySource.{KeySource}
 use Rattle.facts.specs.declared.symbols.KeySource.TheVariants.{Const as FixedKey, Slot as SlotKey}
@@ -20,10 +21,11 @@ abbrev pub is_token_with : List ℕ → List ℕ → Bool
 is_token_with key b = length b == length key + 33 && bytes_eq (take (length key) b) key && slice_index b (length key + 32) == 1
 
 -- HASH160 of the slot is these bytes: the preimage of a SHA-256 has the RIPEMD-160 of it
-abbrev pub hash_evidence : List ℕ → Slot → Option Bool
-hash_evidence h (Sig k) = None
-hash_evidence h (Preimage ph) = Some (bytes_eq (ripemd160 ph) h)
-hash_evidence h (Exact b) = Some (bytes_eq (hash160 b.item) h)
+abbrev pub hash_evidence : Option (List ℕ) → List ℕ → Slot → Option Bool
+hash_evidence None h (Sig k) = None
+hash_evidence (Some digest) h (Sig k) = Some (bytes_eq (hash160 (token_of k.bytes digest)) h)
+hash_evidence known h (Preimage ph) = Some (bytes_eq (ripemd160 ph) h)
+hash_evidence known h (Exact b) = Some (bytes_eq (hash160 b.item) h)
 
 -- the slot has n bytes
 abbrev pub size_evidence : ℕ → Slot → Option Bool
@@ -47,10 +49,11 @@ abbrev pub is_preimage : List ℕ → List ℕ → Bool
 is_preimage c ph = length c == 32 && bytes_eq (sha256 c) ph
 
 -- the slot is these bytes
-abbrev pub bytes_evidence : List ℕ → Slot → Option Bool
-bytes_evidence c (Sig k) = no_unless (is_token_with k.bytes c)
-bytes_evidence c (Preimage ph) = no_unless (is_preimage c ph)
-bytes_evidence c (Exact b) = Some (bytes_eq b.item c)
+abbrev pub bytes_evidence : Option (List ℕ) → List ℕ → Slot → Option Bool
+bytes_evidence None c (Sig k) = no_unless (is_token_with k.bytes c)
+bytes_evidence (Some digest) c (Sig k) = Some (bytes_eq (token_of k.bytes digest) c)
+bytes_evidence known c (Preimage ph) = no_unless (is_preimage c ph)
+bytes_evidence known c (Exact b) = Some (bytes_eq b.item c)
 
 -- the slot is empty or has the form of a token
 abbrev pub form_evidence : Slot → Option Bool
@@ -64,25 +67,28 @@ key_form_evidence (Exact b) = Some (is_key b.item)
 key_form_evidence slot = Some false
 
 -- the slot is the token of a key, whose bytes are known
-abbrev pub token_of_evidence : List ℕ → Slot → Option Bool
-token_of_evidence key (Sig k) = Some (bytes_eq k.bytes key)
-token_of_evidence key (Preimage ph) = Some false
-token_of_evidence key (Exact b) = no_unless (is_token_with key b.item)
+abbrev pub token_of_evidence : Option (List ℕ) → List ℕ → Slot → Option Bool
+token_of_evidence known key (Sig k) = Some (bytes_eq k.bytes key)
+token_of_evidence known key (Preimage ph) = Some false
+token_of_evidence None key (Exact b) = no_unless (is_token_with key b.item)
+token_of_evidence (Some digest) key (Exact b) = Some (bytes_eq b.item (token_of key digest))
 
--- the bytes of a key, where they are known: those of the script, or of an exact slot
-abbrev pub exact_of : Option Slot → Option (List ℕ)
-exact_of (Some (Exact b)) = Some b.item
-exact_of slot = None
+-- the bytes of a slot, where they are known
+abbrev pub known_bytes : Option (List ℕ) → Option Slot → Option (List ℕ)
+known_bytes (Some digest) (Some (Sig k)) = Some (token_of k.bytes digest)
+known_bytes known (Some (Exact b)) = Some b.item
+known_bytes known slot = None
 
-abbrev pub known_key : List Slot → KeySource → Option (List ℕ)
-known_key slots (FixedKey b) = Some b
-known_key slots (SlotKey j) = exact_of (slice_get slots j)
+-- the bytes of a key, where they are known: those of the script, or of a slot
+abbrev pub known_key : Option (List ℕ) → List Slot → KeySource → Option (List ℕ)
+known_key known slots (FixedKey b) = Some b
+known_key known slots (SlotKey j) = known_bytes known (slice_get slots j)
 
 -- the slot is the token of a key
-abbrev pub slot_token_evidence : Option (List ℕ) → Slot → Option Bool
-slot_token_evidence (Some key) slot = token_of_evidence key slot
-slot_token_evidence None (Preimage ph) = Some false
-slot_token_evidence None slot = None
+abbrev pub slot_token_evidence : Option (List ℕ) → Option (List ℕ) → Slot → Option Bool
+slot_token_evidence known (Some key) slot = token_of_evidence known key slot
+slot_token_evidence known None (Preimage ph) = Some false
+slot_token_evidence known None slot = None
 
 -- what a slot shows, where it is there
 abbrev pub at_slot : (Slot → Option Bool) → Option Slot → Option Bool
@@ -90,8 +96,8 @@ at_slot shows None = None
 at_slot shows (Some slot) = shows slot
 
 -- what the slots show of the token of a key in a slot
-abbrev pub token_evidence : List Slot → ℕ → KeySource → Option Bool
-token_evidence slots i key = at_slot (slot_token_evidence (known_key slots key)) (slice_get slots i)
+abbrev pub token_evidence : Option (List ℕ) → List Slot → ℕ → KeySource → Option Bool
+token_evidence known slots i key = at_slot (slot_token_evidence known (known_key known slots key)) (slice_get slots i)
 
 abbrev pub is_yes : Option Bool → Bool
 is_yes (Some b) = b
@@ -108,22 +114,22 @@ exists_choice fits (i ∷ is) [] = false
 exists_choice fits (i ∷ is) (key ∷ keys) = (fits i key && exists_choice fits is keys) || exists_choice fits (i ∷ is) keys
 
 -- whether a choice of keys is shown; that there is none is shown where a slot has no key, or where every token is decided
-abbrev pub assigned_evidence : List Slot → List ℕ → List KeySource → Option Bool
-assigned_evidence slots is keys =
-    if exists_choice (λ i key. is_yes (token_evidence slots i key)) is keys
+abbrev pub assigned_evidence : Option (List ℕ) → List Slot → List ℕ → List KeySource → Option Bool
+assigned_evidence known slots is keys =
+    if exists_choice (λ i key. is_yes (token_evidence known slots i key)) is keys
     then Some true
-    else (if list_any (λ i. list_all (λ key. is_no (token_evidence slots i key)) keys) is || list_all (λ i. list_all (λ key. is_some (token_evidence slots i key)) keys) is
+    else (if list_any (λ i. list_all (λ key. is_no (token_evidence known slots i key)) keys) is || list_all (λ i. list_all (λ key. is_some (token_evidence known slots i key)) keys) is
     then Some false else None)
 
--- what the slots show of a fact, where the transaction may be any of version 2
-abbrev pub evidence_of : List Slot → Fact → Option Bool
-evidence_of slots (Hash i h) = at_slot (hash_evidence h) (slice_get slots i)
-evidence_of slots (Size i n) = at_slot (size_evidence n) (slice_get slots i)
-evidence_of slots (Truth i) = at_slot truth_evidence (slice_get slots i)
-evidence_of slots (Is i c) = at_slot (bytes_evidence c) (slice_get slots i)
-evidence_of slots (KeyForm i) = at_slot key_form_evidence (slice_get slots i)
-evidence_of slots (Form i) = at_slot form_evidence (slice_get slots i)
-evidence_of slots (Token i key) = token_evidence slots i key
-evidence_of slots (Assigned is keys) = assigned_evidence slots is keys
-evidence_of slots (Lock n) = if nat_lt n locktime_threshold then Some true else None
-evidence_of slots (Age n) = if bit_at 22 n then None else Some true
+-- what the slots show of a fact, under the digest where it is known
+abbrev pub evidence_of : Option (List ℕ) → List Slot → Fact → Option Bool
+evidence_of known slots (Hash i h) = at_slot (hash_evidence known h) (slice_get slots i)
+evidence_of known slots (Size i n) = at_slot (size_evidence n) (slice_get slots i)
+evidence_of known slots (Truth i) = at_slot truth_evidence (slice_get slots i)
+evidence_of known slots (Is i c) = at_slot (bytes_evidence known c) (slice_get slots i)
+evidence_of known slots (KeyForm i) = at_slot key_form_evidence (slice_get slots i)
+evidence_of known slots (Form i) = at_slot form_evidence (slice_get slots i)
+evidence_of known slots (Token i key) = token_evidence known slots i key
+evidence_of known slots (Assigned is keys) = assigned_evidence known slots is keys
+evidence_of known slots (Lock n) = if nat_lt n locktime_threshold then Some true else None
+evidence_of known slots (Age n) = if bit_at 22 n then None else Some true

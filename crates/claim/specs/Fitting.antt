@@ -1,16 +1,24 @@
 -- Which inputs fit a claim, and what a claim promises of them.
-use Rattle.std.specs.Prelude.{◌≡◌, ℕ, ◌≤◌, ◌<◌, List, [], ◌∷◌, length, reverse, Result, Err}
+use Rattle.std.specs.Prelude.{◌≡◌, ℕ, ◌≤◌, ◌<◌, if◌then◌else◌, List, [], ◌∷◌, ◌++◌, length, reverse, Contains, Some, Result, Err}
 use Rattle.sha2.specs.Sha256.{sha256}
 use Rattle.script.specs.declared.opcode.Op.{Op}
 use Rattle.script.specs.declared.spending.Spend.{Spend}
 use Rattle.script.specs.Limits.{locktime_threshold, max_ops, max_stack_size}
 use Rattle.script.specs.Token.{token_of}
+use Rattle.script.specs.Spelling.{spelling}
 use Rattle.script.specs.Step.{Elements}
-use Rattle.script.specs.Run.{Clean, outcome}
+use Rattle.script.specs.Run.{Clean}
+use Rattle.tx.specs.declared.input.TxIn.{TxIn}
+use Rattle.tx.specs.Parts.{Output}
+use Rattle.tx.specs.Fields.{Transaction, unsigned_transaction}
+use Rattle.sighash.specs.Programs.{is_script_hash_program, spend_of, run_of}
 use Rattle.facts.specs.Meaning.{Meets}
 use Rattle.paths.specs.declared.state.Path.{Path}
 use Rattle.claim.specs.declared.parts.Slot.{Slot}
 use Rattle.claim.specs.declared.parts.Slot.TheVariants.{Sig, Preimage, Exact}
+use Rattle.claim.specs.declared.parts.Place.{Place}
+use Rattle.claim.specs.declared.parts.Shell.{Shell}
+use Rattle.claim.specs.declared.parts.Shell.TheVariants.{Open, Fixed}
 use Rattle.claim.specs.declared.errors.AcceptError.{AcceptError}
 use Rattle.claim.specs.declared.errors.AcceptError.TheVariants.{NoMemory, Unmet}
 use Rattle.claim.specs.Judgement.{height_of, age_of}
@@ -27,20 +35,36 @@ FillsSlots spend [] [] = Unit {0}
 FillsSlots spend (slot ∷ slots) (x ∷ xs) = FillsSlot spend slot x × FillsSlots spend slots xs
 FillsSlots spend slots xs = ⊥
 
--- an input fits a claim on a path: its transaction has version 2, its sequence is the path's age, the lock time is a height that the path
--- allows, and the items of its witness, the last of which is the top, fill the slots
-pub record Fits (p : Path) (slots : List Slot) (spend : Spend) (witness : List (List ℕ)) : Type 0 where
-  pub digest : length spend.digest ≡ 32
-  pub version : spend.version ≡ 2
-  pub sequence : spend.sequence ≡ age_of p
-  pub reached : height_of p ≤ spend.lock_time
-  pub height : spend.lock_time < locktime_threshold
-  pub filled : FillsSlots spend slots (reverse witness)
+-- a transaction may stand round a claim on a path: any of version 2 whose lock time is a height that the path allows, or the fixed one,
+-- whatever its witness
+abbrev pub StandsRound : Path → Shell → Transaction → Type 0
+StandsRound p Open t = (t.version ≡ 2) × (height_of p ≤ t.lock_time) × (t.lock_time < locktime_threshold)
+StandsRound p (Fixed fixed) t = unsigned_transaction t ≡ unsigned_transaction fixed
 
--- whatever fits the claim meets its path, and so opens the script
-pub record Opens (ops : List Op) (p : Path) (slots : List Slot) : Type 0 where
-  pub meets : (spend : Spend) (witness : List (List ℕ)) → Fits p slots spend witness → Meets spend witness p.arity p.facts
-  pub clean : (spend : Spend) (witness : List (List ℕ)) → Fits p slots spend witness → outcome spend ops witness ≡ Clean p.ops p.height
+-- the witness of items: where the program is the hash of a script, the script comes last (BIP 141)
+abbrev pub witness_for : List ℕ → List ℕ → List (List ℕ) → List (List ℕ)
+witness_for program script items = if is_script_hash_program program then items ++ script ∷ [] else items
+
+-- an input of a transaction fits a claim on a path of a script: it spends the place's outpoint with the path's age as its sequence, the
+-- transaction may stand round the claim, and the items of its witness, the last of which is the top, fill the slots
+pub record Fits (script : List ℕ) (p : Path) (slots : List Slot) (place : Place) (shell : Shell) (t : Transaction) (input : TxIn) : Type 0 where
+  pub among : Contains t.inputs input
+  pub outpoint : input.outpoint ≡ place.outpoint
+  pub sequence : input.sequence ≡ age_of p
+  pub stands : StandsRound p shell t
+  pub items : List (List ℕ)
+  pub witness : input.witness ≡ witness_for place.program script items
+  pub filled : FillsSlots (spend_of t input script place.value) slots (reverse items)
+
+-- the output that stands at the place
+abbrev pub output_at : Place → Output
+output_at place = record { value = place.value; script = place.program }
+
+-- whatever fits the claim meets its path, and opens the output: run as BIP 141 runs the place's program on the input's whole witness, under
+-- the place's value, it is clean, with the path's counted opcodes and height
+pub record Opens (ops : List Op) (p : Path) (slots : List Slot) (place : Place) (shell : Shell) : Type 0 where
+  pub meets : (t : Transaction) (input : TxIn) (fits : Fits (spelling ops) p slots place shell t input) → Meets (spend_of t input (spelling ops) place.value) fits.items p.arity p.facts
+  pub clean : (t : Transaction) (input : TxIn) → Fits (spelling ops) p slots place shell t input → run_of t input (output_at place) ≡ Some (Clean p.ops p.height)
   pub few : p.ops ≤ max_ops
   pub low : p.height ≤ max_stack_size
 

@@ -1,8 +1,8 @@
 // The call that accepts claims.
 
 ghost use Rattle.std.specs.Prelude.{◌≡◌, MatchResult, IfOk};
-ghost use Rattle.claim.specs.Judgement.{judgement_of};
-ghost use Rattle.claim.specs.Claims.{IsClaimOf, IsOpening};
+ghost use Rattle.claim.specs.Judgement.{judgement_of, bare_shell};
+ghost use Rattle.claim.specs.Claims.{IsAcceptedOf, IsOpening};
 ghost use Rattle.claim.specs.Fitting.{IsRefusal};
 
 use crate::claims::Claim;
@@ -13,10 +13,24 @@ use lists::List;
 use paths::Checked;
 use std::alloc::Global;
 
+// The shell, of which a fixed transaction has no witness item.
+fn bare(shell: Shell) -> Shell
+    ensures { result ≡ bare_shell shell }
+{
+    match shell {
+        Shell::Open => Shell::Open,
+        Shell::Fixed(mut tx) => {
+            tx.strip_witnesses();
+            Shell::Fixed(tx)
+        }
+    }
+}
+
 /// Accepts a claim on a path of a checked script, in whose program the output stands: the slots are filled as they say, the top of the
-/// stack first. Whatever fits the claim opens the script. It is refused, in this order, as `NoSuchPath`, `WrongArity`, `WrongProgram`,
-/// `Contradiction` and `Unmet` with the first fact of the path that the slots do not show; `NoMemory` where that fact cannot be copied.
-#[tactic(auto, using(crate::proofs::Judged::opening_of))]
+/// stack first. Whatever fits the claim opens the output. A claim keeps a fixed transaction without its witness.
+///
+/// It is refused, in this order, as `NoSuchPath`, `WrongArity`, `WrongProgram`, `WrongShell`, `Contradiction` and `Unmet` with the first fact of the
+/// path that the slots do not show; `NoMemory` where that fact cannot be copied.
 pub fn accept(
     alloc: Global,
     checked: Checked,
@@ -25,11 +39,17 @@ pub fn accept(
     place: Place,
     shell: Shell,
 ) -> Result<Claim, AcceptError>
-    ensures accepted { MatchResult result (IsClaimOf checked path slots.items place shell) (IsRefusal (judgement_of checked path slots.items place)) }
+    ensures accepted { MatchResult result (IsAcceptedOf checked path slots.items place shell) (IsRefusal (judgement_of checked path slots.items place (bare_shell shell))) }
     ensures opens { IfOk result IsOpening }
 {
-    match judge(alloc, &checked, path, slots.as_slice(), &place) {
+    let shell = bare(shell);
+    match judge(alloc, &checked, path, slots.as_slice(), &place, &shell) {
         Err(refusal) => Err(refusal),
-        Ok(()) => Ok(Claim::new(checked, path, List::from_vec(slots), place, shell)),
+        Ok(()) => {
+            let claim = Claim::new(checked, path, List::from_vec(slots), place, shell);
+            // The proof learns from its path that the claim opens the output.
+            let _ = claim.path();
+            Ok(claim)
+        }
     }
 }

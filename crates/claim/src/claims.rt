@@ -1,15 +1,16 @@
 // Claims.
 
-ghost use Rattle.std.specs.Prelude.{◌≡◌, ◌<◌, length, slice_index_or, IsTrue, is_ok};
-ghost use Rattle.claim.specs.Judgement.{judgement_of};
+ghost use Rattle.std.specs.Prelude.{◌≡◌, ◌<◌, length, slice_index_or};
 
 use crate::parts::{Place, Shell, Slot};
 use lists::List;
 use paths::{Checked, Path};
 use script::limits::LOCKTIME_THRESHOLD;
+use std::marker::Model;
 use tx::OutPoint;
 
-/// A claim on an output: a path through its script, with a filling of each of the path's slots. `accept` alone makes one.
+/// A claim on an output: a path through its script, with a filling of each of the path's slots, and the transaction round it. `accept` alone
+/// makes one. A contract sees it as these parts.
 #[derive(Drop)]
 pub struct Claim {
     checked: Checked,
@@ -17,7 +18,18 @@ pub struct Claim {
     slots: List<Slot>,
     place: Place,
     shell: Shell,
-    ghost accepted: { IsTrue (is_ok (judgement_of checked index slots place)) },
+}
+
+impl Model for Claim {
+    ghost use Rattle.std.specs.Prelude.{is_ok, IsTrue};
+    ghost use Rattle.claim.specs.Judgement.{judgement_of};
+    ghost use Rattle.claim.specs.Claims.{ClaimParts};
+
+    ghost Value = { ClaimParts };
+
+    ghost view = { λ c. record { ways = c.checked; index = c.index; slots = c.slots; place = c.place; shell = c.shell } };
+
+    ghost invariant = { λ c. IsTrue (is_ok (judgement_of c.checked c.index c.slots c.place c.shell)) };
 }
 
 // The path at an index.
@@ -29,8 +41,9 @@ fn path_at(paths: &[Path], index: usize) -> &Path
 }
 
 impl Claim {
-    ghost use Rattle.claim.specs.Judgement.{height_of, age_of};
-    ghost use Rattle.claim.specs.Claims.{IsClaimOf, IsOpening, TakesPath};
+    ghost use Rattle.std.specs.Prelude.{is_ok, IsTrue};
+    ghost use Rattle.claim.specs.Judgement.{judgement_of, needed_height, age_of};
+    ghost use Rattle.claim.specs.Claims.{IsOpening, TakesPath};
     ghost use Rattle.paths.specs.declared.state.Path.{Path as PathOf};
     ghost use Rattle.paths.specs.Sound.{IsSound};
 
@@ -42,8 +55,8 @@ impl Claim {
         place: Place,
         shell: Shell,
     ) -> Claim
-        requires { IsTrue (is_ok (judgement_of checked index slots place)) }
-        ensures { IsClaimOf checked index slots place shell result }
+        requires { IsTrue (is_ok (judgement_of checked index slots place shell)) }
+        ensures { result ≡ record { ways = checked; index = index; slots = slots; place = place; shell = shell } }
     {
         Claim {
             checked,
@@ -56,7 +69,7 @@ impl Claim {
 
     /// The script of the claimed output, with its paths.
     pub fn checked(&self) -> &Checked
-        ensures { result.now ≡ self.now.checked }
+        ensures { result.now ≡ self.now.ways }
     {
         &self.checked
     }
@@ -68,12 +81,14 @@ impl Claim {
         self.index
     }
 
-    /// The path that the claim takes. Whatever meets it runs clean, and whatever fits the claim meets it.
+    /// The path that the claim takes. Whatever meets it runs clean, and whatever fits the claim meets it and opens the output.
     pub fn path(&self) -> &Path
         ensures value { TakesPath self.now result.now }
-        ensures sound { IsSound self.now.checked.ops result.now }
+        ensures sound { IsSound self.now.ways.ops result.now }
         ensures opens { IsOpening self.now }
     {
+        // The proof learns from its bytes that the script has its limits.
+        let _ = self.checked.script().bytes();
         path_at(self.checked.paths(), self.index)
     }
 
@@ -91,7 +106,7 @@ impl Claim {
         &self.place
     }
 
-    /// The transaction round the claim.
+    /// The transaction round the claim. Where it is fixed, it has no witness item.
     pub fn shell(&self) -> &Shell
         ensures { result.now ≡ self.now.shell }
     {
@@ -105,12 +120,17 @@ impl Claim {
         self.place.outpoint
     }
 
-    /// The least lock time of a transaction with this claim, a height; 0 where the path checks none (BIP 65).
+    /// The lock time that a transaction with this claim needs, a height (BIP 65): at least that of the path, 0 where the path checks none; or that
+    /// of the fixed transaction.
     pub fn needs_height(&self) -> u64
-        ensures value { (p : PathOf) → TakesPath self.now p → result ≡ height_of p }
+        ensures value { (p : PathOf) → TakesPath self.now p → result ≡ needed_height p self.now.shell }
         ensures below { result < LOCKTIME_THRESHOLD }
     {
-        self.path().lock.unwrap_or(0)
+        let lock = self.path().lock;
+        match &self.shell {
+            Shell::Open => lock.unwrap_or(0),
+            Shell::Fixed(tx) => u64::from(tx.lock_time()),
+        }
     }
 
     /// How many blocks the claimed output has to be old; 0 where the path checks no age (BIP 68, 112).

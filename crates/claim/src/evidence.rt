@@ -1,15 +1,17 @@
-// What slots show of a fact, in three answers: that it holds (`Some(true)`), that it does not (`Some(false)`), or neither (`None`).
+// What slots show of a fact, in three answers: that it holds (`Some(true)`), that it does not (`Some(false)`), or neither (`None`). `known` is the
+// digest that signatures are over, where the transaction is fixed.
 
-ghost use Rattle.std.specs.Prelude.{◌≡◌, None, is_some};
+ghost use Rattle.std.specs.Prelude.{◌≡◌, None, Some, is_some};
 ghost use Rattle.std.specs.List.{list_any, list_all};
-ghost use Rattle.claim.specs.Evidence.{is_token_with, hash_evidence, size_evidence, truth_evidence, no_unless, is_preimage, bytes_evidence, form_evidence, key_form_evidence, token_of_evidence, slot_token_evidence, token_evidence, is_yes, is_no, exists_choice, assigned_evidence, evidence_of};
+ghost use Rattle.claim.specs.Evidence.{is_token_with, hash_evidence, size_evidence, truth_evidence, no_unless, is_preimage, bytes_evidence, form_evidence, key_form_evidence, token_of_evidence, known_bytes, slot_token_evidence, token_evidence, is_yes, is_no, exists_choice, assigned_evidence, evidence_of};
 
 use crate::parts::Slot;
 use digest::{hash160, ripemd160, sha256};
 use facts::{Fact, KeySource};
 use script::limits::LOCKTIME_THRESHOLD;
-use script::tokens::{has_key_form, has_signature_form};
+use script::tokens::{has_key_form, has_signature_form, is_token_of};
 use script::truths::is_true;
+use sighash::Token;
 
 /// The bit of a relative lock that makes it one of time (BIP 112).
 const TIME_BIT: u32 = 22;
@@ -29,11 +31,16 @@ fn no_unless(passes: bool) -> Option<bool>
 }
 
 // Whether HASH160 of the slot is this.
-fn hash_evidence(hash: &[u8], slot: &Slot) -> Option<bool>
-    ensures { result ≡ hash_evidence hash.now slot.now }
+fn hash_evidence(known: Option<[u8; 32]>, hash: &[u8], slot: &Slot) -> Option<bool>
+    ensures { result ≡ hash_evidence known hash.now slot.now }
 {
     match slot {
-        Slot::Sig(_) => None,
+        Slot::Sig(key) => match known {
+            None => None,
+            Some(digest) => Some(
+                hash160(Token::new(&key.bytes, &digest).bytes()).as_slice() == hash,
+            ),
+        },
         Slot::Preimage(image) => Some(ripemd160(image).as_slice() == hash),
         Slot::Exact(exact) => Some(hash160(exact.item.bytes()).as_slice() == hash),
     }
@@ -69,11 +76,14 @@ fn is_preimage(bytes: &[u8], image: &[u8; 32]) -> bool
 }
 
 // Whether the slot is these bytes.
-fn bytes_evidence(bytes: &[u8], slot: &Slot) -> Option<bool>
-    ensures { result ≡ bytes_evidence bytes.now slot.now }
+fn bytes_evidence(known: Option<[u8; 32]>, bytes: &[u8], slot: &Slot) -> Option<bool>
+    ensures { result ≡ bytes_evidence known bytes.now slot.now }
 {
     match slot {
-        Slot::Sig(key) => no_unless(is_token_with(&key.bytes, bytes)),
+        Slot::Sig(key) => match known {
+            None => no_unless(is_token_with(&key.bytes, bytes)),
+            Some(digest) => Some(Token::new(&key.bytes, &digest).bytes().as_slice() == bytes),
+        },
         Slot::Preimage(image) => no_unless(is_preimage(bytes, image)),
         Slot::Exact(exact) => Some(exact.item.bytes() == bytes),
     }
@@ -102,19 +112,22 @@ fn key_form_evidence(slot: &Slot) -> Option<bool>
 }
 
 // Whether the slot is the token of a key, whose bytes are known.
-fn token_of_evidence(key: &[u8], slot: &Slot) -> Option<bool>
-    ensures { result ≡ token_of_evidence key.now slot.now }
+fn token_of_evidence(known: Option<[u8; 32]>, key: &[u8], slot: &Slot) -> Option<bool>
+    ensures { result ≡ token_of_evidence known key.now slot.now }
 {
     match slot {
         Slot::Sig(named) => Some(named.bytes.as_slice() == key),
         Slot::Preimage(_) => Some(false),
-        Slot::Exact(exact) => no_unless(is_token_with(key, exact.item.bytes())),
+        Slot::Exact(exact) => match known {
+            None => no_unless(is_token_with(key, exact.item.bytes())),
+            Some(digest) => Some(is_token_of(exact.item.bytes(), key, &digest)),
+        },
     }
 }
 
 // Whether the slot is the token of a key, whose bytes are not known.
-fn some_token_evidence(slot: &Slot) -> Option<bool>
-    ensures { result ≡ slot_token_evidence None slot.now }
+fn some_token_evidence(known: Option<[u8; 32]>, slot: &Slot) -> Option<bool>
+    ensures { result ≡ slot_token_evidence known None slot.now }
 {
     match slot {
         Slot::Sig(_) => None,
@@ -123,18 +136,39 @@ fn some_token_evidence(slot: &Slot) -> Option<bool>
     }
 }
 
-// Whether a slot is the token of a key. A key that is a slot is known where that slot is exact.
-fn token_evidence(slots: &[Slot], place: usize, key: &KeySource) -> Option<bool>
-    ensures { result ≡ token_evidence slots.now place key.now }
+// Whether the slot is the token of a key that stands in another slot, whose bytes may be known.
+fn keyed_token_evidence(known: Option<[u8; 32]>, key: &Slot, slot: &Slot) -> Option<bool>
+    ensures { result ≡ slot_token_evidence known (known_bytes known (Some key.now)) slot.now }
+{
+    match key {
+        Slot::Exact(exact) => token_of_evidence(known, exact.item.bytes(), slot),
+        Slot::Sig(named) => match known {
+            None => some_token_evidence(known, slot),
+            Some(digest) => token_of_evidence(
+                known,
+                Token::new(&named.bytes, &digest).bytes(),
+                slot,
+            ),
+        },
+        Slot::Preimage(_) => some_token_evidence(known, slot),
+    }
+}
+
+// Whether a slot is the token of a key. A key that is a slot is known where that slot's bytes are.
+fn token_evidence(
+    known: Option<[u8; 32]>,
+    slots: &[Slot],
+    place: usize,
+    key: &KeySource,
+) -> Option<bool>
+    ensures { result ≡ token_evidence known slots.now place key.now }
 {
     let slot = slots.get(place)?;
     match key {
-        KeySource::Const(bytes) => token_of_evidence(bytes.bytes(), slot),
+        KeySource::Const(bytes) => token_of_evidence(known, bytes.bytes(), slot),
         KeySource::Slot(other) => match slots.get(*other) {
-            Some(Slot::Exact(exact)) => token_of_evidence(exact.item.bytes(), slot),
-            Some(Slot::Sig(_)) => some_token_evidence(slot),
-            Some(Slot::Preimage(_)) => some_token_evidence(slot),
-            None => some_token_evidence(slot),
+            Some(key) => keyed_token_evidence(known, key, slot),
+            None => some_token_evidence(known, slot),
         },
     }
 }
@@ -160,15 +194,15 @@ fn is_no(answer: Option<bool>) -> bool
 }
 
 // Whether tokens of an increasing choice of the keys are shown, one for each slot: each key in turn is taken for the first slot that is left.
-fn has_choice(slots: &[Slot], places: &[usize], keys: &[KeySource]) -> bool
-    ensures { result ≡ exists_choice (λ i key. is_yes (token_evidence slots.now i key)) places.now keys.now }
+fn has_choice(known: Option<[u8; 32]>, slots: &[Slot], places: &[usize], keys: &[KeySource]) -> bool
+    ensures { result ≡ exists_choice (λ i key. is_yes (token_evidence known slots.now i key)) places.now keys.now }
 {
     let mut taken: usize = 0;
     for key in keys {
         if taken == places.len() {
             return true;
         }
-        if is_yes(token_evidence(slots, places[taken], key)) {
+        if is_yes(token_evidence(known, slots, places[taken], key)) {
             taken += 1;
         }
     }
@@ -176,61 +210,85 @@ fn has_choice(slots: &[Slot], places: &[usize], keys: &[KeySource]) -> bool
 }
 
 // Whether a slot is shown to be the token of none of the keys.
-fn is_refused(slots: &[Slot], place: usize, keys: &[KeySource]) -> bool
-    ensures { result ≡ list_all (λ key. is_no (token_evidence slots.now place key)) keys.now }
+fn is_refused(known: Option<[u8; 32]>, slots: &[Slot], place: usize, keys: &[KeySource]) -> bool
+    ensures { result ≡ list_all (λ key. is_no (token_evidence known slots.now place key)) keys.now }
 {
     keys.iter()
-        .all(|key| is_no(token_evidence(slots, place, key)))
+        .all(|key| is_no(token_evidence(known, slots, place, key)))
 }
 
 // Whether some slot is shown to be the token of none of the keys.
-fn has_refused(slots: &[Slot], places: &[usize], keys: &[KeySource]) -> bool
-    ensures { result ≡ list_any (λ i. list_all (λ key. is_no (token_evidence slots.now i key)) keys.now) places.now }
+fn has_refused(
+    known: Option<[u8; 32]>,
+    slots: &[Slot],
+    places: &[usize],
+    keys: &[KeySource],
+) -> bool
+    ensures { result ≡ list_any (λ i. list_all (λ key. is_no (token_evidence known slots.now i key)) keys.now) places.now }
 {
-    places.iter().any(|place| is_refused(slots, *place, keys))
+    places
+        .iter()
+        .any(|place| is_refused(known, slots, *place, keys))
 }
 
 // Whether of each key it is shown that the slot is its token, or that it is not.
-fn is_decided(slots: &[Slot], place: usize, keys: &[KeySource]) -> bool
-    ensures { result ≡ list_all (λ key. is_some (token_evidence slots.now place key)) keys.now }
+fn is_decided(known: Option<[u8; 32]>, slots: &[Slot], place: usize, keys: &[KeySource]) -> bool
+    ensures { result ≡ list_all (λ key. is_some (token_evidence known slots.now place key)) keys.now }
 {
     keys.iter()
-        .all(|key| token_evidence(slots, place, key).is_some())
+        .all(|key| token_evidence(known, slots, place, key).is_some())
 }
 
 // Whether that is so of each slot.
-fn are_decided(slots: &[Slot], places: &[usize], keys: &[KeySource]) -> bool
-    ensures { result ≡ list_all (λ i. list_all (λ key. is_some (token_evidence slots.now i key)) keys.now) places.now }
+fn are_decided(
+    known: Option<[u8; 32]>,
+    slots: &[Slot],
+    places: &[usize],
+    keys: &[KeySource],
+) -> bool
+    ensures { result ≡ list_all (λ i. list_all (λ key. is_some (token_evidence known slots.now i key)) keys.now) places.now }
 {
-    places.iter().all(|place| is_decided(slots, *place, keys))
+    places
+        .iter()
+        .all(|place| is_decided(known, slots, *place, keys))
 }
 
 // Whether the slots are tokens of an increasing choice of the keys.
-fn assigned_evidence(slots: &[Slot], places: &[usize], keys: &[KeySource]) -> Option<bool>
-    ensures { result ≡ assigned_evidence slots.now places.now keys.now }
+fn assigned_evidence(
+    known: Option<[u8; 32]>,
+    slots: &[Slot],
+    places: &[usize],
+    keys: &[KeySource],
+) -> Option<bool>
+    ensures { result ≡ assigned_evidence known slots.now places.now keys.now }
 {
-    if has_choice(slots, places, keys) {
+    if has_choice(known, slots, places, keys) {
         return Some(true);
     }
-    if has_refused(slots, places, keys) || are_decided(slots, places, keys) {
+    if has_refused(known, slots, places, keys) || are_decided(known, slots, places, keys) {
         return Some(false);
     }
     None
 }
 
-/// What slots show of a fact, where the transaction may be any of version 2.
-pub(crate) fn evidence_of(slots: &[Slot], fact: &Fact) -> Option<bool>
-    ensures { result ≡ evidence_of slots.now fact.now }
+/// What slots show of a fact.
+pub(crate) fn evidence_of(known: Option<[u8; 32]>, slots: &[Slot], fact: &Fact) -> Option<bool>
+    ensures { result ≡ evidence_of known slots.now fact.now }
 {
     match fact {
-        Fact::Hash(place, hash) => hash_evidence(hash.bytes(), slots.get(*place)?),
+        Fact::Hash(place, hash) => hash_evidence(known, hash.bytes(), slots.get(*place)?),
         Fact::Size(place, size) => size_evidence(*size, slots.get(*place)?),
         Fact::Truth(place) => truth_evidence(slots.get(*place)?),
-        Fact::Is(place, bytes) => bytes_evidence(bytes.bytes(), slots.get(*place)?),
+        Fact::Is(place, bytes) => bytes_evidence(known, bytes.bytes(), slots.get(*place)?),
         Fact::KeyForm(place) => key_form_evidence(slots.get(*place)?),
         Fact::Form(place) => form_evidence(slots.get(*place)?),
-        Fact::Token(place, key) => token_evidence(slots, *place, key),
-        Fact::Assigned(places, keys) => assigned_evidence(slots, places.values(), keys.values()),
+        Fact::Token(place, key) => token_evidence(known, slots, *place, key),
+        Fact::Assigned(places, keys) => assigned_evidence(
+            known,
+            slots,
+            places.values(),
+            keys.values(),
+        ),
         Fact::Lock(n) => if *n < LOCKTIME_THRESHOLD {
             Some(true)
         } else {

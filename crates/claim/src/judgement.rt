@@ -1,20 +1,23 @@
 // Whether a claim is accepted: or the first refusal.
 
-ghost use Rattle.std.specs.Prelude.{◌≡◌, ◌&&◌, not, ◌++◌, [], ◌∷◌, All, IsTrue, is_ok, Ok, Err, IfOk, MatchOption, MatchResult, if◌then◌else◌};
+ghost use Rattle.std.specs.Prelude.{◌≡◌, ◌&&◌, not, ◌++◌, [], ◌∷◌, All, IsTrue, is_ok, Ok, Err, MatchOption, MatchResult, if◌then◌else◌};
 ghost use Rattle.std.specs.Str.{bytes_eq};
 ghost use Rattle.facts.specs.Sameness.{same_fact, is_denied, contradicts};
 ghost use Rattle.paths.specs.declared.state.Path.{Path as PathOf};
 ghost use Rattle.claim.specs.declared.errors.AcceptError.TheVariants.{Unmet};
-ghost use Rattle.claim.specs.Judgement.{script_program, key_script, is_key_program, is_program, is_met, first_unmet_or, judgement_of_path, judgement_of};
-ghost use Rattle.claim.specs.Fitting.{IsRefusal, Opens};
+ghost use Rattle.claim.specs.Judgement.{script_program, key_script, is_key_program, is_program, is_met, first_unmet_or, is_only_input, is_shell, known_digest, judgement_of_path, judgement_of};
+ghost use Rattle.claim.specs.Fitting.{IsRefusal};
 
 use crate::errors::AcceptError;
 use crate::evidence::evidence_of;
-use crate::parts::{Place, Slot};
+use crate::parts::{Place, Shell, Slot};
 use digest::sha256;
 use facts::Stated;
 use paths::{Checked, Path};
+use script::limits::LOCKTIME_THRESHOLD;
+use sighash::digest_of;
 use std::alloc::Global;
+use tx::{OutPoint, TxIn, total_value};
 
 // Whether the program is that of the script by its SHA-256 (BIP 141).
 #[tactic(auto, using(crate::proofs::Programs::program_by, crate::proofs::Programs::program_short))]
@@ -107,21 +110,25 @@ fn contradicts(facts: &[Stated]) -> bool
 }
 
 // Whether a fact is shown with its polarity.
-fn is_met(slots: &[Slot], stated: &Stated) -> bool
-    ensures { result ≡ is_met slots.now stated.now }
+fn is_met(known: Option<[u8; 32]>, slots: &[Slot], stated: &Stated) -> bool
+    ensures { result ≡ is_met known slots.now stated.now }
 {
-    match evidence_of(slots, &stated.fact) {
+    match evidence_of(known, slots, &stated.fact) {
         None => false,
         Some(answer) => if answer { stated.holds } else { !stated.holds },
     }
 }
 
 // The first fact that is not shown.
-pub(crate) fn first_unmet<'a>(slots: &[Slot], facts: &'a [Stated]) -> Option<&'a Stated>
-    ensures { MatchOption result ((p : PathOf) → first_unmet_or slots.now facts.now p ≡ Ok p) (λ s. (p : PathOf) → first_unmet_or slots.now facts.now p ≡ Err (Unmet s.now)) }
+pub(crate) fn first_unmet<'a>(
+    known: Option<[u8; 32]>,
+    slots: &[Slot],
+    facts: &'a [Stated],
+) -> Option<&'a Stated>
+    ensures { MatchOption result ((p : PathOf) → first_unmet_or known slots.now facts.now p ≡ Ok p) (λ s. (p : PathOf) → first_unmet_or known slots.now facts.now p ≡ Err (Unmet s.now)) }
 {
     for stated in facts {
-        if !is_met(slots, stated) {
+        if !is_met(known, slots, stated) {
             return Some(stated);
         }
     }
@@ -129,14 +136,56 @@ pub(crate) fn first_unmet<'a>(slots: &[Slot], facts: &'a [Stated]) -> Option<&'a
 }
 
 // Whether the facts are shown; the refusal names the first that is not.
-fn meet(alloc: Global, slots: &[Slot], facts: &[Stated]) -> Result<(), AcceptError>
-    ensures { MatchResult result (λ _. (p : PathOf) → first_unmet_or slots.now facts.now p ≡ Ok p) (λ e. (p : PathOf) → IsRefusal (first_unmet_or slots.now facts.now p) e) }
+fn meet(
+    alloc: Global,
+    known: Option<[u8; 32]>,
+    slots: &[Slot],
+    facts: &[Stated],
+) -> Result<(), AcceptError>
+    ensures { MatchResult result (λ _. (p : PathOf) → first_unmet_or known slots.now facts.now p ≡ Ok p) (λ e. (p : PathOf) → IsRefusal (first_unmet_or known slots.now facts.now p) e) }
 {
-    match first_unmet(slots, facts) {
+    match first_unmet(known, slots, facts) {
         None => Ok(()),
         Some(stated) => match stated.copy() {
             Ok(stated) => Err(AcceptError::Unmet(stated)),
             Err(_) => Err(AcceptError::NoMemory),
+        },
+    }
+}
+
+// Whether there is one input, which has this outpoint and this sequence.
+fn is_only_input(inputs: &[TxIn], outpoint: &OutPoint, sequence: u16) -> bool
+    ensures { result ≡ is_only_input inputs.now outpoint.now sequence }
+{
+    inputs.len() == 1
+        && inputs[0].outpoint.txid == outpoint.txid
+        && inputs[0].outpoint.index == outpoint.index
+        && inputs[0].sequence == u32::from(sequence)
+}
+
+// Whether a fixed transaction fits the path and the place.
+fn is_shell(path: &Path, place: &Place, shell: &Shell) -> bool
+    ensures { result ≡ is_shell path.now place.now shell.now }
+{
+    match shell {
+        Shell::Open => true,
+        Shell::Fixed(tx) => tx.version() == 2
+            && is_only_input(tx.inputs(), &place.outpoint, path.age.unwrap_or(0))
+            && u64::from(tx.lock_time()) < LOCKTIME_THRESHOLD
+            && path.lock.unwrap_or(0) <= u64::from(tx.lock_time())
+            && total_value(tx.outputs()) <= u128::from(place.value),
+    }
+}
+
+// The digest that the signatures are over, where the transaction is fixed (BIP 143).
+fn known_digest(script: &[u8], place: &Place, shell: &Shell) -> Option<[u8; 32]>
+    ensures { result ≡ known_digest script.now place.now shell.now }
+{
+    match shell {
+        Shell::Open => None,
+        Shell::Fixed(tx) => match digest_of(tx, 0, script, place.value) {
+            Ok(digest) => Some(digest),
+            Err(_) => None,
         },
     }
 }
@@ -146,21 +195,30 @@ fn judge_path(
     alloc: Global,
     script: &[u8],
     slots: &[Slot],
-    program: &[u8],
+    place: &Place,
+    shell: &Shell,
     path: &Path,
 ) -> Result<(), AcceptError>
-    ensures { MatchResult result (λ _. judgement_of_path script.now slots.now program.now path.now ≡ Ok path.now) (IsRefusal (judgement_of_path script.now slots.now program.now path.now)) }
+    ensures { MatchResult result (λ _. judgement_of_path script.now slots.now place.now shell.now path.now ≡ Ok path.now) (IsRefusal (judgement_of_path script.now slots.now place.now shell.now path.now)) }
 {
     if slots.len() != path.arity {
         return Err(AcceptError::WrongArity);
     }
-    if !is_program(script, program) {
+    if !is_program(script, place.program.bytes()) {
         return Err(AcceptError::WrongProgram);
+    }
+    if !is_shell(path, place, shell) {
+        return Err(AcceptError::WrongShell);
     }
     if contradicts(path.facts.values()) {
         return Err(AcceptError::Contradiction);
     }
-    meet(alloc, slots, path.facts.values())
+    meet(
+        alloc,
+        known_digest(script, place, shell),
+        slots,
+        path.facts.values(),
+    )
 }
 
 /// Whether a claim is accepted, or the first refusal.
@@ -170,18 +228,12 @@ pub(crate) fn judge(
     index: usize,
     slots: &[Slot],
     place: &Place,
+    shell: &Shell,
 ) -> Result<(), AcceptError>
-    ensures judgement_of { MatchResult result (λ _. IsTrue (is_ok (judgement_of checked.now index slots.now place.now))) (IsRefusal (judgement_of checked.now index slots.now place.now)) }
-    ensures opens { IfOk result (λ _. (p : PathOf) → judgement_of checked.now index slots.now place.now ≡ Ok p → Opens checked.now.ops p slots.now) }
+    ensures { MatchResult result (λ _. IsTrue (is_ok (judgement_of checked.now index slots.now place.now shell.now))) (IsRefusal (judgement_of checked.now index slots.now place.now shell.now)) }
 {
     match checked.paths().get(index) {
         None => Err(AcceptError::NoSuchPath),
-        Some(path) => judge_path(
-            alloc,
-            checked.script().bytes(),
-            slots,
-            place.program.bytes(),
-            path,
-        ),
+        Some(path) => judge_path(alloc, checked.script().bytes(), slots, place, shell, path),
     }
 }

@@ -14,6 +14,7 @@
 
 pub mod accepting;
 pub mod claims;
+mod copies;
 pub mod errors;
 mod evidence;
 mod judgement;

@@ -6,7 +6,7 @@ ghost use Rattle.script.specs.Limits.{max_element_size};
 use keys::Key;
 use lists::ByteString;
 use script::limits::MAX_SCRIPT_ELEMENT_SIZE;
-use tx::OutPoint;
+use tx::{OutPoint, Tx};
 
 /// An item that a witness may hold: at most 520 bytes.
 #[derive(Debug, Drop)]
@@ -39,6 +39,8 @@ pub struct Place {
 pub enum Shell {
     /// Any transaction of version 2, with a lock time that the claim asks for.
     Open,
+    /// This transaction, whatever its witness.
+    Fixed(Tx),
 }
 
 impl WitnessItem {

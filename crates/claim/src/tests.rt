@@ -1,3 +1,4 @@
+mod fixed;
 mod shapes;
 
 use crate::errors::AcceptError;
@@ -52,21 +53,24 @@ fn shows_the_facts_of_to_local(rt: HostRuntime) -> Result<(), Fail> {
     let alloc = rt.alloc();
     let slots = two_slots(alloc, &[1])?;
     assert_eq!(rt; slots.len(), 2);
-    assert_eq!(rt; evidence_of(&slots, &Fact::Truth(0)), Some(true));
-    assert_eq!(rt; evidence_of(&slots, &Fact::Form(1)), Some(true));
+    assert_eq!(rt; evidence_of(None, &slots, &Fact::Truth(0)), Some(true));
+    assert_eq!(rt; evidence_of(None, &slots, &Fact::Form(1)), Some(true));
     assert_eq!(rt;
-        evidence_of(&slots, &Fact::Token(1, key_of(alloc, 0x11)?)),
+        evidence_of(None, &slots, &Fact::Token(1, key_of(alloc, 0x11)?)),
         Some(true)
     );
     assert_eq!(rt;
-        evidence_of(&slots, &Fact::Token(1, key_of(alloc, 0x22)?)),
+        evidence_of(None, &slots, &Fact::Token(1, key_of(alloc, 0x22)?)),
         Some(false)
     );
-    assert_eq!(rt; evidence_of(&slots, &Fact::Truth(2)), None);
-    assert_eq!(rt; evidence_of(&slots, &Fact::Age(144)), Some(true));
-    assert_eq!(rt; evidence_of(&slots, &Fact::Age(0x40_0001)), None);
-    assert_eq!(rt; evidence_of(&slots, &Fact::Lock(499_999_999)), Some(true));
-    assert_eq!(rt; evidence_of(&slots, &Fact::Lock(500_000_000)), None);
+    assert_eq!(rt; evidence_of(None, &slots, &Fact::Truth(2)), None);
+    assert_eq!(rt; evidence_of(None, &slots, &Fact::Age(144)), Some(true));
+    assert_eq!(rt; evidence_of(None, &slots, &Fact::Age(0x40_0001)), None);
+    assert_eq!(rt;
+        evidence_of(None, &slots, &Fact::Lock(499_999_999)),
+        Some(true)
+    );
+    assert_eq!(rt; evidence_of(None, &slots, &Fact::Lock(500_000_000)), None);
     Ok(())
 }
 
@@ -85,13 +89,13 @@ fn assigns_keys_in_their_order(rt: HostRuntime) -> Result<(), Fail> {
     let keys = List::from_vec(keys);
     let forward = List::from_vec(Vec::from_slice(alloc, &[0, 1])?);
     let fact = Fact::Assigned(forward, keys);
-    assert_eq!(rt; evidence_of(&slots, &fact), Some(true));
+    assert_eq!(rt; evidence_of(None, &slots, &fact), Some(true));
     let mut keys = Vec::new(alloc);
     keys.push(key_of(alloc, 0x11)?)?;
     keys.push(key_of(alloc, 0x22)?)?;
     let backward = List::from_vec(Vec::from_slice(alloc, &[1, 0])?);
     let fact = Fact::Assigned(backward, List::from_vec(keys));
-    assert_eq!(rt; evidence_of(&slots, &fact), Some(false));
+    assert_eq!(rt; evidence_of(None, &slots, &fact), Some(false));
     Ok(())
 }
 
@@ -103,7 +107,7 @@ fn names_the_first_unmet_fact(rt: HostRuntime) -> Result<(), Fail> {
     for fact in [Fact::Form(1), Fact::Truth(0), Fact::KeyForm(1)] {
         facts.push(Stated { fact, holds: true })?;
     }
-    match first_unmet(&slots, &facts) {
+    match first_unmet(None, &slots, &facts) {
         Some(stated) => {
             let refusal = AcceptError::Unmet(stated.copy()?);
             assert_eq!(rt;

@@ -131,14 +131,14 @@ fn shows_hashes(rt: HostRuntime) -> Result<(), Fail> {
         (2, None, None),
     ] {
         let right = Fact::Hash(slot, ByteString::from_slice(alloc, &ripemd)?);
-        assert_eq!(rt; evidence_of(&slots, &right), yes);
+        assert_eq!(rt; evidence_of(None, &slots, &right), yes);
         let wrong = Fact::Hash(slot, ByteString::from_slice(alloc, &[5; 20])?);
-        assert_eq!(rt; evidence_of(&slots, &wrong), no);
+        assert_eq!(rt; evidence_of(None, &slots, &wrong), no);
     }
     let same = Fact::Is(0, ByteString::from_slice(alloc, &[5; 32])?);
-    assert_eq!(rt; evidence_of(&slots, &same), None);
+    assert_eq!(rt; evidence_of(None, &slots, &same), None);
     let other = Fact::Is(0, ByteString::from_slice(alloc, &[6; 32])?);
-    assert_eq!(rt; evidence_of(&slots, &other), Some(false));
+    assert_eq!(rt; evidence_of(None, &slots, &other), Some(false));
     Ok(())
 }
 

@@ -5,6 +5,6 @@ use Rattle.claim.proofs.evidence.has_choice.Given as goal
 
 abbrev pub invariant-loop-key : goal.invariant-loop-key
 invariant-loop-key l = record {
-  rest : greedy (λ i k. is_yes (token_evidence l.slots i k)) (drop l.taken l.places) (drop l.key-index l.keys) ≡ greedy (λ i k. is_yes (token_evidence l.slots i k)) l.places l.keys;
+  rest : greedy (λ i k. is_yes (token_evidence l.known l.slots i k)) (drop l.taken l.places) (drop l.key-index l.keys) ≡ greedy (λ i k. is_yes (token_evidence l.known l.slots i k)) l.places l.keys;
   within : l.taken ≤ length l.places;
 }

@@ -1,11 +1,16 @@
 use Rattle.std.proofs.Common.{◌<◌, ap, sym, subst, ◌∙◌}
-use Rattle.claim.specs.Judgement.{height_of}
-use Rattle.claim.proofs.Judged.{accepted-low, one-path}
+use Rattle.claim.specs.Judgement.{needed_height}
+use Rattle.claim.proofs.Judged.{accepted-low, needed-low}
 use Rattle.claim.proofs.claims.Claim.needs_height.Goals as goal
 
-pub returns-clause-value : goal.returns-clause-value
-returns-clause-value c = λ p t. c.unwrap_or.ensures ∙ ap height_of (one-path _ c.path.result.now p c.path.ensures.value t)
+pub returns-in-Open-clause-below : goal.returns-in-Open-clause-below
+returns-in-Open-clause-below c =
+    let v = c.args.self.now in
+    subst (λ n. n < 500000000) (sym c.unwrap_or.ensures) (accepted-low v.ways v.index v.slots v.place v.shell c.path.result.now c.path.ensures.sound c.path.ensures.value)
 
-pub returns-clause-below : goal.returns-clause-below
-returns-clause-below c =
-    subst (λ n. n < 500000000) (sym c.unwrap_or.ensures) (accepted-low c.args.self.now.checked c.args.self.now.index c.args.self.now.slots c.args.self.now.place c.path.result.now c.path.ensures.sound c.path.ensures.value)
+pub returns-in-Fixed-clause-below : goal.returns-in-Fixed-clause-below
+returns-in-Fixed-clause-below c =
+    let v = c.args.self.now in
+    let p = c.path.result.now in
+    let low = subst (λ s. needed_height p s < 500000000) (sym (ap (λ w. w.shell) c.self.view_is) ∙ c.in-Fixed.is) (needed-low v.ways v.index v.slots v.place v.shell p c.path.ensures.sound c.path.ensures.value) in
+    subst (λ n. n < 500000000) (sym (c.from.ensures ∙ c.lock_time.ensures)) low
