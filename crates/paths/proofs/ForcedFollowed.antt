@@ -5,10 +5,10 @@ use Rattle.script.specs.declared.opcode.Op.TheVariants.{Push, Number as SmallNum
 use Rattle.script.specs.declared.spending.Spend.{Spend}
 use Rattle.script.specs.declared.stops.Cause.TheVariants.{MissingOperand}
 use Rattle.script.specs.Step.{Elements, Effect, effect}
-use Rattle.facts.specs.declared.symbols.Sym.TheVariants.{Const}
+use Rattle.facts.specs.declared.symbols.SymOver.TheVariants.{Const}
 use Rattle.paths.specs.declared.state.State.{State}
 use Rattle.paths.specs.declared.state.Condition.{Condition}
-use Rattle.facts.specs.declared.symbols.Sym.{Sym}
+use Rattle.facts.specs.Symbols.{Sym}
 use Rattle.paths.specs.Rules.{pop, push, size_of, hash_of, equal_of, condition_of, branch, goes_on, rule_of}
 use Rattle.paths.proofs.SoundWords.{entries_of, IsShort}
 use Rattle.paths.proofs.ForcedWords.{Forced, forced_then, IsMet, IsMetBy, push_met, pop_met, pop_met-2}

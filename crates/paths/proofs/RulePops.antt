@@ -1,6 +1,6 @@
 -- What is left of a state by pops.
 use Rattle.std.proofs.Common.{◌≡◌, ℕ, suc, zero, List, [], ◌∷◌, ◌∙◌, refl}
-use Rattle.facts.specs.declared.symbols.Sym.{Sym}
+use Rattle.facts.specs.Symbols.{Sym}
 use Rattle.paths.specs.declared.state.State.{State}
 use Rattle.paths.specs.Rules.{pop_of, pop, pops}
 

@@ -17,10 +17,10 @@ use Rattle.script.specs.Number.{number_of}
 use Rattle.script.specs.Token.{is_key, is_signature, assigned}
 use Rattle.script.specs.declared.jumps.Jump.TheVariants.{Next as ToNext}
 use Rattle.script.specs.Step.{Elements, Effect, effect, multi_sig, number_or_failure, count_or_failure, top_elements, check_sigs_effect, flag, result_if, ◌>>=◌}
-use Rattle.facts.specs.declared.symbols.KeySource.{KeySource}
-use Rattle.facts.specs.declared.symbols.Fact.TheVariants.{Is, Form}
-use Rattle.facts.specs.declared.symbols.Sym.{Sym}
-use Rattle.facts.specs.declared.symbols.Sym.TheVariants.{Slot, Const, HashOf, SizeOf, Holds}
+use Rattle.facts.specs.Symbols.{KeySource}
+use Rattle.facts.specs.declared.symbols.FactOver.TheVariants.{Is, Form}
+use Rattle.facts.specs.Symbols.{Sym}
+use Rattle.facts.specs.declared.symbols.SymOver.TheVariants.{Slot, Const, HashOf, SizeOf, Holds}
 use Rattle.facts.specs.Meaning.{slot_of, key_of, item_for, AllStated}
 use Rattle.paths.specs.declared.state.State.{State}
 use Rattle.paths.specs.declared.state.Halt.TheVariants.{Dead, TooManyOps}

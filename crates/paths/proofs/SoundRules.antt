@@ -12,12 +12,12 @@ use Rattle.script.specs.declared.num.Number.{Number as Signed}
 use Rattle.script.specs.Number.{number_of, minimal_bytes_of}
 use Rattle.script.specs.Token.{token_of, is_key, is_signature}
 use Rattle.script.specs.Step.{Elements, effect, plain, branch_effect, truth, flag, bit_at, age_passes, check_sig_effect, ◌>>=◌}
-use Rattle.facts.specs.declared.symbols.KeySource.{KeySource}
-use Rattle.facts.specs.declared.symbols.KeySource.TheVariants.{Const as FixedKey, Slot as SlotKey}
-use Rattle.facts.specs.declared.symbols.Fact.{Fact}
-use Rattle.facts.specs.declared.symbols.Fact.TheVariants.{KeyForm, Form, Token, Lock, Age}
-use Rattle.facts.specs.declared.symbols.Sym.{Sym}
-use Rattle.facts.specs.declared.symbols.Sym.TheVariants.{Slot, Const, HashOf, SizeOf, Holds}
+use Rattle.facts.specs.Symbols.{KeySource}
+use Rattle.facts.specs.declared.symbols.KeySourceOver.TheVariants.{Const as FixedKey, Slot as SlotKey}
+use Rattle.facts.specs.Symbols.{Fact}
+use Rattle.facts.specs.declared.symbols.FactOver.TheVariants.{KeyForm, Form, Token, Lock, Age}
+use Rattle.facts.specs.Symbols.{Sym}
+use Rattle.facts.specs.declared.symbols.SymOver.TheVariants.{Slot, Const, HashOf, SizeOf, Holds}
 use Rattle.facts.specs.Meaning.{slot_of, key_of, item_for, holds_of, AllStated}
 use Rattle.paths.specs.declared.state.State.{State}
 use Rattle.paths.specs.declared.state.Halt.TheVariants.{Dead}

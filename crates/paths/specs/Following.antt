@@ -1,7 +1,7 @@
 -- What the functions answer that follow an opcode, by the rules.
 use Rattle.std.specs.Prelude.{◌≡◌, ℕ, Result, Ok, Err}
 use Rattle.script.specs.declared.opcode.Op.{Op}
-use Rattle.facts.specs.declared.symbols.Sym.{Sym}
+use Rattle.facts.specs.Symbols.{Sym}
 use Rattle.paths.specs.declared.state.State.{State}
 use Rattle.paths.specs.declared.state.Halt.{Halt}
 use Rattle.paths.specs.declared.state.SymbolicJump.{SymbolicJump}

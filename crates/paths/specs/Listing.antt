@@ -5,10 +5,10 @@ use Rattle.script.specs.declared.stops.Cause.{Cause}
 use Rattle.script.specs.Limits.{max_ops, max_stack_size}
 use Rattle.script.specs.Step.{◌>>=◌, result_if, bit_at}
 use Rattle.script.specs.Run.{skip_length, open_ifs_after, counted_in}
-use Rattle.facts.specs.declared.symbols.Fact.{Fact}
-use Rattle.facts.specs.declared.symbols.Fact.TheVariants.{Lock, Age}
-use Rattle.facts.specs.declared.symbols.Stated.{Stated}
-use Rattle.facts.specs.declared.symbols.Sym.{Sym}
+use Rattle.facts.specs.Symbols.{Fact}
+use Rattle.facts.specs.declared.symbols.FactOver.TheVariants.{Lock, Age}
+use Rattle.facts.specs.Symbols.{Stated}
+use Rattle.facts.specs.Symbols.{Sym}
 use Rattle.paths.specs.declared.errors.CheckError.{CheckError}
 use Rattle.paths.specs.declared.errors.CheckError.TheVariants.{NoMemory as OutOfMemory, OpenBranch, TooManyOps as TooMany, Undecided as NoRule, TooManyPaths, TooTall}
 use Rattle.paths.specs.declared.state.State.{State}

@@ -10,12 +10,12 @@ use Rattle.script.specs.Limits.{max_element_size, max_keys, max_ops}
 use Rattle.script.specs.Number.{number_of, minimal_bytes_of}
 use Rattle.script.specs.Token.{is_key, is_signature}
 use Rattle.script.specs.Step.{◌>>=◌, result_if, truth, flag, bit_at}
-use Rattle.facts.specs.declared.symbols.KeySource.{KeySource}
-use Rattle.facts.specs.declared.symbols.KeySource.TheVariants.{Const as FixedKey, Slot as SlotKey}
-use Rattle.facts.specs.declared.symbols.Fact.{Fact}
-use Rattle.facts.specs.declared.symbols.Fact.TheVariants.{Hash as HashIs, Size as SizeIs, Truth, Is, KeyForm, Form, Token, Assigned, Lock, Age}
-use Rattle.facts.specs.declared.symbols.Sym.{Sym}
-use Rattle.facts.specs.declared.symbols.Sym.TheVariants.{Slot, Const, HashOf, SizeOf, Holds}
+use Rattle.facts.specs.Symbols.{KeySource}
+use Rattle.facts.specs.declared.symbols.KeySourceOver.TheVariants.{Const as FixedKey, Slot as SlotKey}
+use Rattle.facts.specs.Symbols.{Fact}
+use Rattle.facts.specs.declared.symbols.FactOver.TheVariants.{Hash as HashIs, Size as SizeIs, Truth, Is, KeyForm, Form, Token, Assigned, Lock, Age}
+use Rattle.facts.specs.Symbols.{Sym}
+use Rattle.facts.specs.declared.symbols.SymOver.TheVariants.{Slot, Const, HashOf, SizeOf, Holds}
 use Rattle.paths.specs.declared.state.State.{State}
 use Rattle.paths.specs.declared.state.Halt.{Halt}
 use Rattle.paths.specs.declared.state.Halt.TheVariants.{Dead, Undecided, TooManyOps}

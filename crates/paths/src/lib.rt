@@ -22,8 +22,6 @@ pub mod laws;
 mod listing;
 mod lock_opcodes;
 mod multisig;
-#[cfg(test)]
-mod opcode_tests;
 mod rules;
 mod signature_opcodes;
 mod stack_opcodes;
