@@ -20,7 +20,7 @@ use Rattle.facts.specs.declared.symbols.FactOver.TheVariants.{Is, Form}
 use Rattle.facts.specs.Symbols.{Sym}
 use Rattle.facts.specs.declared.symbols.SymOver.TheVariants.{Slot, Const, HashOf, SizeOf, Holds}
 use Rattle.facts.specs.Meaning.{slot_of, key_of, item_for}
-use Rattle.paths.specs.declared.state.State.{State}
+use Rattle.paths.specs.Plain.{State}
 use Rattle.paths.specs.declared.state.Halt.TheVariants.{Dead, TooManyOps}
 use Rattle.paths.specs.Rules.{pop, pops, push, ask, is_bad_key, is_bad_extra, source_of, ask_key, count_by, count_of, slots_of, sources_of, ask_forms, ask_keys, ask_extra, answer_of, check_sigs, check_multi_sig, goes_on}
 use Rattle.paths.proofs.SoundWords.{entries_of}

@@ -20,11 +20,11 @@ use Rattle.facts.specs.declared.symbols.FactOver.TheVariants.{KeyForm, Form, Loc
 use Rattle.facts.specs.Symbols.{Sym}
 use Rattle.facts.specs.declared.symbols.SymOver.TheVariants.{Slot, Const, HashOf, SizeOf, Holds}
 use Rattle.facts.specs.Meaning.{slot_of, key_of, item_for}
-use Rattle.paths.specs.declared.state.State.{State}
+use Rattle.paths.specs.Plain.{State}
 use Rattle.paths.specs.declared.state.Halt.{Halt}
-use Rattle.paths.specs.declared.state.SymbolicJump.{SymbolicJump}
-use Rattle.paths.specs.declared.state.Condition.{Condition}
-use Rattle.paths.specs.declared.state.Condition.TheVariants.{Known, Asked}
+use Rattle.paths.specs.Plain.{SymbolicJump}
+use Rattle.paths.specs.Plain.{Condition}
+use Rattle.paths.specs.declared.state.ConditionOver.TheVariants.{Known, Asked}
 use Rattle.paths.specs.Rules.{pop, push, ask, size_of, hash_of, equal_of, condition_of, insist, branch, is_bad_key, is_bad_signature, source_of, ask_key, signature_rule, check_sig, lock_by, lock_of, age_bits, ask_age, goes_on, rule_of}
 use Rattle.paths.proofs.SoundWords.{entries_of, IsShort, decided_by, Asks}
 use Rattle.paths.proofs.SoundPops.{pop_entries, pop_entries-2, asks_refl, ask_asks}

@@ -8,8 +8,8 @@ use Rattle.facts.specs.Symbols.{Fact}
 use Rattle.facts.specs.Symbols.{Stated}
 use Rattle.facts.specs.Symbols.{Sym}
 use Rattle.facts.specs.Meaning.{slot_of, item_for, holds_of, AllStated}
-use Rattle.paths.specs.declared.state.State.{State}
-use Rattle.paths.specs.declared.state.SymbolicJump.TheVariants.{Next}
+use Rattle.paths.specs.Plain.{State}
+use Rattle.paths.specs.declared.state.SymbolicJumpOver.TheVariants.{Next}
 use Rattle.paths.specs.Rules.{pop_of, pop, push, ask}
 use Rattle.paths.proofs.SoundWords.{Gives, entries_of, IsShort, Grows, Asks, Follows}
 
