@@ -7,7 +7,7 @@ use Rattle.std.specs.Str.{bytes_eq}
 use Rattle.std.specs.List.{list_any, list_all}
 use Rattle.std.proofs.lemmas.Bool.{or_cases, and_parts, and_from, and_left, and_right, or_from, or_left, or_right, false≢true, eq-eqb, ne_eqb, cases_lt}
 use Rattle.script.specs.Token.{token_of, assigned}
-use Rattle.facts.specs.declared.symbols.KeySource.{KeySource}
+use Rattle.facts.specs.Symbols.{KeySource}
 use Rattle.claim.specs.Evidence.{exists_choice, is_yes, is_no}
 use Rattle.claim.proofs.Telling.{Tells}
 

@@ -5,8 +5,8 @@ use Rattle.std.specs.Str.{bytes_eq}
 use Rattle.script.specs.Token.{token_of, assigned}
 use Rattle.script.specs.Step.{Elements}
 use Rattle.script.specs.declared.spending.Spend.{Spend}
-use Rattle.facts.specs.declared.symbols.KeySource.{KeySource}
-use Rattle.facts.specs.declared.symbols.KeySource.TheVariants.{Const as FixedKey, Slot as SlotKey}
+use Rattle.facts.specs.Symbols.{KeySource}
+use Rattle.facts.specs.declared.symbols.KeySourceOver.TheVariants.{Const as FixedKey, Slot as SlotKey}
 use Rattle.facts.specs.Meaning.{slot_of, key_of}
 use Rattle.claim.specs.declared.parts.Slot.{Slot}
 use Rattle.claim.specs.declared.parts.Slot.TheVariants.{Sig, Preimage, Exact}

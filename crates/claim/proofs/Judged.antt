@@ -4,9 +4,9 @@ use Rattle.std.specs.Prelude.{slice_get, IsTrue, if◌then◌else◌, nat_lt, un
 use Rattle.std.proofs.lemmas.Bool.{ltb-true, false≢true}
 use Rattle.std.proofs.lemmas.Option.{get_or_from_slice_get, slice_get_within, slice_get_read, slice_get_past}
 use Rattle.script.specs.Spelling.{spelling, Spells}
-use Rattle.facts.specs.declared.symbols.Fact.{Fact}
-use Rattle.facts.specs.declared.symbols.Fact.TheVariants.{Lock}
-use Rattle.facts.specs.declared.symbols.Stated.{Stated}
+use Rattle.facts.specs.Symbols.{Fact}
+use Rattle.facts.specs.declared.symbols.FactOver.TheVariants.{Lock}
+use Rattle.facts.specs.Symbols.{Stated}
 use Rattle.paths.specs.declared.state.Path.{Path}
 use Rattle.paths.specs.Listing.{CheckedScript, greater, with_lock, greatest_lock_in}
 use Rattle.paths.specs.Sound.{IsSound}

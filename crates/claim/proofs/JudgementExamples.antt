@@ -9,9 +9,9 @@ use Rattle.script.specs.Token.{token_of, is_key}
 use Rattle.tx.specs.declared.input.TxIn.{TxIn}
 use Rattle.tx.specs.Fields.{Transaction, total_value}
 use Rattle.sighash.specs.Programs.{spend_of}
-use Rattle.facts.specs.declared.symbols.Fact.{Fact}
-use Rattle.facts.specs.declared.symbols.Fact.TheVariants.{Truth, Lock}
-use Rattle.facts.specs.declared.symbols.Stated.{Stated}
+use Rattle.facts.specs.Symbols.{Fact}
+use Rattle.facts.specs.declared.symbols.FactOver.TheVariants.{Truth, Lock}
+use Rattle.facts.specs.Symbols.{Stated}
 use Rattle.paths.specs.declared.state.Path.{Path}
 use Rattle.paths.specs.Listing.{CheckedScript}
 use Rattle.claim.specs.declared.parts.Slot.{Slot}

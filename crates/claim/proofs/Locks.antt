@@ -5,9 +5,9 @@ use Rattle.std.proofs.Math.Nat.{div-eq_of_lt, mod-eq_of_lt}
 use Rattle.std.proofs.lemmas.Bool.{lt-ltb, ltb-true, le-leb, ne_eqb, cond_both, and_from, or_right}
 use Rattle.script.specs.Step.{bit_at, alike, lock_passes, age_passes}
 use Rattle.script.specs.declared.spending.Spend.{Spend}
-use Rattle.facts.specs.declared.symbols.Fact.{Fact}
-use Rattle.facts.specs.declared.symbols.Fact.TheVariants.{Lock, Age}
-use Rattle.facts.specs.declared.symbols.Stated.{Stated}
+use Rattle.facts.specs.Symbols.{Fact}
+use Rattle.facts.specs.declared.symbols.FactOver.TheVariants.{Lock, Age}
+use Rattle.facts.specs.Symbols.{Stated}
 use Rattle.paths.specs.Listing.{greater, with_lock, with_age, greatest_age_in}
 use Rattle.claim.proofs.Telling.{Tells}
 

@@ -14,9 +14,9 @@ use Rattle.script.specs.Run.{is_long, Outcome, Clean, outcome}
 use Rattle.script.specs.Spelling.{IsOp, spelling}
 use Rattle.script.specs.declared.spending.Spend.{Spend}
 use Rattle.script.specs.declared.opcode.Op.{Op}
-use Rattle.facts.specs.declared.symbols.Fact.{Fact}
-use Rattle.facts.specs.declared.symbols.Fact.TheVariants.{Hash, Size, Truth, Is, KeyForm, Form, Token, Assigned, Lock, Age}
-use Rattle.facts.specs.declared.symbols.Stated.{Stated}
+use Rattle.facts.specs.Symbols.{Fact}
+use Rattle.facts.specs.declared.symbols.FactOver.TheVariants.{Hash, Size, Truth, Is, KeyForm, Form, Token, Assigned, Lock, Age}
+use Rattle.facts.specs.Symbols.{Stated}
 use Rattle.facts.specs.Meaning.{holds_of, AllStated, Meets}
 use Rattle.facts.specs.Sameness.{contradicts}
 use Rattle.paths.specs.declared.state.Path.{Path}

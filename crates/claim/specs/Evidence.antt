@@ -9,10 +9,10 @@ use Rattle.digest.specs.Hash.{hash160}
 use Rattle.script.specs.Limits.{locktime_threshold}
 use Rattle.script.specs.Token.{token_of, is_key, is_signature}
 use Rattle.script.specs.Step.{truth, bit_at}
-use Rattle.facts.specs.declared.symbols.KeySource.{KeySource}
-use Rattle.facts.specs.declared.symbols.KeySource.TheVariants.{Const as FixedKey, Slot as SlotKey}
-use Rattle.facts.specs.declared.symbols.Fact.{Fact}
-use Rattle.facts.specs.declared.symbols.Fact.TheVariants.{Hash, Size, Truth, Is, KeyForm, Form, Token, Assigned, Lock, Age}
+use Rattle.facts.specs.Symbols.{KeySource}
+use Rattle.facts.specs.declared.symbols.KeySourceOver.TheVariants.{Const as FixedKey, Slot as SlotKey}
+use Rattle.facts.specs.Symbols.{Fact}
+use Rattle.facts.specs.declared.symbols.FactOver.TheVariants.{Hash, Size, Truth, Is, KeyForm, Form, Token, Assigned, Lock, Age}
 use Rattle.claim.specs.declared.parts.Slot.{Slot}
 use Rattle.claim.specs.declared.parts.Slot.TheVariants.{Sig, Preimage, Exact}
 

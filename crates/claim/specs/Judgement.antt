@@ -9,7 +9,7 @@ use Rattle.tx.specs.declared.input.OutPoint.{OutPoint}
 use Rattle.tx.specs.declared.input.TxIn.{TxIn}
 use Rattle.tx.specs.Fields.{Transaction, unsigned_transaction, total_value}
 use Rattle.sighash.specs.Signing.{sighash}
-use Rattle.facts.specs.declared.symbols.Stated.{Stated}
+use Rattle.facts.specs.Symbols.{Stated}
 use Rattle.facts.specs.Sameness.{contradicts}
 use Rattle.paths.specs.declared.state.Path.{Path}
 use Rattle.paths.specs.Listing.{CheckedScript}

@@ -5,10 +5,10 @@ use Rattle.script.specs.declared.spending.Spend.{Spend}
 use Rattle.script.specs.Number.{minimal_bytes_of, digits}
 use Rattle.script.specs.Token.{token_of, is_key, is_token, is_signature}
 use Rattle.script.specs.Step.{Elements, age_passes, lock_passes}
-use Rattle.facts.specs.declared.symbols.KeySource.TheVariants.{Const as FixedKey, Slot as SlotKey}
-use Rattle.facts.specs.declared.symbols.Fact.{Fact}
-use Rattle.facts.specs.declared.symbols.Fact.TheVariants.{Hash, Size, Truth, Is, KeyForm, Form, Token, Assigned, Lock, Age}
-use Rattle.facts.specs.declared.symbols.Sym.TheVariants.{Slot, Const, HashOf, SizeOf, Holds}
+use Rattle.facts.specs.declared.symbols.KeySourceOver.TheVariants.{Const as FixedKey, Slot as SlotKey}
+use Rattle.facts.specs.Symbols.{Fact}
+use Rattle.facts.specs.declared.symbols.FactOver.TheVariants.{Hash, Size, Truth, Is, KeyForm, Form, Token, Assigned, Lock, Age}
+use Rattle.facts.specs.declared.symbols.SymOver.TheVariants.{Slot, Const, HashOf, SizeOf, Holds}
 use Rattle.facts.specs.Meaning.{slot_of, key_of, holds_of, item_for, Meets}
 
 -- a spend of version 2, lock time 500 and sequence 144

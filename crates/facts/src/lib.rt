@@ -15,4 +15,4 @@ pub mod symbols;
 mod tests;
 pub mod texts;
 
-pub use symbols::{Fact, KeySource, Stated, Sym};
+pub use symbols::{Fact, FactOver, KeySource, KeySourceOver, Stated, StatedOver, Sym, SymOver};

@@ -5,61 +5,74 @@ ghost use Rattle.std.specs.Prelude.{◌≡◌, IfOk};
 use lists::{ByteString, List};
 use std::alloc::{AllocError, Global};
 
-/// Where a key comes from.
+/// Where a key comes from, over what stands for bytes.
 #[derive(Debug, Drop)]
-pub enum KeySource {
+pub enum KeySourceOver<C> {
     /// The script pushes it.
-    Const(ByteString),
+    Const(C),
     /// It is this slot of the witness.
     Slot(usize),
 }
 
-/// What can be asked of a witness and a spend. Slots count from the top of the stack, from 0.
+/// Where a key comes from.
+pub type KeySource = KeySourceOver<ByteString>;
+
+/// What can be asked of a witness and a spend, over what stands for bytes, for the number of an absolute lock and for that of a relative one.
+/// Slots count from the top of the stack, from 0.
 #[derive(Debug, Drop)]
-pub enum Fact {
+pub enum FactOver<C, L, A> {
     /// HASH160 of the slot is these 20 bytes.
-    Hash(usize, ByteString),
+    Hash(usize, C),
     /// The slot has n bytes.
     Size(usize, u32),
     /// The slot counts as true.
     Truth(usize),
     /// The slot is these bytes.
-    Is(usize, ByteString),
+    Is(usize, C),
     /// The slot has the form of a key.
     KeyForm(usize),
     /// The slot is empty or has the form of a token.
     Form(usize),
     /// The slot is the token of the key over the spend's digest.
-    Token(usize, KeySource),
+    Token(usize, KeySourceOver<C>),
     /// The slots are tokens of an increasing choice of the keys, both lists deepest first.
-    Assigned(List<usize>, List<KeySource>),
+    Assigned(List<usize>, List<KeySourceOver<C>>),
     /// CHECKLOCKTIMEVERIFY of this number passes (BIP 65).
-    Lock(u64),
+    Lock(L),
     /// CHECKSEQUENCEVERIFY of this number passes (BIP 112); of a number, the bits of 0x40ffff.
-    Age(u32),
+    Age(A),
 }
+
+/// What can be asked of a witness and a spend.
+pub type Fact = FactOver<ByteString, u64, u32>;
 
 /// A fact with its polarity: that it holds, or that it does not.
 #[derive(Debug, Drop)]
-pub struct Stated {
-    pub fact: Fact,
+pub struct StatedOver<C, L, A> {
+    pub fact: FactOver<C, L, A>,
     pub holds: bool,
 }
 
+/// A fact with its polarity.
+pub type Stated = StatedOver<ByteString, u64, u32>;
+
 /// What stands on a symbolic stack.
 #[derive(Debug, Drop)]
-pub enum Sym {
+pub enum SymOver<C, L, A> {
     /// An item of the witness.
     Slot(usize),
     /// Known bytes.
-    Const(ByteString),
+    Const(C),
     /// HASH160 of a slot.
     HashOf(usize),
     /// The length of a slot, as a number.
     SizeOf(usize),
     /// 1 where the fact holds, else the empty item.
-    Holds(Fact),
+    Holds(FactOver<C, L, A>),
 }
+
+/// What stands on a symbolic stack.
+pub type Sym = SymOver<ByteString, u64, u32>;
 
 impl KeySource {
     /// An equal one. The only error is that memory ran out.

@@ -1,9 +1,9 @@
 -- The ways through the scripts of BOLT 3, in the text order of their branches.
 use Rattle.std.specs.Prelude.{ℕ, if◌then◌else◌, true, false, List, [], ◌∷◌, Option, Some, None}
-use Rattle.facts.specs.declared.symbols.KeySource.TheVariants.{Const as FixedKey, Slot as SlotKey}
-use Rattle.facts.specs.declared.symbols.Fact.{Fact}
-use Rattle.facts.specs.declared.symbols.Fact.TheVariants.{Hash as HashIs, Size as SizeIs, Truth, Is, KeyForm, Form, Token, Assigned, Lock, Age}
-use Rattle.facts.specs.declared.symbols.Stated.{Stated}
+use Rattle.facts.specs.declared.symbols.KeySourceOver.TheVariants.{Const as FixedKey, Slot as SlotKey}
+use Rattle.facts.specs.Symbols.{Fact}
+use Rattle.facts.specs.declared.symbols.FactOver.TheVariants.{Hash as HashIs, Size as SizeIs, Truth, Is, KeyForm, Form, Token, Assigned, Lock, Age}
+use Rattle.facts.specs.Symbols.{Stated}
 use Rattle.paths.specs.declared.state.Path.{Path}
 use Rattle.forms.specs.Scripts.{is_lesser}
 

@@ -5,11 +5,11 @@ use Rattle.script.specs.declared.opcode.Op.TheVariants.{Push, Number as SmallNum
 use Rattle.script.specs.declared.spending.Spend.{Spend}
 use Rattle.script.specs.declared.stops.Cause.TheVariants.{MissingOperand}
 use Rattle.script.specs.Step.{Elements, Effect, effect}
-use Rattle.facts.specs.declared.symbols.Sym.TheVariants.{Const}
-use Rattle.paths.specs.declared.state.State.{State}
-use Rattle.paths.specs.declared.state.Condition.{Condition}
-use Rattle.facts.specs.declared.symbols.Sym.{Sym}
-use Rattle.paths.specs.Rules.{pop, push, size_of, hash_of, equal_of, condition_of, branch, goes_on, rule_of}
+use Rattle.facts.specs.declared.symbols.SymOver.TheVariants.{Const}
+use Rattle.paths.specs.Plain.{State}
+use Rattle.paths.specs.Plain.{Condition}
+use Rattle.facts.specs.Symbols.{Sym}
+use Rattle.paths.specs.Rules.{pop, push, size_of, hash_of, equal_of, condition_of, branch, check_multi_sig, goes_on, rule_of}
 use Rattle.paths.proofs.SoundWords.{entries_of, IsShort}
 use Rattle.paths.proofs.ForcedWords.{Forced, forced_then, IsMet, IsMetBy, push_met, pop_met, pop_met-2}
 use Rattle.paths.proofs.ForcedRules.{condition_lives, size_lives, hash_lives, equal_lives, branch_forced, verify_forced, check_sig_forced, lock_time_forced, sequence_forced}
@@ -17,7 +17,7 @@ use Rattle.paths.proofs.ForcedMultisig.{multi_sig_forced}
 
 -- where a run passes the opcode from a state that is met, the rule is no dead end and leaves a state that is met
 pub rule_of-forced : (counted : ℕ) (op : Op) (s : State) (spend : Spend) (w : Elements) (c : ℕ) (e : Effect) → IsShort w → IsMet spend w s → effect spend c op (entries_of spend w s) ≡ Ok e → Forced (IsMetBy spend w) (rule_of counted op s)
-unfolding rule_of effect
+unfolding rule_of check_multi_sig effect
 rule_of-forced counted (Push item) s spend w c e sh m h = push_met spend w (Const item) s m
 rule_of-forced counted (SmallNumber n) s spend w c e sh m h = push_met spend w _ s m
 rule_of-forced counted If s spend w c e sh m h =

@@ -11,19 +11,19 @@ use Rattle.script.specs.declared.jumps.Jump.{Jump}
 use Rattle.script.specs.declared.jumps.Jump.TheVariants.{Next as ToNext, AfterElse as ToElse}
 use Rattle.script.specs.Step.{Elements, Effect, effect, result_if, truth, ◌>>=◌}
 use Rattle.script.specs.Run.{RunState, weight, counted_in, skip_length, jump_length, open_ifs_after, state_after_effect, state_after_skip_or_run, state_after, Outcome, Clean, Stopped, at_end, onward, outcome_from, outcome, start, is_long}
-use Rattle.facts.specs.declared.symbols.Stated.{Stated}
-use Rattle.facts.specs.declared.symbols.Sym.{Sym}
+use Rattle.facts.specs.Symbols.{Stated}
+use Rattle.facts.specs.Symbols.{Sym}
 use Rattle.facts.specs.Meaning.{item_for, holds_of, AllStated}
 use Rattle.paths.specs.declared.errors.CheckError.{CheckError}
 use Rattle.paths.specs.declared.errors.CheckError.TheVariants.{OpenBranch, TooManyOps as TooMany, TooManyPaths, TooTall}
-use Rattle.paths.specs.declared.state.State.{State}
+use Rattle.paths.specs.Plain.{State}
 use Rattle.paths.specs.declared.state.Halt.{Halt}
 use Rattle.paths.specs.declared.state.Halt.TheVariants.{NoMemory, Dead, Undecided, TooManyOps}
-use Rattle.paths.specs.declared.state.SymbolicJump.{SymbolicJump}
-use Rattle.paths.specs.declared.state.SymbolicJump.TheVariants.{Next, AfterElse, AfterEndIf, Splits}
-use Rattle.paths.specs.declared.state.Condition.{Condition}
+use Rattle.paths.specs.Plain.{SymbolicJump}
+use Rattle.paths.specs.declared.state.SymbolicJumpOver.TheVariants.{Next, AfterElse, AfterEndIf, Splits}
+use Rattle.paths.specs.Plain.{Condition}
 use Rattle.paths.specs.declared.state.Path.{Path}
-use Rattle.paths.specs.declared.state.Listed.{Listed}
+use Rattle.paths.specs.Plain.{Listed}
 use Rattle.paths.specs.Rules.{pop_of, pop, ask, condition_of, insist, rule_of}
 use Rattle.paths.specs.Listing.{is_balanced, with_excess, is_low, ahead_by, states_after_jump, refusal_at, states_after_rule, states_after, path_of, path_at_end, end_of, paths_at_end, with_paths, begins, walk_along, walk, beginning, listing}
 use Rattle.paths.specs.Exhaustive.{OpensBy, IsExhaustive}

@@ -7,13 +7,13 @@ use Rattle.script.specs.declared.opcode.Op.{Op}
 use Rattle.script.specs.declared.spending.Spend.{Spend}
 use Rattle.script.specs.declared.stops.Cause.{Cause}
 use Rattle.script.specs.Step.{Elements, Effect, result_if, ◌>>=◌}
-use Rattle.facts.specs.declared.symbols.Fact.{Fact}
-use Rattle.facts.specs.declared.symbols.Sym.{Sym}
+use Rattle.facts.specs.Symbols.{Fact}
+use Rattle.facts.specs.Symbols.{Sym}
 use Rattle.facts.specs.Meaning.{item_for, holds_of, AllStated}
-use Rattle.paths.specs.declared.state.State.{State}
+use Rattle.paths.specs.Plain.{State}
 use Rattle.paths.specs.declared.state.Halt.{Halt}
 use Rattle.paths.specs.declared.state.Halt.TheVariants.{NoMemory, Dead, Undecided, TooManyOps}
-use Rattle.paths.specs.declared.state.SymbolicJump.{SymbolicJump}
+use Rattle.paths.specs.Plain.{SymbolicJump}
 use Rattle.paths.specs.Rules.{pop_of, pop, push, ask}
 use Rattle.paths.proofs.SoundWords.{Gives, entries_of}
 use Rattle.paths.proofs.SoundPops.{stated_join, pop_entries}

@@ -4,9 +4,9 @@ use Rattle.script.specs.declared.opcode.Op.{Op}
 use Rattle.script.specs.declared.opcode.Op.TheVariants.{Push, Number, If, NotIf, Else, EndIf, Drop, Dup, Swap, Size, Equal, EqualVerify, Hash160, CheckMultiSig, CheckLockTimeVerify, CheckSequenceVerify}
 use Rattle.script.specs.Token.{is_key, is_signature, is_token}
 use Rattle.script.specs.Number.{number_of, minimal_bytes_of, digits}
-use Rattle.facts.specs.declared.symbols.Fact.{Fact}
-use Rattle.facts.specs.declared.symbols.Fact.TheVariants.{Truth, Is, Lock, Age}
-use Rattle.facts.specs.declared.symbols.Stated.{Stated}
+use Rattle.facts.specs.Symbols.{Fact}
+use Rattle.facts.specs.declared.symbols.FactOver.TheVariants.{Truth, Is, Lock, Age}
+use Rattle.facts.specs.Symbols.{Stated}
 use Rattle.paths.specs.declared.errors.CheckError.{CheckError}
 use Rattle.paths.specs.declared.errors.CheckError.TheVariants.{NoMemory, OpenBranch, TooManyOps, Undecided, TooManyPaths, TooTall}
 use Rattle.paths.specs.declared.state.Path.{Path}

@@ -11,25 +11,25 @@ use Rattle.script.specs.declared.num.Number.{Number as Signed}
 use Rattle.script.specs.Number.{number_of}
 use Rattle.script.specs.Step.{Elements, bit_at, lock_passes, age_passes, result_if, ◌>>=◌}
 use Rattle.script.specs.Run.{counted_in, skip_length}
-use Rattle.facts.specs.declared.symbols.KeySource.{KeySource}
-use Rattle.facts.specs.declared.symbols.KeySource.TheVariants.{Const as FixedKey, Slot as SlotKey}
-use Rattle.facts.specs.declared.symbols.Fact.{Fact}
-use Rattle.facts.specs.declared.symbols.Fact.TheVariants.{Hash as HashIs, Size as SizeIs, Is, KeyForm, Form, Token, Assigned, Lock, Age}
-use Rattle.facts.specs.declared.symbols.Stated.{Stated}
-use Rattle.facts.specs.declared.symbols.Sym.{Sym}
-use Rattle.facts.specs.declared.symbols.Sym.TheVariants.{Slot, Const, HashOf, SizeOf, Holds}
+use Rattle.facts.specs.Symbols.{KeySource}
+use Rattle.facts.specs.declared.symbols.KeySourceOver.TheVariants.{Const as FixedKey, Slot as SlotKey}
+use Rattle.facts.specs.Symbols.{Fact}
+use Rattle.facts.specs.declared.symbols.FactOver.TheVariants.{Hash as HashIs, Size as SizeIs, Is, KeyForm, Form, Token, Assigned, Lock, Age}
+use Rattle.facts.specs.Symbols.{Stated}
+use Rattle.facts.specs.Symbols.{Sym}
+use Rattle.facts.specs.declared.symbols.SymOver.TheVariants.{Slot, Const, HashOf, SizeOf, Holds}
 use Rattle.facts.specs.Meaning.{holds_of, AllStated}
 use Rattle.paths.specs.declared.errors.CheckError.{CheckError}
 use Rattle.paths.specs.declared.errors.CheckError.TheVariants.{OpenBranch, TooManyOps as TooMany, TooManyPaths, TooTall}
-use Rattle.paths.specs.declared.state.State.{State}
+use Rattle.paths.specs.Plain.{State}
 use Rattle.paths.specs.declared.state.Halt.{Halt}
 use Rattle.paths.specs.declared.state.Halt.TheVariants.{NoMemory, Dead, Undecided, TooManyOps}
-use Rattle.paths.specs.declared.state.SymbolicJump.{SymbolicJump}
-use Rattle.paths.specs.declared.state.SymbolicJump.TheVariants.{Next, AfterElse, AfterEndIf, Splits}
-use Rattle.paths.specs.declared.state.Condition.{Condition}
-use Rattle.paths.specs.declared.state.Condition.TheVariants.{Known, Asked}
+use Rattle.paths.specs.Plain.{SymbolicJump}
+use Rattle.paths.specs.declared.state.SymbolicJumpOver.TheVariants.{Next, AfterElse, AfterEndIf, Splits}
+use Rattle.paths.specs.Plain.{Condition}
+use Rattle.paths.specs.declared.state.ConditionOver.TheVariants.{Known, Asked}
 use Rattle.paths.specs.declared.state.Path.{Path}
-use Rattle.paths.specs.declared.state.Listed.{Listed}
+use Rattle.paths.specs.Plain.{Listed}
 use Rattle.paths.specs.Rules.{pop_of, pop, pops, push, ask, size_of, hash_of, hash_is, named_size, size_by, size_is, equal_of, condition_of, insist, branch, is_bad_key, is_bad_signature, is_bad_extra, source_of, ask_key, signature_rule, check_sig, count_of, slots_of, sources_of, ask_forms, ask_keys, ask_extra, answer_of, check_sigs, check_multi_sig, lock_of, age_bits, ask_age, goes_on, rule_of}
 use Rattle.paths.specs.Listing.{is_balanced, greater, with_lock, greatest_lock_in, with_age, greatest_age_in, with_excess, is_low, ahead_by, states_after_jump, refusal_at, states_after_rule, states_after, path_of, path_at_end, end_of, paths_at_end, with_paths, begins, walk_along, walk, beginning, listing}
 use Rattle.paths.specs.Laws.{MeetsLocks}
@@ -248,7 +248,7 @@ age_plain n s k = go (bit_at 31 n)
     go false = ask_plain (Age (age_bits n)) true s (refl, age_bits-clear n) k
 
 followed_plain : (counted : ℕ) (op : Op) (s : State) → AsksLocks s → Gives StaysPlain (rule_of counted op s)
-unfolding rule_of
+unfolding rule_of check_multi_sig
 followed_plain counted (Push item) s k = (tt, push_plain (Const item) s tt k)
 followed_plain counted (SmallNumber n) s k = (tt, push_plain (Const (n ∷ [])) s tt k)
 followed_plain counted If s k =

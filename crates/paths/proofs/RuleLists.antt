@@ -3,8 +3,8 @@ use Rattle.std.proofs.Common.{◌≡◌, ℕ, suc, zero, ◌+◌, Bool, List, []
 use Rattle.std.specs.List.{list_any}
 use Rattle.std.proofs.lemmas.List.{reverse-append}
 use Rattle.std.proofs.lemmas.List.Sorted.{list_any-IsPermutation, IsPermutation-reverse}
-use Rattle.facts.specs.declared.symbols.Sym.{Sym}
-use Rattle.paths.specs.declared.state.State.{State}
+use Rattle.facts.specs.Symbols.{Sym}
+use Rattle.paths.specs.Plain.{State}
 use Rattle.paths.specs.declared.state.Halt.{Halt}
 use Rattle.paths.specs.Rules.{pop, pops}
 

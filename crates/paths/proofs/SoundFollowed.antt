@@ -2,8 +2,8 @@
 use Rattle.std.proofs.Common.{ℕ, true, false}
 use Rattle.script.specs.declared.opcode.Op.{Op}
 use Rattle.script.specs.declared.opcode.Op.TheVariants.{Push, Number as SmallNumber, If, NotIf, Else, EndIf, Drop, Dup, Swap, Size, Equal, EqualVerify, Hash160, CheckSig, CheckMultiSig, CheckLockTimeVerify, CheckSequenceVerify}
-use Rattle.paths.specs.declared.state.State.{State}
-use Rattle.paths.specs.declared.state.SymbolicJump.TheVariants.{Next}
+use Rattle.paths.specs.Plain.{State}
+use Rattle.paths.specs.declared.state.SymbolicJumpOver.TheVariants.{Next}
 use Rattle.paths.specs.Rules.{pop, push, size_of, hash_of, equal_of, condition_of, insist, branch, check_sig, check_multi_sig, lock_of, goes_on, rule_of}
 use Rattle.paths.proofs.SoundWords.{Gives, Follows}
 use Rattle.paths.proofs.SoundPops.{gives_then}
@@ -11,7 +11,7 @@ use Rattle.paths.proofs.SoundMultisig.{check_multi_sig_good}
 use Rattle.paths.proofs.SoundRules.{FollowsTo, IsDecided, condition_good, Insists, insist_good, if_good, not_if_good, IsSizeOf, size_good, IsHashOf, hash_good, IsEqualOf, equal_good, LockIs, lock_good, lock_follows, age_follows, verify_follows, equal_follows, size_follows, hash_follows, drop_follows, dup_follows, swap_follows, push_follows, number_follows, end_follows, else_follows, IsSigned, check_sig_good, check_sig_follows}
 
 pub rule_of-sound : (counted : ℕ) (op : Op) (s : State) → Gives (FollowsTo counted op s) (rule_of counted op s)
-unfolding rule_of
+unfolding rule_of check_multi_sig
 rule_of-sound counted (Push item) s = push_follows counted s item
 rule_of-sound counted (SmallNumber n) s = number_follows counted s n
 rule_of-sound counted If s = gives_then (IsDecided (pop s).0) (FollowsTo counted If s) (condition_of (pop s).0) (λ c. branch true c (pop s).1) (condition_good (pop s).0) (λ c d. if_good counted s c d)

@@ -17,14 +17,14 @@ use Rattle.script.specs.Number.{number_of}
 use Rattle.script.specs.Token.{is_key, is_signature, assigned}
 use Rattle.script.specs.declared.jumps.Jump.TheVariants.{Next as ToNext}
 use Rattle.script.specs.Step.{Elements, Effect, effect, multi_sig, number_or_failure, count_or_failure, top_elements, check_sigs_effect, flag, result_if, ◌>>=◌}
-use Rattle.facts.specs.declared.symbols.KeySource.{KeySource}
-use Rattle.facts.specs.declared.symbols.Fact.TheVariants.{Is, Form}
-use Rattle.facts.specs.declared.symbols.Sym.{Sym}
-use Rattle.facts.specs.declared.symbols.Sym.TheVariants.{Slot, Const, HashOf, SizeOf, Holds}
+use Rattle.facts.specs.Symbols.{KeySource}
+use Rattle.facts.specs.declared.symbols.FactOver.TheVariants.{Is, Form}
+use Rattle.facts.specs.Symbols.{Sym}
+use Rattle.facts.specs.declared.symbols.SymOver.TheVariants.{Slot, Const, HashOf, SizeOf, Holds}
 use Rattle.facts.specs.Meaning.{slot_of, key_of, item_for, AllStated}
-use Rattle.paths.specs.declared.state.State.{State}
+use Rattle.paths.specs.Plain.{State}
 use Rattle.paths.specs.declared.state.Halt.TheVariants.{Dead, TooManyOps}
-use Rattle.paths.specs.declared.state.SymbolicJump.TheVariants.{Next}
+use Rattle.paths.specs.declared.state.SymbolicJumpOver.TheVariants.{Next}
 use Rattle.paths.specs.Rules.{pop, pops, push, ask, is_bad_key, is_bad_extra, source_of, ask_key, count_by, count_of, slots_of, sources_of, ask_forms, ask_keys, ask_extra, answer_of, check_sigs, check_multi_sig}
 use Rattle.paths.proofs.SoundWords.{Gives, entries_of, Grows, Asks, Follows}
 use Rattle.paths.proofs.SoundPops.{gives_then, gives_map, gives_result_if, result_if-true, asked_now, grows_refl, grows_trans, push_grows, pop_grows, asks_refl, asks_trans, ask_asks, asks_grows, asks_entries, pop_entries}

@@ -10,8 +10,8 @@ use Rattle.script.specs.declared.num.Number.{Number as Signed}
 use Rattle.script.specs.declared.spending.Spend.{Spend}
 use Rattle.script.specs.Number.{number_of, minimal_bytes_of, digits}
 use Rattle.script.specs.Step.{bit_at, age_passes, flag}
-use Rattle.facts.specs.declared.symbols.Fact.TheVariants.{Hash as HashIs}
-use Rattle.facts.specs.declared.symbols.Sym.TheVariants.{Const, Holds}
+use Rattle.facts.specs.declared.symbols.FactOver.TheVariants.{Hash as HashIs}
+use Rattle.facts.specs.declared.symbols.SymOver.TheVariants.{Const, Holds}
 use Rattle.facts.specs.Meaning.{slot_of, item_for}
 use Rattle.script.specs.Step.{Elements}
 use Rattle.paths.specs.Rules.{age_bits, named_size, size_by, size_is, hash_is}

@@ -4,12 +4,12 @@ use Rattle.std.proofs.Math.Seq.{drop-cons}
 use Rattle.script.specs.declared.opcode.Op.{Op}
 use Rattle.script.specs.declared.spending.Spend.{Spend}
 use Rattle.script.specs.Step.{Elements, effect, plain, result_if, ◌>>=◌}
-use Rattle.facts.specs.declared.symbols.Fact.{Fact}
-use Rattle.facts.specs.declared.symbols.Stated.{Stated}
-use Rattle.facts.specs.declared.symbols.Sym.{Sym}
+use Rattle.facts.specs.Symbols.{Fact}
+use Rattle.facts.specs.Symbols.{Stated}
+use Rattle.facts.specs.Symbols.{Sym}
 use Rattle.facts.specs.Meaning.{slot_of, item_for, holds_of, AllStated}
-use Rattle.paths.specs.declared.state.State.{State}
-use Rattle.paths.specs.declared.state.SymbolicJump.TheVariants.{Next}
+use Rattle.paths.specs.Plain.{State}
+use Rattle.paths.specs.declared.state.SymbolicJumpOver.TheVariants.{Next}
 use Rattle.paths.specs.Rules.{pop_of, pop, push, ask}
 use Rattle.paths.proofs.SoundWords.{Gives, entries_of, IsShort, Grows, Asks, Follows}
 

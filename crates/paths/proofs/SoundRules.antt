@@ -12,19 +12,19 @@ use Rattle.script.specs.declared.num.Number.{Number as Signed}
 use Rattle.script.specs.Number.{number_of, minimal_bytes_of}
 use Rattle.script.specs.Token.{token_of, is_key, is_signature}
 use Rattle.script.specs.Step.{Elements, effect, plain, branch_effect, truth, flag, bit_at, age_passes, check_sig_effect, ◌>>=◌}
-use Rattle.facts.specs.declared.symbols.KeySource.{KeySource}
-use Rattle.facts.specs.declared.symbols.KeySource.TheVariants.{Const as FixedKey, Slot as SlotKey}
-use Rattle.facts.specs.declared.symbols.Fact.{Fact}
-use Rattle.facts.specs.declared.symbols.Fact.TheVariants.{KeyForm, Form, Token, Lock, Age}
-use Rattle.facts.specs.declared.symbols.Sym.{Sym}
-use Rattle.facts.specs.declared.symbols.Sym.TheVariants.{Slot, Const, HashOf, SizeOf, Holds}
+use Rattle.facts.specs.Symbols.{KeySource}
+use Rattle.facts.specs.declared.symbols.KeySourceOver.TheVariants.{Const as FixedKey, Slot as SlotKey}
+use Rattle.facts.specs.Symbols.{Fact}
+use Rattle.facts.specs.declared.symbols.FactOver.TheVariants.{KeyForm, Form, Token, Lock, Age}
+use Rattle.facts.specs.Symbols.{Sym}
+use Rattle.facts.specs.declared.symbols.SymOver.TheVariants.{Slot, Const, HashOf, SizeOf, Holds}
 use Rattle.facts.specs.Meaning.{slot_of, key_of, item_for, holds_of, AllStated}
-use Rattle.paths.specs.declared.state.State.{State}
+use Rattle.paths.specs.Plain.{State}
 use Rattle.paths.specs.declared.state.Halt.TheVariants.{Dead}
-use Rattle.paths.specs.declared.state.SymbolicJump.{SymbolicJump}
-use Rattle.paths.specs.declared.state.SymbolicJump.TheVariants.{Next, AfterElse, AfterEndIf, Splits}
-use Rattle.paths.specs.declared.state.Condition.{Condition}
-use Rattle.paths.specs.declared.state.Condition.TheVariants.{Known, Asked}
+use Rattle.paths.specs.Plain.{SymbolicJump}
+use Rattle.paths.specs.declared.state.SymbolicJumpOver.TheVariants.{Next, AfterElse, AfterEndIf, Splits}
+use Rattle.paths.specs.Plain.{Condition}
+use Rattle.paths.specs.declared.state.ConditionOver.TheVariants.{Known, Asked}
 use Rattle.paths.specs.Rules.{pop, push, ask, size_of, hash_of, equal_of, condition_of, insist, branch, is_bad_key, is_bad_signature, source_of, ask_key, signature_rule, check_sig, lock_by, lock_of, age_bits, ask_age}
 use Rattle.paths.proofs.SoundWords.{Gives, entries_of, IsShort, decided_by, move_by, Grows, Asks, Follows}
 use Rattle.paths.proofs.SoundPops.{gives_then, gives_result_if, result_if-true, stated_parts, asked_now, grows_refl, grows_trans, push_grows, pop_grows, asks_refl, asks_trans, ask_asks, asks_grows, asks_entries, pop_entries, pop_entries-2, plain_follows}

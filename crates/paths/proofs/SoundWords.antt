@@ -7,11 +7,11 @@ use Rattle.script.specs.declared.jumps.Jump.TheVariants.{Next as ToNext, AfterEl
 use Rattle.script.specs.Step.{Elements, effect}
 use Rattle.script.specs.Run.{RunState, counted_in, outcome_from, start}
 use Rattle.facts.specs.Meaning.{slot_of, item_for, holds_of, AllStated}
-use Rattle.paths.specs.declared.state.State.{State}
-use Rattle.paths.specs.declared.state.SymbolicJump.{SymbolicJump}
-use Rattle.paths.specs.declared.state.SymbolicJump.TheVariants.{Next, AfterElse, AfterEndIf, Splits}
-use Rattle.paths.specs.declared.state.Condition.{Condition}
-use Rattle.paths.specs.declared.state.Condition.TheVariants.{Known, Asked}
+use Rattle.paths.specs.Plain.{State}
+use Rattle.paths.specs.Plain.{SymbolicJump}
+use Rattle.paths.specs.declared.state.SymbolicJumpOver.TheVariants.{Next, AfterElse, AfterEndIf, Splits}
+use Rattle.paths.specs.Plain.{Condition}
+use Rattle.paths.specs.declared.state.ConditionOver.TheVariants.{Known, Asked}
 use Rattle.paths.specs.Listing.{is_balanced}
 
 -- a result, where there is one, has this property

@@ -4,10 +4,10 @@ use Rattle.script.specs.declared.opcode.Op.{Op}
 use Rattle.script.specs.declared.opcode.Op.TheVariants.{Push, Number, If, Else, EndIf, Drop, Dup, Swap, Size, Equal, EqualVerify, Hash160, CheckSig, CheckMultiSig, CheckLockTimeVerify}
 use Rattle.script.specs.Token.{is_key, is_signature, is_token}
 use Rattle.script.specs.Number.{number_of, minimal_bytes_of, digits}
-use Rattle.facts.specs.declared.symbols.KeySource.TheVariants.{Const as FixedKey, Slot as SlotKey}
-use Rattle.facts.specs.declared.symbols.Fact.TheVariants.{Hash as HashIs, Size as SizeIs, Truth, Is, KeyForm, Form, Token, Assigned, Lock}
-use Rattle.facts.specs.declared.symbols.Stated.{Stated}
-use Rattle.facts.specs.declared.symbols.Fact.{Fact}
+use Rattle.facts.specs.declared.symbols.KeySourceOver.TheVariants.{Const as FixedKey, Slot as SlotKey}
+use Rattle.facts.specs.declared.symbols.FactOver.TheVariants.{Hash as HashIs, Size as SizeIs, Truth, Is, KeyForm, Form, Token, Assigned, Lock}
+use Rattle.facts.specs.Symbols.{Stated}
+use Rattle.facts.specs.Symbols.{Fact}
 use Rattle.paths.specs.declared.errors.CheckError.TheVariants.{TooManyOps, TooManyPaths}
 use Rattle.paths.specs.Rules.{rule_of, check_multi_sig}
 use Rattle.paths.specs.Listing.{listing}

@@ -1,11 +1,11 @@
 -- What the functions answer that follow an opcode, by the rules.
 use Rattle.std.specs.Prelude.{◌≡◌, ℕ, Result, Ok, Err}
 use Rattle.script.specs.declared.opcode.Op.{Op}
-use Rattle.facts.specs.declared.symbols.Sym.{Sym}
-use Rattle.paths.specs.declared.state.State.{State}
+use Rattle.facts.specs.Symbols.{Sym}
+use Rattle.paths.specs.Plain.{State}
 use Rattle.paths.specs.declared.state.Halt.{Halt}
-use Rattle.paths.specs.declared.state.SymbolicJump.{SymbolicJump}
-use Rattle.paths.specs.declared.state.Condition.{Condition}
+use Rattle.paths.specs.Plain.{SymbolicJump}
+use Rattle.paths.specs.Plain.{Condition}
 use Rattle.paths.specs.Answers.{IfHalts, Answers, Leaves}
 use Rattle.paths.specs.Rules.{condition_of, insist, rule_of}
 

@@ -1,8 +1,11 @@
 pub mod Refusals
 pub mod Answers
+pub mod Plain
+pub mod Table
 pub mod Rules
 pub mod Following
 pub mod Doing
+pub mod Walk
 pub mod Listing
 pub mod Walking
 pub mod Sound

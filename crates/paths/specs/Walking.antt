@@ -5,9 +5,9 @@ use Rattle.script.specs.Limits.{max_ops, max_stack_size}
 use Rattle.script.specs.Step.{◌>>=◌}
 use Rattle.script.specs.Run.{skip_length}
 use Rattle.paths.specs.declared.errors.CheckError.{CheckError}
-use Rattle.paths.specs.declared.state.State.{State}
+use Rattle.paths.specs.Plain.{State}
 use Rattle.paths.specs.declared.state.Path.{Path}
-use Rattle.paths.specs.declared.state.Listed.{Listed}
+use Rattle.paths.specs.Plain.{Listed}
 use Rattle.paths.specs.declared.walking.Successors.{Successors}
 use Rattle.paths.specs.declared.walking.Successors.TheVariants.{Dies, Goes, Splits}
 use Rattle.paths.specs.declared.walking.Waiting.{Waiting}

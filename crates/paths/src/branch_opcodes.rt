@@ -4,7 +4,7 @@ ghost use Rattle.std.specs.Prelude.{◌≡◌, ◌≤◌, Ok, OnOk};
 ghost use Rattle.paths.specs.Rules.{branch as branched};
 ghost use Rattle.paths.specs.Following.{IsRuleOf};
 ghost use Rattle.paths.specs.Doing.{IsNear};
-ghost use Rattle.paths.specs.declared.state.State.{State as Waiting};
+ghost use Rattle.paths.specs.Plain.{State as Waiting};
 
 use crate::rules::condition;
 use crate::stack_opcodes::pull;

@@ -5,7 +5,7 @@ ghost use Rattle.paths.specs.Answers.{Answers, IfHalts, Leaves};
 ghost use Rattle.paths.specs.Rules.{source_of as source_for, ask_key as key_asked, is_bad_key as is_bad_key_of, is_bad_signature as is_bad_signature_of, check_sig as checked_sig, signature_rule as signature_rule_of};
 ghost use Rattle.paths.specs.Following.{IsRuleOf};
 ghost use Rattle.paths.specs.Doing.{IsNear};
-ghost use Rattle.facts.specs.declared.symbols.Sym.TheVariants.{Const};
+ghost use Rattle.facts.specs.declared.symbols.SymOver.TheVariants.{Const};
 
 use crate::rules::ask;
 use crate::stack_opcodes::{pull, put};

@@ -4,27 +4,30 @@ ghost use Rattle.std.specs.Prelude.{◌≡◌, IfOk};
 ghost use Rattle.script.specs.Step.{result_if};
 ghost use Rattle.paths.specs.Listing.{beginning, with_excess, is_low as is_low_of};
 
-use facts::{Fact, Stated, Sym};
-use lists::{List, Stack};
+use facts::{FactOver, Stated, StatedOver, Sym, SymOver};
+use lists::{ByteString, List, Stack};
 use script::limits::MAX_STACK_SIZE;
 use std::alloc::{AllocError, Global};
 
 /// A path on its way, as it comes to an opcode of the list.
 #[derive(Drop)]
-pub struct State {
+pub struct StateOver<C, L, A> {
     /// How many opcodes it jumps over from here on.
     pub ahead: usize,
     /// The symbols on the stack; below them are the slots that were not reached yet.
-    pub stack: Stack<Sym>,
+    pub stack: Stack<SymOver<C, L, A>>,
     /// How many slots were reached.
     pub slots: usize,
     /// The facts in the order in which they arose.
-    pub facts: List<Stated>,
+    pub facts: List<StatedOver<C, L, A>>,
     /// How many keys of CHECKMULTISIGs were counted.
     pub keys: usize,
     /// By how much the number of elements has passed that of the witness, at the most.
     pub excess: usize,
 }
+
+/// A path on its way.
+pub type State = StateOver<ByteString, u64, u32>;
 
 impl State {
     /// Where a path begins. It takes no memory.
@@ -110,7 +113,7 @@ pub enum Halt {
 
 /// Where a path goes after an opcode.
 #[derive(Drop)]
-pub enum SymbolicJump {
+pub enum SymbolicJumpOver<C, L, A> {
     /// To the next opcode.
     Next,
     /// After the ELSE of this IF, or after its ENDIF where it has no ELSE.
@@ -118,17 +121,23 @@ pub enum SymbolicJump {
     /// After the ENDIF of this ELSE.
     AfterEndIf,
     /// To the next opcode where the fact is as stated, and after the ELSE where it is not.
-    Splits(Fact, bool),
+    Splits(FactOver<C, L, A>, bool),
 }
+
+/// Where a path goes after an opcode.
+pub type SymbolicJump = SymbolicJumpOver<ByteString, u64, u32>;
 
 /// What decides whether a symbol counts as true.
 #[derive(Drop)]
-pub enum Condition {
+pub enum ConditionOver<C, L, A> {
     /// It is known.
     Known(bool),
     /// The fact.
-    Asked(Fact),
+    Asked(FactOver<C, L, A>),
 }
+
+/// What decides whether a symbol counts as true.
+pub type Condition = ConditionOver<ByteString, u64, u32>;
 
 /// A way through a script: whatever witness meets it runs clean.
 #[derive(Debug, Drop)]
@@ -149,9 +158,12 @@ pub struct Path {
 
 /// The paths that were listed so far, and how many were begun.
 #[derive(Drop)]
-pub struct Listed {
+pub struct ListedOver<P> {
     /// How many paths were begun, those included that end dead.
     pub begun: usize,
     /// The paths that ended, in the text order of their branches.
-    pub paths: List<Path>,
+    pub paths: List<P>,
 }
+
+/// The paths that were listed so far.
+pub type Listed = ListedOver<Path>;

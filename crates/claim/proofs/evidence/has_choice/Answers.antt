@@ -1,5 +1,5 @@
 use Rattle.std.proofs.Common.{ℕ, drop, sym, ◌∙◌, arith}
-use Rattle.facts.specs.declared.symbols.KeySource.{KeySource}
+use Rattle.facts.specs.Symbols.{KeySource}
 use Rattle.claim.specs.Evidence.{token_evidence, is_yes}
 use Rattle.claim.proofs.Choosing.{greedy-choice, greedy-done, greedy-end}
 use Rattle.claim.proofs.evidence.has_choice.Goals as goal

@@ -1,0 +1,103 @@
+-- The ways through a script: every branch in the text order, over what stands for constants and for a path.
+use Rattle.std.specs.Prelude.{ℕ, zero, suc, ◌+◌, ◌-◌, max, Bool, true, false, not, nat_lt, nat_le, List, [], ◌∷◌, ◌++◌, length, Result, Ok, Err}
+use Rattle.script.specs.declared.opcode.Op.{Op}
+use Rattle.script.specs.Limits.{max_stack_size}
+use Rattle.script.specs.Step.{◌>>=◌, result_if}
+use Rattle.script.specs.Run.{skip_length}
+use Rattle.facts.specs.declared.symbols.SymOver.{SymOver}
+use Rattle.paths.specs.declared.errors.CheckError.{CheckError}
+use Rattle.paths.specs.declared.errors.CheckError.TheVariants.{NoMemory as OutOfMemory, TooManyOps as TooMany, Undecided as NoRule, TooManyPaths, TooTall}
+use Rattle.paths.specs.declared.state.StateOver.{StateOver}
+use Rattle.paths.specs.declared.state.Halt.{Halt}
+use Rattle.paths.specs.declared.state.Halt.TheVariants.{NoMemory, Dead, Undecided, TooManyOps}
+use Rattle.paths.specs.declared.state.SymbolicJumpOver.{SymbolicJumpOver}
+use Rattle.paths.specs.declared.state.SymbolicJumpOver.TheVariants.{Next, AfterElse, AfterEndIf, Splits}
+use Rattle.paths.specs.declared.state.ConditionOver.{ConditionOver}
+use Rattle.paths.specs.declared.state.ListedOver.{ListedOver}
+use Rattle.paths.specs.Table.{pop, ask, insist}
+
+-- the refusal for a halt at an opcode; a path that dies has no way on
+abbrev pub refusal_at : {A : Type 0} → ℕ → A → Halt → Result A CheckError
+refusal_at at none NoMemory = Err OutOfMemory
+refusal_at at none Dead = Ok none
+refusal_at at none Undecided = Err (NoRule at)
+refusal_at at none TooManyOps = Err TooMany
+
+-- what a walk asks: the rule of an opcode, where so many of the whole script count, at its position; what decides whether a symbol is true; and
+-- the path that ends, where so many opcodes count
+pub record Guide (C L A P : Type 0) : Type 0 where
+  pub rule : ℕ → ℕ → Op → StateOver C L A → Result (SymbolicJumpOver C L A × StateOver C L A) Halt
+  pub condition : SymOver C L A → Result (ConditionOver C L A) Halt
+  pub path : ℕ → StateOver C L A → P
+
+module _ {C L A : Type 0} where
+  -- after an opcode that was run: by how much the elements pass those of the witness, at the most
+  abbrev pub with_excess : StateOver C L A → StateOver C L A
+  with_excess s = record s { excess = max s.excess (length s.stack - s.slots) }
+
+  -- the greatest number of elements of a run so far is at most 1,000
+  abbrev pub is_low : StateOver C L A → Bool
+  is_low s = nat_le (s.slots + s.excess) max_stack_size
+
+  -- jumps over opcodes
+  abbrev pub ahead_by : ℕ → StateOver C L A → StateOver C L A
+  ahead_by n s = record s { ahead = n }
+
+  -- the ways on from an opcode, which these follow, the first in the text first
+  abbrev pub states_after_jump : SymbolicJumpOver C L A → List Op → StateOver C L A → List (StateOver C L A)
+  states_after_jump Next rest s = s ∷ []
+  states_after_jump AfterElse rest s = ahead_by (skip_length true 0 rest) s ∷ []
+  states_after_jump AfterEndIf rest s = ahead_by (skip_length false 0 rest) s ∷ []
+  states_after_jump (Splits fact first) rest s = ask fact first s ∷ ahead_by (skip_length true 0 rest) (ask fact (not first) s) ∷ []
+
+  abbrev pub states_after_rule : ℕ → List Op → Result (SymbolicJumpOver C L A × StateOver C L A) Halt → Result (List (StateOver C L A)) CheckError
+  states_after_rule at rest (Ok (turn, s)) = result_if (is_low (with_excess s)) TooTall (Ok (states_after_jump turn rest (with_excess s)))
+  states_after_rule at rest (Err h) = refusal_at at [] h
+
+  -- where a path begins
+  abbrev pub beginning : StateOver C L A
+  beginning = record { ahead = 0; stack = []; slots = 0; facts = []; keys = 0; excess = 0 }
+
+module _ {P : Type 0} where
+  -- the paths that were listed, and those that end here
+  abbrev pub with_paths : ListedOver P → Result (List P) CheckError → Result (ListedOver P) CheckError
+  with_paths l (Ok paths) = Ok (record l { paths = l.paths ++ paths })
+  with_paths l (Err e) = Err e
+
+  -- one more path begins, where fewer than 64 were begun
+  abbrev pub begins : ListedOver P → Result (ListedOver P) CheckError
+  begins l = result_if (nat_lt l.begun 64) TooManyPaths (Ok (record l { begun = l.begun + 1 }))
+
+-- along the ways on, each to its end: the second begins once all paths through the first have ended
+abbrev pub walk_along : {S P : Type 0} → (S → ListedOver P → Result (ListedOver P) CheckError) → Result (List S) CheckError → ListedOver P → Result (ListedOver P) CheckError
+walk_along go (Err e) l = Err e
+walk_along go (Ok []) l = Ok l
+walk_along go (Ok (s ∷ [])) l = go s l
+walk_along go (Ok (s ∷ t ∷ ways)) l = go s l >>= λ l'. begins l' >>= go t
+
+module _ {C L A P : Type 0} (g : Guide C L A P) where
+  -- the ways on from an opcode, where `counted` opcodes of the whole script count
+  abbrev pub states_after : ℕ → ℕ → Op → List Op → StateOver C L A → ℕ → Result (List (StateOver C L A)) CheckError
+  states_after counted at op rest s (suc n) = Ok (ahead_by n s ∷ [])
+  states_after counted at op rest s zero = states_after_rule at rest (g.rule counted at op s)
+
+  -- the path that ends, with one element that has to be true, or none
+  abbrev pub path_at_end : ℕ → ℕ → Result (StateOver C L A) Halt → Result (List P) CheckError
+  path_at_end counted at (Ok s) = result_if (is_low s) TooTall (Ok (g.path counted s ∷ []))
+  path_at_end counted at (Err h) = refusal_at at [] h
+
+  abbrev pub end_of : List (SymOver C L A) → SymOver C L A → StateOver C L A → Result (StateOver C L A) Halt
+  end_of [] x s = g.condition x >>= λ c. insist c s
+  end_of (y ∷ ys) x s = Err Dead
+
+  abbrev pub paths_at_end : ℕ → ℕ → StateOver C L A → Result (List P) CheckError
+  paths_at_end counted at s = path_at_end counted at (end_of (pop s).1.stack (pop s).0 (pop s).1)
+
+  -- the paths from a state on, at a position of the script, where these opcodes are left
+  abbrev pub walk : ℕ → ℕ → List Op → StateOver C L A → ListedOver P → Result (ListedOver P) CheckError
+  walk counted at [] s l = with_paths l (paths_at_end counted at s)
+  walk counted at (op ∷ rest) s l = walk_along (walk counted (at + 1) rest) (states_after counted at op rest s s.ahead) l
+
+  -- every path from the beginning
+  abbrev pub walk_all : ℕ → List Op → Result (List P) CheckError
+  walk_all counted ops = walk counted 0 ops beginning (record { begun = 1; paths = [] }) >>= λ l. Ok l.paths
