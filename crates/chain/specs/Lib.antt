@@ -7,3 +7,4 @@ pub mod Connecting
 pub mod Storing
 pub mod Scanning
 pub mod Totals
+pub mod Indexing

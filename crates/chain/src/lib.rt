@@ -16,6 +16,7 @@
 
 mod blocks;
 mod chain_blocks;
+mod coin_map;
 mod coins;
 mod connecting;
 mod locks;
