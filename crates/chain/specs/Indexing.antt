@@ -1,5 +1,5 @@
 -- What an index of outputs and ids holds.
-use Rattle.std.specs.Prelude.{ℕ, Bool, true, false, ◌&&◌, nat_lt, ◌==◌, if◌then◌else◌, List, Option, Some, None, option_map}
+use Rattle.std.specs.Prelude.{◌≡◌, ℕ, Bool, true, false, ◌&&◌, nat_lt, ◌==◌, if◌then◌else◌, List, Option, Some, None, option_map}
 use Rattle.std.specs.declared.cmp.Ordering.{Ordering}
 use Rattle.std.specs.Ordering.{ordering_then, nat_cmp}
 use Rattle.std.specs.Cmp.Lexicographic.{slice_cmp}
@@ -8,7 +8,8 @@ use Rattle.std.specs.BTreeMap.{BTreeMap, get}
 use Rattle.std.specs.Str.{bytes_eq}
 use Rattle.tx.specs.declared.input.OutPoint.{OutPoint}
 use Rattle.chain.specs.declared.coin_map.IndexedCoin.{IndexedCoin}
-use Rattle.chain.specs.Blocks.{Creation, Coin, same_outpoint}
+use Rattle.chain.specs.Blocks.{Contents, Creation, Coin, same_outpoint, coin_at, has_id}
+use Rattle.chain.specs.Tested.{is_tested}
 
 -- outpoints by their ids, and then by their indices
 abbrev pub outpoint_cmp : OutPoint → OutPoint → Ordering
@@ -47,3 +48,10 @@ marked spent c = record c { spent = spent }
 
 abbrev pub with_mark : Bool → Bool → Option Coin → Option Coin
 with_mark here spent found = if here then option_map (marked spent) found else found
+
+-- what is kept beside the blocks, as contracts see it: the output at each outpoint, whether each id stands on the chain; and each transaction
+-- passed its tests
+pub record IsIndex (blocks : List Contents) (coins : OutPoint → Option Coin) (ids : List ℕ → Bool) : Type 0 where
+  pub coins_are : (o : OutPoint) → coins o ≡ coin_at blocks o
+  pub ids_are : (id : List ℕ) → ids id ≡ has_id blocks id
+  pub tested : is_tested blocks ≡ true

@@ -19,6 +19,7 @@ mod chain_blocks;
 mod coin_map;
 mod coins;
 mod connecting;
+mod indexing;
 mod locks;
 mod program;
 mod refusal;
