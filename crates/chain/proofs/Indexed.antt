@@ -15,14 +15,15 @@ use Rattle.tx.specs.declared.input.OutPoint.{OutPoint}
 use Rattle.tx.specs.Parts.{Output}
 use Rattle.tx.specs.Fields.{Transaction}
 use Rattle.tx.specs.Spelling.{transaction_id}
-use Rattle.chain.specs.Blocks.{Contents, Creation, Coin, empty_block, height_of, same_outpoint, creations_from, created_by, created_by_all, granted_at, grants_in, created_of, names, is_named, created_at, coin_at, has_id}
-use Rattle.chain.specs.Connecting.{with_transaction}
+use Rattle.chain.specs.Blocks.{Contents, Creation, Coin, empty_block, height_of, same_outpoint, grant_outpoint, creations_from, created_by, created_by_all, granted_at, grants_in, created_of, names, is_named, created_at, coin_at, has_id}
+use Rattle.chain.specs.Connecting.{with_transaction, with_grant}
 use Rattle.chain.specs.Storing.{MayTakeOff}
 use Rattle.chain.specs.Tests.{transaction_refusal}
 use Rattle.chain.specs.Tested.{have_passed, is_tested}
 use Rattle.chain.specs.Indexing.{IsIndex, new_coin, first_new, is_output_below, unless_height, without, marked, with_mark}
 use Rattle.chain.specs.Scanning.{spot_of, found_in}
 use Rattle.chain.proofs.Finding.{none_by_others, found_by_index}
+use Rattle.chain.proofs.Noting.{same_is}
 use Rattle.chain.proofs.Passing.{Passed, passed, named_fresh, named_created, next_passed, IsFresh}
 
 abbrev coin : Bool → Creation → Coin
@@ -309,3 +310,67 @@ index_ended blocks b coins ids none nor i =
       ids_are = λ id. i.ids_are id ∙ ap (λ (c : Contents). has_id (c ∷ blocks) id) e;
       tested = ap (λ (c : Contents). is_tested (c ∷ blocks)) (sym e) ∙ i.tested;
     }
+
+spent_by : (named : Bool) (x : Option Creation) (c : Coin) → Some c ≡ option_map (coin named) x → c.spent ≡ named
+spent_by named None c e = absurd cc
+spent_by named (Some x) c e = let same : c ≡ coin named x = cc in ap (λ (d : Coin). d.spent) same
+
+-- a coin knows whether an input names it
+pub spent_named : (blocks : List Contents) (o : OutPoint) (c : Coin) → Some c ≡ coin_at blocks o → c.spent ≡ is_named blocks o
+spent_named blocks o c e = spent_by (is_named blocks o) (created_at blocks o) c e
+
+no_coin : (named : Bool) (x : Option Creation) → None ≡ option_map (coin named) x → is_some x ≡ false
+no_coin named None e = refl
+no_coin named (Some x) e = absurd cc
+
+-- where there is none, no input names it
+pub none_spent : (blocks : List Contents) (o : OutPoint) → is_tested blocks ≡ true → None ≡ coin_at blocks o → false ≡ is_named blocks o
+none_spent blocks o tested e = sym (none_named blocks o (is_named blocks o) tested refl (no_coin (is_named blocks o) (created_at blocks o) e))
+
+coin_granted : (b : Contents) (older : List Contents) (o : Output) (q : OutPoint) → is_tested (b ∷ older) ≡ true → coin_at (with_grant (b ∷ older) o) q ≡ option_or (coin_at (b ∷ older) q) (first_new (record { outpoint = grant_outpoint (grants_in (b ∷ older)); output = o; height = length older } ∷ []) q)
+coin_granted b older o q tested =
+    let p : Creation → Bool = λ c. same_outpoint c.outpoint q in
+    let h = length older in
+    let one : List Creation = record { outpoint = grant_outpoint (grants_in older + length b.granted); output = o; height = h } ∷ [] in
+    let ts = created_by_all h b.transactions in
+    let gs = granted_at h (grants_in older) b.granted in
+    let whole : created_of older ++ (ts ++ (gs ++ one)) ≡ (created_of older ++ (ts ++ gs)) ++ one =
+    ap (λ xs. created_of older ++ xs) (sym (append_assoc ts gs one)) ∙ sym (append_assoc (created_of older) (ts ++ gs) one) in
+    ap (option_map (coin (is_named (b ∷ older) q))) (ap (find p) whole ∙ find-append p (created_of (b ∷ older)) one)
+    ∙ seen false (is_named (b ∷ older) q) (created_at (b ∷ older) q) (find p one) (none_named (b ∷ older) q (is_named (b ∷ older) q) tested refl)
+
+-- one grant more, where what is kept follows it
+pub follows_grant : (blocks blocks' : List Contents) (o : Output) (coins coins' : OutPoint → Option Coin) (ids : List ℕ → Bool) (outpoint : OutPoint) (height : ℕ) → 0 < length blocks → blocks' ≡ with_grant blocks o → outpoint ≡ grant_outpoint (grants_in blocks) → height ≡ height_of blocks
+    → ((q : OutPoint) → coins' q ≡ option_or (coins q) (first_new (record { outpoint = outpoint; output = o; height = height } ∷ []) q))
+    → IsIndex blocks coins ids → IsIndex blocks' coins' ids
+follows_grant [] blocks' o coins coins' ids outpoint height some new at h more i = absurd (omega arith)
+follows_grant (b ∷ older) blocks' o coins coins' ids outpoint height some new at h more i =
+    rw new (record {
+      coins_are = λ q.
+      more q
+      ∙ ap (λ x. option_or x (first_new (record { outpoint = outpoint; output = o; height = height } ∷ []) q)) (i.coins_are q)
+      ∙ ap (λ a. option_or (coin_at (b ∷ older) q) (first_new (record { outpoint = a; output = o; height = height } ∷ []) q)) at
+      ∙ ap (λ n. option_or (coin_at (b ∷ older) q) (first_new (record { outpoint = grant_outpoint (grants_in (b ∷ older)); output = o; height = n } ∷ []) q)) (h ∙ omega arith)
+      ∙ sym (coin_granted b older o q i.tested);
+      ids_are = i.ids_are;
+      tested = i.tested;
+    })
+
+nothing : (x : Option Coin) → true ≡ not (is_some x) → x ≡ None
+nothing None e = refl
+nothing (Some c) e = absurd (false≢true (sym e))
+
+something : (x y : Option Coin) → false ≡ not (is_some x) → option_or x y ≡ x
+something None y e = absurd (false≢true e)
+something (Some c) y e = refl
+
+taken_by : (f : OutPoint → Option Coin) (c : Creation) (added : Bool) (q : OutPoint) (t : Bool) → same_outpoint c.outpoint q ≡ t → added ≡ not (is_some (f c.outpoint)) → cond (added && t) None (option_or (f q) (option_map new_coin (cond t (Some c) None))) ≡ f q
+taken_by f c true q false s e = or_none (f q) None refl
+taken_by f c false q false s e = or_none (f q) None refl
+taken_by f c true q true s e = sym (ap f (sym (same_is c.outpoint q s)) ∙ nothing (f c.outpoint) e)
+taken_by f c false q true s e = something (f q) (Some (new_coin c)) (e ∙ ap (λ o. not (is_some (f o))) (same_is c.outpoint q s))
+
+-- a grant that was noted and taken out again
+pub grant_undone : (blocks : List Contents) (coins coins' coins'' : OutPoint → Option Coin) (ids : List ℕ → Bool) (c : Creation) (added : Bool) → added ≡ not (is_some (coins c.outpoint)) → ((q : OutPoint) → coins' q ≡ option_or (coins q) (first_new (c ∷ []) q)) → ((q : OutPoint) → coins'' q ≡ cond (added && same_outpoint c.outpoint q) None (coins' q)) → IsIndex blocks coins ids → IsIndex blocks coins'' ids
+grant_undone blocks coins coins' coins'' ids c added e more less i =
+    same_index blocks coins coins'' ids ids (λ q. less q ∙ ap (cond (added && same_outpoint c.outpoint q) None) (more q) ∙ taken_by coins c added q (same_outpoint c.outpoint q) refl e) (λ id. refl) i

@@ -1,11 +1,11 @@
 //! The outputs and ids of transactions in an index, which follow the blocks transaction by transaction.
 
-ghost use Rattle.std.specs.Prelude.{◌≡◌, ℕ, [], ◌∷◌, List, length, Some, None, OnOk, OnErr};
+ghost use Rattle.std.specs.Prelude.{◌≡◌, ◌&&◌, if◌then◌else◌, ℕ, [], ◌∷◌, List, length, Some, None, OnOk, OnErr};
 ghost use Rattle.std.specs.Ordering.{nat_cmp};
 ghost use Rattle.std.specs.Cmp.Lexicographic.{slice_cmp};
 ghost use Rattle.std.specs.BTreeSet.{contains};
 ghost use Rattle.tx.specs.declared.input.OutPoint.{OutPoint};
-ghost use Rattle.chain.specs.Blocks.{Contents, height_of};
+ghost use Rattle.chain.specs.Blocks.{Contents, height_of, same_outpoint};
 ghost use Rattle.chain.specs.Connecting.{with_transaction};
 ghost use Rattle.chain.specs.Indexing.{noted, IsIndex};
 ghost use Rattle.chain.specs.Storing.{MayTakeOff};
@@ -68,5 +68,18 @@ pub(crate) fn unindex_block(
 {
     while let Some(confirmed) = block.pop() {
         unindex_transaction(coins, ids, &confirmed, height);
+    }
+}
+
+/// Takes the output at an outpoint out again, where it was added.
+pub(crate) fn forget_added(
+    coins: &mut BTreeMap<OutPoint, IndexedCoin>,
+    outpoint: &OutPoint,
+    added: bool,
+)
+    ensures { (q : OutPoint) → noted coins.new q ≡ (if added && same_outpoint outpoint.now q then None else noted coins.old q) }
+{
+    if added {
+        coins.remove(outpoint);
     }
 }

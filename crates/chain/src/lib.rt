@@ -19,6 +19,7 @@ mod chain_blocks;
 mod coin_map;
 mod coins;
 mod connecting;
+mod index;
 mod indexing;
 mod locks;
 mod program;
@@ -32,6 +33,7 @@ mod totals;
 
 pub use blocks::{Block, Confirmed};
 pub use coins::Coins;
+pub use index::Index;
 pub use program::run_program;
 pub use refusal::{BlockError, Refusal};
 pub use scan::Scan;
