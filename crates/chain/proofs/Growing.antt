@@ -56,6 +56,20 @@ none_granted : (n : ℕ) (blocks : List Contents) → newest_granted blocks ≡ 
 none_granted n [] none count = absurd (omega (arith, count))
 none_granted n (b ∷ older) none count = none
 
+none_granted_there : (blocks : List Contents) → MayTakeOff blocks → (newest_granted blocks ≡ []) × (0 < length blocks)
+none_granted_there [] may = absurd may
+none_granted_there (b ∷ older) may = (may, omega arith)
+
+some_granted : (blocks : List Contents) → newest_granted blocks ≡ [] → 0 < length blocks → MayTakeOff blocks
+some_granted [] none some = absurd (omega arith)
+some_granted (b ∷ older) none some = none
+
+-- where only transactions were added, still nothing was granted
+pub still_may_take_off : (first changed : Standing) → ChangesNewest first changed → MayTakeOff first.blocks → MayTakeOff changed.blocks
+still_may_take_off first changed c may =
+    let f = none_granted_there first.blocks may in
+    some_granted changed.blocks (c.granted ∙ f.0) (omega (arith, f.1, c.count))
+
 -- a block that was begun on these, and changed, can be taken off
 pub may_take_off : (s : Standing) (begun : Standing) (changed : Standing) → begun ≡ record s { blocks = empty_block ∷ s.blocks } → ChangesNewest begun changed → MayTakeOff changed.blocks
 may_take_off s begun changed e c = none_granted (length s.blocks) changed.blocks (c.granted ∙ ap (λ (b : Standing). newest_granted b.blocks) e) (c.count ∙ ap (λ (b : Standing). length b.blocks) e ∙ omega arith)

@@ -1,6 +1,9 @@
 pub mod Parsing
 pub mod Lists
 pub mod Finding
+pub mod Noting
+pub mod Passing
+pub mod Indexed
 pub mod Growing
 pub mod Sums
 pub mod Examples

@@ -7,3 +7,5 @@ pub mod Connecting
 pub mod Storing
 pub mod Scanning
 pub mod Totals
+pub mod Tested
+pub mod Indexing

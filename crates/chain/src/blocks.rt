@@ -1,13 +1,13 @@
 //! Blocks, and the transactions in them.
 
-ghost use Rattle.std.specs.Prelude.{◌≡◌, ◌∷◌, reverse, OnOk, OnErr, MatchOption, [], List};
+ghost use Rattle.std.specs.Prelude.{◌≡◌, ◌∷◌, reverse, OnOk, OnErr, IfErr, MatchOption, [], List};
 ghost use Rattle.tx.specs.Spelling.{transaction_id};
 ghost use Rattle.tx.specs.Fields.{Transaction};
 ghost use Rattle.tx.specs.Parts.{Output};
 ghost use Rattle.chain.specs.Blocks.{empty_block, Contents};
 
 use lists::Stack;
-use std::alloc::{AllocError, Global};
+use std::alloc::{AllocError, AllocFailed, Global};
 use std::marker::Model;
 use tx::{Tx, TxOut, txid};
 
@@ -56,16 +56,17 @@ impl Confirmed {
 /// A block: its transactions, and the outputs that were granted while it was the newest.
 #[derive(Debug, Drop)]
 pub struct Block {
-    transactions: Stack<Confirmed>,
+    transactions: Vec<Confirmed>,
     granted: Stack<TxOut>,
 }
 
 impl Model for Block {
+    ghost use Rattle.std.specs.Prelude.{reverse};
     ghost use Rattle.chain.specs.Blocks.{Contents};
 
     ghost Value = { Contents };
 
-    ghost view = { λ b. record { transactions = b.transactions; granted = b.granted } };
+    ghost view = { λ b. record { transactions = reverse b.transactions.items; granted = b.granted } };
 }
 
 impl Block {
@@ -74,7 +75,7 @@ impl Block {
         ensures { result ≡ empty_block }
     {
         Block {
-            transactions: Stack::new(alloc),
+            transactions: Vec::new(alloc),
             granted: Stack::new(alloc),
         }
     }
@@ -83,7 +84,7 @@ impl Block {
     pub fn transactions(&self) -> &[Confirmed]
         ensures { result.now ≡ reverse self.now.transactions }
     {
-        self.transactions.values()
+        self.transactions.as_slice()
     }
 
     /// The outputs that were granted, in their order.
@@ -93,10 +94,11 @@ impl Block {
         self.granted.values()
     }
 
-    // Adds a transaction at the end.
-    pub(crate) fn push(&mut self, confirmed: Confirmed) -> Result<(), AllocError>
+    // Adds a transaction at the end; where memory runs out, it is given back.
+    pub(crate) fn push(&mut self, confirmed: Confirmed) -> Result<(), AllocFailed<Confirmed>>
         ensures ok { OnOk result (self.new ≡ record self.old { transactions = confirmed ∷ self.old.transactions }) }
         ensures err { OnErr result (self.new ≡ self.old) }
+        ensures back { IfErr result (λ e. e.value ≡ confirmed) }
     {
         self.transactions.push(confirmed)
     }

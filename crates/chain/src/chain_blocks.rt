@@ -1,11 +1,11 @@
 //! The list of blocks.
 
-ghost use Rattle.std.specs.Prelude.{◌≡◌, ◌<◌, ◌∷◌, [], length, reverse, IfOk, OnOk, OnErr};
+ghost use Rattle.std.specs.Prelude.{◌≡◌, ◌<◌, ◌∷◌, [], length, reverse, IfOk, IfErr, OnOk, OnErr};
 ghost use Rattle.chain.specs.Blocks.{Contents, empty_block};
 ghost use Rattle.chain.specs.Connecting.{with_transaction, with_grant};
 
 use crate::blocks::{Block, Confirmed};
-use std::alloc::{AllocError, Global};
+use std::alloc::{AllocError, AllocFailed, Global};
 use std::marker::Model;
 use tx::TxOut;
 
@@ -60,10 +60,11 @@ impl Blocks {
         Ok(())
     }
 
-    /// Adds a transaction to the newest block.
-    pub fn push(&mut self, confirmed: Confirmed) -> Result<(), AllocError>
+    /// Adds a transaction to the newest block; where memory runs out, it is given back.
+    pub fn push(&mut self, confirmed: Confirmed) -> Result<(), AllocFailed<Confirmed>>
         ensures ok { OnOk result (self.new ≡ with_transaction self.old confirmed) }
         ensures err { OnErr result (self.new ≡ self.old) }
+        ensures back { IfErr result (λ e. e.value ≡ confirmed) }
     {
         let last = self.items.len() - 1;
         let newest = &mut self.items[last];

@@ -4,7 +4,7 @@ ghost use Rattle.std.specs.Prelude.{◌≡◌, ℕ, ◌-◌, ◌≤◌, ◌%◌,
 ghost use Rattle.std.specs.List.{list_any};
 ghost use Rattle.chain.specs.Blocks.{grant_outpoint, transactions_of};
 ghost use Rattle.chain.specs.Connecting.{Connects, Disconnects, Grants, has_grant, is_too_deep};
-ghost use Rattle.chain.specs.Storing.{AddsOne, AddsAll};
+ghost use Rattle.chain.specs.Storing.{AddsOne, AddsAll, MayTakeOff};
 
 use crate::blocks::{Block, Confirmed};
 use crate::program::is_program;
@@ -45,6 +45,7 @@ pub(crate) fn grant<S: Store>(store: &mut S, output: TxOut) -> Result<OutPoint, 
 
 /// Adds one transaction to the newest block, where it passes its tests.
 fn add_one<S: Store>(store: &mut S, tx: Tx) -> Result<(), Refusal>
+    requires { MayTakeOff (S.standing store.old).blocks }
     ensures { AddsOne (S.standing store.old) tx result (S.standing store.new) }
 {
     let confirmed = Confirmed::new(tx);
@@ -54,7 +55,9 @@ fn add_one<S: Store>(store: &mut S, tx: Tx) -> Result<(), Refusal>
 }
 
 /// Adds transactions to the newest block, up to the first that is refused.
+#[tactic(auto, using(crate::proofs::Growing::still_may_take_off))]
 fn add_all<S: Store>(store: &mut S, txs: Vec<Tx>) -> Result<(), BlockError>
+    requires { MayTakeOff (S.standing store.old).blocks }
     ensures { AddsAll (S.standing store.old) txs.items result (S.standing store.new) }
 {
     let mut index = 0usize;

@@ -16,8 +16,11 @@
 
 mod blocks;
 mod chain_blocks;
+mod coin_map;
 mod coins;
 mod connecting;
+mod index;
+mod indexing;
 mod locks;
 mod program;
 mod refusal;
@@ -30,6 +33,7 @@ mod totals;
 
 pub use blocks::{Block, Confirmed};
 pub use coins::Coins;
+pub use index::Index;
 pub use program::run_program;
 pub use refusal::{BlockError, Refusal};
 pub use scan::Scan;

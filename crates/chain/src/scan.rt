@@ -190,7 +190,8 @@ impl Store for Scan {
 
     #[tactic(auto, using(crate::proofs::Growing::grants_in_stay))]
     fn add(&mut self, confirmed: Confirmed) -> Result<(), AllocError> {
-        self.blocks.push(confirmed)
+        self.blocks.push(confirmed)?;
+        Ok(())
     }
 
     fn take_off(&mut self) {

@@ -57,9 +57,10 @@ pub trait Store {
         ensures ok { OnOk result (standing self.new ≡ record (standing self.old) { blocks = empty_block ∷ (standing self.old).blocks }) }
         ensures err { OnErr result (standing self.new ≡ standing self.old) };
 
-    /// Adds a transaction that passes its tests to the newest block.
+    /// Adds a transaction that passes its tests to the newest block, in which nothing was granted yet.
     fn add(&mut self, confirmed: Confirmed) -> Result<(), AllocError>
-        requires { transaction_refusal (standing self.old).blocks confirmed ≡ None }
+        requires passes { transaction_refusal (standing self.old).blocks confirmed ≡ None }
+        requires no_grant { MayTakeOff (standing self.old).blocks }
         ensures ok { OnOk result (standing self.new ≡ record (standing self.old) { blocks = with_transaction (standing self.old).blocks confirmed }) }
         ensures err { OnErr result (standing self.new ≡ standing self.old) };
 

@@ -194,3 +194,12 @@ fn scan_answers(rt: HostRuntime) -> Result<(), Fail> {
     }
     Ok(())
 }
+
+#[test]
+fn index_answers(rt: HostRuntime) -> Result<(), Fail> {
+    for table in TABLES {
+        let mut chain = Index::new(rt.alloc())?;
+        play_all(&rt, rt.alloc(), &mut chain, table)?;
+    }
+    Ok(())
+}
