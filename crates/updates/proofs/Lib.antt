@@ -1,0 +1,10 @@
+pub mod Sums
+pub mod Numbering
+pub mod Accepting
+pub mod Funds
+pub mod OneSide
+pub mod Ends
+pub mod Fees
+pub mod Keeping
+pub mod Held
+pub mod Ledgers

@@ -1,0 +1,7 @@
+pub mod Updates
+pub mod Ends
+pub mod Views
+pub mod Stages
+pub mod Refusals
+pub mod Pending
+pub mod Steady

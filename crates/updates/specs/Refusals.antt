@@ -1,0 +1,113 @@
+-- What a channel refuses of updates, in which order, and by which number (BOLT 2).
+use Rattle.std.specs.Prelude.{◌≡◌, ℕ, ◌+◌, Bool, true, false, not, ◌&&◌, nat_lt, nat_le, ◌==◌, List, [], ◌∷◌, length, Option, Some, None}
+use Rattle.std.specs.Str.{bytes_eq}
+use Rattle.sha2.specs.Sha256.{sha256}
+use Rattle.terms.specs.declared.htlcs.Htlc.{Htlc}
+use Rattle.terms.specs.declared.sides.Side.{Side}
+use Rattle.terms.specs.declared.sides.Side.TheVariants.{A, B}
+use Rattle.terms.specs.declared.agreement.Terms.{Terms}
+use Rattle.terms.specs.Sides.{other}
+use Rattle.terms.specs.Agreement.{party}
+use Rattle.updates.specs.declared.changes.Update.{Update}
+use Rattle.updates.specs.declared.changes.Update.TheVariants.{Add, Fulfil, Fail, Fee}
+use Rattle.updates.specs.declared.fates.Fate.{Fate}
+use Rattle.updates.specs.declared.fates.Fate.TheVariants.{Live, Fulfilled, Failed}
+use Rattle.updates.specs.declared.refusals.Refusal.{Refusal}
+use Rattle.updates.specs.declared.refusals.Refusal.TheVariants.{NoMemory, AmountZero, BelowMinimum, ExpiryTooLarge, WrongId, TooManyHtlcs, OverBalance, UnknownHtlc, WrongPreimage, NoUpdates, BadSignature, WrongSecret, NotYourTurn, NotOpener}
+use Rattle.updates.specs.declared.limits.TheConstants.{MAX_HTLCS, EXPIRY_END}
+use Rattle.updates.specs.Updates.{fate, offers, offer_of, spent, gained, live_count}
+use Rattle.updates.specs.Views.{start_of}
+use Rattle.updates.specs.Stages.{Stages}
+
+-- 0 is that memory ran out
+abbrev pub refusal_number : Refusal → ℕ
+refusal_number NoMemory = 0
+refusal_number AmountZero = 1
+refusal_number BelowMinimum = 2
+refusal_number ExpiryTooLarge = 3
+refusal_number WrongId = 4
+refusal_number TooManyHtlcs = 5
+refusal_number OverBalance = 6
+refusal_number UnknownHtlc = 7
+refusal_number WrongPreimage = 8
+refusal_number NoUpdates = 9
+refusal_number BadSignature = 10
+refusal_number WrongSecret = 11
+refusal_number NotYourTurn = 12
+refusal_number NotOpener = 13
+
+-- a test that refuses where it holds
+abbrev pub Test : Type 0
+Test = Bool × Refusal
+
+abbrev pub if_so : Bool → Refusal → Option Refusal → Option Refusal
+if_so true r rest = Some r
+if_so false r rest = rest
+
+-- the refusal of the first test that holds
+abbrev pub first_refusal : List Test → Option Refusal
+first_refusal [] = None
+first_refusal (t ∷ tests) = if_so t.0 t.1 (first_refusal tests)
+
+-- the tests of an HTLC that `by` offers: it has the next id, and the HTLCs of this direction that stand live are so many; the side had so much,
+-- of which so much went out
+abbrev pub add_tests : Terms → Side → ℕ → ℕ → ℕ → ℕ → Htlc → List Test
+add_tests terms by next live had out h =
+    (not (h.id == next), WrongId)
+    ∷ (h.amount == 0, AmountZero)
+    ∷ (nat_lt h.amount (party (other by) terms).minimum, BelowMinimum)
+    ∷ (nat_le EXPIRY_END h.expiry, ExpiryTooLarge)
+    ∷ (nat_le MAX_HTLCS live, TooManyHtlcs)
+    ∷ (nat_lt had (h.amount + out), OverBalance)
+    ∷ []
+
+abbrev pub is_missing : Option Htlc → Bool
+is_missing None = true
+is_missing (Some h) = false
+
+abbrev pub is_wrong : List ℕ → Option Htlc → Bool
+is_wrong hash None = false
+is_wrong hash (Some h) = not (bytes_eq hash h.hash)
+
+-- the tests of a removal, of the HTLC that may be removed under this id
+abbrev pub fulfil_tests : Option Htlc → List ℕ → List Test
+fulfil_tests found preimage = (is_missing found, UnknownHtlc) ∷ (is_wrong (sha256 preimage) found, WrongPreimage) ∷ []
+
+abbrev pub fail_tests : Option Htlc → List Test
+fail_tests found = (is_missing found, UnknownHtlc) ∷ []
+
+abbrev pub is_side : Side → Side → Bool
+is_side A A = true
+is_side B B = true
+is_side A B = false
+is_side B A = false
+
+abbrev pub fee_tests : Terms → Side → List Test
+fee_tests terms by = (not (is_side by terms.opener), NotOpener) ∷ []
+
+-- the HTLC of an id that passed all stages, where nobody removed it
+abbrev pub removable : Fate → Option Htlc → Option Htlc
+removable Live h = h
+removable Fulfilled h = None
+removable Failed h = None
+
+abbrev pub to_remove : ℕ → Stages → Stages → Option Htlc
+to_remove id sender others = removable (fate id sender.known) (offer_of id (offers others.settled))
+
+-- the tests of an update that `by` sends, by its own updates and the other side's
+abbrev pub update_tests : Terms → Side → Stages → Stages → Update → List Test
+update_tests terms by sender others (Add h) =
+    add_tests terms by (length (offers sender.known)) (live_count sender.known others.settled)
+    (start_of by terms + gained sender.settled others.known) (spent sender.known others.settled) h
+update_tests terms by sender others (Fulfil id preimage) = fulfil_tests (to_remove id sender others) preimage
+update_tests terms by sender others (Fail id) = fail_tests (to_remove id sender others)
+update_tests terms by sender others (Fee rate) = fee_tests terms by
+
+-- whether a signature of `sender` covers no new update
+abbrev pub covers_nothing : Stages → Stages → Bool
+covers_nothing sender others = length sender.known == length sender.with_receiver && length others.past_receiver == length others.with_sender
+
+-- want of memory, or the first refusal
+abbrev pub IsRefusal : Option Refusal → Refusal → Type 0
+IsRefusal first NoMemory = Unit {0}
+IsRefusal first r = first ≡ Some r

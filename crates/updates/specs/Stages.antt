@@ -1,0 +1,56 @@
+-- One side's updates and how far each part of them has come, as one channel knows it (BOLT 2, the five states of an update).
+use Rattle.std.specs.Prelude.{◌≡◌, ◌≤◌, ℕ, take, length, List, [], ◌∷◌, ◌++◌}
+use Rattle.updates.specs.declared.changes.Update.{Update}
+use Rattle.updates.specs.declared.stages.Part.{Part}
+use Rattle.updates.specs.Updates.{newest_fee}
+
+-- the sender is who made the updates, the receiver the other side; each part is a beginning of the one before it
+pub record Stages : Type 0 where
+  pub known : List Update  -- made by the sender, or received from it
+  pub with_receiver : List Update  -- in the receiver's newest commitment
+  pub past_receiver : List Update  -- there once the receiver's revocation acknowledged it
+  pub with_sender : List Update  -- in the sender's newest commitment
+  pub settled : List Update  -- there once the sender's revocation acknowledged it: all five stages passed
+
+abbrev pub none_yet : Stages
+none_yet = record { known = []; with_receiver = []; past_receiver = []; with_sender = []; settled = [] }
+
+-- the sender makes an update
+abbrev pub made : Update → Stages → Stages
+made u s = record { known = s.known ++ u ∷ []; with_receiver = s.with_receiver; past_receiver = s.past_receiver; with_sender = s.with_sender; settled = s.settled }
+
+-- the sender signs the receiver's next commitment
+abbrev pub to_receiver : Stages → Stages
+to_receiver s = record { known = s.known; with_receiver = s.known; past_receiver = s.past_receiver; with_sender = s.with_sender; settled = s.settled }
+
+-- the receiver revokes its commitment before
+abbrev pub by_receiver : Stages → Stages
+by_receiver s = record { known = s.known; with_receiver = s.with_receiver; past_receiver = s.with_receiver; with_sender = s.with_sender; settled = s.settled }
+
+-- the receiver signs the sender's next commitment
+abbrev pub to_sender : Stages → Stages
+to_sender s = record { known = s.known; with_receiver = s.with_receiver; past_receiver = s.past_receiver; with_sender = s.past_receiver; settled = s.settled }
+
+-- the sender revokes its commitment before
+abbrev pub by_sender : Stages → Stages
+by_sender s = record { known = s.known; with_receiver = s.with_receiver; past_receiver = s.past_receiver; with_sender = s.with_sender; settled = s.with_sender }
+
+-- the same by one list and a count for each further stage
+abbrev pub stages_of : List Update → ℕ → ℕ → ℕ → ℕ → Stages
+stages_of updates with_receiver past_receiver with_sender settled = record {
+  known = updates;
+  with_receiver = take with_receiver updates;
+  past_receiver = take past_receiver updates;
+  with_sender = take with_sender updates;
+  settled = take settled updates;
+}
+
+-- a part as its length and its newest fee
+pub record Counts (part : Part) (us : List Update) : Type 0 where
+  pub count : part.count ≡ length us
+  pub fee : part.fee ≡ newest_fee us
+
+-- the first updates of a list, kept as a count and their newest fee
+pub record IsPartOf (us : List Update) (part : Part) : Type 0 where
+  pub within : part.count ≤ length us
+  pub fee : part.fee ≡ newest_fee (take part.count us)

@@ -1,0 +1,98 @@
+-- What stays true of a side's two lists of updates, whatever its peer sends.
+use Rattle.std.specs.Prelude.{◌≡◌, ℕ, suc, ◌+◌, ◌≤◌, List, [], ◌∷◌, ◌++◌, length}
+use Rattle.updates.specs.declared.changes.Update.{Update}
+use Rattle.terms.specs.declared.htlcs.Htlc.{Htlc}
+use Rattle.terms.specs.declared.sides.Side.{Side}
+use Rattle.terms.specs.declared.agreement.Terms.{Terms}
+use Rattle.updates.specs.declared.fates.Fate.TheVariants.{Live}
+use Rattle.updates.specs.Updates.{fate, offers, spent, gained}
+use Rattle.terms.specs.Sides.{other}
+use Rattle.updates.specs.declared.pending.Pending.{Pending}
+use Rattle.updates.specs.Views.{start_of}
+use Rattle.updates.specs.Refusals.{Test, update_tests}
+use Rattle.updates.specs.Pending.{IsKept}
+use Rattle.updates.specs.Stages.{Stages, none_yet, made, to_receiver, by_receiver, to_sender, by_sender}
+
+-- one list is the beginning of another
+abbrev pub IsBeginning : List Update → List Update → Type 0
+IsBeginning xs ys = (rest : List Update) × (xs ++ rest ≡ ys)
+
+-- each part is a beginning of the one before it
+pub record InOrder (s : Stages) : Type 0 where
+  pub settled : IsBeginning s.settled s.with_sender
+  pub sender : IsBeginning s.with_sender s.past_receiver
+  pub past : IsBeginning s.past_receiver s.with_receiver
+  pub receiver : IsBeginning s.with_receiver s.known
+
+-- the ids count up from k
+abbrev pub Numbered : ℕ → List Htlc → Type 0
+Numbered k [] = Unit {0}
+Numbered k (o ∷ os) = (o.id ≡ k) × Numbered (suc k) os
+
+-- updates that remove no HTLC from number n on
+abbrev pub RemovesBelow : ℕ → List Update → Type 0
+RemovesBelow n us = (id : ℕ) → n ≤ id → fate id us ≡ Live
+
+-- the ids count up, only settled HTLCs are removed, and what the sender spent it had
+pub record IsFair (start : ℕ) (s o : Stages) : Type 0 where
+  pub numbered : Numbered 0 (offers s.known)
+  pub removes : RemovesBelow (length (offers o.settled)) s.known
+  pub covered : spent s.known o.settled ≤ start + gained s.settled o.known
+
+-- a part of a list of updates that a commitment may hold: what is settled is in it, what is not known isn't
+pub record IsPart (s : Stages) (part : List Update) : Type 0 where
+  pub holds_settled : IsBeginning s.settled part
+  pub is_known : IsBeginning part s.known
+
+-- what a side holds of a channel's updates
+pub record Held : Type 0 where
+  pub terms : Terms
+  pub side : Side
+  pub own : Stages
+  pub theirs : Stages
+
+pub record IsSteady (h : Held) : Type 0 where
+  pub own : InOrder h.own
+  pub theirs : InOrder h.theirs
+  pub own_revoked : h.own.with_sender ≡ h.own.settled  -- a signature that comes is answered at once
+  pub theirs_revoked : h.theirs.with_receiver ≡ h.theirs.past_receiver
+  pub own_fair : IsFair (start_of h.side h.terms) h.own h.theirs
+  pub their_fair : IsFair (start_of (other h.side) h.terms) h.theirs h.own
+
+-- what calls and messages make of it: nothing yet; an update of one's own, a signature given out; an update received, a signature
+-- received (which is answered by a revocation), a revocation received
+
+abbrev pub holding_none : Terms → Side → Held
+holding_none terms side = record { terms = terms; side = side; own = none_yet; theirs = none_yet }
+
+abbrev pub holding_made : Update → Held → Held
+holding_made u h = record { terms = h.terms; side = h.side; own = made u h.own; theirs = h.theirs }
+
+abbrev pub holding_signed : Held → Held
+holding_signed h = record { terms = h.terms; side = h.side; own = to_receiver h.own; theirs = to_sender h.theirs }
+
+abbrev pub holding_update : Update → Held → Held
+holding_update u h = record { terms = h.terms; side = h.side; own = h.own; theirs = made u h.theirs }
+
+abbrev pub holding_signature : Held → Held
+holding_signature h = record { terms = h.terms; side = h.side; own = by_sender (to_sender h.own); theirs = by_receiver (to_receiver h.theirs) }
+
+abbrev pub holding_revocation : Held → Held
+holding_revocation h = record { terms = h.terms; side = h.side; own = by_receiver h.own; theirs = by_sender h.theirs }
+
+-- the HTLC that a side would offer next
+abbrev pub next_htlc : Stages → ℕ → List ℕ → ℕ → Htlc
+next_htlc own amount hash expiry = record { id = length (offers own.known); amount = amount; hash = hash; expiry = expiry }
+
+-- the tests of an update of one's own, and of the peer's
+abbrev pub own_tests : Held → Update → List Test
+own_tests h u = update_tests h.terms h.side h.own h.theirs u
+
+abbrev pub their_tests : Held → Update → List Test
+their_tests h u = update_tests h.terms (other h.side) h.theirs h.own u
+
+-- what a ledger keeps true of its lists, and of the HTLCs that it keeps of each direction
+pub record IsLedger (h : Held) (own theirs : Pending) : Type 0 where
+  pub steady : IsSteady h
+  pub own_kept : IsKept own h.own h.theirs
+  pub their_kept : IsKept theirs h.theirs h.own

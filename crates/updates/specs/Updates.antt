@@ -1,0 +1,107 @@
+-- What lists of updates say of the HTLCs in them (BOLT 2).
+use Rattle.std.specs.Prelude.{ℕ, ◌+◌, ◌==◌, if◌then◌else◌, List, [], ◌∷◌, Option, Some, None, unwrap_or}
+use Rattle.updates.specs.declared.changes.Update.{Update}
+use Rattle.updates.specs.declared.changes.Update.TheVariants.{Add, Fulfil, Fail, Fee}
+use Rattle.terms.specs.declared.htlcs.Htlc.{Htlc}
+use Rattle.updates.specs.declared.fates.Fate.{Fate}
+use Rattle.updates.specs.declared.fates.Fate.TheVariants.{Live, Fulfilled, Failed}
+
+-- the earlier of two fates, where there is one
+abbrev pub first_of_fates : Fate → Fate → Fate
+first_of_fates Live f = f
+first_of_fates Fulfilled f = Fulfilled
+first_of_fates Failed f = Failed
+
+-- what one update makes of the HTLC of an id that the other side offered
+abbrev pub fate_by : ℕ → Update → Fate
+fate_by id (Fulfil i preimage) = if i == id then Fulfilled else Live
+fate_by id (Fail i) = if i == id then Failed else Live
+fate_by id u = Live
+
+-- what the other side's updates make of it
+abbrev pub fate : ℕ → List Update → Fate
+fate id [] = Live
+fate id (u ∷ us) = first_of_fates (fate_by id u) (fate id us)
+
+-- the HTLCs that a list of updates offers, in order
+abbrev pub offers : List Update → List Htlc
+offers [] = []
+offers (Add o ∷ us) = o ∷ offers us
+offers (u ∷ us) = offers us
+
+-- the offer of an id
+abbrev pub offer_of : ℕ → List Htlc → Option Htlc
+offer_of id [] = None
+offer_of id (o ∷ os) = if o.id == id then Some o else offer_of id os
+
+-- a sum over offers, by what the other side's updates made of each
+abbrev pub total : (Fate → ℕ → ℕ) → List Htlc → List Update → ℕ
+total f [] ends = 0
+total f (o ∷ os) ends = f (fate o.id ends) o.amount + total f os ends
+
+abbrev pub if_live : Fate → ℕ → ℕ
+if_live Live n = n
+if_live Fulfilled n = 0
+if_live Failed n = 0
+
+abbrev pub if_fulfilled : Fate → ℕ → ℕ
+if_fulfilled Live n = 0
+if_fulfilled Fulfilled n = n
+if_fulfilled Failed n = 0
+
+abbrev pub unless_failed : Fate → ℕ → ℕ
+unless_failed Live n = n
+unless_failed Fulfilled n = n
+unless_failed Failed n = 0
+
+abbrev pub one_if_live : Fate → ℕ → ℕ
+one_if_live Live n = 1
+one_if_live Fulfilled n = 0
+one_if_live Failed n = 0
+
+-- millisatoshis that the offers in `mine` took out of one's balance, where `others` didn't fail them
+abbrev pub spent : List Update → List Update → ℕ
+spent mine others = total unless_failed (offers mine) others
+
+-- millisatoshis that one's fulfilments in `mine` brought, of the offers in `others`
+abbrev pub gained : List Update → List Update → ℕ
+gained mine others = total if_fulfilled (offers others) mine
+
+-- millisatoshis in the HTLCs offered in `mine` that `others` didn't remove
+abbrev pub pending : List Update → List Update → ℕ
+pending mine others = total if_live (offers mine) others
+
+-- how many these are
+abbrev pub live_count : List Update → List Update → ℕ
+live_count mine others = total one_if_live (offers mine) others
+
+-- these HTLCs
+abbrev pub kept_if_live : Fate → Htlc → List Htlc → List Htlc
+kept_if_live Live o os = o ∷ os
+kept_if_live Fulfilled o os = os
+kept_if_live Failed o os = os
+
+abbrev pub live_in : List Htlc → List Update → List Htlc
+live_in [] ends = []
+live_in (o ∷ os) ends = kept_if_live (fate o.id ends) o (live_in os ends)
+
+abbrev pub live : List Update → List Update → List Htlc
+live mine others = live_in (offers mine) others
+
+-- the rate that an update sets, where it is a change of the feerate
+abbrev pub fee_of : Update → Option ℕ
+fee_of (Fee rate) = Some rate
+fee_of u = None
+
+abbrev pub later_fee : Option ℕ → Option ℕ → Option ℕ
+later_fee earlier None = earlier
+later_fee earlier (Some rate) = Some rate
+
+-- the rate of the last change of the feerate in a list
+abbrev pub newest_fee : List Update → Option ℕ
+newest_fee [] = None
+newest_fee (u ∷ us) = later_fee (fee_of u) (newest_fee us)
+
+-- the feerate after a list of updates
+abbrev pub last_fee : ℕ → List Update → ℕ
+last_fee rate us = unwrap_or (newest_fee us) rate

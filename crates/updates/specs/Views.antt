@@ -1,0 +1,55 @@
+-- The view of a commitment: what two lists of updates leave to each side (BOLT 2, BOLT 3).
+use Rattle.std.specs.Prelude.{◌≡◌, ℕ, ◌+◌, ◌-◌, ◌*◌, ◌≤◌, List}
+use Rattle.updates.specs.declared.changes.Update.{Update}
+use Rattle.terms.specs.declared.htlcs.Htlc.{Htlc}
+use Rattle.terms.specs.declared.sides.Side.{Side}
+use Rattle.terms.specs.declared.sides.Side.TheVariants.{A, B}
+use Rattle.terms.specs.declared.agreement.Terms.{Terms}
+use Rattle.terms.specs.declared.views.Share.{Share}
+use Rattle.terms.specs.declared.views.View.{View}
+use Rattle.terms.specs.Agreement.{party}
+use Rattle.updates.specs.Updates.{spent, gained, pending, live, last_fee}
+
+-- millisatoshis that a side begins with
+abbrev pub start_of : Side → Terms → ℕ
+start_of side terms = (party side terms).start
+
+-- no balance below 0: what a side spent is at most what it began with and gained
+abbrev pub IsCovered : ℕ → List Update → List Update → Type 0
+IsCovered start mine others = spent mine others ≤ start + gained mine others
+
+-- millisatoshis that a side has, by its updates and the other side's
+abbrev pub balance : ℕ → List Update → List Update → ℕ
+balance start mine others = start + gained mine others - spent mine others
+
+-- the opener's list alone changes the feerate
+abbrev pub feerate_of : Side → ℕ → List Update → List Update → ℕ
+feerate_of A rate xs ys = last_fee rate xs
+feerate_of B rate xs ys = last_fee rate ys
+
+-- what a side has, and the HTLCs that it offered and nobody removed
+abbrev pub share_of : ℕ → List Update → List Update → Share
+share_of start mine others = record { balance = balance start mine others; offered = live mine others }
+
+-- the view of A's updates `xs` and B's `ys`
+abbrev pub view_of : Terms → List Update → List Update → View
+view_of terms xs ys = record {
+  a = share_of terms.a.start xs ys;
+  b = share_of terms.b.start ys xs;
+  feerate = feerate_of terms.opener terms.feerate xs ys;
+}
+
+-- the same, by one side's updates and the other's
+abbrev pub view_by : Terms → Side → List Update → List Update → View
+view_by terms A mine others = view_of terms mine others
+view_by terms B mine others = view_of terms others mine
+
+-- in a sound view no balance is below 0, and balances and HTLCs sum to the capacity
+pub record IsSound (terms : Terms) (xs ys : List Update) : Type 0 where
+  pub a : IsCovered terms.a.start xs ys
+  pub b : IsCovered terms.b.start ys xs
+  pub sum : balance terms.a.start xs ys + balance terms.b.start ys xs + pending xs ys + pending ys xs ≡ 1000 * terms.capacity
+
+abbrev pub IsSoundBy : Terms → Side → List Update → List Update → Type 0
+IsSoundBy terms A mine others = IsSound terms mine others
+IsSoundBy terms B mine others = IsSound terms others mine

@@ -1,0 +1,97 @@
+//! Tests of updates, which their sender and their receiver make alike.
+
+ghost use Rattle.std.specs.Prelude.{◌≡◌, ◌+◌, ◌*◌, ◌^◌, ◌≤◌, length, Some, None, MatchResult};
+ghost use Rattle.updates.specs.Views.{start_of};
+ghost use Rattle.updates.specs.Pending.{total_amount, kept_tests, IsBounded};
+ghost use Rattle.updates.specs.Refusals.{first_refusal, add_tests, fulfil_tests, fail_tests};
+
+use crate::changes::Update;
+use crate::limits::{EXPIRY_END, MAX_HTLCS};
+use crate::pending::Pending;
+use crate::refusals::Refusal;
+use digest::sha256;
+use terms::{Htlc, Side, Terms};
+
+// Whether `by` may offer an HTLC, by the HTLCs of its direction and of the other.
+fn check_add(
+    terms: &Terms,
+    by: Side,
+    sender: &Pending,
+    others: &Pending,
+    htlc: &Htlc,
+) -> Result<(), Refusal>
+    requires sender { IsBounded sender.now }
+    requires others { IsBounded others.now }
+    ensures { let first = first_refusal (add_tests terms.now by sender.now.offered (length sender.now.htlcs.items)
+        (start_of by terms.now + others.now.fulfilled) (sender.now.fulfilled + total_amount sender.now.htlcs.items) htlc.now)
+        in MatchResult result (λ _. first ≡ None) (λ r. first ≡ Some r) }
+{
+    if htlc.id != sender.offered {
+        return Err(Refusal::WrongId);
+    }
+    if htlc.amount == 0 {
+        return Err(Refusal::AmountZero);
+    }
+    if htlc.amount < terms.party(by.other()).minimum {
+        return Err(Refusal::BelowMinimum);
+    }
+    if htlc.expiry >= EXPIRY_END {
+        return Err(Refusal::ExpiryTooLarge);
+    }
+    if sender.htlcs.len() >= MAX_HTLCS {
+        return Err(Refusal::TooManyHtlcs);
+    }
+    let had = u128::from(terms.party(by).start) + others.fulfilled;
+    let out = sender.fulfilled + sender.total_amount();
+    if had < u128::from(htlc.amount) + out {
+        return Err(Refusal::OverBalance);
+    }
+    Ok(())
+}
+
+// Whether the HTLC that may be removed under an id is there and has the preimage's hash.
+fn check_fulfil(found: Option<Htlc>, preimage: &[u8; 32]) -> Result<(), Refusal>
+    ensures { let first = first_refusal (fulfil_tests found preimage.now)
+        in MatchResult result (λ _. first ≡ None) (λ r. first ≡ Some r) }
+{
+    let Some(htlc) = found else {
+        return Err(Refusal::UnknownHtlc);
+    };
+    if sha256(preimage) != htlc.hash {
+        return Err(Refusal::WrongPreimage);
+    }
+    Ok(())
+}
+
+/// Whether `by` may make an update, by the HTLCs that it offered and those of its peer; `settled` of the peer's updates passed all stages, and
+/// `known` of its own are known.
+pub(crate) fn check_update(
+    terms: &Terms,
+    by: Side,
+    sender: &Pending,
+    others: &Pending,
+    settled: usize,
+    known: usize,
+    update: &Update,
+) -> Result<(), Refusal>
+    requires sender { IsBounded sender.now }
+    requires others { IsBounded others.now }
+    ensures { let first = first_refusal (kept_tests terms.now by sender.now others.now settled known update.now)
+        in MatchResult result (λ _. first ≡ None) (λ r. first ≡ Some r) }
+{
+    match update {
+        Update::Add(htlc) => check_add(terms, by, sender, others, htlc),
+        Update::Fulfil { id, preimage } => check_fulfil(others.find(*id, settled, known), preimage),
+        Update::Fail { id } => match others.find(*id, settled, known) {
+            Some(_) => Ok(()),
+            None => Err(Refusal::UnknownHtlc),
+        },
+        Update::Fee { .. } => {
+            if by == terms.opener {
+                Ok(())
+            } else {
+                Err(Refusal::NotOpener)
+            }
+        }
+    }
+}

@@ -1,0 +1,220 @@
+//! What a side holds of a channel's updates.
+
+ghost use Rattle.std.specs.Prelude.{◌≡◌};
+
+use crate::adding::add_update;
+use crate::changes::Update;
+use crate::checking::check_update;
+use crate::pending::Pending;
+use crate::refusals::Refusal;
+use crate::stages::UpdateList;
+use std::alloc::Global;
+use std::marker::Model;
+use terms::{Htlc, Side, Terms};
+
+/// The two sides' updates, as one side of a channel holds them. A contract sees it as the terms, the side and both lists of updates with their
+/// stages (`Held`).
+///
+/// It keeps every update, some 80 bytes each; the time of a call depends on the HTLCs that are pending and not on how many updates there were.
+#[derive(Drop)]
+pub struct Ledger {
+    terms: Terms,
+    side: Side,
+    own: UpdateList,
+    theirs: UpdateList,
+    // offered by this side, and by its peer
+    own_htlcs: Pending,
+    their_htlcs: Pending,
+}
+
+impl Model for Ledger {
+    ghost use Rattle.updates.specs.Steady.{Held, IsLedger};
+
+    ghost Value = { Held };
+
+    ghost view = { λ l. record { terms = l.terms; side = l.side; own = l.own; theirs = l.theirs } };
+
+    ghost invariant = { λ l. IsLedger (record { terms = l.terms; side = l.side; own = l.own; theirs = l.theirs }) l.own_htlcs l.their_htlcs };
+}
+
+impl Ledger {
+    ghost use Rattle.std.specs.Prelude.{◌≡◌, None, IfOk, OnErr, MatchResult, length};
+    ghost use Rattle.updates.specs.Updates.{offers};
+    ghost use Rattle.updates.specs.declared.changes.Update.TheVariants.{Add, Fulfil, Fail, Fee};
+    ghost use Rattle.updates.specs.Refusals.{first_refusal, covers_nothing, IsRefusal};
+    ghost use Rattle.updates.specs.Steady.{Held, own_tests, their_tests, next_htlc, holding_none, holding_made, holding_signed, holding_update, holding_signature, holding_revocation};
+
+    /// No updates yet. It takes no memory.
+    pub fn new(alloc: Global, terms: Terms, side: Side) -> Ledger
+        ensures { result ≡ holding_none terms side }
+    {
+        Ledger {
+            terms,
+            side,
+            own: UpdateList::new(alloc),
+            theirs: UpdateList::new(alloc),
+            own_htlcs: Pending::new(alloc),
+            their_htlcs: Pending::new(alloc),
+        }
+    }
+
+    // Whether this side may make an update.
+    fn check_own(&self, update: &Update) -> Result<(), Refusal>
+        ensures { let first = first_refusal (own_tests self.now update.now)
+            in MatchResult result (λ _. first ≡ None) (IsRefusal first) }
+    {
+        let settled = self.theirs.settled().count;
+        let known = self.own.known().count;
+        let (own, theirs) = (&self.own_htlcs, &self.their_htlcs);
+        check_update(&self.terms, self.side, own, theirs, settled, known, update)
+    }
+
+    // Whether the peer may make one.
+    fn check_theirs(&self, update: &Update) -> Result<(), Refusal>
+        ensures { let first = first_refusal (their_tests self.now update.now)
+            in MatchResult result (λ _. first ≡ None) (IsRefusal first) }
+    {
+        let settled = self.own.settled().count;
+        let known = self.theirs.known().count;
+        let (theirs, own) = (&self.their_htlcs, &self.own_htlcs);
+        let peer = self.side.other();
+        check_update(&self.terms, peer, theirs, own, settled, known, update)
+    }
+
+    // Makes an update of one's own.
+    fn make(&mut self, update: Update) -> Result<(), Refusal>
+        ensures ok { IfOk result (λ _. self.new ≡ holding_made update self.old) }
+        ensures tested { MatchResult result (λ _. first_refusal (own_tests self.old update) ≡ None)
+            (IsRefusal (first_refusal (own_tests self.old update))) }
+        ensures err { OnErr result (self.new ≡ self.old) }
+    {
+        self.check_own(&update)?;
+        add_update(
+            &mut self.own,
+            &mut self.own_htlcs,
+            &mut self.their_htlcs,
+            update,
+        )?;
+        Ok(())
+    }
+
+    /// Offers an HTLC of `amount` millisatoshis, and gives it with its id, the next one of this side. It is tested for WrongId, which never
+    /// comes here, AmountZero, BelowMinimum, ExpiryTooLarge, TooManyHtlcs and OverBalance, in this order. A refusal leaves the ledger as it was.
+    pub fn offer(&mut self, amount: u64, hash: [u8; 32], expiry: u32) -> Result<Htlc, Refusal>
+        ensures htlc { IfOk result (λ h. h ≡ next_htlc self.old.own amount hash expiry) }
+        ensures ok { IfOk result (λ h. self.new ≡ holding_made (Add h) self.old) }
+        ensures tested { let first = first_refusal (own_tests self.old (Add (next_htlc self.old.own amount hash expiry)))
+            in MatchResult result (λ _. first ≡ None) (IsRefusal first) }
+        ensures err { OnErr result (self.new ≡ self.old) }
+    {
+        let htlc = Htlc {
+            id: self.next_id(),
+            amount,
+            hash,
+            expiry,
+        };
+        self.make(Update::Add(htlc))?;
+        Ok(htlc)
+    }
+
+    // The id of the next HTLC that this side offers.
+    fn next_id(&self) -> u64
+        ensures { result ≡ length (offers self.now.own.known) }
+    {
+        self.own_htlcs.offered
+    }
+
+    /// Fulfils an HTLC of the peer: UnknownHtlc where the peer has none of this id that passed all stages and that nobody removed, else
+    /// WrongPreimage. A refusal leaves the ledger as it was.
+    pub fn fulfil(&mut self, id: u64, preimage: [u8; 32]) -> Result<(), Refusal>
+        ensures ok { IfOk result (λ _. self.new ≡ holding_made (Fulfil id preimage) self.old) }
+        ensures tested { let first = first_refusal (own_tests self.old (Fulfil id preimage))
+            in MatchResult result (λ _. first ≡ None) (IsRefusal first) }
+        ensures err { OnErr result (self.new ≡ self.old) }
+    {
+        self.make(Update::Fulfil { id, preimage })
+    }
+
+    /// Fails an HTLC of the peer: UnknownHtlc where the peer has none of this id that passed all stages and that nobody removed. A refusal
+    /// leaves the ledger as it was.
+    pub fn fail(&mut self, id: u64) -> Result<(), Refusal>
+        ensures ok { IfOk result (λ _. self.new ≡ holding_made (Fail id) self.old) }
+        ensures tested { let first = first_refusal (own_tests self.old (Fail id))
+            in MatchResult result (λ _. first ≡ None) (IsRefusal first) }
+        ensures err { OnErr result (self.new ≡ self.old) }
+    {
+        self.make(Update::Fail { id })
+    }
+
+    /// Changes the feerate to `rate` satoshis for 1,000 units of weight: NotOpener where this side did not open the channel. A refusal leaves
+    /// the ledger as it was.
+    pub fn set_fee(&mut self, rate: u32) -> Result<(), Refusal>
+        ensures ok { IfOk result (λ _. self.new ≡ holding_made (Fee rate) self.old) }
+        ensures tested { let first = first_refusal (own_tests self.old (Fee rate))
+            in MatchResult result (λ _. first ≡ None) (IsRefusal first) }
+        ensures err { OnErr result (self.new ≡ self.old) }
+    {
+        self.make(Update::Fee { rate })
+    }
+
+    /// Receives an update of the peer, with the same tests as one of one's own. A refusal leaves the ledger as it was.
+    pub fn receive_update(&mut self, update: &Update) -> Result<(), Refusal>
+        ensures ok { IfOk result (λ _. self.new ≡ holding_update update.now self.old) }
+        ensures tested { let first = first_refusal (their_tests self.old update.now)
+            in MatchResult result (λ _. first ≡ None) (IsRefusal first) }
+        ensures err { OnErr result (self.new ≡ self.old) }
+    {
+        self.check_theirs(update)?;
+        let (theirs, own) = (&mut self.their_htlcs, &mut self.own_htlcs);
+        add_update(&mut self.theirs, theirs, own, *update)?;
+        Ok(())
+    }
+
+    /// Whether a signature of this side would cover no new update (NoUpdates).
+    pub fn signs_nothing(&self) -> bool
+        ensures { result ≡ covers_nothing self.now.own self.now.theirs }
+    {
+        self.own.known().count == self.own.with_receiver().count
+            && self.theirs.past_receiver().count == self.theirs.with_sender().count
+    }
+
+    /// Whether a signature of the peer would cover no new update.
+    pub fn receives_nothing(&self) -> bool
+        ensures { result ≡ covers_nothing self.now.theirs self.now.own }
+    {
+        self.theirs.known().count == self.theirs.with_receiver().count
+            && self.own.past_receiver().count == self.own.with_sender().count
+    }
+
+    /// A signature was given out.
+    pub fn sign(&mut self)
+        ensures { self.new ≡ holding_signed self.old }
+    {
+        self.own.to_receiver();
+        self.theirs.to_sender();
+    }
+
+    /// A signature came, and is answered by a revocation.
+    pub fn receive_signature(&mut self)
+        ensures { self.new ≡ holding_signature self.old }
+    {
+        self.theirs.to_receiver();
+        self.theirs.by_receiver();
+        self.own.to_sender();
+        self.own.by_sender();
+        let offered = self.theirs.known().count;
+        let settled = self.own.settled().count;
+        self.their_htlcs.settle(offered, settled);
+    }
+
+    /// A revocation came.
+    pub fn receive_revocation(&mut self)
+        ensures { self.new ≡ holding_revocation self.old }
+    {
+        self.own.by_receiver();
+        self.theirs.by_sender();
+        let offered = self.own.known().count;
+        let settled = self.theirs.settled().count;
+        self.own_htlcs.settle(offered, settled);
+    }
+}

@@ -1,0 +1,158 @@
+//! The updates of one side, and how many of them have come to each stage.
+
+ghost use Rattle.std.specs.Prelude.{◌≡◌};
+ghost use Rattle.updates.specs.Updates.{fee_of, later_fee};
+
+use crate::changes::Update;
+use std::alloc::{AllocError, Global};
+use std::marker::Model;
+
+/// The first updates of a side.
+#[derive(Clone, Copy, Debug, Drop)]
+pub(crate) struct Part {
+    /// How many they are.
+    pub count: usize,
+    /// The rate of the last change of the feerate among them.
+    pub fee: Option<u32>,
+}
+
+/// The updates of one side, and how many of them have come to each stage.
+#[derive(Drop)]
+pub(crate) struct UpdateList {
+    updates: Vec<Update>,
+    fee: Option<u32>,
+    with_receiver: Part,
+    past_receiver: Part,
+    with_sender: Part,
+    settled: Part,
+}
+
+impl Model for UpdateList {
+    ghost use Rattle.std.specs.Prelude.{◌≡◌, ◌≤◌, length};
+    ghost use Rattle.updates.specs.Updates.{newest_fee};
+    ghost use Rattle.updates.specs.Stages.{Stages, stages_of, IsPartOf};
+
+    ghost Value = { Stages };
+
+    ghost view = { λ l. stages_of l.updates.items l.with_receiver.count l.past_receiver.count l.with_sender.count l.settled.count };
+
+    ghost invariant = { λ l. (l.fee ≡ newest_fee l.updates.items)
+        × (IsPartOf l.updates.items l.with_receiver)
+        × (IsPartOf l.updates.items l.past_receiver)
+        × (IsPartOf l.updates.items l.with_sender)
+        × (IsPartOf l.updates.items l.settled) };
+}
+
+// The newest fee after one more update.
+fn fee_after(fee: Option<u32>, update: &Update) -> Option<u32>
+    ensures { result ≡ later_fee fee (fee_of update.now) }
+{
+    match update {
+        Update::Fee { rate } => Some(*rate),
+        _ => fee,
+    }
+}
+
+const NONE_YET: Part = Part {
+    count: 0,
+    fee: None,
+};
+
+impl UpdateList {
+    ghost use Rattle.std.specs.Prelude.{◌≡◌, IfOk, OnErr, length, List};
+    ghost use Rattle.updates.specs.Stages.{none_yet, made, to_receiver, by_receiver, to_sender, by_sender, Counts};
+
+    /// No updates yet.
+    pub(crate) fn new(alloc: Global) -> UpdateList
+        ensures { result ≡ none_yet }
+    {
+        UpdateList {
+            updates: Vec::new(alloc),
+            fee: None,
+            with_receiver: NONE_YET,
+            past_receiver: NONE_YET,
+            with_sender: NONE_YET,
+            settled: NONE_YET,
+        }
+    }
+
+    /// All updates that are known.
+    pub(crate) fn known(&self) -> Part
+        ensures { Counts result self.now.known }
+    {
+        Part {
+            count: self.updates.len(),
+            fee: self.fee,
+        }
+    }
+
+    /// Those in the receiver's newest commitment.
+    pub(crate) fn with_receiver(&self) -> Part
+        ensures { Counts result self.now.with_receiver }
+    {
+        self.with_receiver
+    }
+
+    /// Those that the receiver's revocation acknowledged.
+    pub(crate) fn past_receiver(&self) -> Part
+        ensures { Counts result self.now.past_receiver }
+    {
+        self.past_receiver
+    }
+
+    /// Those in the sender's newest commitment.
+    pub(crate) fn with_sender(&self) -> Part
+        ensures { Counts result self.now.with_sender }
+    {
+        self.with_sender
+    }
+
+    /// Those that passed all five stages.
+    pub(crate) fn settled(&self) -> Part
+        ensures { Counts result self.now.settled }
+    {
+        self.settled
+    }
+
+    /// The sender makes an update. The only error is that memory ran out, which leaves the list as it was.
+    pub(crate) fn push(&mut self, update: Update) -> Result<(), AllocError>
+        ensures ok { IfOk result (λ _. self.new ≡ made update self.old) }
+        ensures err { OnErr result (self.new ≡ self.old) }
+    {
+        let fee = fee_after(self.fee, &update);
+        self.updates.push(update)?;
+        self.fee = fee;
+        Ok(())
+    }
+
+    /// The sender signs the receiver's next commitment.
+    pub(crate) fn to_receiver(&mut self)
+        ensures { self.new ≡ to_receiver self.old }
+    {
+        self.with_receiver = Part {
+            count: self.updates.len(),
+            fee: self.fee,
+        };
+    }
+
+    /// The receiver revokes its commitment before.
+    pub(crate) fn by_receiver(&mut self)
+        ensures { self.new ≡ by_receiver self.old }
+    {
+        self.past_receiver = self.with_receiver;
+    }
+
+    /// The receiver signs the sender's next commitment.
+    pub(crate) fn to_sender(&mut self)
+        ensures { self.new ≡ to_sender self.old }
+    {
+        self.with_sender = self.past_receiver;
+    }
+
+    /// The sender revokes its commitment before.
+    pub(crate) fn by_sender(&mut self)
+        ensures { self.new ≡ by_sender self.old }
+    {
+        self.settled = self.with_sender;
+    }
+}
