@@ -1,3 +1,5 @@
 pub mod Scripts
 pub mod Ways
 pub mod Parts
+pub mod Fillings
+pub mod Claims
