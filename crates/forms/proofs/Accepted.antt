@@ -1,6 +1,6 @@
 -- The slots of each kind of claim meet its path.
-use Rattle.std.proofs.Common.{◌≡◌, ◌≢◌, ℕ, ◌+◌, ◌/◌, ◌%◌, ◌^◌, ◌<◌, ◌≤◌, Bool, true, false, ◌&&◌, not, eqb, List, [], ◌∷◌, map, length, Option, Some, None, Result, Ok, Err, sym, ap, ◌∙◌, refl, subst, arith}
-use Rattle.std.specs.Prelude.{slice_get, if◌then◌else◌}
+use Rattle.std.proofs.Common.{◌≡◌, ◌≢◌, ℕ, ◌/◌, ◌%◌, ◌^◌, ◌<◌, true, false, not, List, [], ◌∷◌, map, length, Option, Some, None, Ok, Err, sym, ap, ◌∙◌, refl, subst, arith}
+use Rattle.std.specs.Prelude.{slice_get}
 use Rattle.std.specs.Str.{bytes_eq}
 use Rattle.std.specs.List.{list_all}
 use Rattle.std.proofs.lemmas.Slice.Eq.{bytes_eq-Decides}
@@ -9,8 +9,8 @@ use Rattle.sha2.proofs.Facts256.{length-sha256}
 use Rattle.digest.specs.Hash.{hash160}
 use Rattle.digest.specs.Ripemd160.{ripemd160}
 use Rattle.script.specs.Spelling.{spelling}
-use Rattle.script.specs.Step.{bit_at}
-use Rattle.script.specs.Token.{token_of, is_key, is_signature}
+use Rattle.script.specs.Step.{result_if, bit_at}
+use Rattle.script.specs.Token.{token_of, is_key}
 use Rattle.tx.specs.Fields.{Transaction}
 use Rattle.std.specs.Option.{option_map}
 use Rattle.sighash.specs.Signing.{sighash, signed_list}
@@ -27,14 +27,15 @@ use Rattle.claim.specs.declared.parts.Slot.TheVariants.{Sig, Preimage, Exact}
 use Rattle.claim.specs.declared.parts.WitnessItem.{WitnessItem}
 use Rattle.claim.specs.declared.parts.Place.{Place}
 use Rattle.claim.specs.declared.parts.Shell.{Shell}
-use Rattle.claim.specs.declared.parts.Shell.TheVariants.{Open, Fixed}
+use Rattle.claim.specs.declared.parts.Shell.TheVariants.{Fixed}
 use Rattle.claim.specs.declared.errors.AcceptError.{AcceptError}
+use Rattle.claim.specs.declared.errors.AcceptError.TheVariants.{Unmet, Contradiction}
+use Rattle.facts.specs.declared.symbols.Fact.TheVariants.{Hash}
 use Rattle.claim.specs.Judgement.{is_program, is_shell, known_digest, is_met, first_unmet_or, judgement_of}
 use Rattle.forms.specs.declared.kinds.ClaimKind.{ClaimKind}
-use Rattle.forms.specs.declared.kinds.ClaimKind.TheVariants.{Penalty, Delayed, HtlcPenalty, DirectPreimage, DirectTimeout, KeyHash, HtlcTimeout, HtlcSuccess}
-use Rattle.forms.specs.Ways.{to_local_ways, key_hash_ways, offered_ways, received_ways}
+use Rattle.forms.specs.Ways.{no, to_local_ways, key_hash_ways, offered_ways, received_ways}
 use Rattle.forms.specs.Fillings.{Filling, Signature, PreimageOf, Bytes, filling_of, fillings_of}
-use Rattle.forms.specs.Claims.{Claims, of_penalty, of_delayed, of_offered_penalty, of_received_penalty, of_preimage, of_timeout, of_key, of_htlc_timeout, of_htlc_success, IsAccepted}
+use Rattle.forms.specs.Claims.{Claims, of_penalty, of_delayed, of_offered_penalty, of_received_penalty, of_preimage, of_timeout, of_key, of_htlc_timeout, of_htlc_success, IsAccepted, path_of, Refused, no_timeout, no_preimage, no_htlc_timeout, no_htlc_success, IsRefused}
 
 same_bytes : (x : List ℕ) → bytes_eq x x ≡ true
 same_bytes x = (bytes_eq-Decides x x).1 refl
@@ -230,37 +231,104 @@ judged_fixed form index slots place t digest q d at prog stands r =
 accepted_on : (kind : ClaimKind) (form : CheckedScript) (index : ℕ) (place : Place) (shell : Shell) → Claims kind form index place shell → (slots : List Slot) → map filling_of slots ≡ fillings_of kind → (path : Path) → slice_get form.paths index ≡ Some path → is_program (spelling form.ops) place.program ≡ true → is_shell path place shell ≡ true → judgement_of form index slots place shell ≡ Ok path
 accepted_on kind form index place shell (of_penalty revocation delay delayed at) slots e path is prog stands =
     exact_two (λ s. judgement_of form index s place shell ≡ Ok path) slots (1 ∷ []) revocation.bytes e
-        (λ w k f g. judged_row form index (Exact w ∷ Sig k ∷ []) place shell path is prog stands (penalty_row revocation.bytes delay delayed w k f g))
+    (λ w k f g. judged_row form index (Exact w ∷ Sig k ∷ []) place shell path is prog stands (penalty_row revocation.bytes delay delayed w k f g))
 accepted_on kind form index place shell (of_delayed revocation delay key at h) slots e path is prog stands =
     exact_two (λ s. judgement_of form index s place shell ≡ Ok path) slots [] key.bytes e
-        (λ w k f g. judged_row form index (Exact w ∷ Sig k ∷ []) place shell path is prog stands (delayed_row revocation delay key.bytes w k h f g))
+    (λ w k f g. judged_row form index (Exact w ∷ Sig k ∷ []) place shell path is prog stands (delayed_row revocation delay key.bytes w k h f g))
 accepted_on kind form index place shell (of_offered_penalty revocation remote local payment_hash at) slots e path is prog stands =
     exact_two (λ s. judgement_of form index s place shell ≡ Ok path) slots revocation.bytes revocation.bytes e
-        (λ w k f g. judged_row form index (Exact w ∷ Sig k ∷ []) place shell path is prog stands (offered_penalty_row revocation.bytes remote local payment_hash w k f g))
+    (λ w k f g. judged_row form index (Exact w ∷ Sig k ∷ []) place shell path is prog stands (offered_penalty_row revocation.bytes remote local payment_hash w k f g))
 accepted_on kind form index place shell (of_received_penalty revocation remote local payment_hash expiry at) slots e path is prog stands =
     exact_two (λ s. judgement_of form index s place shell ≡ Ok path) slots revocation.bytes revocation.bytes e
-        (λ w k f g. judged_row form index (Exact w ∷ Sig k ∷ []) place shell path is prog stands (received_penalty_row revocation.bytes remote local payment_hash expiry w k f g))
+    (λ w k f g. judged_row form index (Exact w ∷ Sig k ∷ []) place shell path is prog stands (received_penalty_row revocation.bytes remote local payment_hash expiry w k f g))
 accepted_on kind form index place shell (of_preimage revocation_hash remote local payment at n) slots e path is prog stands =
     preimage_two (λ s. judgement_of form index s place shell ≡ Ok path) slots payment remote.bytes e
-        (λ k g. judged_row form index (Preimage payment ∷ Sig k ∷ []) place shell path is prog stands (preimage_row revocation_hash remote.bytes local payment k n g))
+    (λ k g. judged_row form index (Preimage payment ∷ Sig k ∷ []) place shell path is prog stands (preimage_row revocation_hash remote.bytes local payment k n g))
 accepted_on kind form index place shell (of_timeout revocation_hash remote local payment_hash expiry at l n) slots e path is prog stands =
     exact_two (λ s. judgement_of form index s place shell ≡ Ok path) slots [] remote.bytes e
-        (λ w k f g. judged_row form index (Exact w ∷ Sig k ∷ []) place shell path is prog stands (timeout_row revocation_hash remote.bytes local payment_hash expiry w k l n f g))
+    (λ w k f g. judged_row form index (Exact w ∷ Sig k ∷ []) place shell path is prog stands (timeout_row revocation_hash remote.bytes local payment_hash expiry w k l n f g))
 accepted_on kind form index place shell (of_key k at) slots e path is prog stands =
     exact_two (λ s. judgement_of form index s place shell ≡ Ok path) slots k.bytes k.bytes e
-        (λ w s f g. judged_row form index (Exact w ∷ Sig s ∷ []) place shell path is prog stands (key_row k.bytes w s f g))
+    (λ w s f g. judged_row form index (Exact w ∷ Sig s ∷ []) place shell path is prog stands (key_row k.bytes w s f g))
 accepted_on kind form index place shell (of_htlc_timeout revocation_hash remote local payment_hash at t digest n d) slots e path is prog stands =
     both_below (λ s. judgement_of form index s place shell ≡ Ok path) slots (Bytes []) local.bytes (token_of remote.bytes digest) e
-        (λ x k w u a f g h. let v = is_bytes x [] a in
-        subst (λ y. judgement_of form index (y ∷ Sig k ∷ Exact w ∷ Exact u ∷ []) place shell ≡ Ok path) (sym v.slot)
-        (judged_fixed form index (Exact v.item ∷ Sig k ∷ Exact w ∷ Exact u ∷ []) place t digest path d is prog stands
-        (htlc_timeout_row revocation_hash remote local.bytes payment_hash digest v.item w u k (digest_length t (spelling form.ops) place.value digest d) n v.bytes f g h)))
+    (λ x k w u a f g h. let v = is_bytes x [] a in
+    subst (λ y. judgement_of form index (y ∷ Sig k ∷ Exact w ∷ Exact u ∷ []) place shell ≡ Ok path) (sym v.slot)
+    (judged_fixed form index (Exact v.item ∷ Sig k ∷ Exact w ∷ Exact u ∷ []) place t digest path d is prog stands
+    (htlc_timeout_row revocation_hash remote local.bytes payment_hash digest v.item w u k (digest_length t (spelling form.ops) place.value digest d) n v.bytes f g h)))
 accepted_on kind form index place shell (of_htlc_success revocation_hash remote local payment expiry at t digest n d) slots e path is prog stands =
     both_below (λ s. judgement_of form index s place shell ≡ Ok path) slots (PreimageOf payment) local.bytes (token_of remote.bytes digest) e
-        (λ x k w u a f g h.
-        subst (λ y. judgement_of form index (y ∷ Sig k ∷ Exact w ∷ Exact u ∷ []) place shell ≡ Ok path) (sym (is_preimage x payment a))
-        (judged_fixed form index (Preimage payment ∷ Sig k ∷ Exact w ∷ Exact u ∷ []) place t digest path d is prog stands
-        (htlc_success_row revocation_hash remote local.bytes payment expiry digest w u k (digest_length t (spelling form.ops) place.value digest d) n f g h)))
+    (λ x k w u a f g h.
+    subst (λ y. judgement_of form index (y ∷ Sig k ∷ Exact w ∷ Exact u ∷ []) place shell ≡ Ok path) (sym (is_preimage x payment a))
+    (judged_fixed form index (Preimage payment ∷ Sig k ∷ Exact w ∷ Exact u ∷ []) place t digest path d is prog stands
+    (htlc_success_row revocation_hash remote local.bytes payment expiry digest w u k (digest_length t (spelling form.ops) place.value digest d) n f g h)))
 
 pub accepted : (kind : ClaimKind) (slots : List Slot) → map filling_of slots ≡ fillings_of kind → IsAccepted kind slots
 accepted kind slots e = λ form index path place shell row at prog stands. accepted_on kind form index place shell row slots e path at prog stands
+
+-- a kind of claim takes one path
+pub one_path : (kind : ClaimKind) (form : CheckedScript) (index : ℕ) (place : Place) (shell : Shell) → Claims kind form index place shell → path_of kind ≡ index
+one_path kind form index place shell (of_penalty revocation delay delayed at) = refl
+one_path kind form index place shell (of_delayed revocation delay key at h) = refl
+one_path kind form index place shell (of_offered_penalty revocation remote local payment_hash at) = refl
+one_path kind form index place shell (of_received_penalty revocation remote local payment_hash expiry at) = refl
+one_path kind form index place shell (of_preimage revocation_hash remote local payment at n) = refl
+one_path kind form index place shell (of_timeout revocation_hash remote local payment_hash expiry at l n) = refl
+one_path kind form index place shell (of_key k at) = refl
+one_path kind form index place shell (of_htlc_timeout revocation_hash remote local payment_hash at t digest n d) = refl
+one_path kind form index place shell (of_htlc_success revocation_hash remote local payment expiry at t digest n d) = refl
+
+-- a path that contradicts itself, or whose first fact is not met
+record IsRefusedBy (known : Option (List ℕ)) (slots : List Slot) (refusal : AcceptError) (p : Path) : Type 0 where
+  arity : length slots ≡ p.arity
+  refused : (q : Path) → result_if (not (contradicts p.facts)) Contradiction (first_unmet_or known slots p.facts q) ≡ Err refusal
+
+record IsRefusedRow (known : Option (List ℕ)) (slots : List Slot) (refusal : AcceptError) (ways : List Path) (index : ℕ) : Type 0 where
+  path : Path
+  at : slice_get ways index ≡ Some path
+  refuses : IsRefusedBy known slots refusal path
+
+refused_row : (form : CheckedScript) (index : ℕ) (slots : List Slot) (place : Place) (shell : Shell) (q : Path) (refusal : AcceptError) → slice_get form.paths index ≡ Some q → is_program (spelling form.ops) place.program ≡ true → is_shell q place shell ≡ true → IsRefusedRow (known_digest (spelling form.ops) place shell) slots refusal form.paths index → judgement_of form index slots place shell ≡ Err refusal
+unfolding judgement_of
+refused_row form index slots place shell q refusal same prog stands r =
+    let one : r.path ≡ q = some_same r.path q (sym r.at ∙ same) in
+    let n : IsRefusedBy (known_digest (spelling form.ops) place shell) slots refusal q = subst (IsRefusedBy (known_digest (spelling form.ops) place shell) slots refusal) one r.refuses in
+    let a = eq-eqb (length slots) q.arity n.arity in
+    rw (same, a, prog, stands) (n.refused q)
+  where
+    some_same : (p q : Path) → Some p ≡ Some q → p ≡ q
+    some_same p q e = cc
+
+no_timeout_row : (known : Option (List ℕ)) (remote local payment_hash : List ℕ) (expiry : ℕ) (w : WitnessItem) (k : Key) → w.item ≡ [] → IsRefusedRow known (Exact w ∷ Sig k ∷ []) (Unmet (no (Hash 0 (hash160 [])))) (received_ways (hash160 []) remote local payment_hash expiry) 2
+no_timeout_row None remote local payment_hash expiry w k e = let s = same_bytes (hash160 []) in record { path = _; at = refl; refuses = record { arity = refl; refused = λ q. rw (e, s) refl } }
+no_timeout_row (Some d) remote local payment_hash expiry w k e = let s = same_bytes (hash160 []) in record { path = _; at = refl; refuses = record { arity = refl; refused = λ q. rw (e, s) refl } }
+
+no_preimage_row : (known : Option (List ℕ)) (remote local payment : List ℕ) (x y : Slot) → IsRefusedRow known (x ∷ y ∷ []) Contradiction (offered_ways (ripemd160 payment) remote local (ripemd160 payment)) 2
+no_preimage_row known remote local payment x y = let s = same_bytes (ripemd160 payment) in record { path = _; at = refl; refuses = record { arity = refl; refused = λ q. rw s refl } }
+
+no_htlc_timeout_row : (known : Option (List ℕ)) (remote local payment_hash : List ℕ) (v w u : WitnessItem) (k : Key) → v.item ≡ [] → IsRefusedRow known (Exact v ∷ Sig k ∷ Exact w ∷ Exact u ∷ []) (Unmet (no (Hash 0 (hash160 [])))) (offered_ways (hash160 []) remote local payment_hash) 1
+no_htlc_timeout_row None remote local payment_hash v w u k e = let s = same_bytes (hash160 []) in record { path = _; at = refl; refuses = record { arity = refl; refused = λ q. rw (e, s) refl } }
+no_htlc_timeout_row (Some d) remote local payment_hash v w u k e = let s = same_bytes (hash160 []) in record { path = _; at = refl; refuses = record { arity = refl; refused = λ q. rw (e, s) refl } }
+
+no_htlc_success_row : (known : Option (List ℕ)) (remote local payment : List ℕ) (expiry : ℕ) (x y z w : Slot) → IsRefusedRow known (x ∷ y ∷ z ∷ w ∷ []) Contradiction (received_ways (ripemd160 payment) remote local (ripemd160 payment) expiry) 1
+no_htlc_success_row known remote local payment expiry x y z w = let s = same_bytes (ripemd160 payment) in record { path = _; at = refl; refuses = record { arity = refl; refused = λ q. rw s refl } }
+
+refused_on : (kind : ClaimKind) (form : CheckedScript) (index : ℕ) (place : Place) (shell : Shell) (refusal : AcceptError) → Refused kind form index place shell refusal → (slots : List Slot) → map filling_of slots ≡ fillings_of kind → (path : Path) → slice_get form.paths index ≡ Some path → is_program (spelling form.ops) place.program ≡ true → is_shell path place shell ≡ true → judgement_of form index slots place shell ≡ Err refusal
+refused_on kind form index place shell refusal (no_timeout remote local payment_hash expiry at round) slots e path is prog stands =
+    exact_two (λ s. judgement_of form index s place shell ≡ Err refusal) slots [] remote.bytes e
+    (λ w k f g. refused_row form index (Exact w ∷ Sig k ∷ []) place shell path refusal is prog stands (no_timeout_row (known_digest (spelling form.ops) place shell) remote.bytes local payment_hash expiry w k f))
+refused_on kind form index place shell refusal (no_preimage remote local payment at round) slots e path is prog stands =
+    preimage_two (λ s. judgement_of form index s place shell ≡ Err refusal) slots payment remote.bytes e
+    (λ k g. refused_row form index (Preimage payment ∷ Sig k ∷ []) place shell path refusal is prog stands (no_preimage_row (known_digest (spelling form.ops) place shell) remote.bytes local payment (Preimage payment) (Sig k)))
+refused_on kind form index place shell refusal (no_htlc_timeout remote local payment_hash token at round) slots e path is prog stands =
+    both_below (λ s. judgement_of form index s place shell ≡ Err refusal) slots (Bytes []) local.bytes token e
+    (λ x k w u a f g h. let v = is_bytes x [] a in
+    subst (λ y. judgement_of form index (y ∷ Sig k ∷ Exact w ∷ Exact u ∷ []) place shell ≡ Err refusal) (sym v.slot)
+    (refused_row form index (Exact v.item ∷ Sig k ∷ Exact w ∷ Exact u ∷ []) place shell path refusal is prog stands (no_htlc_timeout_row (known_digest (spelling form.ops) place shell) remote.bytes local.bytes payment_hash v.item w u k v.bytes)))
+refused_on kind form index place shell refusal (no_htlc_success remote local payment token expiry at round) slots e path is prog stands =
+    both_below (λ s. judgement_of form index s place shell ≡ Err refusal) slots (PreimageOf payment) local.bytes token e
+    (λ x k w u a f g h. refused_row form index (x ∷ Sig k ∷ Exact w ∷ Exact u ∷ []) place shell path refusal is prog stands
+    (no_htlc_success_row (known_digest (spelling form.ops) place shell) remote.bytes local.bytes payment expiry x (Sig k) (Exact w) (Exact u)))
+
+pub refused : (kind : ClaimKind) (slots : List Slot) → map filling_of slots ≡ fillings_of kind → IsRefused kind slots
+refused kind slots e = λ form index path place shell refusal row at prog stands. refused_on kind form index place shell refusal row slots e path at prog stands

@@ -1,9 +1,12 @@
 // The kinds of claims on the forms, and what fills their slots.
 
-ghost use Rattle.std.specs.Prelude.{◌≡◌, ◌≤◌, [], ◌∷◌, map, length, IfOk};
+ghost use Rattle.std.specs.Prelude.{◌≡◌, ℕ, ◌≤◌, [], ◌∷◌, map, length, IfOk};
 ghost use Rattle.script.specs.Limits.{max_element_size};
 ghost use Rattle.forms.specs.Fillings.{Signature, Bytes, filling_of, fillings_of};
-ghost use Rattle.forms.specs.Claims.{IsAccepted};
+ghost use Rattle.paths.specs.Listing.{CheckedScript};
+ghost use Rattle.claim.specs.declared.parts.Place.{Place};
+ghost use Rattle.claim.specs.declared.parts.Shell.{Shell};
+ghost use Rattle.forms.specs.Claims.{Claims, IsAccepted, IsRefused, path_of};
 
 use claim::{Slot, WitnessItem};
 use keys::Key;
@@ -16,19 +19,35 @@ use std::alloc::{AllocError, Global};
 #[derive(Clone, Copy, Debug, PartialEq, Eq)]
 pub enum ClaimKind {
     /// A revoked to_local output, by its revocation key: path 0.
-    Penalty { revocation: Key },
+    Penalty {
+        revocation: Key,
+    },
     /// One's own to_local output after its delay: path 1.
-    Delayed { delayed: Key },
+    Delayed {
+        delayed: Key,
+    },
     /// A revoked HTLC output, offered or received, by its revocation key: path 0.
-    HtlcPenalty { revocation: Key },
+    HtlcPenalty {
+        revocation: Key,
+    },
     /// An HTLC that the other side's commitment offers, by its preimage: path 2.
-    DirectPreimage { payment_hash: [u8; 32], remote: Key },
+    DirectPreimage {
+        payment_hash: [u8; 32],
+        remote: Key,
+    },
     /// An HTLC that the other side's commitment received, from its expiry on: path 2.
-    DirectTimeout { remote: Key },
+    DirectTimeout {
+        remote: Key,
+    },
     /// An output of a key's hash: path 0.
-    KeyHash { key: Key },
+    KeyHash {
+        key: Key,
+    },
     /// An offered HTLC of one's own commitment, by its HTLC-timeout transaction: path 1. The token is the remote key's over that transaction.
-    HtlcTimeout { local: Key, remote_token: Token },
+    HtlcTimeout {
+        local: Key,
+        remote_token: Token,
+    },
     /// A received HTLC of one's own commitment, by its preimage and its HTLC-success transaction: path 1. The token is the remote key's over that
     /// transaction.
     HtlcSuccess {
@@ -36,6 +55,23 @@ pub enum ClaimKind {
         local: Key,
         remote_token: Token,
     },
+}
+
+impl ClaimKind {
+    /// The index of the path that a claim of this kind takes, among those of its form.
+    pub fn path(&self) -> usize
+        ensures value { result ≡ path_of self.now }
+        ensures claims { (form : CheckedScript) (index : ℕ) (place : Place) (shell : Shell) → Claims self.now form index place shell → result ≡ index }
+    {
+        match self {
+            ClaimKind::Penalty { .. } | ClaimKind::HtlcPenalty { .. } | ClaimKind::KeyHash { .. } =>
+                0,
+            ClaimKind::Delayed { .. }
+            | ClaimKind::HtlcTimeout { .. }
+            | ClaimKind::HtlcSuccess { .. } => 1,
+            ClaimKind::DirectPreimage { .. } | ClaimKind::DirectTimeout { .. } => 2,
+        }
+    }
 }
 
 // A slot of exactly these bytes.
@@ -106,6 +142,10 @@ pub fn accepted_slots(alloc: Global, kind: &ClaimKind) -> Result<Vec<Slot>, Allo
 
     // On each form that the kind claims, whatever its other parameters are, wherever its program stands.
     ensures accepted { IfOk result (λ v. IsAccepted kind.now v.items) }
+
+    // What that leaves out is refused: a timeout where the revocation key's hash is that of the empty item, and a preimage where it is the
+    // payment hash.
+    ensures refused { IfOk result (λ v. IsRefused kind.now v.items) }
 {
     fillings(alloc, kind)
 }

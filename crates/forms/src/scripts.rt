@@ -1,11 +1,8 @@
 // The scripts.
 
 ghost use Rattle.std.specs.Prelude.{◌≡◌, IfOk};
-ghost use Rattle.digest.specs.Ripemd160.{ripemd160 as ripemd160_of};
 ghost use Rattle.digest.specs.Hash.{hash160 as hash160_of};
-ghost use Rattle.forms.specs.Scripts.{two_of_two as two_of_two_ops, funding as funding_ops, to_local as to_local_ops, key_hash as key_hash_ops, offered as offered_ops, received as received_ops};
-ghost use Rattle.forms.specs.Ways.{two_of_two_ways, funding_ways, to_local_ways, key_hash_ways, offered_ways, received_ways};
-ghost use Rattle.forms.specs.Parts.{IsForm};
+ghost use Rattle.forms.specs.Forms.{two_of_two_form, funding_form, to_local_form, key_hash_form, offered_htlc, received_htlc};
 
 use crate::assembling::Part::{Code, Compressed, Count, Hash};
 use crate::assembling::assemble;
@@ -19,7 +16,7 @@ use std::cmp::Ordering;
 
 // The script that both keys sign, the first one's signature first.
 fn two_of_two(alloc: Global, first: &Key, second: &Key) -> Result<Checked, AllocError>
-    ensures { IfOk result (IsForm (two_of_two_ops first.now.bytes second.now.bytes) (two_of_two_ways first.now.bytes second.now.bytes)) }
+    ensures { IfOk result (λ c. c ≡ two_of_two_form first.now.bytes second.now.bytes) }
 {
     let parts = [
         Code(Op::Number(2)),
@@ -34,7 +31,7 @@ fn two_of_two(alloc: Global, first: &Key, second: &Key) -> Result<Checked, Alloc
 /// The funding output's script (BOLT 3, "Funding Transaction Output"): both keys sign, the lesser one first, whichever of them comes first here. It
 /// has one path. The only error is that memory ran out.
 pub fn funding(alloc: Global, key: &Key, other: &Key) -> Result<Checked, AllocError>
-    ensures { IfOk result (IsForm (funding_ops key.now.bytes other.now.bytes) (funding_ways key.now.bytes other.now.bytes)) }
+    ensures { IfOk result (λ c. c ≡ funding_form key.now.bytes other.now.bytes) }
 {
     if other.bytes.cmp(&key.bytes) == Ordering::Less {
         two_of_two(alloc, other, key)
@@ -51,7 +48,7 @@ pub fn to_local(
     delay: u16,
     delayed: &Key,
 ) -> Result<Checked, AllocError>
-    ensures { IfOk result (IsForm (to_local_ops revocation.now.bytes delay delayed.now.bytes) (to_local_ways revocation.now.bytes delay delayed.now.bytes)) }
+    ensures { IfOk result (λ c. c ≡ to_local_form revocation.now.bytes delay delayed.now.bytes) }
 {
     let parts = [
         Code(Op::If),
@@ -70,7 +67,7 @@ pub fn to_local(
 /// The script behind a program of version 0 and the key's HASH160 (BIP 141), which a commitment's to_remote output has (BOLT 3): the key
 /// and its signature. It has one path. The only error is that memory ran out.
 pub fn key_hash(alloc: Global, key: &Key) -> Result<Checked, AllocError>
-    ensures { IfOk result (IsForm (key_hash_ops (hash160_of key.now.bytes)) (key_hash_ways (hash160_of key.now.bytes))) }
+    ensures { IfOk result (λ c. c ≡ key_hash_form (hash160_of key.now.bytes)) }
 {
     let hash = hash160(&key.bytes);
     let parts = [
@@ -90,7 +87,7 @@ pub fn offered(
     keys: &HtlcKeys,
     payment_hash: &[u8; 32],
 ) -> Result<Checked, AllocError>
-    ensures { IfOk result (IsForm (offered_ops (hash160_of keys.now.revocation.bytes) keys.now.remote.bytes keys.now.local.bytes (ripemd160_of payment_hash.now)) (offered_ways (hash160_of keys.now.revocation.bytes) keys.now.remote.bytes keys.now.local.bytes (ripemd160_of payment_hash.now))) }
+    ensures { IfOk result (λ c. c ≡ offered_htlc keys.now payment_hash.now) }
 {
     let revocation = hash160(&keys.revocation.bytes);
     let payment = ripemd160(payment_hash);
@@ -133,7 +130,7 @@ pub fn received(
     payment_hash: &[u8; 32],
     expiry: Expiry,
 ) -> Result<Checked, AllocError>
-    ensures { IfOk result (IsForm (received_ops (hash160_of keys.now.revocation.bytes) keys.now.remote.bytes keys.now.local.bytes (ripemd160_of payment_hash.now) expiry.height) (received_ways (hash160_of keys.now.revocation.bytes) keys.now.remote.bytes keys.now.local.bytes (ripemd160_of payment_hash.now) expiry.height)) }
+    ensures { IfOk result (λ c. c ≡ received_htlc keys.now payment_hash.now expiry.height) }
 {
     let revocation = hash160(&keys.revocation.bytes);
     let payment = ripemd160(payment_hash);
