@@ -35,7 +35,7 @@ use Rattle.claim.specs.Judgement.{is_program, is_shell, known_digest, is_met, fi
 use Rattle.forms.specs.declared.kinds.ClaimKind.{ClaimKind}
 use Rattle.forms.specs.Ways.{no, to_local_ways, key_hash_ways, offered_ways, received_ways}
 use Rattle.forms.specs.Fillings.{Filling, Signature, PreimageOf, Bytes, filling_of, fillings_of}
-use Rattle.forms.specs.Claims.{Claims, of_penalty, of_delayed, of_offered_penalty, of_received_penalty, of_preimage, of_timeout, of_key, of_htlc_timeout, of_htlc_success, IsAccepted, path_of, Refused, no_timeout, no_preimage, no_htlc_timeout, no_htlc_success, IsRefused}
+use Rattle.forms.specs.Claims.{Claims, of_penalty, of_delayed, of_offered_penalty, of_received_penalty, of_preimage, of_timeout, of_key, of_htlc_timeout, of_htlc_success, AreAccepted, path_taken_by, Refused, no_timeout, no_preimage, no_htlc_timeout, no_htlc_success, AreRefused}
 
 same_bytes : (x : List ℕ) → bytes_eq x x ≡ true
 same_bytes x = (bytes_eq-Decides x x).1 refl
@@ -263,11 +263,11 @@ accepted_on kind form index place shell (of_htlc_success revocation_hash remote 
     (judged_fixed form index (Preimage payment ∷ Sig k ∷ Exact w ∷ Exact u ∷ []) place t digest path d is prog stands
     (htlc_success_row revocation_hash remote local.bytes payment expiry digest w u k (digest_length t (spelling form.ops) place.value digest d) n f g h)))
 
-pub accepted : (kind : ClaimKind) (slots : List Slot) → map filling_of slots ≡ fillings_of kind → IsAccepted kind slots
+pub accepted : (kind : ClaimKind) (slots : List Slot) → map filling_of slots ≡ fillings_of kind → AreAccepted kind slots
 accepted kind slots e = λ form index path place shell row at prog stands. accepted_on kind form index place shell row slots e path at prog stands
 
 -- a kind of claim takes one path
-pub one_path : (kind : ClaimKind) (form : CheckedScript) (index : ℕ) (place : Place) (shell : Shell) → Claims kind form index place shell → path_of kind ≡ index
+pub one_path : (kind : ClaimKind) (form : CheckedScript) (index : ℕ) (place : Place) (shell : Shell) → Claims kind form index place shell → path_taken_by kind ≡ index
 one_path kind form index place shell (of_penalty revocation delay delayed at) = refl
 one_path kind form index place shell (of_delayed revocation delay key at h) = refl
 one_path kind form index place shell (of_offered_penalty revocation remote local payment_hash at) = refl
@@ -330,5 +330,5 @@ refused_on kind form index place shell refusal (no_htlc_success remote local pay
     (λ x k w u a f g h. refused_row form index (x ∷ Sig k ∷ Exact w ∷ Exact u ∷ []) place shell path refusal is prog stands
     (no_htlc_success_row (known_digest (spelling form.ops) place shell) remote.bytes local.bytes payment expiry x (Sig k) (Exact w) (Exact u)))
 
-pub refused : (kind : ClaimKind) (slots : List Slot) → map filling_of slots ≡ fillings_of kind → IsRefused kind slots
+pub refused : (kind : ClaimKind) (slots : List Slot) → map filling_of slots ≡ fillings_of kind → AreRefused kind slots
 refused kind slots e = λ form index path place shell refusal row at prog stands. refused_on kind form index place shell refusal row slots e path at prog stands

@@ -49,21 +49,21 @@ pub data Claims : ClaimKind → CheckedScript → ℕ → Place → Shell → Ty
       → Claims (HtlcSuccess payment_hash local (token_of remote.bytes digest)) (received_form revocation_hash remote.bytes local.bytes (ripemd160 payment_hash) expiry) 1 place (Fixed t)
 
 -- slots with which a claim of this kind is accepted on its form, wherever the form's program stands, under whatever transaction fits
-abbrev pub IsAccepted : ClaimKind → List Slot → Type 0
-IsAccepted kind slots =
+abbrev pub AreAccepted : ClaimKind → List Slot → Type 0
+AreAccepted kind slots =
     (form : CheckedScript) (index : ℕ) (path : Path) (place : Place) (shell : Shell) → Claims kind form index place shell → slice_get form.paths index ≡ Some path
     → is_program (spelling form.ops) place.program ≡ true → is_shell path place shell ≡ true → judgement_of form index slots place shell ≡ Ok path
 
 -- the path that a kind of claim takes
-abbrev pub path_of : ClaimKind → ℕ
-path_of (Penalty revocation) = 0
-path_of (Delayed delayed) = 1
-path_of (HtlcPenalty revocation) = 0
-path_of (DirectPreimage payment_hash remote) = 2
-path_of (DirectTimeout remote) = 2
-path_of (KeyHash key) = 0
-path_of (HtlcTimeout local remote_token) = 1
-path_of (HtlcSuccess payment_hash local remote_token) = 1
+abbrev pub path_taken_by : ClaimKind → ℕ
+path_taken_by (Penalty revocation) = 0
+path_taken_by (Delayed delayed) = 1
+path_taken_by (HtlcPenalty revocation) = 0
+path_taken_by (DirectPreimage payment_hash remote) = 2
+path_taken_by (DirectTimeout remote) = 2
+path_taken_by (KeyHash key) = 0
+path_taken_by (HtlcTimeout local remote_token) = 1
+path_taken_by (HtlcSuccess payment_hash local remote_token) = 1
 
 -- The two cases that are left out: a timeout where the revocation key's hash is that of the empty item, whose first fact is not met, and a preimage
 -- where it is the payment hash, which its path asks for and forbids.
@@ -78,7 +78,7 @@ pub data Refused : ClaimKind → CheckedScript → ℕ → Place → Shell → A
       → Refused (HtlcSuccess payment_hash local token) (received_form (ripemd160 payment_hash) remote.bytes local.bytes (ripemd160 payment_hash) expiry) 1 place shell Contradiction
 
 -- slots with which a claim of this kind is refused in those cases, where nothing else is wrong
-abbrev pub IsRefused : ClaimKind → List Slot → Type 0
-IsRefused kind slots =
+abbrev pub AreRefused : ClaimKind → List Slot → Type 0
+AreRefused kind slots =
     (form : CheckedScript) (index : ℕ) (path : Path) (place : Place) (shell : Shell) (refusal : AcceptError) → Refused kind form index place shell refusal → slice_get form.paths index ≡ Some path
     → is_program (spelling form.ops) place.program ≡ true → is_shell path place shell ≡ true → judgement_of form index slots place shell ≡ Err refusal

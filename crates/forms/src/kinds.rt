@@ -6,7 +6,7 @@ ghost use Rattle.forms.specs.Fillings.{Signature, Bytes, filling_of, fillings_of
 ghost use Rattle.paths.specs.Listing.{CheckedScript};
 ghost use Rattle.claim.specs.declared.parts.Place.{Place};
 ghost use Rattle.claim.specs.declared.parts.Shell.{Shell};
-ghost use Rattle.forms.specs.Claims.{Claims, IsAccepted, IsRefused, path_of};
+ghost use Rattle.forms.specs.Claims.{Claims, AreAccepted, AreRefused, path_taken_by};
 
 use claim::{Slot, WitnessItem};
 use keys::Key;
@@ -60,7 +60,7 @@ pub enum ClaimKind {
 impl ClaimKind {
     /// The index of the path that a claim of this kind takes, among those of its form.
     pub fn path(&self) -> usize
-        ensures value { result ≡ path_of self.now }
+        ensures value { result ≡ path_taken_by self.now }
         ensures claims { (form : CheckedScript) (index : ℕ) (place : Place) (shell : Shell) → Claims self.now form index place shell → result ≡ index }
     {
         match self {
@@ -136,16 +136,15 @@ fn fillings(alloc: Global, kind: &ClaimKind) -> Result<Vec<Slot>, AllocError>
 }
 
 /// The slots with which a claim of this kind is accepted, the top of the stack first. The only error is that memory ran out.
-
 pub fn accepted_slots(alloc: Global, kind: &ClaimKind) -> Result<Vec<Slot>, AllocError>
     ensures exact { IfOk result (λ v. map filling_of v.items ≡ fillings_of kind.now) }
 
     // On each form that the kind claims, whatever its other parameters are, wherever its program stands.
-    ensures accepted { IfOk result (λ v. IsAccepted kind.now v.items) }
+    ensures accepted { IfOk result (λ v. AreAccepted kind.now v.items) }
 
     // What that leaves out is refused: a timeout where the revocation key's hash is that of the empty item, and a preimage where it is the
     // payment hash.
-    ensures refused { IfOk result (λ v. IsRefused kind.now v.items) }
+    ensures refused { IfOk result (λ v. AreRefused kind.now v.items) }
 {
     fillings(alloc, kind)
 }
