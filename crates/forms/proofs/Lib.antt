@@ -3,3 +3,4 @@ pub mod Listed
 pub mod Assembled
 pub mod Forms
 pub mod ScriptExamples
+pub mod Accepted

@@ -1,11 +1,10 @@
 -- The bytes of the scripts, and of the numbers in them.
 use Rattle.std.proofs.Common.{◌≡◌, ℕ, List, [], ◌∷◌, ◌++◌, map, replicate, refl, true, false, Some, None}
-use Rattle.script.specs.declared.opcode.Op.{Op}
 use Rattle.script.specs.Number.{minimal_bytes_of, digits}
 use Rattle.script.specs.Spelling.{spelling}
 use Rattle.paths.specs.declared.state.Path.{Path}
 use Rattle.forms.specs.Scripts.{number_push, is_lesser, funding, to_local, key_hash, offered, received}
-use Rattle.forms.specs.Ways.{funding_ways, to_local_ways, key_hash_ways, offered_ways, received_ways}
+use Rattle.forms.specs.Ways.{to_local_ways, offered_ways, received_ways}
 
 -- a compressed key
 abbrev key : ℕ → List ℕ

@@ -1,10 +1,9 @@
 -- What the parts of a script stand for, and what is asked of a script that is put together.
-use Rattle.std.specs.Prelude.{◌≡◌, ℕ, ◌≤◌, ◌&&◌, nat_le, Bool, true, List, length, Result, is_ok, Ok}
+use Rattle.std.specs.Prelude.{◌≡◌, ◌≤◌, ◌&&◌, nat_le, Bool, true, List, length, is_ok}
 use Rattle.std.specs.List.{list_all}
 use Rattle.script.specs.declared.opcode.Op.{Op}
 use Rattle.script.specs.declared.opcode.Op.TheVariants.{Push, Number}
-use Rattle.paths.specs.declared.state.Path.{Path}
-use Rattle.paths.specs.Listing.{CheckedScript, listing}
+use Rattle.paths.specs.Listing.{listing}
 use Rattle.forms.specs.declared.assembling.Part.{Part}
 use Rattle.forms.specs.declared.assembling.Part.TheVariants.{Code, Compressed, Hash, Count}
 use Rattle.forms.specs.Scripts.{number_push}
@@ -27,8 +26,3 @@ pub record IsListed (ops : List Op) : Type 0 where
   pub each : list_all is_op ops ≡ true
   pub few : length ops ≤ 100
   pub listed : is_ok (listing ops) ≡ true
-
--- the checked script is the one of these opcodes, with these ways through it
-pub record IsForm (form : List Op) (ways : List Path) (c : CheckedScript) : Type 0 where
-  pub ops : c.ops ≡ form
-  pub paths : c.paths ≡ ways

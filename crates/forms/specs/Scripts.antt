@@ -6,7 +6,7 @@ use Rattle.script.specs.declared.opcode.Op.{Op}
 use Rattle.script.specs.declared.opcode.Op.TheVariants.{Push, Number, If, NotIf, Else, EndIf, Drop, Dup, Swap, Size, Equal, EqualVerify, Hash160, CheckSig, CheckMultiSig, CheckLockTimeVerify, CheckSequenceVerify}
 use Rattle.script.specs.Number.{minimal_bytes_of}
 
--- the push of a number from 0 on, in its shortest form
+-- the push of a number from 0 on, minimally encoded
 unfoldable pub number_push : ℕ → Op
 number_push n = if n == 0 then Push [] else (if nat_le n 16 then Number n else Push (minimal_bytes_of n))
 

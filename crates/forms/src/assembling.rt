@@ -23,7 +23,7 @@ pub(crate) enum Part {
     Compressed(Key),
     /// The push of a hash of 20 bytes.
     Hash([u8; 20]),
-    /// The push of a number, in its shortest form.
+    /// The push of a number, minimally encoded.
     Count(u32),
 }
 

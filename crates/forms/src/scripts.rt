@@ -1,16 +1,12 @@
-// The scripts.
+// The scripts of the funding output, to_local and to_remote.
 
 ghost use Rattle.std.specs.Prelude.{◌≡◌, IfOk};
-ghost use Rattle.digest.specs.Ripemd160.{ripemd160 as ripemd160_of};
 ghost use Rattle.digest.specs.Hash.{hash160 as hash160_of};
-ghost use Rattle.forms.specs.Scripts.{two_of_two as two_of_two_ops, funding as funding_ops, to_local as to_local_ops, key_hash as key_hash_ops, offered as offered_ops, received as received_ops};
-ghost use Rattle.forms.specs.Ways.{two_of_two_ways, funding_ways, to_local_ways, key_hash_ways, offered_ways, received_ways};
-ghost use Rattle.forms.specs.Parts.{IsForm};
+ghost use Rattle.forms.specs.Forms.{two_of_two_form, funding_form, to_local_form, key_hash_form};
 
 use crate::assembling::Part::{Code, Compressed, Count, Hash};
 use crate::assembling::assemble;
-use crate::parameters::{Expiry, HtlcKeys};
-use digest::{hash160, ripemd160};
+use digest::hash160;
 use keys::Key;
 use paths::Checked;
 use script::Op;
@@ -19,7 +15,7 @@ use std::cmp::Ordering;
 
 // The script that both keys sign, the first one's signature first.
 fn two_of_two(alloc: Global, first: &Key, second: &Key) -> Result<Checked, AllocError>
-    ensures { IfOk result (IsForm (two_of_two_ops first.now.bytes second.now.bytes) (two_of_two_ways first.now.bytes second.now.bytes)) }
+    ensures { IfOk result (λ c. c ≡ two_of_two_form first.now.bytes second.now.bytes) }
 {
     let parts = [
         Code(Op::Number(2)),
@@ -34,7 +30,7 @@ fn two_of_two(alloc: Global, first: &Key, second: &Key) -> Result<Checked, Alloc
 /// The funding output's script (BOLT 3, "Funding Transaction Output"): both keys sign, the lesser one first, whichever of them comes first here. It
 /// has one path. The only error is that memory ran out.
 pub fn funding(alloc: Global, key: &Key, other: &Key) -> Result<Checked, AllocError>
-    ensures { IfOk result (IsForm (funding_ops key.now.bytes other.now.bytes) (funding_ways key.now.bytes other.now.bytes)) }
+    ensures { IfOk result (λ c. c ≡ funding_form key.now.bytes other.now.bytes) }
 {
     if other.bytes.cmp(&key.bytes) == Ordering::Less {
         two_of_two(alloc, other, key)
@@ -51,7 +47,7 @@ pub fn to_local(
     delay: u16,
     delayed: &Key,
 ) -> Result<Checked, AllocError>
-    ensures { IfOk result (IsForm (to_local_ops revocation.now.bytes delay delayed.now.bytes) (to_local_ways revocation.now.bytes delay delayed.now.bytes)) }
+    ensures { IfOk result (λ c. c ≡ to_local_form revocation.now.bytes delay delayed.now.bytes) }
 {
     let parts = [
         Code(Op::If),
@@ -70,7 +66,7 @@ pub fn to_local(
 /// The script behind a program of version 0 and the key's HASH160 (BIP 141), which a commitment's to_remote output has (BOLT 3): the key
 /// and its signature. It has one path. The only error is that memory ran out.
 pub fn key_hash(alloc: Global, key: &Key) -> Result<Checked, AllocError>
-    ensures { IfOk result (IsForm (key_hash_ops (hash160_of key.now.bytes)) (key_hash_ways (hash160_of key.now.bytes))) }
+    ensures { IfOk result (λ c. c ≡ key_hash_form (hash160_of key.now.bytes)) }
 {
     let hash = hash160(&key.bytes);
     let parts = [
@@ -79,94 +75,6 @@ pub fn key_hash(alloc: Global, key: &Key) -> Result<Checked, AllocError>
         Hash(hash),
         Code(Op::EqualVerify),
         Code(Op::CheckSig),
-    ];
-    assemble(alloc, &parts)
-}
-
-/// The script of an HTLC that the commitment's owner offered (BOLT 3, "Offered HTLC Outputs"). Its paths, in this order: the revocation key; both
-/// HTLC keys, for the timeout; the remote key with the preimage. The only error is that memory ran out.
-pub fn offered(
-    alloc: Global,
-    keys: &HtlcKeys,
-    payment_hash: &[u8; 32],
-) -> Result<Checked, AllocError>
-    ensures { IfOk result (IsForm (offered_ops (hash160_of keys.now.revocation.bytes) keys.now.remote.bytes keys.now.local.bytes (ripemd160_of payment_hash.now)) (offered_ways (hash160_of keys.now.revocation.bytes) keys.now.remote.bytes keys.now.local.bytes (ripemd160_of payment_hash.now))) }
-{
-    let revocation = hash160(&keys.revocation.bytes);
-    let payment = ripemd160(payment_hash);
-    let parts = [
-        Code(Op::Dup),
-        Code(Op::Hash160),
-        Hash(revocation),
-        Code(Op::Equal),
-        Code(Op::If),
-        Code(Op::CheckSig),
-        Code(Op::Else),
-        Compressed(keys.remote),
-        Code(Op::Swap),
-        Code(Op::Size),
-        Count(32),
-        Code(Op::Equal),
-        Code(Op::NotIf),
-        Code(Op::Drop),
-        Code(Op::Number(2)),
-        Code(Op::Swap),
-        Compressed(keys.local),
-        Code(Op::Number(2)),
-        Code(Op::CheckMultiSig),
-        Code(Op::Else),
-        Code(Op::Hash160),
-        Hash(payment),
-        Code(Op::EqualVerify),
-        Code(Op::CheckSig),
-        Code(Op::EndIf),
-        Code(Op::EndIf),
-    ];
-    assemble(alloc, &parts)
-}
-
-/// The script of an HTLC that the commitment's owner received (BOLT 3, "Received HTLC Outputs"). Its paths, in this order: the revocation key; both
-/// HTLC keys with the preimage; the remote key from the expiry on. The only error is that memory ran out.
-pub fn received(
-    alloc: Global,
-    keys: &HtlcKeys,
-    payment_hash: &[u8; 32],
-    expiry: Expiry,
-) -> Result<Checked, AllocError>
-    ensures { IfOk result (IsForm (received_ops (hash160_of keys.now.revocation.bytes) keys.now.remote.bytes keys.now.local.bytes (ripemd160_of payment_hash.now) expiry.height) (received_ways (hash160_of keys.now.revocation.bytes) keys.now.remote.bytes keys.now.local.bytes (ripemd160_of payment_hash.now) expiry.height)) }
-{
-    let revocation = hash160(&keys.revocation.bytes);
-    let payment = ripemd160(payment_hash);
-    let parts = [
-        Code(Op::Dup),
-        Code(Op::Hash160),
-        Hash(revocation),
-        Code(Op::Equal),
-        Code(Op::If),
-        Code(Op::CheckSig),
-        Code(Op::Else),
-        Compressed(keys.remote),
-        Code(Op::Swap),
-        Code(Op::Size),
-        Count(32),
-        Code(Op::Equal),
-        Code(Op::If),
-        Code(Op::Hash160),
-        Hash(payment),
-        Code(Op::EqualVerify),
-        Code(Op::Number(2)),
-        Code(Op::Swap),
-        Compressed(keys.local),
-        Code(Op::Number(2)),
-        Code(Op::CheckMultiSig),
-        Code(Op::Else),
-        Code(Op::Drop),
-        Count(expiry.height),
-        Code(Op::CheckLockTimeVerify),
-        Code(Op::Drop),
-        Code(Op::CheckSig),
-        Code(Op::EndIf),
-        Code(Op::EndIf),
     ];
     assemble(alloc, &parts)
 }

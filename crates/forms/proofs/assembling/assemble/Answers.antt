@@ -1,7 +1,7 @@
 use Rattle.std.proofs.Common.{◌≡◌, map, ◌∙◌}
 use Rattle.script.specs.Spelling.{spelling}
 use Rattle.forms.specs.Parts.{op_of}
-use Rattle.forms.proofs.Assembled.{listed_spells, listed_short, ways_of_same, refusal_of_same}
+use Rattle.forms.proofs.Assembled.{listed_spells, listed_short, ways_of_same}
 use Rattle.forms.proofs.assembling.assemble.Goals as goal
 
 pub unreachable-requires : goal.unreachable-requires
