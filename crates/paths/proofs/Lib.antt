@@ -18,3 +18,6 @@ pub mod ForcedFollowed
 pub mod ForcedWalk
 pub mod ForcedListing
 pub mod LockFacts
+pub mod MapWords
+pub mod MapRules
+pub mod MapWalk

@@ -2,6 +2,7 @@ pub mod Refusals
 pub mod Answers
 pub mod Plain
 pub mod Table
+pub mod Maps
 pub mod Rules
 pub mod Following
 pub mod Doing
