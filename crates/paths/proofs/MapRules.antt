@@ -228,8 +228,8 @@ module _ {C L A C' L' A' : Type 0} (exact : Bool) (m : Replacing C L A C' L' A')
   tested keys sigs extra s e h =
       agrees_if exact (in_state m) _ _ Dead _ _ (ap (λ b. not (b || is_bad_extra w extra)) (any_bad-same keys) ∙ ap (λ b. not (list_any (is_bad_key v) (map (in_sym m) keys) || b)) e) (checks keys sigs extra s h)
 
-  tested_const : (keys sigs : List (SymOver C L A)) (c : C) (s : StateOver C L A) → Clear exact (w.is_bad_extra c) (w.is_no_extra c) (v.is_bad_extra (m.bytes c)) (v.is_no_extra (m.bytes c)) → Agrees exact (in_state m) (check_sigs w keys sigs (Const c) s) (check_sigs v (map (in_sym m) keys) (map (in_sym m) sigs) (Const (m.bytes c)) (in_state m s))
-  tested_const keys sigs c s (inl e) = tested keys sigs (Const c) s e.0 (λ t. agrees_if exact (in_state m) (w.is_no_extra c) (v.is_no_extra (m.bytes c)) Undecided _ _ e.1 refl)
+  tested_const : (keys sigs : List (SymOver C L A)) (c : C) (s : StateOver C L A) → Clear exact (w.is_bad_extra c) (w.is_clear_extra c) (v.is_bad_extra (m.bytes c)) (v.is_clear_extra (m.bytes c)) → Agrees exact (in_state m) (check_sigs w keys sigs (Const c) s) (check_sigs v (map (in_sym m) keys) (map (in_sym m) sigs) (Const (m.bytes c)) (in_state m s))
+  tested_const keys sigs c s (inl e) = tested keys sigs (Const c) s e.0 (λ t. agrees_if exact (in_state m) (w.is_clear_extra c) (v.is_clear_extra (m.bytes c)) Undecided _ _ e.1 refl)
   tested_const keys sigs c s (inr e) =
       agrees_unclear exact (in_state m) (list_any (is_bad_key w) keys) (list_any (is_bad_key v) (map (in_sym m) keys)) (w.is_bad_extra c) (v.is_bad_extra (m.bytes c)) _ _ (any_bad-same keys) e.0 e.1 (
       settles_then (slots_of sigs) _ (slots_settles sigs) (λ slots.

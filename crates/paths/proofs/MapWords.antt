@@ -82,7 +82,7 @@ pub record Respects {C L A C' L' A' : Type 0} (exact : Bool) (m : Replacing C L 
   pub named_size : (c : C) → Agrees exact (λ n. n) (w.named_size c) (v.named_size (m.bytes c))
   pub is_bad_key : (c : C) → w.is_bad_key c ≡ v.is_bad_key (m.bytes c)
   pub signature : (c : C) → Clear exact (w.is_bad_signature c) (w.is_no_signature c) (v.is_bad_signature (m.bytes c)) (v.is_no_signature (m.bytes c))
-  pub extra : (c : C) → Clear exact (w.is_bad_extra c) (w.is_no_extra c) (v.is_bad_extra (m.bytes c)) (v.is_no_extra (m.bytes c))
+  pub extra : (c : C) → Clear exact (w.is_bad_extra c) (w.is_clear_extra c) (v.is_bad_extra (m.bytes c)) (v.is_clear_extra (m.bytes c))
   pub count : (limit : ℕ) (c : C) → Agrees exact (λ n. n) (w.count limit c) (v.count limit (m.bytes c))
   pub lock : (c : C) → Agrees exact m.lock (w.lock c) (v.lock (m.bytes c))
   pub is_off : (n : L) → w.is_off n ≡ v.is_off (m.lock n)
