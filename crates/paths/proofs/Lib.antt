@@ -21,3 +21,5 @@ pub mod LockFacts
 pub mod MapWords
 pub mod MapRules
 pub mod MapWalk
+pub mod FillRespects
+pub mod FillListing

@@ -6,6 +6,7 @@ ghost use Rattle.paths.specs.Outcome.{IsListing};
 ghost use Rattle.paths.specs.Sound.{IsSound};
 ghost use Rattle.paths.specs.Exhaustive.{IsExhaustive};
 ghost use Rattle.paths.specs.Answers.{Answers, IfRefused};
+ghost use Rattle.paths.specs.Listing.{listing};
 ghost use Rattle.paths.specs.HoleListing.{pattern_listing};
 ghost use Rattle.script.specs.Run.{counted_in as counted_of};
 
@@ -89,14 +90,22 @@ pub fn check(alloc: Global, script: Script) -> Result<Checked, CheckError>
     list(alloc, script)
 }
 
-// Lists the ways, as the definition has them: those of a pattern without holes.
-#[tactic(auto, using(crate::proofs::FillListing::known_listing))]
+// Lists the ways, as the definition has them.
 fn list(alloc: Global, script: Script) -> Result<Checked, CheckError>
     ensures exact { IsListing script result }
 {
-    let paths = pattern_paths(alloc, &[], script.ops())?;
-    let paths = filled_paths(alloc, script.ops(), paths.values())?;
+    let paths = known_paths(alloc, script.ops())?;
     Ok(Checked { script, paths })
+}
+
+// Every way through a script: those through a pattern without holes.
+#[tactic(auto, using(crate::proofs::FillListing::known_listed, crate::proofs::FillListing::known_refusal))]
+fn known_paths(alloc: Global, ops: &[Op]) -> Result<List<Path>, CheckError>
+    ensures { Answers IfRefused (listing ops.now) result }
+{
+    let paths = pattern_paths(alloc, &[], ops)?;
+    let filled = filled_paths(alloc, ops, paths.values())?;
+    Ok(filled)
 }
 
 /// Every way through a pattern, where an empty push stands for each hole.
