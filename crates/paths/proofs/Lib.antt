@@ -19,3 +19,8 @@ pub mod ForcedFollowed
 pub mod ForcedWalk
 pub mod ForcedListing
 pub mod LockFacts
+pub mod MapWords
+pub mod MapRules
+pub mod MapWalk
+pub mod FillRespects
+pub mod FillListing

@@ -3,10 +3,10 @@ use Rattle.std.proofs.Common.{◌≡◌, ℕ, suc, zero, ◌+◌, Bool, List, []
 use Rattle.std.specs.List.{list_any}
 use Rattle.std.proofs.lemmas.List.{reverse-append}
 use Rattle.std.proofs.lemmas.List.Sorted.{list_any-IsPermutation, IsPermutation-reverse}
-use Rattle.facts.specs.Symbols.{Sym}
-use Rattle.paths.specs.Plain.{State}
+use Rattle.paths.specs.Holes.{Sym}
+use Rattle.paths.specs.Holes.{State}
 use Rattle.paths.specs.declared.state.Halt.{Halt}
-use Rattle.paths.specs.Rules.{pop, pops}
+use Rattle.paths.specs.HoleRules.{pop, pops}
 
 -- these come first
 abbrev pub after : {A : Type 0} → List A → Result (List A) Halt → Result (List A) Halt

@@ -1,8 +1,8 @@
 -- What is left of a state by pops.
 use Rattle.std.proofs.Common.{◌≡◌, ℕ, suc, zero, List, [], ◌∷◌, ◌∙◌, refl}
-use Rattle.facts.specs.Symbols.{Sym}
-use Rattle.paths.specs.Plain.{State}
-use Rattle.paths.specs.Rules.{pop_of, pop, pops}
+use Rattle.paths.specs.Holes.{Sym}
+use Rattle.paths.specs.Holes.{State}
+use Rattle.paths.specs.HoleRules.{pop_of, pop, pops}
 
 pub pop_keys : (stack : List Sym) (s : State) → (pop_of stack s).1.keys ≡ s.keys
 pop_keys [] s = refl

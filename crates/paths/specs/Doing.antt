@@ -2,7 +2,7 @@
 use Rattle.std.specs.Prelude.{◌≡◌, ℕ, ◌+◌, ◌≤◌, nat_le, Result, Ok}
 use Rattle.script.specs.Limits.{max_ops}
 use Rattle.script.specs.Step.{result_if}
-use Rattle.paths.specs.Plain.{State}
+use Rattle.paths.specs.Holes.{State}
 use Rattle.paths.specs.declared.state.Halt.{Halt}
 use Rattle.paths.specs.declared.state.Halt.TheVariants.{TooManyOps}
 

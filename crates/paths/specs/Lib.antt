@@ -2,11 +2,16 @@ pub mod Refusals
 pub mod Answers
 pub mod Plain
 pub mod Table
+pub mod Maps
 pub mod Rules
-pub mod Following
+pub mod Holes
+pub mod HoleRules
 pub mod Doing
 pub mod Walk
 pub mod Listing
+pub mod HoleListing
+pub mod Filling
+pub mod Following
 pub mod Walking
 pub mod Sound
 pub mod Outcome

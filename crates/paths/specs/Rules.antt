@@ -25,6 +25,9 @@ abbrev pub count_by : ℕ → Option Signed → Result ℕ Halt
 count_by limit None = Err Dead
 count_by limit (Some z) = result_if (not z.negative && nat_le z.magnitude limit) Dead (Ok z.magnitude)
 
+abbrev pub count_bytes : ℕ → List ℕ → Result ℕ Halt
+count_bytes limit b = count_by limit (number_of 4 b)
+
 -- a lock's number, of bytes
 abbrev pub lock_by : Option Signed → Result ℕ Halt
 lock_by None = Err Dead
@@ -51,8 +54,8 @@ plain = record {
   is_bad_signature = λ b. not (is_signature b);
   is_bad_extra = λ b. not (length b == 0);
   is_no_signature = is_empty;
-  is_no_extra = λ b. true;
-  count = λ limit b. count_by limit (number_of 4 b);
+  is_clear_extra = λ b. true;
+  count = count_bytes;
   lock = λ b. lock_by (number_of 5 b);
   is_off = λ n. bit_at 31 n;
   age_bits = age_bits;

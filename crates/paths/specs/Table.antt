@@ -38,9 +38,10 @@ pub record Words (C L A : Type 0) : Type 0 where
   pub is_bad_key : C → Bool
   pub is_bad_signature : C → Bool
   pub is_bad_extra : C → Bool
-  -- it is empty, as a signature and as the extra item
+  -- it is empty, as a signature
   pub is_no_signature : C → Bool
-  pub is_no_extra : C → Bool
+  -- it is known whether it is empty, as the extra item
+  pub is_clear_extra : C → Bool
   -- the number from 0 to a limit, and the number of a lock, that it spells
   pub count : ℕ → C → Result ℕ Halt
   pub lock : C → Result L Halt
@@ -187,7 +188,7 @@ module _ {C L A : Type 0} (w : Words C L A) where
 
   -- the extra item has to be empty
   abbrev pub ask_extra : SymOver C L A → StateOver C L A → Result (StateOver C L A) Halt
-  ask_extra (Const c) s = result_if (w.is_no_extra c) Undecided (Ok s)
+  ask_extra (Const c) s = result_if (w.is_clear_extra c) Undecided (Ok s)
   ask_extra (Slot i) s = Ok (ask (Is i (w.known [])) true s)
   ask_extra x s = Err Undecided
 

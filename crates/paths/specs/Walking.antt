@@ -5,17 +5,18 @@ use Rattle.script.specs.Limits.{max_ops, max_stack_size}
 use Rattle.script.specs.Step.{◌>>=◌}
 use Rattle.script.specs.Run.{skip_length}
 use Rattle.paths.specs.declared.errors.CheckError.{CheckError}
-use Rattle.paths.specs.Plain.{State}
-use Rattle.paths.specs.declared.state.Path.{Path}
-use Rattle.paths.specs.Plain.{Listed}
+use Rattle.paths.specs.Holes.{State}
+use Rattle.paths.specs.declared.state.PatternPath.{PatternPath}
+use Rattle.paths.specs.Holes.{Listed}
 use Rattle.paths.specs.declared.walking.Successors.{Successors}
 use Rattle.paths.specs.declared.walking.Successors.TheVariants.{Dies, Goes, Splits}
 use Rattle.paths.specs.declared.walking.Waiting.{Waiting}
 use Rattle.paths.specs.Answers.{IfRefused}
-use Rattle.paths.specs.Listing.{ahead_by, begins, walk}
+use Rattle.paths.specs.HoleListing.{ahead_by, begins, walk}
+use Rattle.paths.specs.declared.constants.HoleKind.{HoleKind}
 
 -- the path that ends, or none
-abbrev pub IsEnded : Result (List Path) CheckError → Result (Option Path) CheckError → Type 0
+abbrev pub IsEnded : Result (List PatternPath) CheckError → Result (Option PatternPath) CheckError → Type 0
 IsEnded rule (Ok (Some path)) = rule ≡ Ok (path ∷ [])
 IsEnded rule (Ok None) = rule ≡ Ok []
 IsEnded rule (Err e) = IfRefused e (rule ≡ Err e)
@@ -50,29 +51,29 @@ pub record IsWaiting (counted n : ℕ) (w : Waiting) : Type 0 where
   pub kept : IsKept counted w.state
 
 -- what is left to walk where these second branches wait, the newest first
-abbrev pub waiting_paths : ℕ → List Op → List Waiting → Listed → Result Listed CheckError
-waiting_paths counted ops [] l = Ok l
-waiting_paths counted ops (w ∷ ws) l = begins l >>= λ l'. walk counted w.at (drop w.at ops) (at_second_branch (drop w.at ops) w.state) l' >>= waiting_paths counted ops ws
+abbrev pub waiting_paths : List (Option HoleKind) → ℕ → List Op → List Waiting → Listed → Result Listed CheckError
+waiting_paths holes counted ops [] l = Ok l
+waiting_paths holes counted ops (w ∷ ws) l = begins l >>= λ l'. walk holes counted w.at (drop w.at ops) (at_second_branch (drop w.at ops) w.state) l' >>= waiting_paths holes counted ops ws
 
 -- the rest of a path from a position on, and then what waits
-abbrev pub rest_of_walk : ℕ → List Op → ℕ → State → List Waiting → Listed → Result Listed CheckError
-rest_of_walk counted ops at s ws l = walk counted at (drop at ops) s l >>= waiting_paths counted ops ws
+abbrev pub rest_of_walk : List (Option HoleKind) → ℕ → List Op → ℕ → State → List Waiting → Listed → Result Listed CheckError
+rest_of_walk holes counted ops at s ws l = walk holes counted at (drop at ops) s l >>= waiting_paths holes counted ops ws
 
 -- the paths that a walk lists
-abbrev pub paths_in : Result Listed CheckError → Result (List Path) CheckError
+abbrev pub paths_in : Result Listed CheckError → Result (List PatternPath) CheckError
 paths_in r = r >>= λ l. Ok l.paths
 
 -- past one opcode: the rest of the path is what is left, and then what waits, whatever was listed so far; or what waits alone
-abbrev pub KeepsRest : ℕ → List Op → ℕ → State → List Waiting → State → List Waiting → Bool → Type 0
-KeepsRest counted ops at s ws s' ws' true =
-    (l : Listed) → rest_of_walk counted ops at s ws l ≡ rest_of_walk counted ops (at + 1) s' ws' l
-KeepsRest counted ops at s ws s' ws' false = (l : Listed) → rest_of_walk counted ops at s ws l ≡ waiting_paths counted ops ws' l
+abbrev pub KeepsRest : List (Option HoleKind) → ℕ → List Op → ℕ → State → List Waiting → State → List Waiting → Bool → Type 0
+KeepsRest holes counted ops at s ws s' ws' true =
+    (l : Listed) → rest_of_walk holes counted ops at s ws l ≡ rest_of_walk holes counted ops (at + 1) s' ws' l
+KeepsRest holes counted ops at s ws s' ws' false = (l : Listed) → rest_of_walk holes counted ops at s ws l ≡ waiting_paths holes counted ops ws' l
 
-abbrev pub IsStep : ℕ → List Op → ℕ → State → List Waiting → State → List Waiting → Result Bool CheckError → Type 0
-IsStep counted ops at s ws s' ws' (Ok goes) = KeepsRest counted ops at s ws s' ws' goes
-IsStep counted ops at s ws s' ws' (Err e) = IfRefused e ((l : Listed) → rest_of_walk counted ops at s ws l ≡ Err e)
+abbrev pub IsStep : List (Option HoleKind) → ℕ → List Op → ℕ → State → List Waiting → State → List Waiting → Result Bool CheckError → Type 0
+IsStep holes counted ops at s ws s' ws' (Ok goes) = KeepsRest holes counted ops at s ws s' ws' goes
+IsStep holes counted ops at s ws s' ws' (Err e) = IfRefused e ((l : Listed) → rest_of_walk holes counted ops at s ws l ≡ Err e)
 
 -- one path to its end: what waits is left
-abbrev pub IsWalked : ℕ → List Op → Result Listed CheckError → List Waiting → Listed → Result (Unit {0}) CheckError → Type 0
-IsWalked counted ops whole ws l (Ok done) = whole ≡ waiting_paths counted ops ws l
-IsWalked counted ops whole ws l (Err e) = IfRefused e (whole ≡ Err e)
+abbrev pub IsWalked : List (Option HoleKind) → ℕ → List Op → Result Listed CheckError → List Waiting → Listed → Result (Unit {0}) CheckError → Type 0
+IsWalked holes counted ops whole ws l (Ok done) = whole ≡ waiting_paths holes counted ops ws l
+IsWalked holes counted ops whole ws l (Err e) = IfRefused e (whole ≡ Err e)

@@ -1,10 +1,10 @@
 // IF and NOTIF.
 
 ghost use Rattle.std.specs.Prelude.{◌≡◌, ◌≤◌, Ok, OnOk};
-ghost use Rattle.paths.specs.Rules.{branch as branched};
+ghost use Rattle.paths.specs.HoleRules.{branch as branched};
 ghost use Rattle.paths.specs.Following.{IsRuleOf};
 ghost use Rattle.paths.specs.Doing.{IsNear};
-ghost use Rattle.paths.specs.Plain.{State as Waiting};
+ghost use Rattle.paths.specs.Holes.{State as Waiting};
 
 use crate::rules::condition;
 use crate::stack_opcodes::pull;
@@ -13,7 +13,7 @@ use script::Op;
 use script::limits::MAX_STACK_SIZE;
 
 /// IF, which runs what follows where the top is true.
-#[tactic(auto, unfolding(crate::specs::Rules::rule_of))]
+#[tactic(auto, unfolding(crate::specs::HoleRules::rule_of))]
 pub fn enter_if(state: &mut State) -> Result<SymbolicJump, Halt>
     requires { state.old.slots ≤ MAX_STACK_SIZE }
     ensures exact { IsRuleOf 0 Op.If state.old state.new result }
@@ -24,7 +24,7 @@ pub fn enter_if(state: &mut State) -> Result<SymbolicJump, Halt>
 }
 
 /// NOTIF, which runs what follows where the top is false.
-#[tactic(auto, unfolding(crate::specs::Rules::rule_of))]
+#[tactic(auto, unfolding(crate::specs::HoleRules::rule_of))]
 pub fn enter_not_if(state: &mut State) -> Result<SymbolicJump, Halt>
     requires { state.old.slots ≤ MAX_STACK_SIZE }
     ensures exact { IsRuleOf 0 Op.NotIf state.old state.new result }

@@ -1,15 +1,14 @@
 // The end of a path.
 
-ghost use Rattle.std.specs.Prelude.{◌≡◌, ◌≤◌, ◌+◌, ◌<◌, Ok, OnOk};
+ghost use Rattle.std.specs.Prelude.{◌≡◌, ◌≤◌, ◌+◌, ◌<◌, [], Ok, OnOk};
 ghost use Rattle.paths.specs.Answers.{IfHalts, IfRefused, Leaves};
-ghost use Rattle.paths.specs.Listing.{refusal_at, end_of, path_of as path_for, paths_at_end as ended_of, with_paths};
+ghost use Rattle.paths.specs.HoleListing.{refusal_at, end_of, path_of as path_for, paths_at_end as ended_of, with_paths};
 ghost use Rattle.paths.specs.Walking.{IsEnded};
 
 use crate::errors::CheckError;
-use crate::greatest_locks::{greatest_age, greatest_lock};
 use crate::rules::{condition, insist, take};
-use crate::state::{Halt, Listed, Path, State};
-use facts::Sym;
+use crate::state::{Halt, Listed, PatternPath, State};
+use crate::constants::Sym;
 use script::limits::{MAX_OPS_PER_SCRIPT, MAX_STACK_SIZE};
 
 /// The refusal for a halt at this position; none where the path dies.
@@ -28,7 +27,7 @@ pub fn refusal(at: usize, halt: Halt) -> Result<(), CheckError>
 pub fn end(counted: usize, at: usize, state: State, listed: &mut Listed) -> Result<(), CheckError>
     requires slots { state.slots ≤ MAX_STACK_SIZE }
     requires keys { counted + state.keys ≤ MAX_OPS_PER_SCRIPT }
-    ensures exact { Leaves IfRefused (with_paths listed.old (ended_of counted at state)) listed.new result }
+    ensures exact { Leaves IfRefused (with_paths listed.old (ended_of [] counted at state)) listed.new result }
     ensures begun { OnOk result (listed.new.begun ≡ listed.old.begun) }
 {
     if let Some(path) = ended(counted, at, state)? {
@@ -38,10 +37,10 @@ pub fn end(counted: usize, at: usize, state: State, listed: &mut Listed) -> Resu
 }
 
 // The path that ends, unless it dies.
-fn ended(counted: usize, at: usize, mut state: State) -> Result<Option<Path>, CheckError>
+fn ended(counted: usize, at: usize, mut state: State) -> Result<Option<PatternPath>, CheckError>
     requires slots { state.slots ≤ MAX_STACK_SIZE }
     requires keys { counted + state.keys ≤ MAX_OPS_PER_SCRIPT }
-    ensures { IsEnded (ended_of counted at state) result }
+    ensures { IsEnded (ended_of [] counted at state) result }
 {
     let top = take(&mut state);
     if let Err(halt) = decide(&mut state, top) {
@@ -56,7 +55,7 @@ fn ended(counted: usize, at: usize, mut state: State) -> Result<Option<Path>, Ch
 
 // Insists that the last element, below which there are none, is true.
 fn decide(state: &mut State, top: Sym) -> Result<(), Halt>
-    ensures exact { Leaves IfHalts (end_of state.old.stack top state.old) state.new result }
+    ensures exact { Leaves IfHalts (end_of [] state.old.stack top state.old) state.new result }
     ensures keys { OnOk result (state.new.keys ≡ state.old.keys) }
 {
     if !state.stack.is_empty() {
@@ -67,17 +66,15 @@ fn decide(state: &mut State, top: Sym) -> Result<(), Halt>
 }
 
 // The path of a state at the end.
-fn path_of(counted: usize, state: State) -> Path
+fn path_of(counted: usize, state: State) -> PatternPath
     requires low { state.slots + state.excess ≤ MAX_STACK_SIZE }
     requires keys { counted + state.keys ≤ MAX_OPS_PER_SCRIPT }
     ensures { result ≡ path_for counted state }
 {
-    Path {
+    PatternPath {
         arity: state.slots,
         ops: counted + state.keys,
         height: state.slots + state.excess,
-        lock: greatest_lock(state.facts.values()),
-        age: greatest_age(state.facts.values()),
         facts: state.facts,
     }
 }

@@ -15,8 +15,10 @@
 mod balance;
 mod branch_opcodes;
 mod comparison_opcodes;
+mod constants;
 mod ending;
 mod errors;
+mod filling;
 mod greatest_locks;
 pub mod laws;
 mod listing;

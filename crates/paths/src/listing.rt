@@ -5,13 +5,19 @@ ghost use Rattle.std.specs.Prelude.{All, IfOk};
 ghost use Rattle.paths.specs.Outcome.{IsListing};
 ghost use Rattle.paths.specs.Sound.{IsSound};
 ghost use Rattle.paths.specs.Exhaustive.{IsExhaustive};
+ghost use Rattle.paths.specs.Answers.{Answers, IfRefused};
+ghost use Rattle.paths.specs.Listing.{listing};
+ghost use Rattle.paths.specs.HoleListing.{pattern_listing};
+ghost use Rattle.script.specs.Run.{counted_in as counted_of};
 
 use crate::balance::is_balanced;
+use crate::constants::HoleKind;
 use crate::errors::CheckError;
-use crate::state::Path;
+use crate::filling::filled_paths;
+use crate::state::{Path, PatternPath};
 use crate::walking::walk_all;
 use lists::List;
-use script::Script;
+use script::{Op, Script};
 use script::limits::MAX_OPS_PER_SCRIPT;
 use std::alloc::Global;
 use std::marker::Model;
@@ -85,17 +91,49 @@ pub fn check(alloc: Global, script: Script) -> Result<Checked, CheckError>
 }
 
 // Lists the ways, as the definition has them.
-#[tactic(auto, unfolding(crate::specs::Listing::listing))]
 fn list(alloc: Global, script: Script) -> Result<Checked, CheckError>
     ensures exact { IsListing script result }
 {
-    if !is_balanced(alloc, script.ops())? {
+    let paths = known_paths(alloc, script.ops())?;
+    Ok(Checked { script, paths })
+}
+
+// Every way through a script: those through a pattern without holes.
+#[tactic(auto, using(crate::proofs::FillListing::known_listed, crate::proofs::FillListing::known_refusal))]
+fn known_paths(alloc: Global, ops: &[Op]) -> Result<List<Path>, CheckError>
+    ensures { Answers IfRefused (listing ops.now) result }
+{
+    let paths = pattern_paths(alloc, &[], ops)?;
+    let filled = filled_paths(alloc, ops, paths.values())?;
+    Ok(filled)
+}
+
+/// Every way through a pattern, where an empty push stands for each hole.
+#[tactic(auto, unfolding(crate::specs::HoleListing::pattern_listing))]
+pub fn pattern_paths(
+    alloc: Global,
+    holes: &[Option<HoleKind>],
+    ops: &[Op],
+) -> Result<List<PatternPath>, CheckError>
+    ensures { Answers IfRefused (pattern_listing holes.now ops.now) result }
+{
+    if !is_balanced(alloc, ops)? {
         return Err(CheckError::OpenBranch);
     }
-    let counted = script.counted();
+    let counted = counted_in(ops);
     if counted > MAX_OPS_PER_SCRIPT {
         return Err(CheckError::TooManyOps);
     }
-    let paths = walk_all(alloc, script.ops(), counted)?;
-    Ok(Checked { script, paths })
+    walk_all(alloc, holes, ops, counted)
+}
+
+// How many opcodes count.
+fn counted_in(ops: &[Op]) -> usize
+    ensures { result ≡ counted_of ops.now }
+{
+    let mut counted = 0;
+    for op in ops {
+        counted += op.weight();
+    }
+    counted
 }

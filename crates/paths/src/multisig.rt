@@ -3,7 +3,7 @@
 ghost use Rattle.std.specs.Prelude.{◌≡◌, ◌<◌, ◌≤◌, ◌+◌, reverse, IfOk, OnOk};
 ghost use Rattle.std.specs.List.{list_any};
 ghost use Rattle.paths.specs.Answers.{Answers, IfHalts, Leaves};
-ghost use Rattle.paths.specs.Rules.{pops, count_of as count_for, is_bad_key as is_bad_key_of, is_bad_extra as is_bad_extra_of, slots_of as slots_for, sources_of as sources_for, ask_forms as forms_asked, ask_keys as keys_asked, ask_extra as extra_asked, answer_of as answer_for, check_sigs};
+ghost use Rattle.paths.specs.HoleRules.{pops, count_of as count_for, is_bad_key as is_bad_key_of, is_bad_extra as is_bad_extra_of, slots_of as slots_for, sources_of as sources_for, ask_forms as forms_asked, ask_keys as keys_asked, ask_extra as extra_asked, answer_of as answer_for, check_sigs};
 ghost use Rattle.paths.specs.Following.{IsRuleOf};
 ghost use Rattle.paths.specs.Doing.{IsNear, count_keys as keys_counted};
 
@@ -11,16 +11,15 @@ use crate::rules::ask;
 use crate::signature_opcodes::{ask_key, is_bad_key, source_of};
 use crate::stack_opcodes::{pull, put};
 use crate::state::{Halt, State, SymbolicJump};
-use facts::{Fact, KeySource, Sym};
+use crate::constants::{Constant, Fact, KeySource, Sym};
 use lists::{ByteString, List, Stack};
 use script::limits::{MAX_OPS_PER_SCRIPT, MAX_PUBKEYS_PER_MULTISIG, MAX_STACK_SIZE};
-use script::num::Limit;
 use script::truths::flag;
-use script::{Op, num};
+use script::Op;
 use std::alloc::{AllocError, Global};
 
 /// CHECKMULTISIG, where `counted` opcodes of the whole script count.
-#[tactic(auto, unfolding(crate::specs::Rules::rule_of, crate::specs::Rules::check_multi_sig), using(crate::proofs::RulePops::pops_keys))]
+#[tactic(auto, unfolding(crate::specs::HoleRules::rule_of, crate::specs::HoleRules::check_multi_sig), using(crate::proofs::RulePops::pops_keys))]
 pub fn check_multi_sig(
     alloc: Global,
     counted: usize,
@@ -46,14 +45,9 @@ fn count_of(limit: usize, sym: &Sym) -> Result<usize, Halt>
     ensures exact { Answers IfHalts (count_for limit sym.now) result }
     ensures low { IfOk result (λ n. n ≤ limit) }
 {
-    let Sym::Const(item) = sym else {
-        return Err(Halt::Undecided);
-    };
-    match num::read(item.bytes(), Limit::Count) {
-        Some(number) if !number.negative && number.magnitude <= limit as u64 => {
-            Ok(number.magnitude as usize)
-        }
-        _ => Err(Halt::Dead),
+    match sym {
+        Sym::Const(constant) => constant.count(limit),
+        _ => Err(Halt::Undecided),
     }
 }
 
@@ -128,7 +122,7 @@ fn is_bad_extra(extra: &Sym) -> bool
     ensures { result ≡ is_bad_extra_of extra.now }
 {
     match extra {
-        Sym::Const(item) => !item.is_empty(),
+        Sym::Const(constant) => constant.is_bad_extra(),
         _ => false,
     }
 }
@@ -188,9 +182,15 @@ fn ask_extra(alloc: Global, state: &mut State, extra: Sym) -> Result<(), Halt>
     ensures near { OnOk result (IsNear 0 state.old state.new) }
 {
     match extra {
-        Sym::Const(_item) => Ok(()),
+        Sym::Const(constant) => {
+            if constant.is_clear_extra() {
+                Ok(())
+            } else {
+                Err(Halt::Undecided)
+            }
+        }
         Sym::Slot(i) => {
-            ask(state, Fact::Is(i, ByteString::new(alloc)), true)?;
+            ask(state, Fact::Is(i, Constant::Known(ByteString::new(alloc))), true)?;
             Ok(())
         }
         _other => Err(Halt::Undecided),
@@ -202,7 +202,7 @@ fn answer_of(alloc: Global, slots: List<usize>, keys: List<KeySource>) -> Result
     ensures { IfOk result (λ s. s ≡ answer_for slots keys) }
 {
     if slots.is_empty() {
-        return Ok(Sym::Const(flag(alloc, true)?));
+        return Ok(Sym::Const(Constant::Known(flag(alloc, true)?)));
     }
     Ok(Sym::Holds(Fact::Assigned(slots, keys)))
 }

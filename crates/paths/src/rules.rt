@@ -1,7 +1,7 @@
 // What an opcode does to a path.
 
 ghost use Rattle.std.specs.Prelude.{◌≡◌, ◌<◌, ◌≤◌, ◌+◌, OnOk, OnErr};
-ghost use Rattle.paths.specs.Rules.{pop, ask as asked, condition_of, insist as insisted, rule_of};
+ghost use Rattle.paths.specs.HoleRules.{pop, ask as asked, condition_of, insist as insisted, rule_of};
 ghost use Rattle.paths.specs.Following.{IsRuleOf, IsConditionOf, IsInsisted};
 ghost use Rattle.paths.specs.declared.state.Halt.TheVariants.{NoMemory};
 
@@ -12,10 +12,9 @@ use crate::multisig::check_multi_sig;
 use crate::signature_opcodes::check_sig;
 use crate::stack_opcodes::{discard, double, push_item, push_number, swap};
 use crate::state::{Condition, Halt, State, SymbolicJump};
-use facts::{Fact, Stated, Sym};
+use crate::constants::{Fact, Stated, Sym};
 use script::Op;
 use script::limits::{MAX_OPS_PER_SCRIPT, MAX_STACK_SIZE};
-use script::truths::is_true;
 use std::alloc::{AllocError, Global};
 
 impl From<AllocError> for Halt {
@@ -54,7 +53,7 @@ pub fn condition(sym: Sym) -> Result<Condition, Halt>
 {
     match sym {
         Sym::Slot(i) => Ok(Condition::Asked(Fact::Truth(i))),
-        Sym::Const(item) => Ok(Condition::Known(is_true(item.bytes()))),
+        Sym::Const(constant) => Ok(Condition::Known(constant.truth()?)),
         Sym::Holds(fact) => Ok(Condition::Asked(fact)),
         _ => Err(Halt::Undecided),
     }
@@ -77,7 +76,7 @@ pub fn insist(state: &mut State, condition: Condition) -> Result<(), Halt>
 /// Follows an opcode, where `counted` opcodes of the whole script count. After an error the path ends, and its state may be anything:
 /// `Dead` where no witness goes on, `Undecided` where no rule and no death decides, `TooManyOps` where the keys of a CHECKMULTISIG lift
 /// the count above 201, `NoMemory` where memory runs out.
-#[tactic(auto, unfolding(crate::specs::Rules::rule_of))]
+#[tactic(auto, unfolding(crate::specs::HoleRules::rule_of))]
 pub fn follow(
     alloc: Global,
     op: &Op,

@@ -2,7 +2,7 @@
 
 ghost use Rattle.std.specs.Prelude.{◌≡◌, ◌≤◌, OnOk};
 ghost use Rattle.paths.specs.Answers.{Answers, IfHalts, Leaves};
-ghost use Rattle.paths.specs.Rules.{source_of as source_for, ask_key as key_asked, is_bad_key as is_bad_key_of, is_bad_signature as is_bad_signature_of, check_sig as checked_sig, signature_rule as signature_rule_of};
+ghost use Rattle.paths.specs.HoleRules.{source_of as source_for, ask_key as key_asked, is_bad_key as is_bad_key_of, is_bad_signature as is_bad_signature_of, check_sig as checked_sig, signature_rule as signature_rule_of};
 ghost use Rattle.paths.specs.Following.{IsRuleOf};
 ghost use Rattle.paths.specs.Doing.{IsNear};
 ghost use Rattle.facts.specs.declared.symbols.SymOver.TheVariants.{Const};
@@ -10,15 +10,13 @@ ghost use Rattle.facts.specs.declared.symbols.SymOver.TheVariants.{Const};
 use crate::rules::ask;
 use crate::stack_opcodes::{pull, put};
 use crate::state::{Halt, State, SymbolicJump};
-use facts::{Fact, KeySource, Sym};
-use lists::ByteString;
+use crate::constants::{Constant, Fact, KeySource, Sym};
 use script::Op;
 use script::limits::MAX_STACK_SIZE;
-use script::tokens::{has_key_form, has_signature_form};
 use std::alloc::AllocError;
 
 /// CHECKSIG.
-#[tactic(auto, unfolding(crate::specs::Rules::rule_of))]
+#[tactic(auto, unfolding(crate::specs::HoleRules::rule_of))]
 pub fn check_sig(state: &mut State) -> Result<SymbolicJump, Halt>
     requires { state.old.slots ≤ MAX_STACK_SIZE }
     ensures exact { IsRuleOf 0 Op.CheckSig state.old state.new result }
@@ -54,17 +52,17 @@ fn record_check(state: &mut State, key: KeySource, signature: Sym) -> Result<(),
             put(state, Sym::Holds(Fact::Token(i, key)))?;
             Ok(())
         }
-        Sym::Const(item) => record_known_check(state, &key, item),
+        Sym::Const(constant) => record_known_check(state, &key, constant),
         _other => Err(Halt::Undecided),
     }
 }
 
 // Puts the answer for a signature of known bytes on top: false, where there are none.
-fn record_known_check(state: &mut State, key: &KeySource, signature: ByteString) -> Result<(), Halt>
+fn record_known_check(state: &mut State, key: &KeySource, signature: Constant) -> Result<(), Halt>
     ensures exact { Leaves IfHalts (signature_rule_of key.now (Const signature) state.old) state.new result }
     ensures near { OnOk result (IsNear 0 state.old state.new) }
 {
-    if !signature.is_empty() {
+    if !signature.is_no_signature() {
         return Err(Halt::Undecided);
     }
     ask_key(state, key)?;
@@ -77,7 +75,7 @@ pub fn is_bad_key(sym: &Sym) -> bool
     ensures { result ≡ is_bad_key_of sym.now }
 {
     match sym {
-        Sym::Const(item) => !has_key_form(item.bytes()),
+        Sym::Const(constant) => constant.is_bad_key(),
         _ => false,
     }
 }
@@ -87,7 +85,7 @@ fn is_bad_signature(sym: &Sym) -> bool
     ensures { result ≡ is_bad_signature_of sym.now }
 {
     match sym {
-        Sym::Const(item) => !has_signature_form(item.bytes()),
+        Sym::Const(constant) => constant.is_bad_signature(),
         _ => false,
     }
 }
@@ -97,7 +95,7 @@ pub fn source_of(sym: Sym) -> Result<KeySource, Halt>
     ensures { Answers IfHalts (source_for sym) result }
 {
     match sym {
-        Sym::Const(item) => Ok(KeySource::Const(item)),
+        Sym::Const(constant) => Ok(KeySource::Const(constant)),
         Sym::Slot(i) => Ok(KeySource::Slot(i)),
         _ => Err(Halt::Undecided),
     }

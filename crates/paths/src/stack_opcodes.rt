@@ -1,13 +1,13 @@
 // What opcodes do to the symbols on the stack that ask for nothing, and the two steps that all opcodes are made of.
 
 ghost use Rattle.std.specs.Prelude.{◌≡◌, ◌<◌, ◌≤◌, OnOk};
-ghost use Rattle.paths.specs.Rules.{pop, push as pushed};
+ghost use Rattle.paths.specs.HoleRules.{pop, push as pushed};
 ghost use Rattle.paths.specs.Following.{IsRuleOf};
 ghost use Rattle.paths.specs.Doing.{IsNear};
 
 use crate::rules::take;
 use crate::state::{Halt, State, SymbolicJump};
-use facts::Sym;
+use crate::constants::{Constant, Sym, copied_sym};
 use lists::ByteString;
 use script::Op;
 use script::limits::MAX_STACK_SIZE;
@@ -31,27 +31,27 @@ pub fn put(state: &mut State, sym: Sym) -> Result<(), AllocError>
 }
 
 /// A push.
-#[tactic(auto, unfolding(crate::specs::Rules::rule_of))]
+#[tactic(auto, unfolding(crate::specs::HoleRules::rule_of))]
 pub fn push_item(alloc: Global, item: &ByteString, state: &mut State) -> Result<SymbolicJump, Halt>
     ensures exact { IsRuleOf 0 (Op.Push item.now) state.old state.new result }
     ensures near { OnOk result (IsNear 0 state.old state.new) }
 {
-    put(state, Sym::Const(item.copy()?))?;
+    put(state, Sym::Const(Constant::Known(item.copy()?)))?;
     Ok(SymbolicJump::Next)
 }
 
 /// A push of a number from 1 to 16.
-#[tactic(auto, unfolding(crate::specs::Rules::rule_of))]
+#[tactic(auto, unfolding(crate::specs::HoleRules::rule_of))]
 pub fn push_number(alloc: Global, number: u8, state: &mut State) -> Result<SymbolicJump, Halt>
     ensures exact { IsRuleOf 0 (Op.Number number) state.old state.new result }
     ensures near { OnOk result (IsNear 0 state.old state.new) }
 {
-    put(state, Sym::Const(ByteString::from_slice(alloc, &[number])?))?;
+    put(state, Sym::Const(Constant::Known(ByteString::from_slice(alloc, &[number])?)))?;
     Ok(SymbolicJump::Next)
 }
 
 /// DROP.
-#[tactic(auto, unfolding(crate::specs::Rules::rule_of))]
+#[tactic(auto, unfolding(crate::specs::HoleRules::rule_of))]
 pub fn discard(state: &mut State) -> Result<SymbolicJump, Halt>
     requires { state.old.slots ≤ MAX_STACK_SIZE }
     ensures exact { IsRuleOf 0 Op.Drop state.old state.new result }
@@ -62,21 +62,21 @@ pub fn discard(state: &mut State) -> Result<SymbolicJump, Halt>
 }
 
 /// DUP.
-#[tactic(auto, unfolding(crate::specs::Rules::rule_of))]
+#[tactic(auto, unfolding(crate::specs::HoleRules::rule_of))]
 pub fn double(alloc: Global, state: &mut State) -> Result<SymbolicJump, Halt>
     requires { state.old.slots ≤ MAX_STACK_SIZE }
     ensures exact { IsRuleOf 0 Op.Dup state.old state.new result }
     ensures near { OnOk result (IsNear 1 state.old state.new) }
 {
     let sym = pull(state);
-    let other = sym.copy()?;
+    let other = copied_sym(&sym)?;
     put(state, sym)?;
     put(state, other)?;
     Ok(SymbolicJump::Next)
 }
 
 /// SWAP.
-#[tactic(auto, unfolding(crate::specs::Rules::rule_of))]
+#[tactic(auto, unfolding(crate::specs::HoleRules::rule_of))]
 pub fn swap(state: &mut State) -> Result<SymbolicJump, Halt>
     requires { state.old.slots ≤ MAX_STACK_SIZE }
     ensures exact { IsRuleOf 0 Op.Swap state.old state.new result }

@@ -2,10 +2,11 @@
 
 ghost use Rattle.std.specs.Prelude.{◌≡◌, IfOk};
 ghost use Rattle.script.specs.Step.{result_if};
-ghost use Rattle.paths.specs.Listing.{beginning, with_excess, is_low as is_low_of};
+ghost use Rattle.paths.specs.HoleListing.{beginning, with_excess, is_low as is_low_of};
 
-use facts::{FactOver, Stated, StatedOver, Sym, SymOver};
-use lists::{ByteString, List, Stack};
+use crate::constants::{Amount, Constant, Stated, Sym, copied_stated, copied_sym};
+use facts::{FactOver, StatedOver, SymOver};
+use lists::{List, Stack};
 use script::limits::MAX_STACK_SIZE;
 use std::alloc::{AllocError, Global};
 
@@ -27,7 +28,7 @@ pub struct StateOver<C, L, A> {
 }
 
 /// A path on its way.
-pub type State = StateOver<ByteString, u64, u32>;
+pub type State = StateOver<Constant, Amount<u64>, Amount<u32>>;
 
 impl State {
     /// Where a path begins. It takes no memory.
@@ -82,7 +83,7 @@ fn copied_syms(alloc: Global, syms: &[Sym]) -> Result<Vec<Sym>, AllocError>
 {
     let mut copies = Vec::new(alloc);
     for sym in syms {
-        copies.push(sym.copy()?)?;
+        copies.push(copied_sym(sym)?)?;
     }
     Ok(copies)
 }
@@ -93,7 +94,7 @@ fn copied_facts(alloc: Global, facts: &[Stated]) -> Result<Vec<Stated>, AllocErr
 {
     let mut copies = Vec::new(alloc);
     for stated in facts {
-        copies.push(stated.copy()?)?;
+        copies.push(copied_stated(stated)?)?;
     }
     Ok(copies)
 }
@@ -125,7 +126,7 @@ pub enum SymbolicJumpOver<C, L, A> {
 }
 
 /// Where a path goes after an opcode.
-pub type SymbolicJump = SymbolicJumpOver<ByteString, u64, u32>;
+pub type SymbolicJump = SymbolicJumpOver<Constant, Amount<u64>, Amount<u32>>;
 
 /// What decides whether a symbol counts as true.
 #[derive(Drop)]
@@ -137,7 +138,7 @@ pub enum ConditionOver<C, L, A> {
 }
 
 /// What decides whether a symbol counts as true.
-pub type Condition = ConditionOver<ByteString, u64, u32>;
+pub type Condition = ConditionOver<Constant, Amount<u64>, Amount<u32>>;
 
 /// A way through a script: whatever witness meets it runs clean.
 #[derive(Debug, Drop)]
@@ -145,7 +146,7 @@ pub struct Path {
     /// How many items the witness has beside the script.
     pub arity: usize,
     /// What is asked of the witness and the spend, in the order in which it arises.
-    pub facts: List<Stated>,
+    pub facts: List<facts::Stated>,
     /// The counted opcodes of a run, keys of CHECKMULTISIGs included; at most 201.
     pub ops: usize,
     /// The greatest number of elements of a run, at most 1,000.
@@ -154,6 +155,19 @@ pub struct Path {
     pub lock: Option<u64>,
     /// The greatest relative lock in blocks that the run checks (BIP 68, 112).
     pub age: Option<u16>,
+}
+
+/// A way through a pattern: a path whose constants may be holes.
+#[derive(Debug, Drop)]
+pub struct PatternPath {
+    /// How many items the witness has beside the script.
+    pub arity: usize,
+    /// What is asked of the witness and the spend, in the order in which it arises.
+    pub facts: List<Stated>,
+    /// The counted opcodes of a run, keys of CHECKMULTISIGs included.
+    pub ops: usize,
+    /// The greatest number of elements of a run.
+    pub height: usize,
 }
 
 /// The paths that were listed so far, and how many were begun.
@@ -166,4 +180,4 @@ pub struct ListedOver<P> {
 }
 
 /// The paths that were listed so far.
-pub type Listed = ListedOver<Path>;
+pub type Listed = ListedOver<PatternPath>;

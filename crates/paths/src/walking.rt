@@ -3,16 +3,19 @@
 ghost use Rattle.std.specs.Prelude.{◌≡◌, ℕ, ◌<◌, ◌≤◌, ◌+◌, Ok, true, All, [], length, IfOk, OnOk};
 ghost use Rattle.script.specs.Run.{skip_length};
 ghost use Rattle.paths.specs.Answers.{Answers, IfRefused, Leaves};
-ghost use Rattle.paths.specs.Listing.{states_after_jump, states_after_rule, states_after, walk, begins as begins_of, beginning};
+ghost use Rattle.paths.specs.Following.{IsRuleAt};
+ghost use Rattle.paths.specs.HoleListing.{hole_at as hole_of, states_after_jump, states_after_rule, states_after, walk, begins as begins_of, beginning};
 ghost use Rattle.paths.specs.Walking.{states_of, AreStates, AreKept, IsKept, IsWaiting, IsStep, IsWalked, rest_of_walk, paths_in};
 
 use crate::ending::{end, refusal};
 use crate::errors::CheckError;
 use crate::rules::{ask, follow};
-use crate::state::{Listed, Path, State, SymbolicJump};
+use crate::constants::{Constant, HoleKind, Sym, copied_fact};
+use crate::stack_opcodes::put;
+use crate::state::{Halt, Listed, PatternPath, State, SymbolicJump};
 use lists::{List, Stack};
 use script::Op;
-use script::limits::MAX_OPS_PER_SCRIPT;
+use script::limits::{MAX_OPS_PER_SCRIPT, MAX_STACK_SIZE};
 use std::alloc::{AllocError, Global};
 
 /// The most paths that a script may begin.
@@ -39,9 +42,14 @@ pub struct Waiting {
 }
 
 /// Every path through opcodes of which so many count.
-pub fn walk_all(alloc: Global, ops: &[Op], counted: usize) -> Result<List<Path>, CheckError>
+pub fn walk_all(
+    alloc: Global,
+    holes: &[Option<HoleKind>],
+    ops: &[Op],
+    counted: usize,
+) -> Result<List<PatternPath>, CheckError>
     requires { counted ≤ MAX_OPS_PER_SCRIPT }
-    ensures { Answers IfRefused (paths_in (walk counted 0 ops.now beginning (record { begun = 1; paths = [] }))) result }
+    ensures { Answers IfRefused (paths_in (walk holes.now counted 0 ops.now beginning (record { begun = 1; paths = [] }))) result }
 {
     let mut listed = Listed {
         begun: 1,
@@ -52,11 +60,11 @@ pub fn walk_all(alloc: Global, ops: &[Op], counted: usize) -> Result<List<Path>,
         at: 0,
         state: State::new(alloc),
     };
-    walk_path(alloc, ops, counted, first, &mut waiting, &mut listed)?;
+    walk_path(alloc, holes, ops, counted, first, &mut waiting, &mut listed)?;
     while let Some(mut next) = waiting.pop() {
         begins(&mut listed)?;
         next.state.ahead = jump_len(&ops[next.at..], true);
-        walk_path(alloc, ops, counted, next, &mut waiting, &mut listed)?;
+        walk_path(alloc, holes, ops, counted, next, &mut waiting, &mut listed)?;
     }
     Ok(listed.paths)
 }
@@ -76,6 +84,7 @@ fn begins(listed: &mut Listed) -> Result<(), CheckError>
 // Walks along one path to its end. The paths that split from it wait, the newest on top.
 fn walk_path(
     alloc: Global,
+    holes: &[Option<HoleKind>],
     ops: &[Op],
     counted: usize,
     path: Waiting,
@@ -84,13 +93,13 @@ fn walk_path(
 ) -> Result<(), CheckError>
     requires path { IsWaiting counted (length ops.now) path }
     requires waiting { All (IsWaiting counted (length ops.now)) waiting.old }
-    ensures exact { IsWalked counted ops.now (rest_of_walk counted ops.now path.at path.state waiting.old listed.old) waiting.new listed.new result }
+    ensures exact { IsWalked holes.now counted ops.now (rest_of_walk holes.now counted ops.now path.at path.state waiting.old listed.old) waiting.new listed.new result }
     ensures begun { OnOk result (listed.new.begun ≡ listed.old.begun) }
     ensures kept { OnOk result (All (IsWaiting counted (length ops.now)) waiting.new) }
 {
     let mut state = path.state;
     for at in path.at..ops.len() {
-        if !step(alloc, ops, counted, at, &mut state, waiting)? {
+        if !step(alloc, holes, ops, counted, at, &mut state, waiting)? {
             return Ok(());
         }
     }
@@ -100,6 +109,7 @@ fn walk_path(
 // Goes past the opcode at this position; whether the path goes on.
 fn step(
     alloc: Global,
+    holes: &[Option<HoleKind>],
     ops: &[Op],
     counted: usize,
     at: usize,
@@ -109,12 +119,12 @@ fn step(
     requires within { at < length ops.now }
     requires state { IsKept counted state.old }
     requires waiting { All (IsWaiting counted (length ops.now)) waiting.old }
-    ensures exact { IsStep counted ops.now at state.old waiting.old state.new waiting.new result }
+    ensures exact { IsStep holes.now counted ops.now at state.old waiting.old state.new waiting.new result }
     ensures state { IfOk result (λ goes. goes ≡ true → IsKept counted state.new) }
     ensures waiting { OnOk result (All (IsWaiting counted (length ops.now)) waiting.new) }
 {
     let rest = &ops[at + 1..];
-    match next_states(alloc, counted, at, &ops[at], rest, state)? {
+    match next_states(alloc, holes, counted, at, &ops[at], rest, state)? {
         Successors::Dies => Ok(false),
         Successors::Goes => Ok(true),
         Successors::Splits(second) => {
@@ -130,6 +140,7 @@ fn step(
 // The ways on from the opcode at this position, where `counted` opcodes of the whole script count.
 fn next_states(
     alloc: Global,
+    holes: &[Option<HoleKind>],
     counted: usize,
     at: usize,
     op: &Op,
@@ -137,14 +148,14 @@ fn next_states(
     state: &mut State,
 ) -> Result<Successors, CheckError>
     requires { IsKept counted state.old }
-    ensures exact { AreStates (states_after counted at op.now rest.now state.old state.old.ahead) rest.now state.new result }
+    ensures exact { AreStates (states_after holes.now counted at op.now rest.now state.old state.old.ahead) rest.now state.new result }
     ensures kept { IfOk result (AreKept counted state.new) }
 {
     if state.ahead > 0 {
         state.ahead -= 1;
         return Ok(Successors::Goes);
     }
-    match follow(alloc, op, counted, state) {
+    match follow_at(alloc, holes, at, op, counted, state) {
         Ok(turn) => {
             state.measure();
             if !state.is_low() {
@@ -157,6 +168,36 @@ fn next_states(
             Ok(Successors::Dies)
         }
     }
+}
+
+// Follows the opcode at a position, where a hole is pushed.
+fn follow_at(
+    alloc: Global,
+    holes: &[Option<HoleKind>],
+    at: usize,
+    op: &Op,
+    counted: usize,
+    state: &mut State,
+) -> Result<SymbolicJump, Halt>
+    requires slots { state.old.slots ≤ MAX_STACK_SIZE }
+    requires keys { counted + state.old.keys ≤ MAX_OPS_PER_SCRIPT }
+    ensures exact { IsRuleAt holes.now counted at op.now state.old state.new result }
+    ensures keys_stay { OnOk result (counted + state.new.keys ≤ MAX_OPS_PER_SCRIPT) }
+{
+    match hole_at(holes, at) {
+        Some(kind) => {
+            put(state, Sym::Const(Constant::Hole(kind, at)))?;
+            Ok(SymbolicJump::Next)
+        }
+        None => follow(alloc, op, counted, state),
+    }
+}
+
+// The hole at a position, if there is one.
+fn hole_at(holes: &[Option<HoleKind>], at: usize) -> Option<HoleKind>
+    ensures { result ≡ hole_of holes.now at }
+{
+    if at < holes.len() { holes[at] } else { None }
 }
 
 // Where a turn leads a path. The only error is that memory ran out.
@@ -180,7 +221,7 @@ fn successors_of(
         }
         SymbolicJump::Splits(fact, first) => {
             let mut second = state.copy()?;
-            ask(&mut second, fact.copy()?, !first)?;
+            ask(&mut second, copied_fact(&fact)?, !first)?;
             ask(state, fact, first)?;
             Ok(Successors::Splits(second))
         }

@@ -1,5 +1,5 @@
 use Rattle.std.proofs.Common.{◌≡◌, drop}
-use Rattle.paths.specs.Rules.{ask_forms as forms_asked}
+use Rattle.paths.specs.HoleRules.{ask_forms as forms_asked}
 use Rattle.paths.specs.Doing.{IsNear}
 use Rattle.paths.proofs.multisig.ask_forms.Given as goal
 

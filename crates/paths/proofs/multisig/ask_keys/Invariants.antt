@@ -1,5 +1,5 @@
 use Rattle.std.proofs.Common.{◌≡◌, drop}
-use Rattle.paths.specs.Rules.{ask_keys as keys_asked}
+use Rattle.paths.specs.HoleRules.{ask_keys as keys_asked}
 use Rattle.paths.specs.Doing.{IsNear}
 use Rattle.paths.proofs.multisig.ask_keys.Given as goal
 

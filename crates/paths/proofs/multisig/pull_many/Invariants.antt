@@ -1,5 +1,5 @@
 use Rattle.std.proofs.Common.{◌≡◌, reverse}
-use Rattle.paths.specs.Rules.{pops}
+use Rattle.paths.specs.HoleRules.{pops}
 use Rattle.paths.specs.Doing.{IsNear}
 use Rattle.paths.proofs.multisig.pull_many.Given as goal
 

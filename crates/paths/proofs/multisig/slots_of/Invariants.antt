@@ -1,5 +1,5 @@
 use Rattle.std.proofs.Common.{◌≡◌, length}
-use Rattle.paths.specs.Rules.{slots_of as slots_for}
+use Rattle.paths.specs.HoleRules.{slots_of as slots_for}
 use Rattle.paths.proofs.RuleLists.{after}
 use Rattle.paths.proofs.multisig.slots_of.Given as goal
 

@@ -1,5 +1,5 @@
 use Rattle.std.proofs.Common.{◌≡◌, length}
-use Rattle.paths.specs.Rules.{sources_of as sources_for}
+use Rattle.paths.specs.HoleRules.{sources_of as sources_for}
 use Rattle.paths.proofs.RuleLists.{after}
 use Rattle.paths.proofs.multisig.sources_of.Given as goal
 
