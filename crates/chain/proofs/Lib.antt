@@ -4,6 +4,7 @@ pub mod Finding
 pub mod Noting
 pub mod Passing
 pub mod Indexed
+pub mod Replaying
 pub mod Growing
 pub mod Sums
 pub mod Examples

@@ -9,3 +9,4 @@ pub mod Scanning
 pub mod Totals
 pub mod Tested
 pub mod Indexing
+pub mod Replays

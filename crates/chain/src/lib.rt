@@ -18,6 +18,7 @@ mod blocks;
 mod chain_blocks;
 mod coin_map;
 mod coins;
+mod commands;
 mod connecting;
 mod index;
 mod indexing;
@@ -33,6 +34,7 @@ mod totals;
 
 pub use blocks::{Block, Confirmed};
 pub use coins::Coins;
+pub use commands::{Answer, Command, replay_commands};
 pub use index::Index;
 pub use program::run_program;
 pub use refusal::{BlockError, Refusal};

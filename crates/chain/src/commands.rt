@@ -1,0 +1,90 @@
+//! Calls of a chain as values, and what they answer.
+
+ghost use Rattle.std.specs.Prelude.{◌≡◌, IfOk};
+ghost use Rattle.chain.specs.Replays.{Answered, Replays};
+
+use crate::coins::Coins;
+use crate::refusal::{BlockError, Refusal};
+use crate::totals::Unspent;
+use std::alloc::{AllocError, Global};
+use tx::{OutPoint, Tx, TxOut};
+
+/// A call of a chain.
+#[derive(Debug, Drop)]
+pub enum Command {
+    /// `grant`: the output.
+    Grant(TxOut),
+    /// `check_input`: the transaction, and the index of the input.
+    CheckInput(Tx, usize),
+    /// `connect`: the transactions of the block.
+    Connect(Vec<Tx>),
+    /// `disconnect`: how many blocks.
+    Disconnect(u64),
+    /// `unspent`.
+    Unspent,
+    /// `height`.
+    Height,
+    /// `fees`.
+    Fees,
+}
+
+/// What a call of a chain answers.
+#[derive(Debug, Drop)]
+pub enum Answer {
+    /// Of `grant`: the outpoint.
+    Grant(Result<OutPoint, Refusal>),
+    /// Of `check_input`.
+    CheckInput(Result<(), Refusal>),
+    /// Of `connect`: the height of the block.
+    Connect(Result<u64, BlockError>),
+    /// Of `disconnect`: the transactions of the blocks taken off.
+    Disconnect(Result<Vec<Tx>, Refusal>),
+    /// Of `unspent`.
+    Unspent(Unspent),
+    /// Of `height`.
+    Height(u64),
+    /// Of `fees`, in satoshis.
+    Fees(u128),
+}
+
+/// Copies transactions.
+fn copies(alloc: Global, transactions: &[Tx]) -> Result<Vec<Tx>, AllocError>
+    ensures { IfOk result (λ txs. txs.items ≡ transactions.now) }
+{
+    let mut txs = Vec::new(alloc);
+    for tx in transactions {
+        txs.push(tx.copy()?)?;
+    }
+    Ok(txs)
+}
+
+/// Makes one call.
+fn make_call<C: Coins>(alloc: Global, chain: &mut C, command: &Command) -> Result<Answer, AllocError>
+    ensures { IfOk result (λ a. Answered (C.standing chain.old) command.now a (C.standing chain.new)) }
+{
+    match command {
+        Command::Grant(output) => Ok(Answer::Grant(chain.grant(output.copy()?))),
+        Command::CheckInput(tx, index) => Ok(Answer::CheckInput(chain.check_input(tx, *index))),
+        Command::Connect(txs) => Ok(Answer::Connect(chain.connect(copies(alloc, txs)?))),
+        Command::Disconnect(k) => Ok(Answer::Disconnect(chain.disconnect(*k))),
+        Command::Unspent => Ok(Answer::Unspent(chain.unspent()?)),
+        Command::Height => Ok(Answer::Height(chain.height())),
+        Command::Fees => Ok(Answer::Fees(chain.fees()?)),
+    }
+}
+
+/// Makes calls in their order, and gives their answers. The only error is that memory ran out for the answers or the copies of what the
+/// commands hold; the chain is then as after some of the calls.
+pub fn replay_commands<C: Coins>(
+    alloc: Global,
+    chain: &mut C,
+    commands: &[Command],
+) -> Result<Vec<Answer>, AllocError>
+    ensures { IfOk result (λ answers. Replays (C.standing chain.old) commands.now answers.items (C.standing chain.new)) }
+{
+    let mut answers = Vec::new(alloc);
+    for command in commands {
+        answers.push(make_call(alloc, chain, command)?)?;
+    }
+    Ok(answers)
+}
