@@ -8,3 +8,4 @@ pub mod Fees
 pub mod Keeping
 pub mod Held
 pub mod Ledgers
+pub mod Sharing

@@ -5,3 +5,4 @@ pub mod Stages
 pub mod Refusals
 pub mod Pending
 pub mod Steady
+pub mod Shares

@@ -7,10 +7,11 @@ use crate::changes::Update;
 use crate::checking::check_update;
 use crate::pending::Pending;
 use crate::refusals::Refusal;
-use crate::stages::UpdateList;
+use crate::shares::{rate_at, share_at, view_from};
+use crate::stages::{Part, UpdateList};
 use std::alloc::Global;
 use std::marker::Model;
-use terms::{Htlc, Side, Terms};
+use terms::{Htlc, Side, Terms, View};
 
 /// The two sides' updates, as one side of a channel holds them. A contract sees it as the terms, the side and both lists of updates with their
 /// stages (`Held`).
@@ -38,7 +39,8 @@ impl Model for Ledger {
 }
 
 impl Ledger {
-    ghost use Rattle.std.specs.Prelude.{◌≡◌, None, IfOk, OnErr, MatchResult, length};
+    ghost use Rattle.std.specs.Prelude.{◌≡◌, None, IfOk, OnErr, MatchResult, length, take};
+    ghost use Rattle.updates.specs.Shares.{IsPartAt, view_in, IsSoundIn};
     ghost use Rattle.updates.specs.Updates.{offers};
     ghost use Rattle.updates.specs.declared.changes.Update.TheVariants.{Add, Fulfil, Fail, Fee};
     ghost use Rattle.updates.specs.Refusals.{first_refusal, covers_nothing, IsRefusal};
@@ -216,5 +218,53 @@ impl Ledger {
         let offered = self.own.known().count;
         let settled = self.theirs.settled().count;
         self.own_htlcs.settle(offered, settled);
+    }
+
+    // The view of the first updates of this side, and of the first of its peer. The only error is that memory ran out.
+    fn view(&self, own: Part, theirs: Part) -> Result<View, Refusal>
+        requires own { IsPartAt self.now.own own }
+        requires theirs { IsPartAt self.now.theirs theirs }
+        ensures { IfOk result (λ v. v ≡ view_in self.now (take own.count self.now.own.known) (take theirs.count self.now.theirs.known)) }
+    {
+        let start = self.terms.party(self.side).start;
+        let peers_start = self.terms.party(self.side.other()).start;
+        let (ours, peers) = (&self.own_htlcs, &self.their_htlcs);
+        let mine = share_at(start, ours, peers, own.count, theirs.count)?;
+        let others = share_at(peers_start, peers, ours, theirs.count, own.count)?;
+        let rate = self.terms.feerate;
+        let rate = rate_at(self.side, self.terms.opener, rate, own.fee, theirs.fee);
+        Ok(view_from(self.side, mine, others, rate))
+    }
+
+    /// The view of the peer's next commitment, which a signature of this side would be for. The only error is that memory ran out.
+    pub fn view_to_sign(&self) -> Result<View, Refusal>
+        ensures value { IfOk result (λ v. v ≡ view_in self.now self.now.own.known self.now.theirs.past_receiver) }
+        ensures sound { IsSoundIn self.now self.now.own.known self.now.theirs.past_receiver }
+    {
+        self.view(self.own.known(), self.theirs.past_receiver())
+    }
+
+    /// The view of this side's next commitment, which a signature of the peer has to be for. The only error is that memory ran out.
+    pub fn view_to_receive(&self) -> Result<View, Refusal>
+        ensures value { IfOk result (λ v. v ≡ view_in self.now self.now.own.past_receiver self.now.theirs.known) }
+        ensures sound { IsSoundIn self.now self.now.own.past_receiver self.now.theirs.known }
+    {
+        self.view(self.own.past_receiver(), self.theirs.known())
+    }
+
+    /// The view of this side's newest commitment. The only error is that memory ran out.
+    pub fn own_view(&self) -> Result<View, Refusal>
+        ensures value { IfOk result (λ v. v ≡ view_in self.now self.now.own.with_sender self.now.theirs.with_receiver) }
+        ensures sound { IsSoundIn self.now self.now.own.with_sender self.now.theirs.with_receiver }
+    {
+        self.view(self.own.with_sender(), self.theirs.with_receiver())
+    }
+
+    /// The view of the peer's newest commitment that this side signed. The only error is that memory ran out.
+    pub fn peers_view(&self) -> Result<View, Refusal>
+        ensures value { IfOk result (λ v. v ≡ view_in self.now self.now.own.with_receiver self.now.theirs.with_sender) }
+        ensures sound { IsSoundIn self.now self.now.own.with_receiver self.now.theirs.with_sender }
+    {
+        self.view(self.own.with_receiver(), self.theirs.with_sender())
     }
 }

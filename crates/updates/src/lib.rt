@@ -9,6 +9,7 @@ mod ledger;
 mod limits;
 mod pending;
 mod refusals;
+mod shares;
 mod stages;
 
 pub use changes::Update;

@@ -100,15 +100,10 @@ impl Pending {
     }
 
     /// Those that stand live among the first updates of both sides.
-    pub(crate) fn live_at(
-        &self,
-        alloc: Global,
-        added: usize,
-        removed: usize,
-    ) -> Result<Vec<Htlc>, AllocError>
+    pub(crate) fn live_at(&self, added: usize, removed: usize) -> Result<Vec<Htlc>, AllocError>
         ensures { IfOk result (λ v. v.items ≡ live_at added removed self.now.htlcs.items) }
     {
-        let mut live = Vec::new(alloc);
+        let mut live = Vec::new(*self.htlcs.allocator());
         for pending in &self.htlcs {
             if pending.fate_at(added, removed) == Fate::Live {
                 live.push(pending.htlc)?;

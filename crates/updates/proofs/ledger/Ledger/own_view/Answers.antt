@@ -1,0 +1,30 @@
+use Rattle.std.proofs.Common.{subst}
+use Rattle.updates.specs.Stages.{Counts}
+use Rattle.updates.specs.Steady.{Held, IsSteady}
+use Rattle.updates.proofs.OneSide.{sound_at}
+use Rattle.updates.proofs.Sharing.{part_at, view_at, receiver_part, sender_part}
+use Rattle.updates.proofs.ledger.Ledger.own_view.Goals as goal
+
+pub view-requires-clause-own : goal.view-requires-clause-own
+view-requires-clause-own c =
+    let k = subst IsSteady c.self.view_is c.self.invariant.steady in
+    let P : Held → Type 0 = λ h. Counts c.with_sender.result h.own.with_sender in
+    part_at c.args.self.now.own c.with_sender.result _ (subst P c.self.view_is c.with_sender.ensures) (sender_part _ k.own)
+
+pub view-requires-clause-theirs : goal.view-requires-clause-theirs
+view-requires-clause-theirs c =
+    let k = subst IsSteady c.self.view_is c.self.invariant.steady in
+    let P : Held → Type 0 = λ h. Counts c.with_receiver.result h.theirs.with_receiver in
+    part_at c.args.self.now.theirs c.with_receiver.result _ (subst P c.self.view_is c.with_receiver.ensures) (receiver_part _ k.theirs)
+
+pub returns-clause-value : goal.returns-clause-value
+returns-clause-value c =
+    let k = subst IsSteady c.self.view_is c.self.invariant.steady in
+    let P : Held → Type 0 = λ h. Counts c.with_sender.result h.own.with_sender in
+    let Q : Held → Type 0 = λ h. Counts c.with_receiver.result h.theirs.with_receiver in
+    view_at c.view.result c.args.self.now c.with_sender.result c.with_receiver.result _ _ (subst P c.self.view_is c.with_sender.ensures) (subst Q c.self.view_is c.with_receiver.ensures) (sender_part _ k.own) (receiver_part _ k.theirs) c.view.ensures
+
+pub returns-clause-sound : goal.returns-clause-sound
+returns-clause-sound c =
+    let k = subst IsSteady c.self.view_is c.self.invariant.steady in
+    sound_at c.args.self.now _ _ k (sender_part _ k.own) (receiver_part _ k.theirs)

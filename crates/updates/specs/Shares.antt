@@ -1,0 +1,58 @@
+-- What a commitment gives to each side, by what is kept of pending HTLCs.
+use Rattle.std.specs.Prelude.{◌≡◌, ℕ, ◌+◌, ◌-◌, ◌^◌, ◌≤◌, ◌<◌, true, false, if◌then◌else◌, take, List, [], ◌∷◌, Option, unwrap_or}
+use Rattle.terms.specs.declared.htlcs.Htlc.{Htlc}
+use Rattle.terms.specs.declared.sides.Side.{Side}
+use Rattle.terms.specs.declared.sides.Side.TheVariants.{A, B}
+use Rattle.terms.specs.declared.views.Share.{Share}
+use Rattle.terms.specs.declared.views.View.{View}
+use Rattle.updates.specs.declared.pending.Pending.{Pending}
+use Rattle.updates.specs.declared.stages.Part.{Part}
+use Rattle.updates.specs.declared.changes.Update.{Update}
+use Rattle.updates.specs.Views.{view_by, IsSoundBy}
+use Rattle.updates.specs.Stages.{Stages, IsPartOf}
+use Rattle.updates.specs.Refusals.{is_side}
+use Rattle.updates.specs.Pending.{live_at, fulfilled_at}
+use Rattle.updates.specs.Steady.{Held, IsPart}
+
+-- millisatoshis of HTLCs
+abbrev pub amounts : List Htlc → ℕ
+amounts [] = 0
+amounts (h ∷ hs) = h.amount + amounts hs
+
+-- millisatoshis that went out of a balance, where the first `own` updates of the side and the first `theirs` of its peer count
+abbrev pub out_at : Pending → ℕ → ℕ → ℕ
+out_at htlcs own theirs = amounts (live_at own theirs htlcs.htlcs.items) + (htlcs.fulfilled + fulfilled_at own theirs htlcs.htlcs.items)
+
+-- millisatoshis that came in by the peer's HTLCs
+abbrev pub in_at : Pending → ℕ → ℕ → ℕ
+in_at peers own theirs = peers.fulfilled + fulfilled_at theirs own peers.htlcs.items
+
+abbrev pub share_at : ℕ → Pending → Pending → ℕ → ℕ → Share
+share_at start htlcs peers own theirs = record { balance = start + in_at peers own theirs - out_at htlcs own theirs; offered = live_at own theirs htlcs.htlcs.items }
+
+-- no balance below 0, and none that passes 64 bits
+pub record IsPayable (start : ℕ) (htlcs peers : Pending) (own theirs : ℕ) : Type 0 where
+  pub covered : out_at htlcs own theirs ≤ start + in_at peers own theirs
+  pub fits : start + in_at peers own theirs - out_at htlcs own theirs < 2 ^ 64
+
+-- a part that a commitment may hold, kept as a count and its newest fee
+pub record IsPartAt (s : Stages) (part : Part) : Type 0 where
+  pub kept : IsPartOf s.known part
+  pub held : IsPart s (take part.count s.known)
+
+-- the feerate, by the newest fees of this side's part and its peer's
+abbrev pub rate_at : Side → Side → ℕ → Option ℕ → Option ℕ → ℕ
+rate_at side opener rate own theirs = if is_side side opener then unwrap_or own rate else unwrap_or theirs rate
+
+-- the view of this side's share and its peer's
+abbrev pub view_from : Side → Share → Share → ℕ → View
+view_from A mine peers rate = record { a = mine; b = peers; feerate = rate }
+view_from B mine peers rate = record { a = peers; b = mine; feerate = rate }
+
+-- the views of a ledger: of the parts that a commitment holds
+abbrev pub view_in : Held → List Update → List Update → View
+view_in h own theirs = view_by h.terms h.side own theirs
+
+-- the view is sound
+abbrev pub IsSoundIn : Held → List Update → List Update → Type 0
+IsSoundIn h own theirs = IsSoundBy h.terms h.side own theirs
