@@ -1,7 +1,7 @@
 //! The scripts of BOLT 3, checked for all parameters, and the slots with which claims on them are accepted.
 //!
 //! [`funding`], [`to_local`], [`key_hash`] (the script behind to_remote), [`offered`] and [`received`] give the script of an output with exactly
-//! its ways, in the text order of their branches; want of memory is all that they refuse for. [`accepted_slots`] fills the slots of a
+//! its ways, in the text order of their branches; the only error is that memory ran out. [`accepted_slots`] fills the slots of a
 //! [`ClaimKind`], with which `claim::accept` takes a claim on any output of that kind's form.
 //!
 //! ```
