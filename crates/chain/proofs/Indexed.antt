@@ -88,10 +88,10 @@ follows (b ∷ older) t coins coins' ids ids' height may h passes more named i =
     let new : with_transaction (b ∷ older) t ≡ at_end t b.transactions older = ap (λ (c : Contents). with_transaction (c ∷ older) t) e in
     rw new (record {
       coins_are = λ q.
-      more q
-      ∙ ap (λ x. with_mark (names q t) true (option_or x (first_new (created_by height t) q))) (i.coins_are q ∙ ap (λ (c : Contents). coin_at (c ∷ older) q) e)
-      ∙ ap (λ n. with_mark (names q t) true (option_or (coin_at (behind b.transactions older) q) (first_new (created_by n t) q))) (h ∙ omega arith)
-      ∙ sym (coin_next t b.transactions older q tested);
+          more q
+          ∙ ap (λ x. with_mark (names q t) true (option_or x (first_new (created_by height t) q))) (i.coins_are q ∙ ap (λ (c : Contents). coin_at (c ∷ older) q) e)
+          ∙ ap (λ n. with_mark (names q t) true (option_or (coin_at (behind b.transactions older) q) (first_new (created_by n t) q))) (h ∙ omega arith)
+          ∙ sym (coin_next t b.transactions older q tested);
       ids_are = λ id. named id ∙ ap (λ x. bytes_eq (transaction_id t) id || x) (i.ids_are id ∙ ap (λ (c : Contents). has_id (c ∷ older) id) e) ∙ sym (id_next t b.transactions older id);
       tested = tested_next t b.transactions older tested (ap (λ (c : Contents). transaction_refusal (c ∷ older) t) (sym e) ∙ passes);
     })
@@ -282,16 +282,16 @@ follows_back (b ∷ older) t coins coins' ids ids' height may h less named i =
     let same : b ∷ older ≡ behind ts older = ap (λ (c : Contents). c ∷ older) e in
     rw same (record {
       coins_are = λ q.
-      less q
-      ∙ ap (λ n. without (is_output_below (transaction_id t) (length t.outputs) q) n (with_mark (names q t) false (coins q))) at
-      ∙ ap (λ x. without (is_output_below (transaction_id t) (length t.outputs) q) (length older) (with_mark (names q t) false x)) (i.coins_are q ∙ ap (λ bs. coin_at bs q) new ∙ coin_next t ts older q before)
-      ∙ ap (without (is_output_below (transaction_id t) (length t.outputs) q) (length older)) (unmarked (names q t) (coin_at (behind ts older) q) (first_new (created_by (length older) t) q) (named_fresh (behind ts older) (height_of (behind ts older)) t t.inputs q facts.inputs))
-      ∙ forgotten (transaction_id t) (length older) t.outputs (coin_at (behind ts older) q) q (lower_behind ts older (transaction_id t) q facts.new_id);
+          less q
+          ∙ ap (λ n. without (is_output_below (transaction_id t) (length t.outputs) q) n (with_mark (names q t) false (coins q))) at
+          ∙ ap (λ x. without (is_output_below (transaction_id t) (length t.outputs) q) (length older) (with_mark (names q t) false x)) (i.coins_are q ∙ ap (λ bs. coin_at bs q) new ∙ coin_next t ts older q before)
+          ∙ ap (without (is_output_below (transaction_id t) (length t.outputs) q) (length older)) (unmarked (names q t) (coin_at (behind ts older) q) (first_new (created_by (length older) t) q) (named_fresh (behind ts older) (height_of (behind ts older)) t t.inputs q facts.inputs))
+          ∙ forgotten (transaction_id t) (length older) t.outputs (coin_at (behind ts older) q) q (lower_behind ts older (transaction_id t) q facts.new_id);
       ids_are = λ id.
-      named id
-      ∙ ap (λ u. cond u false (ids id)) (is_eq-slice_cmp (transaction_id t) id)
-      ∙ ap (cond (bytes_eq (transaction_id t) id) false) (i.ids_are id ∙ ap (λ bs. has_id bs id) new ∙ id_next t ts older id)
-      ∙ id_by (transaction_id t) id (bytes_eq (transaction_id t) id) (has_id (behind ts older)) refl facts.new_id;
+          named id
+          ∙ ap (λ u. cond u false (ids id)) (is_eq-slice_cmp (transaction_id t) id)
+          ∙ ap (cond (bytes_eq (transaction_id t) id) false) (i.ids_are id ∙ ap (λ bs. has_id bs id) new ∙ id_next t ts older id)
+          ∙ id_by (transaction_id t) id (bytes_eq (transaction_id t) id) (has_id (behind ts older)) refl facts.new_id;
       tested = before;
     })
 
@@ -347,11 +347,11 @@ follows_grant [] blocks' o coins coins' ids outpoint height some new at h more i
 follows_grant (b ∷ older) blocks' o coins coins' ids outpoint height some new at h more i =
     rw new (record {
       coins_are = λ q.
-      more q
-      ∙ ap (λ x. option_or x (first_new (record { outpoint = outpoint; output = o; height = height } ∷ []) q)) (i.coins_are q)
-      ∙ ap (λ a. option_or (coin_at (b ∷ older) q) (first_new (record { outpoint = a; output = o; height = height } ∷ []) q)) at
-      ∙ ap (λ n. option_or (coin_at (b ∷ older) q) (first_new (record { outpoint = grant_outpoint (grants_in (b ∷ older)); output = o; height = n } ∷ []) q)) (h ∙ omega arith)
-      ∙ sym (coin_granted b older o q i.tested);
+          more q
+          ∙ ap (λ x. option_or x (first_new (record { outpoint = outpoint; output = o; height = height } ∷ []) q)) (i.coins_are q)
+          ∙ ap (λ a. option_or (coin_at (b ∷ older) q) (first_new (record { outpoint = a; output = o; height = height } ∷ []) q)) at
+          ∙ ap (λ n. option_or (coin_at (b ∷ older) q) (first_new (record { outpoint = grant_outpoint (grants_in (b ∷ older)); output = o; height = n } ∷ []) q)) (h ∙ omega arith)
+          ∙ sym (coin_granted b older o q i.tested);
       ids_are = i.ids_are;
       tested = i.tested;
     })

@@ -115,11 +115,7 @@ fn mark(coins: &mut BTreeMap<OutPoint, IndexedCoin>, outpoint: &OutPoint, spent:
 }
 
 /// Marks the outputs that inputs name as spent or not.
-pub(crate) fn mark_all(
-    coins: &mut BTreeMap<OutPoint, IndexedCoin>,
-    inputs: &[TxIn],
-    spent: bool,
-)
+pub(crate) fn mark_all(coins: &mut BTreeMap<OutPoint, IndexedCoin>, inputs: &[TxIn], spent: bool)
     ensures { (q : OutPoint) → noted coins.new q ≡ with_mark (list_any (λ i. same_outpoint i.outpoint q) inputs.now) spent (noted coins.old q) }
 {
     for input in inputs {

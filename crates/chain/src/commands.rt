@@ -59,7 +59,11 @@ fn copies(alloc: Global, transactions: &[Tx]) -> Result<Vec<Tx>, AllocError>
 }
 
 /// Makes one call.
-fn make_call<C: Coins>(alloc: Global, chain: &mut C, command: &Command) -> Result<Answer, AllocError>
+fn make_call<C: Coins>(
+    alloc: Global,
+    chain: &mut C,
+    command: &Command,
+) -> Result<Answer, AllocError>
     ensures { IfOk result (λ a. Answered (C.standing chain.old) command.now a (C.standing chain.new)) }
 {
     match command {

@@ -3,7 +3,8 @@
 //! [`Coins`] has the calls. A call speaks of the list of blocks as it stands: an input passes exactly where its output was created and
 //! is unspent, its locks are reached (BIP 65, BIP 68), and the output's program runs clean on its witness (BIP 141); a block is connected
 //! exactly where each of its transactions passes, and else the first at fault is named and nothing changes. [`Scan`] looks through its
-//! blocks for every answer.
+//! blocks for every answer; [`Index`], which is the [`Chain`], keeps a map of the outputs and a set of the ids beside them. Both are proved
+//! against the same clauses. [`replay_commands`] makes calls that are values, one after another.
 //!
 //! ```rust
 //! /// Grants an output, and spends it in the next block.
@@ -40,3 +41,6 @@ pub use program::run_program;
 pub use refusal::{BlockError, Refusal};
 pub use scan::Scan;
 pub use totals::Unspent;
+
+/// The chain that callers want: the one with an index.
+pub type Chain = Index;

@@ -7,6 +7,7 @@ use std::test::Fail;
 use tx::{Inputs, OutPoint, Outputs, Tx, TxIn, TxOut, Witness};
 
 mod plain;
+mod random;
 mod rows;
 mod steps;
 

@@ -49,12 +49,12 @@ pub(super) struct Cast {
     made: Vec<Tx>,
 }
 
-fn output(alloc: Global, value: u64, script: &[u8]) -> Result<TxOut, Fail> {
+pub(super) fn output(alloc: Global, value: u64, script: &[u8]) -> Result<TxOut, Fail> {
     let script = ByteString::from_slice(alloc, script)?;
     Ok(TxOut::new(value, script)?)
 }
 
-fn push_item(alloc: Global, witness: &mut Witness, item: &[u8]) -> Result<(), Fail> {
+pub(super) fn push_item(alloc: Global, witness: &mut Witness, item: &[u8]) -> Result<(), Fail> {
     let item = ByteString::from_slice(alloc, item)?;
     witness.push(item)?;
     Ok(())
@@ -67,7 +67,7 @@ fn push_items(alloc: Global, witness: &mut Witness, items: &[&[u8]]) -> Result<(
     Ok(())
 }
 
-fn outputs(alloc: Global, values: &[u64]) -> Result<Outputs, Fail> {
+pub(super) fn outputs(alloc: Global, values: &[u64]) -> Result<Outputs, Fail> {
     let mut outputs = Outputs::new(alloc);
     for value in values {
         let output = output(alloc, *value, &TRUE_PROGRAM)?;

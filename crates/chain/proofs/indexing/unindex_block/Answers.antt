@@ -11,6 +11,6 @@ loop-confirmed-preserved c =
     record {
       granted = granted;
       rest = λ older at none i.
-      c.unindex_transaction.ensures (c.pop.new.self ∷ older) (granted ∙ none) (at ∙ omega arith)
-      (rw c.in-Some.ensures at (c.loop-confirmed.invariant.rest older at none i));
+          c.unindex_transaction.ensures (c.pop.new.self ∷ older) (granted ∙ none) (at ∙ omega arith)
+          (rw c.in-Some.ensures at (c.loop-confirmed.invariant.rest older at none i));
     }

@@ -9,8 +9,8 @@ use Rattle.chain.proofs.index.IndexStore.add_grant.Goals as goal
 
 pub invariant_of-self-2 : goal.invariant_of-self-2
 invariant_of-self-2 c = (
-      counts_on c.self.inside.grants (grants_in c.self.inside.blocks) 1 c.self.invariant.0
+  counts_on c.self.inside.grants (grants_in c.self.inside.blocks) 1 c.self.invariant.0
       ∙ ap (λ n. n % 2 ^ 64) (sym (grants_in_more c.self.inside.blocks c.args.output c.in_default.ensures.some))
       ∙ ap (λ bs. grants_in bs % 2 ^ 64) (sym c.in_default.ensures.ok),
-      follows_grant c.self.inside.blocks c.grant.new.self c.args.output (noted c.self.inside.coins) (noted c.note_output.new.coins) (contains (slice_cmp nat_cmp) c.self.inside.ids) c.grant_outpoint-outpoint.result _ c.in_default.ensures.some c.in_default.ensures.ok (c.grant_outpoint-outpoint.ensures (grants_in c.self.inside.blocks) c.self.invariant.0) (ap (λ n. n - 1) c.as_slice.ensures.count) c.in_ok-note_output.ensures.ok c.self.invariant.1,
-    )
+  follows_grant c.self.inside.blocks c.grant.new.self c.args.output (noted c.self.inside.coins) (noted c.note_output.new.coins) (contains (slice_cmp nat_cmp) c.self.inside.ids) c.grant_outpoint-outpoint.result _ c.in_default.ensures.some c.in_default.ensures.ok (c.grant_outpoint-outpoint.ensures (grants_in c.self.inside.blocks) c.self.invariant.0) (ap (λ n. n - 1) c.as_slice.ensures.count) c.in_ok-note_output.ensures.ok c.self.invariant.1,
+)
