@@ -1,0 +1,59 @@
+-- The amounts of a commitment (BOLT 3, "Commitment Transaction Outputs", "Fees" and "Trimmed Outputs").
+use Rattle.std.specs.Prelude.{◌≡◌, ℕ, ◌+◌, ◌-◌, ◌*◌, ◌≤◌, min, not, nat_lt, if◌then◌else◌, List, length, sum_by, Option, Some, None, unwrap_or}
+use Rattle.std.specs.List.{filter}
+use Rattle.terms.specs.declared.htlcs.Htlc.{Htlc}
+use Rattle.terms.specs.declared.sides.Side.{Side}
+use Rattle.terms.specs.declared.sides.Side.TheVariants.{A, B}
+use Rattle.terms.specs.declared.agreement.Terms.{Terms}
+use Rattle.terms.specs.declared.views.View.{View}
+use Rattle.terms.specs.Agreement.{party}
+use Rattle.terms.specs.Sides.{other}
+use Rattle.terms.specs.Views.{share}
+use Rattle.commit.specs.declared.fees.Direction.{Direction}
+use Rattle.commit.specs.declared.fees.Direction.TheVariants.{Offered, Received}
+use Rattle.commit.specs.declared.amounts.Amounts.{Amounts}
+use Rattle.commit.specs.Fees.{satoshis_of, fee_of, commitment_weight, is_trimmed_by}
+
+-- the HTLCs that have an output on the owner's commitment
+abbrev pub untrimmed : ℕ → ℕ → Direction → List Htlc → List Htlc
+untrimmed dust feerate direction htlcs = filter (λ htlc. not (is_trimmed_by dust feerate direction htlc)) htlcs
+
+-- of a fee, what a side owes: the opener pays all of it
+abbrev pub owed_by : Side → Side → ℕ → ℕ
+owed_by A A fee = fee
+owed_by B B fee = fee
+owed_by A B fee = 0
+owed_by B A fee = 0
+
+-- what a side's balance is in satoshis, less what it owes of the fee; nothing where that is more
+abbrev pub left_to : Side → Side → ℕ → View → ℕ
+left_to side opener fee view = satoshis_of (share side view).balance - owed_by side opener fee
+
+-- an output below the dust limit is left out
+abbrev pub unless_dust : ℕ → ℕ → Option ℕ
+unless_dust dust value = if nat_lt value dust then None else Some value
+
+-- the amounts, with the HTLCs that have an output
+abbrev pub amounts_with : Terms → View → Side → List Htlc → List Htlc → ℕ → Amounts
+amounts_with terms view owner offered received fee = record {
+  offered = offered;
+  received = received;
+  fee = fee;
+  to_local = unless_dust (party owner terms).dust (left_to owner terms.opener fee view);
+  to_remote = unless_dust (party owner terms).dust (left_to (other owner) terms.opener fee view);
+}
+
+abbrev pub fee_with : ℕ → List Htlc → List Htlc → ℕ
+fee_with feerate offered received = fee_of (commitment_weight (length offered + length received)) feerate
+
+abbrev pub offered_of : Terms → View → Side → List Htlc
+offered_of terms view owner = untrimmed (party owner terms).dust view.feerate Offered (share owner view).offered
+
+abbrev pub received_of : Terms → View → Side → List Htlc
+received_of terms view owner = untrimmed (party owner terms).dust view.feerate Received (share (other owner) view).offered
+
+-- the amounts of the owner's commitment of a view
+abbrev pub amounts_of : Terms → View → Side → Amounts
+amounts_of terms view owner =
+    amounts_with terms view owner (offered_of terms view owner) (received_of terms view owner)
+        (fee_with view.feerate (offered_of terms view owner) (received_of terms view owner))

@@ -1,0 +1,26 @@
+-- What the transactions of a commitment cost, and which HTLCs are worth an output (BOLT 3, "Fees" and "Trimmed Outputs").
+use Rattle.std.specs.Prelude.{ℕ, ◌+◌, ◌*◌, ◌/◌, Bool, nat_lt}
+use Rattle.terms.specs.declared.htlcs.Htlc.{Htlc}
+use Rattle.commit.specs.declared.fees.Direction.{Direction}
+use Rattle.commit.specs.declared.fees.Direction.TheVariants.{Offered, Received}
+
+-- an amount of millisatoshis in satoshis, rounded down
+abbrev pub satoshis_of : ℕ → ℕ
+satoshis_of amount = amount / 1000
+
+-- what a transaction of a weight costs, in satoshis, rounded down
+abbrev pub fee_of : ℕ → ℕ → ℕ
+fee_of weight feerate = weight * feerate / 1000
+
+-- of a commitment with so many untrimmed HTLCs
+abbrev pub commitment_weight : ℕ → ℕ
+commitment_weight htlcs = 724 + 172 * htlcs
+
+-- of the owner's second-stage transaction: HTLC-timeout, HTLC-success
+abbrev pub htlc_weight : Direction → ℕ
+htlc_weight Offered = 663
+htlc_weight Received = 703
+
+-- an HTLC is trimmed where it is worth less than the dust limit and its second-stage transaction
+abbrev pub is_trimmed_by : ℕ → ℕ → Direction → Htlc → Bool
+is_trimmed_by dust feerate direction htlc = nat_lt (satoshis_of htlc.amount) (dust + fee_of (htlc_weight direction) feerate)

@@ -1,0 +1,2 @@
+pub mod Fees
+pub mod Amounts

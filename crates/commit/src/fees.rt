@@ -1,0 +1,63 @@
+//! What the transactions of a commitment cost, and which HTLCs are worth an output.
+
+ghost use Rattle.std.specs.Prelude.{◌≡◌};
+ghost use Rattle.commit.specs.Fees.{satoshis_of, fee_of, commitment_weight, htlc_weight, is_trimmed_by};
+
+use terms::Htlc;
+
+/// Weight of a commitment without HTLCs.
+const COMMITMENT_WEIGHT: u128 = 724;
+
+/// Weight that each untrimmed HTLC adds to a commitment.
+const WEIGHT_PER_HTLC: u128 = 172;
+
+/// Weight of an HTLC-timeout transaction.
+const TIMEOUT_WEIGHT: u64 = 663;
+
+/// Weight of an HTLC-success transaction.
+const SUCCESS_WEIGHT: u64 = 703;
+
+/// Which way an HTLC goes, as the owner of a commitment sees it.
+#[derive(Clone, Copy, Debug, PartialEq, Eq, Drop)]
+pub enum Direction {
+    /// The owner offered it, and takes it back by an HTLC-timeout transaction.
+    Offered,
+    /// It was offered to the owner, who takes it by an HTLC-success transaction.
+    Received,
+}
+
+/// An amount of millisatoshis in satoshis, rounded down.
+pub fn satoshis(amount: u64) -> u64
+    ensures { result ≡ satoshis_of amount }
+{
+    amount / 1000
+}
+
+/// What a commitment with so many untrimmed HTLCs costs at a feerate in satoshis for 1,000 units of weight: satoshis, rounded down (BOLT 3, "Fee
+/// Calculation for Commitment Transactions").
+pub fn commitment_fee(htlcs: usize, feerate: u32) -> u128
+    ensures { result ≡ fee_of (commitment_weight htlcs) feerate }
+{
+    (COMMITMENT_WEIGHT + WEIGHT_PER_HTLC * htlcs as u128) * u128::from(feerate) / 1000
+}
+
+/// What the owner's second-stage transaction costs: satoshis, rounded down (BOLT 3, "Fee Calculation for HTLC-Timeout and HTLC-Success
+/// Transactions").
+pub fn htlc_fee(direction: Direction, feerate: u32) -> u64
+    ensures { result ≡ fee_of (htlc_weight direction) feerate }
+{
+    let weight = match direction {
+        Direction::Offered => TIMEOUT_WEIGHT,
+        Direction::Received => SUCCESS_WEIGHT,
+    };
+    weight * u64::from(feerate) / 1000
+}
+
+/// Whether an HTLC has no output: its satoshis are below the owner's dust limit and the fee of its second-stage transaction (BOLT 3, "Trimmed
+/// Outputs").
+pub fn is_trimmed(dust: u64, feerate: u32, direction: Direction, htlc: &Htlc) -> bool
+    ensures { result ≡ is_trimmed_by dust feerate direction htlc.now }
+{
+    let least = u128::from(dust) + u128::from(htlc_fee(direction, feerate));
+    u128::from(satoshis(htlc.amount)) < least
+}
