@@ -5,6 +5,7 @@ pub mod Noting
 pub mod Passing
 pub mod Indexed
 pub mod Replaying
+pub mod Conserved
 pub mod Growing
 pub mod Sums
 pub mod Examples

@@ -75,10 +75,10 @@ some_or : {A : Type 0} (x y : Option A) → is_some x ≡ true → is_some (opti
 some_or None y e = absurd (false≢true e)
 some_or (Some a) y e = refl
 
-found_stays : (p : Creation → Bool) (xs ys : List Creation) → is_some (find p xs) ≡ true → is_some (find p (xs ++ ys)) ≡ true
+pub found_stays : (p : Creation → Bool) (xs ys : List Creation) → is_some (find p xs) ≡ true → is_some (find p (xs ++ ys)) ≡ true
 found_stays p xs ys e = ap is_some (find-append p xs ys) ∙ some_or (find p xs) (find p ys) e
 
-coin_created : {A B : Type 0} (f : A → B) (x : Option A) (c : B) → option_map f x ≡ Some c → is_some x ≡ true
+pub coin_created : {A B : Type 0} (f : A → B) (x : Option A) (c : B) → option_map f x ≡ Some c → is_some x ≡ true
 coin_created f None c e = absurd cc
 coin_created f (Some a) c e = refl
 

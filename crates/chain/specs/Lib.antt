@@ -10,3 +10,4 @@ pub mod Totals
 pub mod Tested
 pub mod Indexing
 pub mod Replays
+pub mod Conserving

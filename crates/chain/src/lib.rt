@@ -23,6 +23,7 @@ mod commands;
 mod connecting;
 mod index;
 mod indexing;
+pub mod laws;
 mod locks;
 mod program;
 mod refusal;
