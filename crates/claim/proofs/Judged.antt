@@ -19,6 +19,7 @@ use Rattle.claim.specs.declared.errors.AcceptError.TheVariants.{NoSuchPath}
 use Rattle.claim.specs.Evidence.{evidence_of}
 use Rattle.claim.specs.Fitting.{IsRefusal, Opens}
 use Rattle.claim.specs.Judgement.{has_polarity, is_met, first_unmet_or, judgement_of_path, judgement_of, height_of, is_shell, known_digest, needed_height}
+use Rattle.claim.specs.Claims.{ClaimParts, TakesPath, path_of}
 use Rattle.claim.proofs.Shells.{fixed_of}
 use Rattle.claim.proofs.Meeting.{met_by, judgement_of-ok, judgement_of-opens, sound-at}
 
@@ -106,3 +107,10 @@ needed-low_by p place (Fixed t) h e = (fixed_of p place t e).height
 pub needed-low : (ways : CheckedScript) (index : ℕ) (slots : List Slot) (place : Place) (shell : Shell) (p : Path) → IsSound ways.ops p → judgement_of ways index slots place shell ≡ Ok p → needed_height p shell < 500000000
 needed-low ways index slots place shell p s e =
     needed-low_by p place shell (accepted-low ways index slots place shell p s e) (judgement_of-ok ways index slots place shell p e).stands
+
+-- a claim that takes a path has it at its index, and its shell stands round it
+pub taken-at : (c : ClaimParts) (p : Path) → TakesPath c p → path_of c ≡ Some p
+taken-at c p e = (judgement_of-ok c.ways c.index c.slots c.place c.shell p e).at
+
+pub taken-shell : (c : ClaimParts) (p : Path) → TakesPath c p → is_shell p c.place c.shell ≡ true
+taken-shell c p e = (judgement_of-ok c.ways c.index c.slots c.place c.shell p e).stands

@@ -69,7 +69,7 @@ state-ok spend op rest s t counted height q o l e =
     let b : go [] ≡ Ok q = sym (ap (λ r. r >>= go) o) ∙ a in
     after-ok rest (counted + weight op) height (effect spend (counted + weight op) op s) t q l b
 
--- a clean run goes on behind an opcode that leaves these elements
+-- a clean run goes on after an opcode that leaves these elements
 step : (spend : Spend) (at : ℕ) (op : Op) (rest : List Op) (s t : Elements) (counted height n k : ℕ) → open_ifs_after op [] ≡ Ok [] → Leaves (effect spend (counted + weight op) op s) t → outcome_from spend at (op ∷ rest) (at_state s counted height) ≡ Clean n k → (c : ℕ) × (h : ℕ) × (outcome_from spend (at + 1) rest (at_state t c h) ≡ Clean n k)
 step spend at op rest s t counted height n k o l e =
     let r = onward-ok at (state_after spend op rest (at_state s counted height)) (outcome_from spend (at + 1) rest) n k e in

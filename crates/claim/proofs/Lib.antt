@@ -5,6 +5,7 @@ pub mod Filled
 pub mod Locks
 pub mod Parsing
 pub mod KeyHash
+pub mod Growing
 pub mod Opening
 pub mod Shells
 pub mod Meeting

@@ -39,6 +39,7 @@ use Rattle.claim.specs.Judgement.{has_polarity, is_met, first_unmet_or, path_or_
 use Rattle.claim.proofs.Shells.{round_of}
 use Rattle.claim.proofs.Parsing.{parsed}
 use Rattle.claim.proofs.KeyHash.{key_items}
+use Rattle.claim.proofs.Growing.{clean-items}
 use Rattle.claim.proofs.Opening.{given}
 use Rattle.claim.proofs.Telling.{Known, Tells, hash-tells, size-tells, truth-tells, is-tells, form-tells, key_form-tells}
 use Rattle.claim.proofs.TokenForms.{token-length, key-length}
@@ -191,6 +192,7 @@ judgement_of-opens ways index slots place shell p valid short all e =
     record {
       meets = fits-meets ways index slots place shell p j s;
       clean = fits-runs ways index slots place shell p valid short j s;
+      short = λ t input f. let clean = s.clean (fits_spend ways place t input) f.items (fits-meets ways index slots place shell p j s t input f) in let low = clean-items (fits_spend ways place t input) ways.ops f.items p.ops p.height clean in omega (arith, low, s.low);
       few = s.few;
       low = s.low;
     }

@@ -1,5 +1,5 @@
 -- What a claim is, by its parts.
-use Rattle.std.specs.Prelude.{◌≡◌, ℕ, List, Ok, is_ok, IsTrue}
+use Rattle.std.specs.Prelude.{◌≡◌, ℕ, List, slice_get, Option, option_map, unwrap_or, Ok, is_ok, IsTrue}
 use Rattle.script.specs.Spelling.{spelling}
 use Rattle.tx.specs.declared.input.TxIn.{TxIn}
 use Rattle.tx.specs.Fields.{Transaction}
@@ -8,7 +8,7 @@ use Rattle.paths.specs.Listing.{CheckedScript}
 use Rattle.claim.specs.declared.parts.Slot.{Slot}
 use Rattle.claim.specs.declared.parts.Place.{Place}
 use Rattle.claim.specs.declared.parts.Shell.{Shell}
-use Rattle.claim.specs.Judgement.{judgement_of, bare_shell}
+use Rattle.claim.specs.Judgement.{judgement_of, bare_shell, needed_height, age_of}
 use Rattle.claim.specs.Fitting.{Fits, Opens}
 
 -- a claim: the checked script of the claimed output, the index of the path that it takes, the slots, the top first, where the output stands,
@@ -23,6 +23,17 @@ pub record ClaimParts : Type 0 where
 -- the claim takes this path: the one on which it was accepted
 abbrev pub TakesPath : ClaimParts → Path → Type 0
 TakesPath c p = judgement_of c.ways c.index c.slots c.place c.shell ≡ Ok p
+
+-- the path at the claim's index
+abbrev pub path_of : ClaimParts → Option Path
+path_of c = slice_get c.ways.paths c.index
+
+-- the sequence of the claim's input, which is the path's age in blocks, and the lock time that a transaction with the claim needs
+abbrev pub sequence_of : ClaimParts → ℕ
+sequence_of c = unwrap_or (option_map age_of (path_of c)) 0
+
+abbrev pub lock_time_of : ClaimParts → ℕ
+lock_time_of c = unwrap_or (option_map (λ p. needed_height p c.shell) (path_of c)) 0
 
 -- a path was accepted for the claim
 abbrev pub IsAccepted : ClaimParts → Type 0

@@ -41,10 +41,9 @@ fn path_at(paths: &[Path], index: usize) -> &Path
 }
 
 impl Claim {
-    ghost use Rattle.std.specs.Prelude.{is_ok, IsTrue};
-    ghost use Rattle.claim.specs.Judgement.{judgement_of, needed_height, age_of};
-    ghost use Rattle.claim.specs.Claims.{IsOpening, TakesPath};
-    ghost use Rattle.paths.specs.declared.state.Path.{Path as PathOf};
+    ghost use Rattle.std.specs.Prelude.{is_ok, IsTrue, Some, true};
+    ghost use Rattle.claim.specs.Judgement.{judgement_of, is_shell};
+    ghost use Rattle.claim.specs.Claims.{IsOpening, TakesPath, path_of, sequence_of, lock_time_of};
     ghost use Rattle.paths.specs.Sound.{IsSound};
 
     // A claim that was judged.
@@ -84,6 +83,8 @@ impl Claim {
     /// The path that the claim takes. Whatever meets it runs clean, and whatever fits the claim meets it and opens the output.
     pub fn path(&self) -> &Path
         ensures value { TakesPath self.now result.now }
+        ensures at { path_of self.now ≡ Some result.now }
+        ensures shell { is_shell result.now self.now.place self.now.shell ≡ true }
         ensures sound { IsSound self.now.ways.ops result.now }
         ensures opens { IsOpening self.now }
     {
@@ -123,7 +124,7 @@ impl Claim {
     /// The lock time that a transaction with this claim needs, a height (BIP 65): at least that of the path, 0 where the path checks none; or that
     /// of the fixed transaction.
     pub fn needs_height(&self) -> u64
-        ensures value { (p : PathOf) → TakesPath self.now p → result ≡ needed_height p self.now.shell }
+        ensures value { result ≡ lock_time_of self.now }
         ensures below { result < LOCKTIME_THRESHOLD }
     {
         let lock = self.path().lock;
@@ -135,14 +136,14 @@ impl Claim {
 
     /// How many blocks the claimed output has to be old; 0 where the path checks no age (BIP 68, 112).
     pub fn needs_age(&self) -> u16
-        ensures { (p : PathOf) → TakesPath self.now p → result ≡ age_of p }
+        ensures { result ≡ sequence_of self.now }
     {
         self.path().age.unwrap_or(0)
     }
 
     /// The sequence of the claim's input, which is its age in blocks (BIP 68).
     pub fn sequence(&self) -> u32
-        ensures { (p : PathOf) → TakesPath self.now p → result ≡ age_of p }
+        ensures { result ≡ sequence_of self.now }
     {
         u32::from(self.needs_age())
     }

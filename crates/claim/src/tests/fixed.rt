@@ -91,16 +91,26 @@ fn keeps_the_fixed_transaction_without_its_witness(rt: HostRuntime) -> Result<()
     Ok(())
 }
 
+// The refusal's name.
+fn refusal(alloc: Global, lock_time: u32, value: u64, digest: &[u8; 32]) -> Result<String, Fail> {
+    match answer(alloc, fixed(alloc, lock_time, value)?, digest)? {
+        Ok(_) => Ok(format!(in alloc; "accepted")?),
+        Err(name) => Ok(name),
+    }
+}
+
 #[test]
 fn refuses_other_digests_and_transactions(rt: HostRuntime) -> Result<(), Fail> {
     let alloc = rt.alloc();
-    let tx = fixed(alloc, 500, 1000)?;
-    let digest = digest_of(&tx, 0, &code(alloc)?, 1000)?;
-    let other = answer(alloc, fixed(alloc, 501, 1000)?, &digest)?;
-    assert!(rt; other.is_err_and(|name| name.as_str().starts_with("Unmet assigned 1,0 ")));
-    let time = answer(alloc, fixed(alloc, 500_000_000, 1000)?, &digest)?;
-    assert!(rt; time.is_err_and(|name| name.as_str() == "WrongShell"));
-    let above = answer(alloc, fixed(alloc, 500, 1001)?, &digest)?;
-    assert!(rt; above.is_err_and(|name| name.as_str() == "WrongShell"));
+    let digest = digest_of(&fixed(alloc, 500, 1000)?, 0, &code(alloc)?, 1000)?;
+    for (lock_time, value, name) in [
+        (500, 1000, "accepted"),
+        (501, 1000, "Unmet"),
+        (500_000_000, 1000, "WrongShell"),
+        (500, 1001, "WrongShell"),
+    ] {
+        let given = refusal(alloc, lock_time, value, &digest)?;
+        assert!(rt; given.as_str().starts_with(name), "{lock_time} {value}");
+    }
     Ok(())
 }

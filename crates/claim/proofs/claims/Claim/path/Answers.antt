@@ -1,8 +1,9 @@
-use Rattle.std.proofs.Common.{subst}
+use Rattle.std.proofs.Common.{◌≡◌, true, Some, subst}
 use Rattle.script.specs.Spelling.{Spells}
 use Rattle.paths.specs.Sound.{IsSound}
-use Rattle.claim.specs.Claims.{TakesPath, IsOpening}
-use Rattle.claim.proofs.Judged.{path-within, path-here, accepted-sound, accepted-opens}
+use Rattle.claim.specs.Claims.{TakesPath, path_of, IsOpening}
+use Rattle.claim.specs.Judgement.{is_shell}
+use Rattle.claim.proofs.Judged.{path-within, path-here, accepted-sound, accepted-opens, taken-at, taken-shell}
 use Rattle.claim.proofs.claims.Claim.path.Goals as goal
 
 pub path_at-requires : goal.path_at-requires
@@ -12,6 +13,20 @@ pub returns-clause-value : goal.returns-clause-value
 returns-clause-value c =
     let i = c.self.inside in
     subst (λ v. TakesPath v c.path_at.result.now) c.self.view_is (path-here i.checked i.index i.slots i.place i.shell c.paths.result.now c.path_at.result.now c.paths.ensures.value c.path_at.ensures c.self.invariant)
+
+pub returns-clause-at : goal.returns-clause-at
+returns-clause-at c =
+    let i = c.self.inside in
+    subst (λ v. path_of v ≡ Some c.path_at.result.now) c.self.view_is
+    (taken-at (record { ways = i.checked; index = i.index; slots = i.slots; place = i.place; shell = i.shell }) c.path_at.result.now
+    (path-here i.checked i.index i.slots i.place i.shell c.paths.result.now c.path_at.result.now c.paths.ensures.value c.path_at.ensures c.self.invariant))
+
+pub returns-clause-shell : goal.returns-clause-shell
+returns-clause-shell c =
+    let i = c.self.inside in
+    subst (λ v. is_shell c.path_at.result.now v.place v.shell ≡ true) c.self.view_is
+    (taken-shell (record { ways = i.checked; index = i.index; slots = i.slots; place = i.place; shell = i.shell }) c.path_at.result.now
+    (path-here i.checked i.index i.slots i.place i.shell c.paths.result.now c.path_at.result.now c.paths.ensures.value c.path_at.ensures c.self.invariant))
 
 pub returns-clause-sound : goal.returns-clause-sound
 returns-clause-sound c =

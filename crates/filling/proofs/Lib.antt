@@ -1,0 +1,10 @@
+pub mod Lists
+pub mod Repeats
+pub mod Standing
+pub mod Fitted
+pub mod Bounds
+pub mod Outpoints
+pub mod Repeated
+pub mod Indexing
+pub mod Going
+pub mod Finishing

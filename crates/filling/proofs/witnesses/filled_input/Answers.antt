@@ -1,0 +1,7 @@
+use Rattle.filling.proofs.Fitted.{slots-short}
+use Rattle.filling.proofs.witnesses.filled_input.Goals as goal
+
+pub witness-requires : goal.witness-requires
+witness-requires c = record {
+  short = λ a. slots-short c.args.claim.now c.args.signer.now c.args.preimages.now c.args.cache.now c.args.index (record { path = c.path.result.now; at = c.path.ensures.at; taken = c.path.ensures.value; opens = c.path.ensures.opens }) c.requires.here c.requires.bare c.requires.stands a;
+}

@@ -1,0 +1,33 @@
+use Rattle.std.proofs.Common.{◌≡◌, sym, ap, subst, ◌∙◌, refl, arith}
+use Rattle.std.specs.Prelude.{slice_get}
+use Rattle.tx.specs.Fields.{unsigned_transaction}
+use Rattle.filling.specs.Filling.{filled_input}
+use Rattle.filling.specs.Standing.{Stands}
+use Rattle.filling.proofs.Standing.{here-at, bare-of, stands-at}
+use Rattle.filling.proofs.Going.{values, at-index, grown, fillable-next, lacks-next, lacks-at, opening-next}
+use Rattle.filling.proofs.witnesses.filled_inputs.Goals as goal
+
+pub filled_input-requires-clause-here : goal.filled_input-requires-clause-here
+filled_input-requires-clause-here c =
+    ap (λ t. slice_get t.inputs c.loop-i.i) c.new-cache.ensures
+    ∙ here-at (values c.args.claims.now) c.args.tx.now c.loop-i.i c.index-claims-i.result.now c.requires.unsigned.inputs (at-index c.args.claims.now c.loop-i.i _ c.index-claims-i.result (omega arith) c.index-claims-i.is)
+
+pub filled_input-requires-clause-bare : goal.filled_input-requires-clause-bare
+filled_input-requires-clause-bare c = subst (λ t. unsigned_transaction t ≡ t) (sym c.new-cache.ensures) (bare-of (values c.args.claims.now) c.args.tx.now c.requires.unsigned.inputs)
+
+pub filled_input-requires-clause-stands : goal.filled_input-requires-clause-stands
+filled_input-requires-clause-stands c =
+    subst (λ t. Stands t c.index-claims-i.result.now) (sym c.new-cache.ensures)
+    (stands-at c.args.tx.now (values c.args.claims.now) c.loop-i.i c.index-claims-i.result.now c.requires.unsigned.stands (at-index c.args.claims.now c.loop-i.i _ c.index-claims-i.result (omega arith) c.index-claims-i.is))
+
+pub loop-i-preserved : goal.loop-i-preserved
+loop-i-preserved c = record {
+  inputs = grown (filled_input c.args.tx.now c.args.preimages.now) c.args.claims.now c.loop-i.i _ c.index-claims-i.result c.loop-i.inputs c.push_within_limit.new.self c.in-Ok.input (omega arith) c.index-claims-i.is c.loop-i.invariant.inputs
+      (c.in-Ok.ensures.value.0 ∙ ap (λ t. filled_input t c.args.preimages.now c.index-claims-i.result.now) c.new-cache.ensures) c.in_ok-push_within_limit-in-Ok.ensures.ok;
+  fillable = fillable-next c.args.signer.now c.args.preimages.now c.args.claims.now c.loop-i.i _ c.index-claims-i.result (omega arith) c.index-claims-i.is c.in-Ok.ensures.value.1 c.loop-i.invariant.fillable;
+  lacks = lacks-next c.args.signer.now c.args.preimages.now c.args.claims.now c.loop-i.i _ c.index-claims-i.result (omega arith) c.index-claims-i.is c.in-Ok.ensures.value.1 c.loop-i.invariant.lacks;
+  opening = opening-next c.args.claims.now c.loop-i.i _ c.index-claims-i.result (omega arith) c.index-claims-i.is c.in-Ok.ensures.open c.loop-i.invariant.opening;
+}
+
+pub returns-in-Err-clause-value : goal.returns-in-Err-clause-value
+returns-in-Err-clause-value c = lacks-at c.args.signer.now c.args.preimages.now c.args.claims.now c.loop-i.i _ c.index-claims-i.result (omega arith) c.index-claims-i.is c.loop-i.invariant.lacks c.in-Err.refusal c.in-Err.ensures.value

@@ -1,0 +1,48 @@
+-- What a filling is, and what holds of it.
+use Rattle.std.specs.Prelude.{◌≡◌, ℕ, ◌≤◌, List, [], ◌∷◌, map, Some}
+use Rattle.script.specs.Limits.{max_ops, max_stack_size}
+use Rattle.script.specs.Run.{Clean}
+use Rattle.tx.specs.declared.input.TxIn.{TxIn}
+use Rattle.tx.specs.Parts.{Output}
+use Rattle.tx.specs.Fields.{Transaction}
+use Rattle.sighash.specs.Programs.{run_of}
+use Rattle.keys.specs.Rights.{Rights}
+use Rattle.claim.specs.declared.parts.Place.{Place}
+use Rattle.claim.specs.Fitting.{output_at}
+use Rattle.claim.specs.Claims.{ClaimParts, FitsClaim}
+use Rattle.filling.specs.Filling.{filling_of}
+use Rattle.filling.specs.Refusals.{ArePassed, AreFillable, all_slots}
+
+-- a filling: the transaction, and where the outputs stand that its inputs spend, in their order
+pub record Filling : Type 0 where
+  pub tx : Transaction
+  pub places : List Place
+
+-- an input spends the output at a place and runs its program clean (BIP 141), within 201 counted opcodes and 1,000 elements
+pub record RunsClean (t : Transaction) (input : TxIn) (place : Place) : Type 0 where
+  pub outpoint : input.outpoint ≡ place.outpoint
+  pub counted : ℕ
+  pub height : ℕ
+  pub clean : run_of t input (output_at place) ≡ Some (Clean counted height)
+  pub few : counted ≤ max_ops
+  pub low : height ≤ max_stack_size
+
+-- so does each input, at its place
+abbrev pub AllRunClean : Transaction → List TxIn → List Place → Type 0
+AllRunClean t [] [] = Unit {0}
+AllRunClean t (input ∷ inputs) (place ∷ places) = RunsClean t input place × AllRunClean t inputs places
+AllRunClean t inputs places = ⊥
+
+-- each input fits its claim
+abbrev pub AllFit : Transaction → List ClaimParts → List TxIn → Type 0
+AllFit t [] [] = Unit {0}
+AllFit t (c ∷ claims) (input ∷ inputs) = FitsClaim c t input × AllFit t claims inputs
+AllFit t claims inputs = ⊥
+
+-- the filling is that of the claims, whose slots can all be filled and for which no refusal holds
+pub record IsFillingOf (claims : List ClaimParts) (outputs : List Output) (r : Rights) (preimages : List (List ℕ)) (f : Filling) : Type 0 where
+  pub passed : ArePassed claims outputs
+  pub fillable : AreFillable r preimages (all_slots claims)
+  pub tx : f.tx ≡ filling_of claims outputs preimages
+  pub places : f.places ≡ map (λ c. c.place) claims
+  pub fits : AllFit f.tx claims f.tx.inputs

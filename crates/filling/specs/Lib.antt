@@ -1,0 +1,4 @@
+pub mod Refusals
+pub mod Filling
+pub mod Filled
+pub mod Standing
