@@ -4,3 +4,4 @@ pub mod Assembled
 pub mod Forms
 pub mod ScriptExamples
 pub mod Accepted
+pub mod ClaimExamples

@@ -14,8 +14,6 @@
 #![tactic(auto)]
 
 mod assembling;
-#[cfg(test)]
-mod claim_tests;
 mod kinds;
 mod offered_htlc;
 mod parameters;

@@ -1,13 +1,19 @@
-// The scripts of BOLT 3, Appendix C, and scripts of every shape of number.
+// The scripts of BOLT 3, Appendix C, scripts of every shape of number, and slots of every kind of claim.
 
-use crate::{Expiry, HtlcKeys, funding, key_hash, offered, received, to_local};
+use crate::{
+    ClaimKind, Expiry, HtlcKeys, accepted_slots, funding, key_hash, offered, received, to_local,
+};
+use claim::{Place, Shell, accept};
 use digest::sha256;
 use hex::FromHex;
 use keys::Key;
+use lists::ByteString;
 use paths::Checked;
-use std::alloc::Global;
+use sighash::Token;
+use std::alloc::{AllocError, Global};
 use std::process::Abort;
 use std::test::Fail;
+use tx::OutPoint;
 
 /// The keys of Appendix C, by the names that they have there.
 const LOCAL_FUNDING: &str = "023da092f6980e58d2c037173180e9a465476026ee50f96695963e8efe436f54eb";
@@ -113,6 +119,74 @@ fn builds_every_shape_of_number(rt: HostRuntime) -> Result<(), Fail> {
         let expiry = Expiry::new(u32::from(delay) * 7629).expect(&rt, "a height");
         let checked = received(alloc, &keys, &[7; 32], expiry)?;
         assert_eq!(rt; checked.paths().len(), 3);
+    }
+    Ok(())
+}
+
+// The place of an output with the script's program.
+fn place(alloc: Global, checked: &Checked) -> Result<Place, AllocError> {
+    let mut program = Vec::from_slice(alloc, &[0x00, 0x20])?;
+    program.extend_from_slice(&sha256(checked.script().bytes()))?;
+    Ok(Place {
+        outpoint: OutPoint {
+            txid: [7; 32],
+            index: 1,
+        },
+        value: 10_000,
+        program: ByteString::from_vec(program),
+    })
+}
+
+// The example of the crate's page.
+#[test]
+fn claims_after_a_delay(rt: HostRuntime) -> Result<(), Fail> {
+    let alloc = rt.alloc();
+    let delayed = key(&rt, LOCAL_DELAYED);
+    let checked = to_local(alloc, &key(&rt, LOCAL_REVOCATION), 40_000, &delayed)?;
+    let kind = ClaimKind::Delayed { delayed };
+    let slots = accepted_slots(alloc, &kind)?;
+    let place = place(alloc, &checked)?;
+    let claim = accept(alloc, checked, kind.path(), slots, place, Shell::Open)?;
+    assert_eq!(rt; claim.needs_age(), 40_000);
+    Ok(())
+}
+
+#[test]
+fn fills_the_slots_of_every_kind(rt: HostRuntime) -> Result<(), Fail> {
+    let alloc = rt.alloc();
+    let local = key(&rt, LOCAL_HTLC);
+    let remote = key(&rt, REMOTE_HTLC);
+    let payment_hash = [9; 32];
+    let remote_token = Token::new(&remote.bytes, &[5; 32]);
+    let success = ClaimKind::HtlcSuccess {
+        payment_hash,
+        local,
+        remote_token,
+    };
+    let kinds = [
+        (ClaimKind::Penalty { revocation: local }, 2),
+        (ClaimKind::Delayed { delayed: local }, 2),
+        (ClaimKind::HtlcPenalty { revocation: local }, 2),
+        (
+            ClaimKind::DirectPreimage {
+                payment_hash,
+                remote,
+            },
+            2,
+        ),
+        (ClaimKind::DirectTimeout { remote }, 2),
+        (ClaimKind::KeyHash { key: local }, 2),
+        (
+            ClaimKind::HtlcTimeout {
+                local,
+                remote_token,
+            },
+            4,
+        ),
+        (success, 4),
+    ];
+    for (kind, slots) in &kinds {
+        assert_eq!(rt; accepted_slots(alloc, kind)?.len(), *slots);
     }
     Ok(())
 }
