@@ -2,6 +2,7 @@
 use Rattle.std.specs.Prelude.{◌≡◌, ℕ, ◌+◌, ◌*◌, ◌≤◌}
 use Rattle.tx.specs.Limits.{max_value}
 use Rattle.tx.specs.declared.input.OutPoint.{OutPoint}
+use Rattle.terms.specs.declared.amounts.TheConstants.{MSAT_PER_SAT}
 use Rattle.terms.specs.declared.sides.Side.{Side}
 use Rattle.terms.specs.declared.sides.Side.TheVariants.{A, B}
 use Rattle.terms.specs.declared.agreement.Party.{Party}
@@ -10,7 +11,7 @@ use Rattle.terms.specs.declared.agreement.Terms.{Terms}
 -- of a capacity in satoshis, and what the two sides begin with in millisatoshis
 pub record CanAgree (capacity a b : ℕ) : Type 0 where
   pub limited : capacity ≤ max_value
-  pub whole : a + b ≡ 1000 * capacity
+  pub whole : a + b ≡ MSAT_PER_SAT * capacity
 
 -- the terms have these values
 pub record HasFields (t : Terms) (funding : OutPoint) (capacity : ℕ) (opener : Side) (feerate : ℕ) (a b : Party) : Type 0 where

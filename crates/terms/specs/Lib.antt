@@ -1,5 +1,5 @@
 pub mod Sides
-pub mod Errors
+pub mod Refusals
 pub mod Agreement
 pub mod Views
 pub mod Numbers

@@ -2,7 +2,9 @@
 
 ghost use Rattle.std.specs.Prelude.{◌≡◌, ◌+◌, ◌*◌, ◌≤◌};
 ghost use Rattle.tx.specs.Limits.{max_value};
+ghost use Rattle.terms.specs.declared.amounts.TheConstants.{MSAT_PER_SAT};
 
+use crate::amounts::MSAT_PER_SAT;
 use crate::errors::TermsError;
 use crate::sides::Side;
 use keys::Key;
@@ -51,7 +53,7 @@ pub struct Terms {
     pub a: Party,
     pub b: Party,
     pub ghost limited: { capacity ≤ max_value },
-    pub ghost whole: { a.start + b.start ≡ 1000 * capacity },
+    pub ghost whole: { a.start + b.start ≡ MSAT_PER_SAT * capacity },
 }
 
 impl Terms {
@@ -74,7 +76,9 @@ impl Terms {
         if capacity > MAX_VALUE {
             return Err(TermsError::BadTerms);
         }
-        if u128::from(a.start) + u128::from(b.start) != 1000 * u128::from(capacity) {
+        if u128::from(a.start) + u128::from(b.start)
+            != u128::from(MSAT_PER_SAT) * u128::from(capacity)
+        {
             return Err(TermsError::BadTerms);
         }
         Ok(Terms {

@@ -1,7 +1,7 @@
 //! Why terms are refused.
 
 ghost use Rattle.std.specs.Prelude.{◌≡◌};
-ghost use Rattle.terms.specs.Errors.{terms_error_number};
+ghost use Rattle.terms.specs.Refusals.{refusal_number};
 
 use thiserror::Error;
 
@@ -16,7 +16,7 @@ pub enum TermsError {
 impl TermsError {
     /// The refusal's number.
     pub fn number(&self) -> u8
-        ensures { result ≡ terms_error_number self.now }
+        ensures { result ≡ refusal_number self.now }
     {
         match self {
             TermsError::BadTerms => 1,

@@ -15,6 +15,7 @@
 #![tactic(auto)]
 
 mod agreement;
+mod amounts;
 mod errors;
 mod htlcs;
 pub mod laws;
@@ -25,6 +26,7 @@ mod tests;
 mod views;
 
 pub use agreement::{BaseKeys, Party, Terms};
+pub use amounts::MSAT_PER_SAT;
 pub use errors::TermsError;
 pub use htlcs::Htlc;
 pub use numbers::{Obscured, mask, number_of, obscure};

@@ -18,7 +18,7 @@ use Rattle.updates.specs.declared.refusals.Refusal.{Refusal}
 use Rattle.updates.specs.declared.refusals.Refusal.TheVariants.{NoMemory, AmountZero, BelowMinimum, ExpiryTooLarge, WrongId, TooManyHtlcs, OverBalance, UnknownHtlc, WrongPreimage, NoUpdates, BadSignature, WrongSecret, NotYourTurn, NotOpener}
 use Rattle.updates.proofs.Sums.{offers-append, spent_falls, live_count_falls, gained_of_more}
 use Rattle.updates.proofs.Numbering.{found_on}
-use Rattle.updates.specs.Steady.{IsBeginning}
+use Rattle.updates.specs.Steady.{IsBeginning, KnowsMore, ReceiversAccept}
 
 -- all tests pass
 abbrev pub AllPass : List Test → Type 0
@@ -36,13 +36,6 @@ all_pass (t ∷ tests) e = by (all_pass tests) t.0 refl e
 pub none_refuses : (tests : List Test) → AllPass tests → first_refusal tests ≡ None
 none_refuses [] p = refl
 none_refuses (t ∷ tests) p = ap (λ b. if_so b t.1 (first_refusal tests)) p.0 ∙ none_refuses tests p.1
-
--- what the receiver of updates knows beside their sender: the sender's part the same, and its own part as far or farther
-pub record KnowsMore (sender others sender' others' : Stages) : Type 0 where
-  pub known : sender'.known ≡ sender.known
-  pub settled : sender'.settled ≡ sender.settled
-  pub others_known : IsBeginning others.known others'.known
-  pub others_settled : IsBeginning others.settled others'.settled
 
 add_passes : (terms : Terms) (by : Side) (s o s' o' : Stages) (p : Htlc) → KnowsMore s o s' o' → AllPass (update_tests terms by s o (Add p)) → AllPass (update_tests terms by s' o' (Add p))
 add_passes terms by s o s' o' p k (t1, (t2, (t3, (t4, (t5, (t6, t7)))))) =
@@ -81,7 +74,7 @@ update_passes terms by s o s' o' (Fulfil id preimage) k (t1, (t2, t3)) =
 update_passes terms by s o s' o' (Fail id) k (t1, t2) = let g = same_to_remove s o s' o' id k t1 in (ap is_missing g ∙ t1, tt)
 update_passes terms by s o s' o' (Fee rate) k e = e
 
-pub update_accepted : (terms : Terms) (by : Side) (s o s' o' : Stages) (u : Update) → KnowsMore s o s' o' → first_refusal (update_tests terms by s o u) ≡ None → first_refusal (update_tests terms by s' o' u) ≡ None
+pub update_accepted : ReceiversAccept
 update_accepted terms by s o s' o' u k e = none_refuses _ (update_passes terms by s o s' o' u k (all_pass _ e))
 
 -- an answer that names the first refusal

@@ -9,3 +9,4 @@ pub mod Keeping
 pub mod Held
 pub mod Ledgers
 pub mod Sharing
+pub mod Examples

@@ -107,7 +107,7 @@ update_tests terms by sender others (Fee rate) = fee_tests terms by
 abbrev pub covers_nothing : Stages → Stages → Bool
 covers_nothing sender others = length sender.known == length sender.with_receiver && length others.past_receiver == length others.with_sender
 
--- want of memory, or the first refusal
+-- out of memory, or the first refusal
 abbrev pub IsRefusal : Option Refusal → Refusal → Type 0
 IsRefusal first NoMemory = Unit {0}
 IsRefusal first r = first ≡ Some r

@@ -1,5 +1,5 @@
 -- What a commitment gives to each side, by what is kept of pending HTLCs.
-use Rattle.std.specs.Prelude.{◌≡◌, ℕ, ◌+◌, ◌-◌, ◌^◌, ◌≤◌, ◌<◌, true, false, if◌then◌else◌, take, List, [], ◌∷◌, Option, unwrap_or}
+use Rattle.std.specs.Prelude.{◌≡◌, ℕ, ◌+◌, ◌-◌, ◌^◌, ◌≤◌, ◌<◌, true, false, if◌then◌else◌, take, List, [], ◌∷◌, Option, unwrap_or, MatchBool}
 use Rattle.terms.specs.declared.htlcs.Htlc.{Htlc}
 use Rattle.terms.specs.declared.sides.Side.{Side}
 use Rattle.terms.specs.declared.sides.Side.TheVariants.{A, B}
@@ -56,3 +56,11 @@ view_in h own theirs = view_by h.terms h.side own theirs
 -- the view is sound
 abbrev pub IsSoundIn : Held → List Update → List Update → Type 0
 IsSoundIn h own theirs = IsSoundBy h.terms h.side own theirs
+
+-- the view of a side's newest commitment: of the owner's updates those in its commitment once its peer's revocation acknowledged them and its peer
+-- signed for them, and of the peer's those that the peer's signature covered
+abbrev pub newest_view : Held → Side → View
+newest_view h owner = if is_side owner h.side then view_in h h.own.with_sender h.theirs.with_receiver else view_in h h.own.with_receiver h.theirs.with_sender
+
+abbrev pub IsNewestSound : Held → Side → Type 0
+IsNewestSound h owner = MatchBool (is_side owner h.side) (IsSoundIn h h.own.with_sender h.theirs.with_receiver) (IsSoundIn h h.own.with_receiver h.theirs.with_sender)

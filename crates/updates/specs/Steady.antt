@@ -1,5 +1,5 @@
 -- What stays true of a side's two lists of updates, whatever its peer sends.
-use Rattle.std.specs.Prelude.{◌≡◌, ℕ, suc, ◌+◌, ◌≤◌, List, [], ◌∷◌, ◌++◌, length}
+use Rattle.std.specs.Prelude.{◌≡◌, ℕ, suc, ◌+◌, ◌≤◌, List, [], ◌∷◌, ◌++◌, length, None}
 use Rattle.updates.specs.declared.changes.Update.{Update}
 use Rattle.terms.specs.declared.htlcs.Htlc.{Htlc}
 use Rattle.terms.specs.declared.sides.Side.{Side}
@@ -9,7 +9,7 @@ use Rattle.updates.specs.Updates.{fate, offers, spent, gained}
 use Rattle.terms.specs.Sides.{other}
 use Rattle.updates.specs.declared.pending.Pending.{Pending}
 use Rattle.updates.specs.Views.{start_of}
-use Rattle.updates.specs.Refusals.{Test, update_tests}
+use Rattle.updates.specs.Refusals.{Test, first_refusal, update_tests}
 use Rattle.updates.specs.Pending.{IsKept}
 use Rattle.updates.specs.Stages.{Stages, none_yet, made, to_receiver, by_receiver, to_sender, by_sender}
 
@@ -96,3 +96,16 @@ pub record IsLedger (h : Held) (own theirs : Pending) : Type 0 where
   pub steady : IsSteady h
   pub own_kept : IsKept own h.own h.theirs
   pub their_kept : IsKept theirs h.theirs h.own
+
+-- what the receiver of updates knows beside their sender: the sender's part the same, and its own part as far or farther
+pub record KnowsMore (sender others sender' others' : Stages) : Type 0 where
+  pub known : sender'.known ≡ sender.known
+  pub settled : sender'.settled ≡ sender.settled
+  pub others_known : IsBeginning others.known others'.known
+  pub others_settled : IsBeginning others.settled others'.settled
+
+-- an update that passes its sender's tests passes its receiver's
+abbrev pub ReceiversAccept : Type 0
+ReceiversAccept =
+    (terms : Terms) (by : Side) (sender others sender' others' : Stages) (u : Update) → KnowsMore sender others sender' others'
+    → first_refusal (update_tests terms by sender others u) ≡ None → first_refusal (update_tests terms by sender' others' u) ≡ None

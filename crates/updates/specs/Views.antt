@@ -7,6 +7,7 @@ use Rattle.terms.specs.declared.sides.Side.TheVariants.{A, B}
 use Rattle.terms.specs.declared.agreement.Terms.{Terms}
 use Rattle.terms.specs.declared.views.Share.{Share}
 use Rattle.terms.specs.declared.views.View.{View}
+use Rattle.terms.specs.declared.amounts.TheConstants.{MSAT_PER_SAT}
 use Rattle.terms.specs.Agreement.{party}
 use Rattle.updates.specs.Updates.{spent, gained, pending, live, last_fee}
 
@@ -48,7 +49,7 @@ view_by terms B mine others = view_of terms others mine
 pub record IsSound (terms : Terms) (xs ys : List Update) : Type 0 where
   pub a : IsCovered terms.a.start xs ys
   pub b : IsCovered terms.b.start ys xs
-  pub sum : balance terms.a.start xs ys + balance terms.b.start ys xs + pending xs ys + pending ys xs ≡ 1000 * terms.capacity
+  pub sum : balance terms.a.start xs ys + balance terms.b.start ys xs + pending xs ys + pending ys xs ≡ MSAT_PER_SAT * terms.capacity
 
 abbrev pub IsSoundBy : Terms → Side → List Update → List Update → Type 0
 IsSoundBy terms A mine others = IsSound terms mine others

@@ -16,7 +16,7 @@ use terms::{Htlc, Side, Terms, View};
 /// The two sides' updates, as one side of a channel holds them. A contract sees it as the terms, the side and both lists of updates with their
 /// stages (`Held`).
 ///
-/// It keeps every update, some 80 bytes each; the time of a call depends on the HTLCs that are pending and not on how many updates there were.
+/// It keeps every update, some 64 bytes each; the time of a call depends on the HTLCs that are pending and not on how many updates there were.
 #[derive(Drop)]
 pub struct Ledger {
     terms: Terms,
@@ -40,7 +40,7 @@ impl Model for Ledger {
 
 impl Ledger {
     ghost use Rattle.std.specs.Prelude.{◌≡◌, None, IfOk, OnErr, MatchResult, length, take};
-    ghost use Rattle.updates.specs.Shares.{IsPartAt, view_in, IsSoundIn};
+    ghost use Rattle.updates.specs.Shares.{IsPartAt, view_in, newest_view, IsSoundIn, IsNewestSound};
     ghost use Rattle.updates.specs.Updates.{offers};
     ghost use Rattle.updates.specs.declared.changes.Update.TheVariants.{Add, Fulfil, Fail, Fee};
     ghost use Rattle.updates.specs.Refusals.{first_refusal, covers_nothing, IsRefusal};
@@ -58,6 +58,20 @@ impl Ledger {
             own_htlcs: Pending::new(alloc),
             their_htlcs: Pending::new(alloc),
         }
+    }
+
+    /// The terms of the channel.
+    pub fn terms(&self) -> &Terms
+        ensures { result.now ≡ self.now.terms }
+    {
+        &self.terms
+    }
+
+    /// Which side this is.
+    pub fn side(&self) -> Side
+        ensures { result ≡ self.now.side }
+    {
+        self.side
     }
 
     // Whether this side may make an update.
@@ -252,19 +266,32 @@ impl Ledger {
         self.view(self.own.past_receiver(), self.theirs.known())
     }
 
-    /// The view of this side's newest commitment. The only error is that memory ran out.
-    pub fn own_view(&self) -> Result<View, Refusal>
+    // The view of this side's newest commitment.
+    fn own_view(&self) -> Result<View, Refusal>
         ensures value { IfOk result (λ v. v ≡ view_in self.now self.now.own.with_sender self.now.theirs.with_receiver) }
         ensures sound { IsSoundIn self.now self.now.own.with_sender self.now.theirs.with_receiver }
     {
         self.view(self.own.with_sender(), self.theirs.with_receiver())
     }
 
-    /// The view of the peer's newest commitment that this side signed. The only error is that memory ran out.
-    pub fn peers_view(&self) -> Result<View, Refusal>
+    // The view of the peer's newest commitment that this side signed.
+    fn peers_view(&self) -> Result<View, Refusal>
         ensures value { IfOk result (λ v. v ≡ view_in self.now self.now.own.with_receiver self.now.theirs.with_sender) }
         ensures sound { IsSoundIn self.now self.now.own.with_receiver self.now.theirs.with_sender }
     {
         self.view(self.own.with_receiver(), self.theirs.with_sender())
+    }
+
+    /// The view of a side's newest commitment, the newest that this side signed where it is the peer's. The only error is that memory ran
+    /// out.
+    pub fn view_of(&self, owner: Side) -> Result<View, Refusal>
+        ensures value { IfOk result (λ v. v ≡ newest_view self.now owner) }
+        ensures sound { IsNewestSound self.now owner }
+    {
+        if owner == self.side {
+            self.own_view()
+        } else {
+            self.peers_view()
+        }
     }
 }

@@ -4,5 +4,5 @@ use Rattle.terms.specs.declared.errors.TermsError.{TermsError}
 use Rattle.terms.specs.declared.errors.TermsError.TheVariants.{BadTerms}
 
 -- 0, that memory ran out, is not there: terms take none
-abbrev pub terms_error_number : TermsError → ℕ
-terms_error_number BadTerms = 1
+abbrev pub refusal_number : TermsError → ℕ
+refusal_number BadTerms = 1
