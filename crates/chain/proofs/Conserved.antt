@@ -1,9 +1,8 @@
 -- Conservation of value, transaction by transaction and grant by grant.
-use Rattle.std.proofs.Common.{◌≡◌, ℕ, zero, suc, ◌+◌, ◌-◌, ◌≤◌, Bool, true, false, not, ◌||◌, cond, List, [], ◌∷◌, ◌++◌, length, filter, drop, take, sum_by, Option, Some, None, option_map, Result, Ok, Err, sym, ap, ◌∙◌, refl, arith, append_assoc, append-nil, zero-add, eq-eqb}
+use Rattle.std.proofs.Common.{◌≡◌, ℕ, zero, suc, ◌+◌, ◌-◌, ◌≤◌, Bool, true, false, not, ◌||◌, cond, List, [], ◌∷◌, ◌++◌, length, filter, drop, sum_by, Option, Some, None, option_map, Result, Ok, Err, sym, ap, ◌∙◌, refl, arith, append_assoc, append-nil, zero-add, eq-eqb}
 use Rattle.std.specs.Prelude.{is_some, nat_le, unwrap_or}
-use Rattle.std.specs.List.{find, list_any, flat_map}
+use Rattle.std.specs.List.{find, list_any}
 use Rattle.std.specs.Option.{option_or}
-use Rattle.std.specs.Str.{bytes_eq}
 use Rattle.std.proofs.lemmas.Bool.{false≢true, and_parts}
 use Rattle.std.proofs.lemmas.Bool.Decides.{nat_tests}
 use Rattle.std.proofs.lemmas.List.Folds.{find-append, list_any-append}
@@ -18,7 +17,7 @@ use Rattle.tx.specs.Spelling.{transaction_id}
 use Rattle.chain.specs.Blocks.{Contents, Standing, Creation, Coin, empty_block, height_of, same_outpoint, grant_outpoint, creations_from, created_by, created_by_all, granted_at, grants_in, created_of, names, is_named, created_at, coin_at, unspent_of, transactions_of, value_at, paid_in, paid_out, fee_of, fees_of, granted_of}
 use Rattle.chain.specs.Tests.{names_twice, transaction_refusal}
 use Rattle.chain.specs.Tested.{have_passed, is_tested}
-use Rattle.chain.specs.Connecting.{with_transaction, with_grant, unless_refused, added, connected}
+use Rattle.chain.specs.Connecting.{with_grant, unless_refused, added}
 use Rattle.chain.specs.declared.refusal.Refusal.{Refusal}
 use Rattle.chain.specs.declared.refusal.BlockError.{BlockError}
 use Rattle.chain.specs.declared.commands.Command.{Command}

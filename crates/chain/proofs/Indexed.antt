@@ -1,12 +1,12 @@
 -- How what is kept beside the blocks follows them.
-use Rattle.std.proofs.Common.{◌≡◌, ℕ, zero, suc, ◌+◌, ◌-◌, ◌<◌, ◌≤◌, ◌⊎◌, inl, inr, Bool, true, false, not, ◌&&◌, ◌||◌, cond, ◌==◌, List, [], ◌∷◌, ◌++◌, length, Option, Some, None, option_map, sym, ap, ◌∙◌, refl, arith, append_assoc, append-nil, ne_eqb, eq-eqb}
+use Rattle.std.proofs.Common.{◌≡◌, ℕ, zero, suc, ◌+◌, ◌<◌, ◌≤◌, Bool, true, false, not, ◌&&◌, ◌||◌, cond, List, [], ◌∷◌, ◌++◌, length, Option, Some, None, option_map, sym, ap, ◌∙◌, refl, arith, append_assoc, append-nil, ne_eqb, eq-eqb}
 use Rattle.std.specs.Prelude.{is_some, nat_lt, IfSome, slice_get}
 use Rattle.std.specs.Ordering.{is_eq, nat_cmp}
 use Rattle.std.specs.Cmp.Lexicographic.{slice_cmp}
 use Rattle.std.specs.List.{find, list_any}
-use Rattle.std.specs.Option.{option_or, is_none}
+use Rattle.std.specs.Option.{option_or}
 use Rattle.std.specs.Str.{bytes_eq}
-use Rattle.std.proofs.lemmas.Bool.{false≢true, and_parts, or_cases}
+use Rattle.std.proofs.lemmas.Bool.{false≢true, and_parts}
 use Rattle.std.proofs.lemmas.Bool.Decides.{nat_tests}
 use Rattle.std.proofs.lemmas.List.Folds.{find-append}
 use Rattle.std.proofs.lemmas.Map.Text.{is_eq-slice_cmp}
@@ -20,11 +20,11 @@ use Rattle.chain.specs.Connecting.{with_transaction, with_grant}
 use Rattle.chain.specs.Storing.{MayTakeOff}
 use Rattle.chain.specs.Tests.{transaction_refusal}
 use Rattle.chain.specs.Tested.{have_passed, is_tested}
-use Rattle.chain.specs.Indexing.{IsIndex, new_coin, first_new, is_output_below, unless_height, without, marked, with_mark}
-use Rattle.chain.specs.Scanning.{spot_of, found_in}
+use Rattle.chain.specs.Indexing.{IsIndex, new_coin, first_new, is_output_below, unless_height, without, with_mark}
+use Rattle.chain.specs.Scanning.{spot_of}
 use Rattle.chain.proofs.Finding.{none_by_others, found_by_index}
 use Rattle.chain.proofs.Noting.{same_is}
-use Rattle.chain.proofs.Passing.{Passed, passed, named_fresh, named_created, next_passed, IsFresh}
+use Rattle.chain.proofs.Passing.{passed, named_fresh, named_created, next_passed, IsFresh}
 
 abbrev coin : Bool → Creation → Coin
 coin named c = record { output = c.output; height = c.height; spent = named }

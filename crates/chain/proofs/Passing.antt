@@ -1,23 +1,18 @@
 -- What is known of a chain whose transactions passed their tests.
-use Rattle.std.proofs.Common.{◌≡◌, ℕ, ◌+◌, ◌≤◌, ◌⊎◌, inl, inr, Bool, true, false, not, ◌&&◌, ◌||◌, List, [], ◌∷◌, ◌++◌, length, Option, Some, None, option_map, sym, ap, ◌∙◌, refl, arith, append_assoc, append-nil}
+use Rattle.std.proofs.Common.{◌≡◌, ℕ, inl, inr, Bool, true, false, not, ◌||◌, List, [], ◌∷◌, ◌++◌, length, Option, Some, None, option_map, sym, ap, ◌∙◌, refl, append_assoc, append-nil}
 use Rattle.std.specs.Prelude.{is_some, nat_le}
 use Rattle.std.specs.List.{find, list_any}
 use Rattle.std.specs.Option.{option_or, is_none}
-use Rattle.std.specs.Str.{bytes_eq}
 use Rattle.std.proofs.lemmas.Bool.{false≢true, and_parts, or_cases}
-use Rattle.std.proofs.lemmas.Bool.Decides.{nat_tests}
 use Rattle.std.proofs.lemmas.List.Folds.{find-append}
 use Rattle.tx.specs.declared.input.OutPoint.{OutPoint}
 use Rattle.tx.specs.declared.input.TxIn.{TxIn}
-use Rattle.tx.specs.Parts.{Output}
 use Rattle.tx.specs.Fields.{Transaction}
 use Rattle.tx.specs.Spelling.{transaction_id}
-use Rattle.sighash.specs.Programs.{run_of}
 use Rattle.chain.specs.declared.refusal.Refusal.{Refusal}
-use Rattle.chain.specs.declared.refusal.Refusal.TheVariants.{Spent, Unknown, NotFinal, TooYoung, Twice, OutputsExceed}
+use Rattle.chain.specs.declared.refusal.Refusal.TheVariants.{Spent, Twice, OutputsExceed}
 use Rattle.chain.specs.Blocks.{Contents, Creation, Coin, height_of, same_outpoint, created_by, created_by_all, granted_at, grants_in, created_of, names, is_named, created_at, coin_at, has_id, paid_in, paid_out}
-use Rattle.chain.specs.Locks.{is_final, is_old_enough}
-use Rattle.chain.specs.Tests.{required, first_of, run_refusal, coin_refusal, input_refusal, inputs_refusal, names_twice, transaction_refusal}
+use Rattle.chain.specs.Tests.{required, first_of, coin_refusal, input_refusal, inputs_refusal, names_twice, transaction_refusal}
 use Rattle.chain.specs.Tested.{have_passed, is_tested}
 use Rattle.chain.proofs.Noting.{same_is}
 

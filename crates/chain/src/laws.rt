@@ -13,5 +13,4 @@ ghost use Rattle.chain.specs.Conserving.{AreApart};
 pub fn values_are_conserved()
     ensures { (commands : List Command) (answers : List Answer) (s : Standing) → Replays (record { blocks = empty_block ∷ []; greatest = 0 }) commands answers s → AreApart s.blocks
         → sum_by (λ c. c.output.value) (unspent_of s.blocks) + fees_of s.blocks ≡ granted_of s.blocks }
-{
-}
+{}

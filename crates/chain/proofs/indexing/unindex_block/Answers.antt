@@ -1,8 +1,5 @@
-use Rattle.std.proofs.Common.{◌≡◌, sym, ap, ◌∙◌, [], ◌∷◌, nat_cmp, arith}
-use Rattle.std.specs.Cmp.Lexicographic.{slice_cmp}
-use Rattle.std.specs.BTreeSet.{contains}
+use Rattle.std.proofs.Common.{◌≡◌, sym, ap, ◌∙◌, ◌∷◌, arith}
 use Rattle.chain.specs.Blocks.{Contents}
-use Rattle.chain.specs.Indexing.{noted, IsIndex}
 use Rattle.chain.proofs.indexing.unindex_block.Goals as goal
 
 pub loop-confirmed-preserved : goal.loop-confirmed-preserved

@@ -1,8 +1,8 @@
-use Rattle.std.proofs.Common.{ℕ, List, nat_cmp, false, cond, sym, ap, ◌∙◌, length}
+use Rattle.std.proofs.Common.{List, nat_cmp, false, cond, ap, ◌∙◌, length}
 use Rattle.std.specs.Ordering.{is_eq}
 use Rattle.std.specs.Cmp.Lexicographic.{slice_cmp}
 use Rattle.std.specs.List.{list_any}
-use Rattle.std.specs.BTreeSet.{contains, BTreeSet}
+use Rattle.std.specs.BTreeSet.{contains}
 use Rattle.tx.specs.Parts.{Output}
 use Rattle.tx.specs.Fields.{Transaction}
 use Rattle.tx.specs.Spelling.{transaction_id}

@@ -1,4 +1,4 @@
-use Rattle.std.proofs.Common.{sym, ap, ◌∙◌, option_map}
+use Rattle.std.proofs.Common.{ap, ◌∙◌, option_map}
 use Rattle.chain.specs.Blocks.{Standing, is_named}
 use Rattle.chain.specs.Indexing.{indexed_coin}
 use Rattle.chain.proofs.Indexed.{spent_named, none_spent}
