@@ -10,7 +10,7 @@ use script::Script;
 use sighash::{Token, digest_of};
 use std::alloc::Global;
 use std::test::Fail;
-use tx::{Inputs, Outputs, Tx, TxIn, TxOut, Witness};
+use tx::{Inputs, MAX_INPUTS, MAX_OUTPUTS, Outputs, Tx, TxIn, TxOut, Witness, total_value};
 
 const PREIMAGE: [u8; 32] = [5; 32];
 
@@ -68,12 +68,18 @@ fn preimage_claim(alloc: Global, index: u32, height: u8) -> Result<Claim, Fail> 
     claim_on(alloc, &code, program, index, slots, Shell::Open)
 }
 
+// DUP HASH160 hash EQUALVERIFY CHECKSIG
+fn key_code(alloc: Global, key: &Key) -> Result<Vec<u8>, Fail> {
+    let mut code = Vec::from_slice(alloc, &[0x76, 0xa9, 0x14])?;
+    code.extend_from_slice(&hash160(&key.bytes))?;
+    code.extend_from_slice(&[0x88, 0xac])?;
+    Ok(code)
+}
+
 // A claim on an output to the hash of a key.
 fn key_claim(alloc: Global, index: u32, key: &Key) -> Result<Claim, Fail> {
     let hash = hash160(&key.bytes);
-    let mut code = Vec::from_slice(alloc, &[0x76, 0xa9, 0x14])?;
-    code.extend_from_slice(&hash)?;
-    code.extend_from_slice(&[0x88, 0xac])?;
+    let code = key_code(alloc, key)?;
     let mut program = Vec::from_slice(alloc, &[0x00, 0x14])?;
     program.extend_from_slice(&hash)?;
     let mut slots = Vec::new(alloc);
@@ -92,7 +98,22 @@ fn other_key() -> Option<Key> {
     Key::read(&[2; 33])
 }
 
-// What `fill` answers.
+// What `fill` answers, of one output.
+fn answer(
+    alloc: Global,
+    claims: &[&Claim],
+    value: u64,
+    signer: &Signer,
+    preimages: &[[u8; 32]],
+) -> Result<Result<Filled, FillError>, Fail> {
+    let outputs = outputs(alloc, value)?;
+    if claims.is_empty() || claims.len() > MAX_INPUTS || outputs.len() > MAX_OUTPUTS {
+        return Err(Fail::from("too many"));
+    }
+    Ok(fill(alloc, claims, outputs, signer, preimages))
+}
+
+// Its name.
 fn name(
     alloc: Global,
     claims: &[&Claim],
@@ -100,48 +121,50 @@ fn name(
     signer: &Signer,
     preimages: &[[u8; 32]],
 ) -> Result<String, Fail> {
-    match fill(alloc, claims, outputs(alloc, value)?, signer, preimages) {
+    match answer(alloc, claims, value, signer, preimages)? {
         Ok(_) => Ok(format!(in alloc; "filled")?),
         Err(refusal) => Ok(format!(in alloc; "{refusal} {}", refusal.number())?),
     }
 }
 
-// A preimage claim of height 70, a key's claim and a preimage claim of height 90.
-fn three(alloc: Global, key: &Key) -> Result<Vec<Claim>, Fail> {
-    let mut claims = Vec::new(alloc);
-    claims.push(preimage_claim(alloc, 4, 70)?)?;
-    claims.push(key_claim(alloc, 1, key)?)?;
-    claims.push(preimage_claim(alloc, 3, 90)?)?;
-    Ok(claims)
+// The filling of a preimage claim of height 70, a claim of the signer's payment key, and a preimage claim of height 90.
+fn three(alloc: Global, signer: &Signer) -> Result<Filled, Fail> {
+    let one = preimage_claim(alloc, 4, 70)?;
+    let two = key_claim(alloc, 1, &signer.base(Base::Payment))?;
+    let three = preimage_claim(alloc, 3, 90)?;
+    let given = [[6; 32], PREIMAGE];
+    let filled = answer(alloc, &[&one, &two, &three], 3000, signer, &given)?;
+    Ok(filled.ok().ok_or("refused")?)
 }
 
 #[test]
 fn fills_open_claims(rt: HostRuntime) -> Result<(), Fail> {
-    let alloc = rt.alloc();
-    let signer = Signer::new(alloc, &[1; 32]);
-    let key = signer.base(Base::Payment);
-    let claims = three(alloc, &key)?;
-    let lent = [&claims[0], &claims[1], &claims[2]];
-    let preimages = [[6; 32], PREIMAGE];
-    let filled = fill(alloc, &lent, outputs(alloc, 3000)?, &signer, &preimages)?;
+    let filled = three(rt.alloc(), &Signer::new(rt.alloc(), &[1; 32]))?;
     let tx = filled.tx();
     assert_eq!(rt; tx.version(), 2);
     assert_eq!(rt; tx.lock_time(), 90);
-    assert_eq!(rt; tx.outputs()[0].value(), 3000);
-    let inputs = tx.inputs();
-    assert_eq!(rt; inputs.len(), 3);
-    assert_eq!(rt; inputs[0].outpoint, at(4));
-    assert_eq!(rt; inputs[2].outpoint, at(3));
-    let witness = inputs[2].witness.as_slice();
-    assert_eq!(rt; witness.len(), 2);
-    assert_eq!(rt; witness[0].bytes(), PREIMAGE.as_slice());
-    assert_eq!(rt; inputs[1].witness.len(), 2);
-    let token = Token::read(inputs[1].witness.as_slice()[0].bytes()).ok_or("no token")?;
-    let code = claims[1].checked().script().bytes();
-    assert_eq!(rt;
-        token,
-        Token::new(&key.bytes, &digest_of(tx, 1, code, 1000)?)
-    );
+    assert_eq!(rt; total_value(tx.outputs()), 3000);
+    assert_eq!(rt; tx.inputs().len(), 3);
+    for (input, index) in tx.inputs().iter().zip([4, 1, 3]) {
+        assert_eq!(rt; input.outpoint, at(index));
+        assert_eq!(rt; input.witness.len(), 2);
+    }
+    Ok(())
+}
+
+#[test]
+fn signs_and_shows_the_preimage(rt: HostRuntime) -> Result<(), Fail> {
+    let signer = Signer::new(rt.alloc(), &[1; 32]);
+    let key = signer.base(Base::Payment);
+    let filled = three(rt.alloc(), &signer)?;
+    let code = key_code(rt.alloc(), &key)?;
+    let digest = digest_of(filled.tx(), 1, &code, 1000)?;
+    let token = Token::new(&key.bytes, &digest);
+    let mut items = [token.bytes().as_slice(), PREIMAGE.as_slice()].into_iter();
+    for input in filled.tx().inputs().iter().skip(1) {
+        let item = input.witness.as_slice().first().ok_or("no item")?;
+        assert_eq!(rt; Some(item.bytes()), items.next());
+    }
     Ok(())
 }
 
@@ -196,7 +219,7 @@ fn fills_a_fixed_claim_alone(rt: HostRuntime) -> Result<(), Fail> {
     )?;
     assert_eq!(rt; filled.places().len(), 1);
     let mut tx = filled.into_tx();
-    assert_eq!(rt; tx.inputs()[0].witness.len(), 2);
+    assert!(rt; tx.has_witness());
     tx.strip_witnesses();
     assert!(rt; tx.equals(&fixed(alloc)?));
     Ok(())
@@ -215,7 +238,8 @@ fn fills_many_claims(rt: HostRuntime) -> Result<(), Fail> {
     for claim in &claims {
         lent.push(claim)?;
     }
-    let filled = fill(alloc, &lent, outputs(alloc, 0)?, &signer, &[PREIMAGE])?;
+    let answer = answer(alloc, &lent, 0, &signer, &[PREIMAGE])?;
+    let filled = answer.ok().ok_or("refused")?;
     assert_eq!(rt; filled.tx().inputs().len(), 100);
     Ok(())
 }
