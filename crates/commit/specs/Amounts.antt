@@ -56,4 +56,4 @@ received_of terms view owner = untrimmed (party owner terms).dust view.feerate R
 abbrev pub amounts_of : Terms → View → Side → Amounts
 amounts_of terms view owner =
     amounts_with terms view owner (offered_of terms view owner) (received_of terms view owner)
-        (fee_with view.feerate (offered_of terms view owner) (received_of terms view owner))
+    (fee_with view.feerate (offered_of terms view owner) (received_of terms view owner))

@@ -1,2 +1,3 @@
 pub mod Fees
 pub mod Amounts
+pub mod Sums

@@ -69,7 +69,12 @@ fn unless_dust(dust: u64, value: u64) -> Option<u64>
 
 /// The amounts of the owner's commitment of a view (BOLT 3, "Commitment Transaction Outputs" and "Fees"): the dust limit is the owner's, and
 /// the opener pays the fee. The only error is that memory ran out.
-pub fn commitment_amounts(alloc: Global, terms: &Terms, view: &View, owner: Side) -> Result<Amounts, AllocError>
+pub fn commitment_amounts(
+    alloc: Global,
+    terms: &Terms,
+    view: &View,
+    owner: Side,
+) -> Result<Amounts, AllocError>
     ensures { IfOk result (λ a. a ≡ amounts_of terms.now view.now owner) }
 {
     let peer = owner.other();

@@ -5,6 +5,12 @@ ghost use Rattle.commit.specs.Fees.{satoshis_of, fee_of, commitment_weight, htlc
 
 use terms::Htlc;
 
+/// Millisatoshis in a satoshi.
+const MILLISATOSHIS_PER_SATOSHI: u64 = 1000;
+
+/// The weight that a feerate is for.
+const WEIGHT_PER_FEERATE: u32 = 1000;
+
 /// Weight of a commitment without HTLCs.
 const COMMITMENT_WEIGHT: u128 = 724;
 
@@ -30,7 +36,7 @@ pub enum Direction {
 pub fn satoshis(amount: u64) -> u64
     ensures { result ≡ satoshis_of amount }
 {
-    amount / 1000
+    amount / MILLISATOSHIS_PER_SATOSHI
 }
 
 /// What a commitment with so many untrimmed HTLCs costs at a feerate in satoshis for 1,000 units of weight: satoshis, rounded down (BOLT 3, "Fee
@@ -38,7 +44,8 @@ pub fn satoshis(amount: u64) -> u64
 pub fn commitment_fee(htlcs: usize, feerate: u32) -> u128
     ensures { result ≡ fee_of (commitment_weight htlcs) feerate }
 {
-    (COMMITMENT_WEIGHT + WEIGHT_PER_HTLC * htlcs as u128) * u128::from(feerate) / 1000
+    let weight = COMMITMENT_WEIGHT + WEIGHT_PER_HTLC * htlcs as u128;
+    weight * u128::from(feerate) / u128::from(WEIGHT_PER_FEERATE)
 }
 
 /// What the owner's second-stage transaction costs: satoshis, rounded down (BOLT 3, "Fee Calculation for HTLC-Timeout and HTLC-Success
@@ -50,7 +57,7 @@ pub fn htlc_fee(direction: Direction, feerate: u32) -> u64
         Direction::Offered => TIMEOUT_WEIGHT,
         Direction::Received => SUCCESS_WEIGHT,
     };
-    weight * u64::from(feerate) / 1000
+    weight * u64::from(feerate) / u64::from(WEIGHT_PER_FEERATE)
 }
 
 /// Whether an HTLC has no output: its satoshis are below the owner's dust limit and the fee of its second-stage transaction (BOLT 3, "Trimmed

@@ -13,6 +13,9 @@
 
 mod amounts;
 mod fees;
+pub mod laws;
+#[cfg(test)]
+mod tests;
 
 pub use amounts::{Amounts, commitment_amounts};
 pub use fees::{Direction, commitment_fee, htlc_fee, is_trimmed, satoshis};

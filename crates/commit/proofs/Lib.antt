@@ -1,0 +1,3 @@
+pub mod Funds
+pub mod FeeExamples
+pub mod AmountExamples
