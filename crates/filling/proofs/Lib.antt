@@ -8,3 +8,4 @@ pub mod Repeated
 pub mod Indexing
 pub mod Going
 pub mod Finishing
+pub mod FillingExamples
