@@ -1,9 +1,8 @@
 -- The listing of a script, and that of a pattern of it.
-use Rattle.std.proofs.Common.{◌≡◌, ℕ, ◌+◌, Bool, true, false, List, [], ◌∷◌, map, Option, Some, None, Result, Ok, Err, sym, ap, subst, ◌∙◌, refl, ◌⊎◌, inl, inr}
-use Rattle.std.specs.Prelude.{nat_le, slice_index_or}
+use Rattle.std.proofs.Common.{◌≡◌, ℕ, ◌+◌, true, false, List, [], ◌∷◌, map, Option, Result, Ok, Err, subst, refl, inl}
+use Rattle.std.specs.Prelude.{nat_le}
 use Rattle.script.specs.declared.opcode.Op.{Op}
 use Rattle.script.specs.Limits.{max_ops}
-use Rattle.script.specs.Step.{result_if, ◌>>=◌}
 use Rattle.script.specs.Run.{counted_in}
 use Rattle.paths.specs.declared.errors.CheckError.{CheckError}
 use Rattle.paths.specs.declared.errors.CheckError.TheVariants.{NoMemory, OpenBranch, TooManyOps, Undecided, TooManyPaths, TooTall}
@@ -15,7 +14,6 @@ use Rattle.paths.specs.Maps.{in_stated}
 use Rattle.paths.specs.Rules.{plain, rule_of, check_multi_sig}
 use Rattle.paths.specs.Holes.{with_holes, filling}
 use Rattle.paths.specs.HoleRules.{rule_of as hole_rule_of, check_multi_sig as hole_check_multi_sig}
-use Rattle.paths.specs.Walk.{walk_all}
 use Rattle.paths.specs.Listing.{guide as plain_guide, is_balanced, listing}
 use Rattle.paths.specs.HoleListing.{guide as hole_guide, pattern_listing}
 use Rattle.paths.specs.Filling.{filled_path, filled_paths}

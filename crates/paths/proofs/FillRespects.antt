@@ -1,7 +1,6 @@
 -- The words on constants that may be holes agree with the words on known ones: where they are known, and where the holes are filled.
-use Rattle.std.proofs.Common.{◌≡◌, ℕ, ◌<◌, ◌≤◌, Bool, true, false, not, ◌&&◌, List, [], ◌∷◌, length, Option, Some, None, Result, Ok, Err, sym, ap, subst, ◌∙◌, refl, ◌⊎◌, inl, inr, arith}
-use Rattle.std.specs.Prelude.{if◌then◌else◌, nat_lt, nat_le, ◌==◌, slice_index}
-use Rattle.std.proofs.lemmas.Bool.{not-true}
+use Rattle.std.proofs.Common.{◌≡◌, ℕ, ◌<◌, Bool, true, false, not, ◌&&◌, List, [], ◌∷◌, length, Option, Some, None, Result, Ok, Err, sym, ap, ◌∙◌, refl, inl, inr, arith}
+use Rattle.std.specs.Prelude.{if◌then◌else◌, nat_lt, ◌==◌, slice_index}
 use Rattle.script.specs.declared.opcode.Op.{Op}
 use Rattle.script.specs.declared.num.Number.{Number as Signed}
 use Rattle.script.specs.Number.{number_of, minimal_bytes_of}
@@ -17,9 +16,9 @@ use Rattle.paths.specs.declared.constants.Amount.TheVariants.{Known as KnownAmou
 use Rattle.paths.specs.declared.state.Halt.{Halt}
 use Rattle.paths.specs.declared.state.Halt.TheVariants.{NoMemory, Dead, Undecided, TooManyOps}
 use Rattle.paths.specs.Maps.{Replacing}
-use Rattle.paths.specs.Rules.{plain, is_empty, named_size, count_by, lock_by as lock_of_number, age_bits}
+use Rattle.paths.specs.Rules.{plain, is_empty, named_size, count_by, lock_by as lock_of_number}
 use Rattle.paths.specs.Holes.{with_holes, fits, blank, pushed_at, hole_bytes, hole_number, magnitude_in, is_low_number, bytes_by, lock_by, age_by, filling}
-use Rattle.paths.proofs.MapWords.{Agrees, Stands, Respects, Clear}
+use Rattle.paths.proofs.MapWords.{Agrees, Respects, Clear}
 
 -- all constants are known
 abbrev pub knowing : Replacing (List ℕ) ℕ ℕ Constant (Amount ℕ) (Amount ℕ)
@@ -100,6 +99,7 @@ low_number b e = go (number_of 5 b) refl e
     parts : (x y : Bool) → (not x && y) ≡ true → (x ≡ false) × (y ≡ true)
     parts true y e = absurd (cc)
     parts false y e = (refl, e)
+
     go : (o : Option Signed) → number_of 5 b ≡ o → is_low_number o ≡ true → IsLow b
     go None s e = absurd (cc)
     go (Some z) s e = let p = parts z.negative (nat_lt z.magnitude 500000000) e in record { z = z; spelt = s; positive = p.0; low = p.1 }

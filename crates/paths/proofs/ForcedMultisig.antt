@@ -1,5 +1,5 @@
 -- CHECKMULTISIG, where a run passes it: its counts are numbers, there is an item for each symbol that it takes, and what it asks holds.
-use Rattle.std.proofs.Common.{◌≡◌, ℕ, zero, suc, ◌+◌, ◌≤◌, Bool, true, false, not, ◌&&◌, ◌||◌, nat_le, leb, ◌==◌, List, [], ◌∷◌, ◌++◌, length, map, reverse, Option, Some, None, Result, Ok, Err, leb-true, eqb-true, sym, ap, ◌∙◌, refl, arith, ⊎_elim}
+use Rattle.std.proofs.Common.{◌≡◌, ℕ, zero, suc, ◌+◌, ◌≤◌, true, false, not, ◌&&◌, ◌||◌, nat_le, ◌==◌, List, [], ◌∷◌, length, map, reverse, Some, Result, Ok, leb-true, eqb-true, sym, ap, ◌∙◌, refl, arith, ⊎_elim}
 use Rattle.std.specs.Prelude.{◌⊎◌}
 use Rattle.std.specs.List.{list_any, list_all}
 use Rattle.std.proofs.lemmas.List.{length-map}
@@ -21,8 +21,8 @@ use Rattle.facts.specs.Symbols.{Sym}
 use Rattle.facts.specs.declared.symbols.SymOver.TheVariants.{Slot, Const, HashOf, SizeOf, Holds}
 use Rattle.facts.specs.Meaning.{slot_of, key_of, item_for}
 use Rattle.paths.specs.Plain.{State}
-use Rattle.paths.specs.declared.state.Halt.TheVariants.{Dead, TooManyOps}
-use Rattle.paths.specs.Rules.{pop, pops, push, ask, is_bad_key, is_bad_extra, source_of, ask_key, count_by, count_of, slots_of, sources_of, ask_forms, ask_keys, ask_extra, answer_of, check_sigs, check_multi_sig, goes_on}
+use Rattle.paths.specs.declared.state.Halt.TheVariants.{TooManyOps}
+use Rattle.paths.specs.Rules.{pop, pops, ask, is_bad_key, is_bad_extra, source_of, ask_key, count_of, slots_of, sources_of, ask_forms, ask_keys, ask_extra, answer_of, check_sigs, check_multi_sig, goes_on}
 use Rattle.paths.proofs.SoundWords.{entries_of}
 use Rattle.paths.proofs.SoundPops.{pop_entries}
 use Rattle.paths.proofs.SoundMultisig.{map_reverse, pops_length, pops_entries, AreSlots, slots_good, AreSources, sources_good, taken_front}

@@ -1,31 +1,27 @@
 -- Each rule but that of CHECKMULTISIG, where a run passes its opcode: the facts that it asks hold, and it is no dead end.
-use Rattle.std.proofs.Common.{◌≡◌, ℕ, ◌+◌, ◌≤◌, Bool, true, false, not, ◌||◌, List, [], ◌∷◌, length, Option, Some, None, Result, Ok, Err, if◌then◌else◌, sym, ap, ◌∙◌, refl, arith}
+use Rattle.std.proofs.Common.{◌≡◌, ℕ, Bool, true, false, not, ◌||◌, List, [], ◌∷◌, Option, Some, None, Result, Ok, if◌then◌else◌, sym, ap, ◌∙◌, refl}
 use Rattle.std.specs.Str.{bytes_eq}
 use Rattle.std.proofs.lemmas.Bool.{or_from, not_from_true, not_from_false}
-use Rattle.script.specs.declared.opcode.Op.{Op}
-use Rattle.script.specs.declared.opcode.Op.TheVariants.{Push, Number as SmallNumber, If, NotIf, Else, EndIf, Drop, Dup, Swap, Size, Equal, EqualVerify, Hash160, CheckSig, CheckLockTimeVerify, CheckSequenceVerify}
+use Rattle.script.specs.declared.opcode.Op.TheVariants.{EqualVerify, CheckSig, CheckLockTimeVerify, CheckSequenceVerify}
 use Rattle.script.specs.declared.spending.Spend.{Spend}
 use Rattle.script.specs.declared.stops.Cause.{Cause}
 use Rattle.script.specs.declared.stops.Cause.TheVariants.{MissingOperand, FailedCheck}
 use Rattle.script.specs.declared.stops.Kind.{Kind}
-use Rattle.script.specs.declared.stops.Kind.TheVariants.{Verify, TokenForm, KeyForm as BadKey, LockTime, Sequence}
+use Rattle.script.specs.declared.stops.Kind.TheVariants.{Verify, LockTime, Sequence}
 use Rattle.script.specs.declared.num.Number.{Number as Signed}
 use Rattle.script.specs.Number.{number_of}
-use Rattle.script.specs.Token.{token_of, is_key, is_signature}
-use Rattle.script.specs.Step.{Elements, Effect, effect, plain, number_or_failure, magnitude_or_failure, lock_passes, age_passes, check_sig_effect, truth, flag, bit_at, result_if, ◌>>=◌}
+use Rattle.script.specs.Token.{is_key, is_signature}
+use Rattle.script.specs.Step.{Elements, Effect, effect, plain, number_or_failure, magnitude_or_failure, lock_passes, age_passes, check_sig_effect, truth, bit_at, result_if, ◌>>=◌}
 use Rattle.facts.specs.Symbols.{KeySource}
 use Rattle.facts.specs.declared.symbols.KeySourceOver.TheVariants.{Const as FixedKey, Slot as SlotKey}
-use Rattle.facts.specs.Symbols.{Fact}
 use Rattle.facts.specs.declared.symbols.FactOver.TheVariants.{KeyForm, Form, Lock, Age}
 use Rattle.facts.specs.Symbols.{Sym}
 use Rattle.facts.specs.declared.symbols.SymOver.TheVariants.{Slot, Const, HashOf, SizeOf, Holds}
-use Rattle.facts.specs.Meaning.{slot_of, key_of, item_for}
+use Rattle.facts.specs.Meaning.{key_of, item_for}
 use Rattle.paths.specs.Plain.{State}
-use Rattle.paths.specs.declared.state.Halt.{Halt}
-use Rattle.paths.specs.Plain.{SymbolicJump}
 use Rattle.paths.specs.Plain.{Condition}
 use Rattle.paths.specs.declared.state.ConditionOver.TheVariants.{Known, Asked}
-use Rattle.paths.specs.Rules.{pop, push, ask, size_of, hash_of, equal_of, condition_of, insist, branch, is_bad_key, is_bad_signature, source_of, ask_key, signature_rule, check_sig, lock_by, lock_of, age_bits, ask_age, goes_on, rule_of}
+use Rattle.paths.specs.Rules.{pop, push, ask, size_of, hash_of, equal_of, condition_of, insist, branch, is_bad_key, is_bad_signature, source_of, ask_key, signature_rule, check_sig, lock_of, age_bits, ask_age, goes_on}
 use Rattle.paths.proofs.SoundWords.{entries_of, IsShort, decided_by, Asks}
 use Rattle.paths.proofs.SoundPops.{pop_entries, pop_entries-2, asks_refl, ask_asks}
 use Rattle.paths.proofs.SoundNumbers.{age_bits-passes}

@@ -1,15 +1,14 @@
 -- From one opcode to all paths of a script: whatever runs clean meets a listed path.
-use Rattle.std.proofs.Common.{◌≡◌, ℕ, zero, suc, ◌+◌, ◌-◌, ◌<◌, ◌≤◌, max, Bool, true, false, not, nat_le, nat_lt, List, [], ◌∷◌, ◌++◌, length, map, drop, reverse, Result, Ok, Err, if◌then◌else◌, slice_index_or, length-append, add-zero, sym, ap, ◌∙◌, refl, arith, inl, inr, ⊎_elim}
+use Rattle.std.proofs.Common.{◌≡◌, ℕ, zero, suc, ◌+◌, ◌-◌, ◌≤◌, max, Bool, true, false, not, nat_le, nat_lt, List, [], ◌∷◌, ◌++◌, length, reverse, Result, Ok, Err, if◌then◌else◌, add-zero, sym, ap, ◌∙◌, refl, arith, inl, inr, ⊎_elim}
 use Rattle.std.specs.Prelude.{◌⊎◌, Any}
 use Rattle.std.specs.List.{list_any}
-use Rattle.std.proofs.lemmas.List.{length-reverse, length-drop, length-map}
+use Rattle.std.proofs.lemmas.List.{length-reverse}
 use Rattle.script.specs.declared.opcode.Op.{Op}
 use Rattle.script.specs.declared.spending.Spend.{Spend}
 use Rattle.script.specs.declared.stops.Cause.{Cause}
-use Rattle.script.specs.declared.stops.Cause.TheVariants.{OpenBranch as OpenIf, TooManyOps as ManyCounted, StackTooTall, ItemTooLong, NotOneValue, FalseEnd}
-use Rattle.script.specs.declared.jumps.Jump.{Jump}
+use Rattle.script.specs.declared.stops.Cause.TheVariants.{TooManyOps as ManyCounted, StackTooTall, ItemTooLong, FalseEnd}
 use Rattle.script.specs.declared.jumps.Jump.TheVariants.{Next as ToNext, AfterElse as ToElse}
-use Rattle.script.specs.Step.{Elements, Effect, effect, result_if, truth, ◌>>=◌}
+use Rattle.script.specs.Step.{Elements, Effect, effect, truth, ◌>>=◌}
 use Rattle.script.specs.Run.{RunState, weight, counted_in, skip_length, jump_length, open_ifs_after, state_after_effect, state_after_skip_or_run, state_after, Outcome, Clean, Stopped, at_end, onward, outcome_from, outcome, start, is_long}
 use Rattle.facts.specs.Symbols.{Stated}
 use Rattle.facts.specs.Symbols.{Sym}
@@ -21,17 +20,16 @@ use Rattle.paths.specs.declared.state.Halt.{Halt}
 use Rattle.paths.specs.declared.state.Halt.TheVariants.{NoMemory, Dead, Undecided, TooManyOps}
 use Rattle.paths.specs.Plain.{SymbolicJump}
 use Rattle.paths.specs.declared.state.SymbolicJumpOver.TheVariants.{Next, AfterElse, AfterEndIf, Splits}
-use Rattle.paths.specs.Plain.{Condition}
 use Rattle.paths.specs.declared.state.Path.{Path}
 use Rattle.paths.specs.Plain.{Listed}
 use Rattle.paths.specs.Rules.{pop_of, pop, ask, condition_of, insist, rule_of}
-use Rattle.paths.specs.Listing.{is_balanced, with_excess, is_low, ahead_by, states_after_jump, refusal_at, states_after_rule, states_after, path_of, path_at_end, end_of, paths_at_end, with_paths, begins, walk_along, walk, beginning, listing}
+use Rattle.paths.specs.Listing.{is_balanced, with_excess, is_low, ahead_by, states_after_jump, states_after_rule, states_after, path_of, path_at_end, end_of, paths_at_end, with_paths, begins, walk_along, walk, beginning, listing}
 use Rattle.paths.specs.Exhaustive.{OpensBy, IsExhaustive}
 use Rattle.paths.proofs.SoundWords.{Gives, entries_of, IsShort, move_by, Asks, Follows, run_state_of}
 use Rattle.paths.proofs.SoundPops.{gives_then, gives_map, gives_result_if, stated_join, pop_grows, asks_grows, pop_entries}
 use Rattle.paths.proofs.SoundRules.{FollowsTo, IsDecided, condition_good}
 use Rattle.paths.proofs.SoundFollowed.{rule_of-sound}
-use Rattle.paths.proofs.SoundWalk.{balanced_end, length_entries, turned, counts, summed, above, run_to, short_reversed, same_runs, other_runs}
+use Rattle.paths.proofs.SoundWalk.{length_entries, turned, counts, summed, above, run_to, short_reversed, same_runs, other_runs}
 use Rattle.paths.proofs.ForcedWords.{Forced, forced_then, forced_map, forced_gives, ok_checked, ok_then, IsMet, IsMetBy, pop_facts}
 use Rattle.paths.proofs.ForcedRules.{condition_lives, insist_forced}
 use Rattle.paths.proofs.ForcedFollowed.{rule_of-forced}

@@ -3,10 +3,9 @@ use Rattle.std.proofs.Common.{◌≡◌, ℕ, ◌≤◌, Bool, true, false, List
 use Rattle.std.specs.Prelude.{◌⊎◌}
 use Rattle.std.proofs.lemmas.Bool.{cases_lt, true≢false}
 use Rattle.std.proofs.lemmas.List.{drop_all}
-use Rattle.script.specs.declared.opcode.Op.{Op}
 use Rattle.script.specs.declared.spending.Spend.{Spend}
 use Rattle.script.specs.declared.stops.Cause.{Cause}
-use Rattle.script.specs.Step.{Elements, Effect, result_if, ◌>>=◌}
+use Rattle.script.specs.Step.{Elements, result_if, ◌>>=◌}
 use Rattle.facts.specs.Symbols.{Fact}
 use Rattle.facts.specs.Symbols.{Sym}
 use Rattle.facts.specs.Meaning.{item_for, holds_of, AllStated}

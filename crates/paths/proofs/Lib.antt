@@ -24,3 +24,6 @@ pub mod MapRules
 pub mod MapWalk
 pub mod FillRespects
 pub mod FillListing
+pub mod FillPieces
+pub mod FillNumbers
+pub mod FillPattern

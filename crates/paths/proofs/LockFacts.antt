@@ -1,20 +1,19 @@
 -- Locks among the facts of a path: each is asked, none is denied, and no relative one is switched off. So whatever meets the facts meets the
 -- greatest of them.
-use Rattle.std.proofs.Common.{◌≡◌, ℕ, zero, suc, ◌+◌, ◌/◌, ◌%◌, ◌^◌, ◌<◌, ◌≤◌, max, Bool, true, false, not, ◌||◌, nat_le, nat_lt, ◌==◌, List, [], ◌∷◌, ◌++◌, length, reverse, Option, Some, None, Result, Ok, Err, if◌then◌else◌, slice_index_or, eqb-true, subst, sym, ap, ◌∙◌, refl, arith, ⊎_elim}
-use Rattle.std.specs.Prelude.{IfSome, Any}
+use Rattle.std.proofs.Common.{◌≡◌, ℕ, zero, suc, ◌+◌, ◌/◌, ◌%◌, ◌^◌, ◌<◌, ◌≤◌, max, Bool, true, false, not, ◌||◌, nat_le, nat_lt, ◌==◌, List, [], ◌∷◌, ◌++◌, length, reverse, Option, Some, None, Result, Ok, Err, if◌then◌else◌, slice_index_or, eqb-true, subst, ◌∙◌, refl, arith, ⊎_elim}
+use Rattle.std.specs.Prelude.{IfSome}
 use Rattle.std.specs.List.{list_any}
 use Rattle.std.proofs.lemmas.Bool.{cases_lt, false_from_ne_true}
 use Rattle.script.specs.declared.opcode.Op.{Op}
 use Rattle.script.specs.declared.opcode.Op.TheVariants.{Push, Number as SmallNumber, If, NotIf, Else, EndIf, Drop, Dup, Swap, Size, Equal, EqualVerify, Hash160, CheckSig, CheckMultiSig, CheckLockTimeVerify, CheckSequenceVerify}
 use Rattle.script.specs.declared.spending.Spend.{Spend}
-use Rattle.script.specs.declared.num.Number.{Number as Signed}
 use Rattle.script.specs.Number.{number_of}
 use Rattle.script.specs.Step.{Elements, bit_at, lock_passes, age_passes, result_if, ◌>>=◌}
-use Rattle.script.specs.Run.{counted_in, skip_length}
+use Rattle.script.specs.Run.{counted_in}
 use Rattle.facts.specs.Symbols.{KeySource}
 use Rattle.facts.specs.declared.symbols.KeySourceOver.TheVariants.{Const as FixedKey, Slot as SlotKey}
 use Rattle.facts.specs.Symbols.{Fact}
-use Rattle.facts.specs.declared.symbols.FactOver.TheVariants.{Hash as HashIs, Size as SizeIs, Is, KeyForm, Form, Token, Assigned, Lock, Age}
+use Rattle.facts.specs.declared.symbols.FactOver.TheVariants.{Hash as HashIs, Is, KeyForm, Form, Token, Lock, Age}
 use Rattle.facts.specs.Symbols.{Stated}
 use Rattle.facts.specs.Symbols.{Sym}
 use Rattle.facts.specs.declared.symbols.SymOver.TheVariants.{Slot, Const, HashOf, SizeOf, Holds}
@@ -31,7 +30,7 @@ use Rattle.paths.specs.declared.state.ConditionOver.TheVariants.{Known, Asked}
 use Rattle.paths.specs.declared.state.Path.{Path}
 use Rattle.paths.specs.Plain.{Listed}
 use Rattle.paths.specs.Rules.{pop_of, pop, pops, push, ask, size_of, hash_of, hash_is, named_size, size_by, size_is, equal_of, condition_of, insist, branch, is_bad_key, is_bad_signature, is_bad_extra, source_of, ask_key, signature_rule, check_sig, count_of, slots_of, sources_of, ask_forms, ask_keys, ask_extra, answer_of, check_sigs, check_multi_sig, lock_of, age_bits, ask_age, goes_on, rule_of}
-use Rattle.paths.specs.Listing.{is_balanced, greater, with_lock, greatest_lock_in, with_age, greatest_age_in, with_excess, is_low, ahead_by, states_after_jump, refusal_at, states_after_rule, states_after, path_of, path_at_end, end_of, paths_at_end, with_paths, begins, walk_along, walk, beginning, listing}
+use Rattle.paths.specs.Listing.{is_balanced, greater, with_lock, greatest_lock_in, with_age, greatest_age_in, with_excess, is_low, states_after_jump, refusal_at, states_after_rule, states_after, path_of, path_at_end, end_of, paths_at_end, with_paths, begins, walk_along, walk, beginning, listing}
 use Rattle.paths.specs.Laws.{MeetsLocks}
 use Rattle.paths.proofs.SoundWords.{Gives}
 use Rattle.paths.proofs.SoundPops.{gives_then, gives_result_if}

@@ -1,5 +1,5 @@
 -- The table of rules over some constants agrees with the table over those that stand in their place.
-use Rattle.std.proofs.Common.{◌≡◌, ℕ, zero, suc, ◌+◌, Bool, true, false, not, ◌||◌, List, [], ◌∷◌, ◌++◌, map, reverse, Option, Some, None, Result, Ok, Err, sym, ap, subst, ◌∙◌, refl, ◌⊎◌, inl, inr}
+use Rattle.std.proofs.Common.{◌≡◌, ℕ, zero, suc, ◌+◌, Bool, true, false, not, ◌||◌, List, [], ◌∷◌, map, reverse, Option, Some, None, Result, Ok, Err, sym, ap, subst, ◌∙◌, refl, inl, inr}
 use Rattle.std.specs.Prelude.{if◌then◌else◌, nat_le}
 use Rattle.std.specs.List.{list_any}
 use Rattle.std.proofs.lemmas.List.{map-append}
@@ -17,12 +17,12 @@ use Rattle.paths.specs.declared.state.StateOver.{StateOver}
 use Rattle.paths.specs.declared.state.Halt.{Halt}
 use Rattle.paths.specs.declared.state.Halt.TheVariants.{Dead, Undecided, TooManyOps}
 use Rattle.paths.specs.declared.state.SymbolicJumpOver.{SymbolicJumpOver}
-use Rattle.paths.specs.declared.state.SymbolicJumpOver.TheVariants.{Next, AfterElse, AfterEndIf, Splits}
+use Rattle.paths.specs.declared.state.SymbolicJumpOver.TheVariants.{Next, AfterElse}
 use Rattle.paths.specs.declared.state.ConditionOver.{ConditionOver}
 use Rattle.paths.specs.declared.state.ConditionOver.TheVariants.{Known, Asked}
 use Rattle.paths.specs.Table.{Words, pop_of, pop, pops, push, ask, goes_on, size_of, hash_of, hash_is, size_by, size_is, equal_of, condition_of, insist, branch, is_bad_key, is_bad_signature, is_bad_extra, source_of, ask_key, signature_rule, check_sig, count_of, slots_of, sources_of, ask_forms, ask_keys, ask_extra, answer_of, check_sigs, check_multi_sig, lock_of, ask_age, rule_of}
 use Rattle.paths.specs.Maps.{Replacing, in_key, in_fact, in_stated, in_sym, in_state, in_jump, in_condition}
-use Rattle.paths.proofs.MapWords.{Agrees, Stands, halts, undecided, agrees_then, agrees_if, agrees_unclear, Settles, settles_then, joined_settles, Clear, Respects, map-reverse}
+use Rattle.paths.proofs.MapWords.{Agrees, halts, undecided, agrees_then, agrees_if, agrees_unclear, Settles, settles_then, joined_settles, Clear, Respects, map-reverse}
 
 module _ {C L A C' L' A' : Type 0} (m : Replacing C L A C' L' A') where
   -- a rule's answer, with the constants replaced

@@ -1,10 +1,9 @@
 -- A walk over some constants, and the walk over those that stand in their place.
-use Rattle.std.proofs.Common.{◌≡◌, ℕ, zero, suc, ◌+◌, ◌-◌, max, Bool, true, false, not, List, [], ◌∷◌, ◌++◌, length, map, Result, Ok, Err, sym, ap, subst, ◌∙◌, refl, ◌⊎◌, inl, inr}
-use Rattle.std.specs.Prelude.{if◌then◌else◌, nat_le, nat_lt}
+use Rattle.std.proofs.Common.{◌≡◌, ℕ, zero, suc, ◌+◌, ◌-◌, max, Bool, true, false, not, List, [], ◌∷◌, ◌++◌, map, Result, Ok, Err, sym, ap, subst, ◌∙◌, refl, ◌⊎◌, inl, inr}
+use Rattle.std.specs.Prelude.{nat_lt}
 use Rattle.std.proofs.lemmas.List.{map-append, length-map}
 use Rattle.script.specs.declared.opcode.Op.{Op}
 use Rattle.script.specs.declared.opcode.Op.TheVariants.{If, NotIf, Else, EndIf}
-use Rattle.script.specs.Limits.{max_stack_size}
 use Rattle.script.specs.Step.{◌>>=◌, result_if}
 use Rattle.script.specs.Run.{skip_length, open_ifs_after, weight}
 use Rattle.facts.specs.declared.symbols.SymOver.{SymOver}
@@ -15,11 +14,10 @@ use Rattle.paths.specs.declared.state.Halt.{Halt}
 use Rattle.paths.specs.declared.state.Halt.TheVariants.{NoMemory, Dead, Undecided, TooManyOps}
 use Rattle.paths.specs.declared.state.SymbolicJumpOver.{SymbolicJumpOver}
 use Rattle.paths.specs.declared.state.SymbolicJumpOver.TheVariants.{Next, AfterElse, AfterEndIf, Splits}
-use Rattle.paths.specs.declared.state.ConditionOver.{ConditionOver}
 use Rattle.paths.specs.declared.state.ListedOver.{ListedOver}
-use Rattle.paths.specs.Table.{pop, ask, insist}
+use Rattle.paths.specs.Table.{pop, ask}
 use Rattle.paths.specs.Walk.{Guide, refusal_at, with_excess, is_low, ahead_by, states_after_jump, states_after_rule, states_after, path_at_end, end_of, paths_at_end, with_paths, begins, walk_along, walk, walk_all, beginning}
-use Rattle.paths.specs.Maps.{Replacing, in_fact, in_stated, in_sym, in_state, in_jump, in_condition}
+use Rattle.paths.specs.Maps.{Replacing, in_fact, in_sym, in_state, in_jump, in_condition}
 use Rattle.paths.proofs.MapWords.{Agrees, Stands, halts, agrees_then}
 use Rattle.paths.proofs.MapRules.{in_step, popped, ask-replaced, insist_agrees}
 

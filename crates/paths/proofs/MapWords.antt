@@ -1,7 +1,6 @@
 -- A rule over some constants, and the same rule over those that stand in their place.
-use Rattle.std.proofs.Common.{◌≡◌, ℕ, Bool, true, false, not, ◌||◌, List, [], ◌∷◌, ◌++◌, map, reverse, Option, Result, Ok, Err, sym, ap, subst, ◌∙◌, refl, ◌⊎◌}
+use Rattle.std.proofs.Common.{◌≡◌, ℕ, Bool, true, false, not, ◌||◌, List, [], ◌∷◌, ◌++◌, map, reverse, Result, Ok, Err, sym, ap, subst, ◌∙◌, refl, ◌⊎◌}
 use Rattle.script.specs.Step.{◌>>=◌, result_if}
-use Rattle.std.specs.Prelude.{if◌then◌else◌}
 use Rattle.std.proofs.lemmas.List.{map-append, reverse-append}
 use Rattle.paths.specs.declared.state.Halt.{Halt}
 use Rattle.paths.specs.declared.state.Halt.TheVariants.{NoMemory, Dead, Undecided, TooManyOps}

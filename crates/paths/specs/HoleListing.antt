@@ -1,5 +1,5 @@
 -- The ways through a pattern of a script, as the rules have it where constants may be holes.
-use Rattle.std.specs.Prelude.{ℕ, ◌+◌, Bool, nat_le, List, [], Option, Some, None, Result, Ok, slice_index_or}
+use Rattle.std.specs.Prelude.{ℕ, ◌+◌, Bool, nat_le, List, [], Option, Some, None, Result, slice_index_or}
 use Rattle.script.specs.declared.opcode.Op.{Op}
 use Rattle.script.specs.Limits.{max_ops}
 use Rattle.script.specs.Step.{result_if}

@@ -17,3 +17,5 @@ pub mod Sound
 pub mod Outcome
 pub mod Exhaustive
 pub mod Laws
+pub mod Patterns
+pub mod PatternRefusals

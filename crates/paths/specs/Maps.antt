@@ -1,5 +1,5 @@
 -- Symbols, facts and states where other constants stand in the place of some.
-use Rattle.std.specs.Prelude.{Bool, List, map}
+use Rattle.std.specs.Prelude.{map}
 use Rattle.facts.specs.declared.symbols.KeySourceOver.{KeySourceOver}
 use Rattle.facts.specs.declared.symbols.KeySourceOver.TheVariants.{Const as FixedKey, Slot as SlotKey}
 use Rattle.facts.specs.declared.symbols.FactOver.{FactOver}

@@ -23,8 +23,8 @@ refusal_at at none Dead = Ok none
 refusal_at at none Undecided = Err (NoRule at)
 refusal_at at none TooManyOps = Err TooMany
 
--- what a walk asks: the rule of an opcode, where so many of the whole script count, at its position; what decides whether a symbol is true; and
--- the path that ends, where so many opcodes count
+-- what a walk asks: the rule of an opcode at its position, where n opcodes of the whole script count; what decides whether a symbol is true; and
+-- the path that ends, where n opcodes count
 pub record Guide (C L A P : Type 0) : Type 0 where
   pub rule : ℕ → ℕ → Op → StateOver C L A → Result (SymbolicJumpOver C L A × StateOver C L A) Halt
   pub condition : SymOver C L A → Result (ConditionOver C L A) Halt

@@ -6,10 +6,10 @@ ghost use Rattle.paths.specs.HoleRules.{size_of as size_for, hash_of as hash_for
 ghost use Rattle.paths.specs.Following.{IsRuleOf};
 ghost use Rattle.paths.specs.Doing.{IsNear};
 
+use crate::constants::{Constant, Fact, Sym};
 use crate::rules::{condition, insist};
 use crate::stack_opcodes::{pull, put};
 use crate::state::{Halt, State, SymbolicJump};
-use crate::constants::{Constant, Fact, Sym};
 use lists::ByteString;
 use script::limits::MAX_STACK_SIZE;
 use script::{Op, num};

@@ -243,7 +243,7 @@ pub fn age_bits(age: &Amount<u64>) -> Amount<u32>
     }
 }
 
-// The bits of a number that are those of 0x40ffff.
+/// The bits of a number that are those of 0x40ffff (BIP 112).
 pub fn masked(age: u64) -> u32
     ensures { result ≡ masked_by age }
 {

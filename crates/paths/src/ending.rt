@@ -5,10 +5,10 @@ ghost use Rattle.paths.specs.Answers.{IfHalts, IfRefused, Leaves};
 ghost use Rattle.paths.specs.HoleListing.{refusal_at, end_of, path_of as path_for, paths_at_end as ended_of, with_paths};
 ghost use Rattle.paths.specs.Walking.{IsEnded};
 
+use crate::constants::Sym;
 use crate::errors::CheckError;
 use crate::rules::{condition, insist, take};
 use crate::state::{Halt, Listed, PatternPath, State};
-use crate::constants::Sym;
 use script::limits::{MAX_OPS_PER_SCRIPT, MAX_STACK_SIZE};
 
 /// The refusal for a halt at this position; none where the path dies.

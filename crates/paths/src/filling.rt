@@ -5,12 +5,15 @@ ghost use Rattle.paths.specs.Holes.{pushed_by, fits as fits_hole, blank as blank
 ghost use Rattle.paths.specs.Maps.{in_key, in_fact, in_stated};
 ghost use Rattle.paths.specs.Filling.{filled_facts as facts_filled, filled_path as path_filled, filled_paths as paths_filled};
 
-use crate::constants::{Amount, BLANK_HASH, BLANK_KEY, Constant, HoleKind, masked};
-use crate::constants::{Fact as HoleFact, KeySource as HoleKey, Stated as HoleStated};
+use crate::constants::{
+    Amount, BLANK_HASH, BLANK_KEY, Constant, Fact as HoleFact, HoleKind, KeySource as HoleKey,
+    Stated as HoleStated, masked,
+};
 use crate::greatest_locks::{greatest_age, greatest_lock};
 use crate::state::{Path, PatternPath};
 use facts::{Fact, KeySource, Stated};
 use lists::{ByteString, List};
+use script::limits::LOCKTIME_THRESHOLD;
 use script::num::{Limit, Number};
 use script::tokens::has_key_form;
 use script::{Op, num};
@@ -44,7 +47,7 @@ fn is_low_number(number: Option<Number>) -> bool
     ensures { result ≡ is_low number }
 {
     match number {
-        Some(number) => !number.negative && number.magnitude < 500_000_000,
+        Some(number) => !number.negative && number.magnitude < LOCKTIME_THRESHOLD,
         None => false,
     }
 }
@@ -61,7 +64,12 @@ fn blank(alloc: Global, kind: HoleKind) -> Result<ByteString, AllocError>
 }
 
 // What stands in the place of a hole. The only error is that memory ran out.
-fn hole_bytes(alloc: Global, ops: &[Op], kind: HoleKind, at: usize) -> Result<ByteString, AllocError>
+fn hole_bytes(
+    alloc: Global,
+    ops: &[Op],
+    kind: HoleKind,
+    at: usize,
+) -> Result<ByteString, AllocError>
     ensures { IfOk result (λ b. b ≡ hole_bytes_of ops.now kind at) }
 {
     let bytes = pushed_at(alloc, ops, at)?;
@@ -194,7 +202,11 @@ fn filled_path(alloc: Global, ops: &[Op], path: &PatternPath) -> Result<Path, Al
 }
 
 /// The paths of a pattern that is filled to a script of these opcodes. The only error is that memory ran out.
-pub fn filled_paths(alloc: Global, ops: &[Op], paths: &[PatternPath]) -> Result<List<Path>, AllocError>
+pub fn filled_paths(
+    alloc: Global,
+    ops: &[Op],
+    paths: &[PatternPath],
+) -> Result<List<Path>, AllocError>
     ensures { IfOk result (λ l. l ≡ paths_filled ops.now paths.now) }
 {
     let mut filled = List::new(alloc);

@@ -24,6 +24,7 @@ pub mod laws;
 mod listing;
 mod lock_opcodes;
 mod multisig;
+mod pieces;
 mod rules;
 mod signature_opcodes;
 mod stack_opcodes;

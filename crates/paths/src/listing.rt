@@ -17,8 +17,8 @@ use crate::filling::filled_paths;
 use crate::state::{Path, PatternPath};
 use crate::walking::walk_all;
 use lists::List;
-use script::{Op, Script};
 use script::limits::MAX_OPS_PER_SCRIPT;
+use script::{Op, Script};
 use std::alloc::Global;
 use std::marker::Model;
 

@@ -6,12 +6,12 @@ ghost use Rattle.paths.specs.HoleRules.{lock_of as lock_for, ask_age as age_aske
 ghost use Rattle.paths.specs.Following.{IsRuleOf};
 ghost use Rattle.paths.specs.Doing.{IsNear};
 
+use crate::constants::{Amount, Fact, Sym, age_bits, is_off};
 use crate::rules::ask;
 use crate::stack_opcodes::{pull, put};
 use crate::state::{Halt, State, SymbolicJump};
-use crate::constants::{Amount, Fact, Sym, age_bits, is_off};
-use script::limits::MAX_STACK_SIZE;
 use script::Op;
+use script::limits::MAX_STACK_SIZE;
 use std::alloc::AllocError;
 
 /// CHECKLOCKTIMEVERIFY (BIP 65).

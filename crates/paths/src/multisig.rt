@@ -7,15 +7,15 @@ ghost use Rattle.paths.specs.HoleRules.{pops, count_of as count_for, is_bad_key 
 ghost use Rattle.paths.specs.Following.{IsRuleOf};
 ghost use Rattle.paths.specs.Doing.{IsNear, count_keys as keys_counted};
 
+use crate::constants::{Constant, Fact, KeySource, Sym};
 use crate::rules::ask;
 use crate::signature_opcodes::{ask_key, is_bad_key, source_of};
 use crate::stack_opcodes::{pull, put};
 use crate::state::{Halt, State, SymbolicJump};
-use crate::constants::{Constant, Fact, KeySource, Sym};
 use lists::{ByteString, List, Stack};
+use script::Op;
 use script::limits::{MAX_OPS_PER_SCRIPT, MAX_PUBKEYS_PER_MULTISIG, MAX_STACK_SIZE};
 use script::truths::flag;
-use script::Op;
 use std::alloc::{AllocError, Global};
 
 /// CHECKMULTISIG, where `counted` opcodes of the whole script count.
@@ -190,7 +190,11 @@ fn ask_extra(alloc: Global, state: &mut State, extra: Sym) -> Result<(), Halt>
             }
         }
         Sym::Slot(i) => {
-            ask(state, Fact::Is(i, Constant::Known(ByteString::new(alloc))), true)?;
+            ask(
+                state,
+                Fact::Is(i, Constant::Known(ByteString::new(alloc))),
+                true,
+            )?;
             Ok(())
         }
         _other => Err(Halt::Undecided),

@@ -7,12 +7,12 @@ ghost use Rattle.paths.specs.declared.state.Halt.TheVariants.{NoMemory};
 
 use crate::branch_opcodes::{enter_if, enter_not_if};
 use crate::comparison_opcodes::{equal, equal_verify, hash, size};
+use crate::constants::{Fact, Stated, Sym};
 use crate::lock_opcodes::{check_lock_time, check_sequence};
 use crate::multisig::check_multi_sig;
 use crate::signature_opcodes::check_sig;
 use crate::stack_opcodes::{discard, double, push_item, push_number, swap};
 use crate::state::{Condition, Halt, State, SymbolicJump};
-use crate::constants::{Fact, Stated, Sym};
 use script::Op;
 use script::limits::{MAX_OPS_PER_SCRIPT, MAX_STACK_SIZE};
 use std::alloc::{AllocError, Global};

@@ -7,10 +7,10 @@ ghost use Rattle.paths.specs.Following.{IsRuleOf};
 ghost use Rattle.paths.specs.Doing.{IsNear};
 ghost use Rattle.facts.specs.declared.symbols.SymOver.TheVariants.{Const};
 
+use crate::constants::{Constant, Fact, KeySource, Sym};
 use crate::rules::ask;
 use crate::stack_opcodes::{pull, put};
 use crate::state::{Halt, State, SymbolicJump};
-use crate::constants::{Constant, Fact, KeySource, Sym};
 use script::Op;
 use script::limits::MAX_STACK_SIZE;
 use std::alloc::AllocError;

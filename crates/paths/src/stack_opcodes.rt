@@ -5,9 +5,9 @@ ghost use Rattle.paths.specs.HoleRules.{pop, push as pushed};
 ghost use Rattle.paths.specs.Following.{IsRuleOf};
 ghost use Rattle.paths.specs.Doing.{IsNear};
 
+use crate::constants::{Constant, Sym, copied_sym};
 use crate::rules::take;
 use crate::state::{Halt, State, SymbolicJump};
-use crate::constants::{Constant, Sym, copied_sym};
 use lists::ByteString;
 use script::Op;
 use script::limits::MAX_STACK_SIZE;
@@ -46,7 +46,10 @@ pub fn push_number(alloc: Global, number: u8, state: &mut State) -> Result<Symbo
     ensures exact { IsRuleOf 0 (Op.Number number) state.old state.new result }
     ensures near { OnOk result (IsNear 0 state.old state.new) }
 {
-    put(state, Sym::Const(Constant::Known(ByteString::from_slice(alloc, &[number])?)))?;
+    put(
+        state,
+        Sym::Const(Constant::Known(ByteString::from_slice(alloc, &[number])?)),
+    )?;
     Ok(SymbolicJump::Next)
 }
 

@@ -7,10 +7,10 @@ ghost use Rattle.paths.specs.Following.{IsRuleAt};
 ghost use Rattle.paths.specs.HoleListing.{hole_at as hole_of, states_after_jump, states_after_rule, states_after, walk, begins as begins_of, beginning};
 ghost use Rattle.paths.specs.Walking.{states_of, AreStates, AreKept, IsKept, IsWaiting, IsStep, IsWalked, rest_of_walk, paths_in};
 
+use crate::constants::{Constant, HoleKind, Sym, copied_fact};
 use crate::ending::{end, refusal};
 use crate::errors::CheckError;
 use crate::rules::{ask, follow};
-use crate::constants::{Constant, HoleKind, Sym, copied_fact};
 use crate::stack_opcodes::put;
 use crate::state::{Halt, Listed, PatternPath, State, SymbolicJump};
 use lists::{List, Stack};

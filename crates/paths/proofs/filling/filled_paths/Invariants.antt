@@ -1,6 +1,4 @@
 use Rattle.std.proofs.Common.{◌≡◌, map, take}
-use Rattle.paths.specs.Maps.{in_key, in_stated}
-use Rattle.paths.specs.Holes.{filling}
 use Rattle.paths.specs.Filling.{filled_path}
 use Rattle.paths.proofs.filling.filled_paths.Given as goal
 

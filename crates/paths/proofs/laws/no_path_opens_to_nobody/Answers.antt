@@ -1,4 +1,4 @@
-use Rattle.std.proofs.Common.{ℕ, [], arith}
+use Rattle.std.proofs.Common.{[], arith}
 use Rattle.std.specs.Prelude.{Any}
 use Rattle.paths.specs.declared.state.Path.{Path}
 use Rattle.paths.proofs.ForcedWalk.{listing-exhaustive}
