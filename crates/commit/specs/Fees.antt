@@ -1,23 +1,18 @@
 -- What the transactions of a commitment cost, and which HTLCs are worth an output (BOLT 3, "Fees" and "Trimmed Outputs").
 use Rattle.std.specs.Prelude.{ℕ, ◌+◌, ◌*◌, ◌/◌, Bool, nat_lt}
+use Rattle.terms.specs.declared.amounts.TheConstants.{MSAT_PER_SAT}
 use Rattle.terms.specs.declared.htlcs.Htlc.{Htlc}
 use Rattle.commit.specs.declared.fees.Direction.{Direction}
 use Rattle.commit.specs.declared.fees.Direction.TheVariants.{Offered, Received}
-
-abbrev pub millisatoshis_per_satoshi : ℕ
-millisatoshis_per_satoshi = 1000
+use Rattle.commit.specs.declared.fees.TheConstants.{WEIGHT_PER_FEERATE}
 
 -- an amount of millisatoshis in satoshis, rounded down
 abbrev pub satoshis_of : ℕ → ℕ
-satoshis_of amount = amount / millisatoshis_per_satoshi
-
--- the weight that a feerate is for
-abbrev pub weight_per_feerate : ℕ
-weight_per_feerate = 1000
+satoshis_of amount = amount / MSAT_PER_SAT
 
 -- what a transaction of a weight costs, in satoshis, rounded down
 abbrev pub fee_of : ℕ → ℕ → ℕ
-fee_of weight feerate = weight * feerate / weight_per_feerate
+fee_of weight feerate = weight * feerate / WEIGHT_PER_FEERATE
 
 -- of a commitment with so many untrimmed HTLCs
 abbrev pub commitment_weight : ℕ → ℕ

@@ -11,7 +11,8 @@ use Rattle.terms.specs.Views.{share}
 use Rattle.commit.specs.declared.fees.Direction.{Direction}
 use Rattle.commit.specs.declared.fees.Direction.TheVariants.{Offered, Received}
 use Rattle.commit.specs.declared.amounts.Amounts.{Amounts}
-use Rattle.commit.specs.Fees.{millisatoshis_per_satoshi, satoshis_of, is_trimmed_by}
+use Rattle.terms.specs.declared.amounts.TheConstants.{MSAT_PER_SAT}
+use Rattle.commit.specs.Fees.{satoshis_of, is_trimmed_by}
 use Rattle.commit.specs.Amounts.{left_to, amounts_of}
 
 -- the millisatoshis of HTLCs, and of a view
@@ -49,19 +50,19 @@ left_out terms view owner =
 
 -- the millisatoshis that rounding down leaves
 abbrev pub rests_of : List Htlc → ℕ
-rests_of htlcs = sum_by (λ htlc. htlc.amount % millisatoshis_per_satoshi) htlcs
+rests_of htlcs = sum_by (λ htlc. htlc.amount % MSAT_PER_SAT) htlcs
 
 abbrev pub rounded_off : View → ℕ
-rounded_off view = view.a.balance % millisatoshis_per_satoshi + rests_of view.a.offered + (view.b.balance % millisatoshis_per_satoshi + rests_of view.b.offered)
+rounded_off view = view.a.balance % MSAT_PER_SAT + rests_of view.a.offered + (view.b.balance % MSAT_PER_SAT + rests_of view.b.offered)
 
 -- each millisatoshi of a view is in an output, pays the fee, is left out, or is rounded off
 abbrev pub EachIsPlaced : Type 0
 EachIsPlaced =
     (terms : Terms) (view : View) (owner : Side)
-    → millisatoshis_per_satoshi * (paid_out (amounts_of terms view owner) + fee_paid terms view owner + left_out terms view owner) + rounded_off view ≡ total_of view
+    → MSAT_PER_SAT * (paid_out (amounts_of terms view owner) + fee_paid terms view owner + left_out terms view owner) + rounded_off view ≡ total_of view
 
 -- outputs and fee are at most the capacity, of a view that shares it out
 abbrev pub NothingIsCreated : Type 0
 NothingIsCreated =
-    (terms : Terms) (view : View) (owner : Side) → total_of view ≡ millisatoshis_per_satoshi * terms.capacity
+    (terms : Terms) (view : View) (owner : Side) → total_of view ≡ MSAT_PER_SAT * terms.capacity
     → paid_out (amounts_of terms view owner) + fee_paid terms view owner ≤ terms.capacity

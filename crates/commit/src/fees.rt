@@ -3,10 +3,7 @@
 ghost use Rattle.std.specs.Prelude.{◌≡◌};
 ghost use Rattle.commit.specs.Fees.{satoshis_of, fee_of, commitment_weight, htlc_weight, is_trimmed_by};
 
-use terms::Htlc;
-
-/// Millisatoshis in a satoshi.
-const MILLISATOSHIS_PER_SATOSHI: u64 = 1000;
+use terms::{Htlc, MSAT_PER_SAT};
 
 /// The weight that a feerate is for.
 const WEIGHT_PER_FEERATE: u32 = 1000;
@@ -36,7 +33,7 @@ pub enum Direction {
 pub fn satoshis(amount: u64) -> u64
     ensures { result ≡ satoshis_of amount }
 {
-    amount / MILLISATOSHIS_PER_SATOSHI
+    amount / MSAT_PER_SAT
 }
 
 /// What a commitment with so many untrimmed HTLCs costs at a feerate in satoshis for 1,000 units of weight: satoshis, rounded down (BOLT 3, "Fee
