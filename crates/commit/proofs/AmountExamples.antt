@@ -1,6 +1,5 @@
 -- The amounts of commitments (BOLT 3, appendix C), and amounts at the dust limit.
 use Rattle.std.proofs.Common.{◌≡◌, ℕ, map, List, [], ◌∷◌, Option, Some, None, refl, lit≤}
-use Rattle.std.specs.Prelude.{◌+◌, ◌*◌}
 use Rattle.tx.specs.declared.input.OutPoint.{OutPoint}
 use Rattle.terms.specs.declared.htlcs.Htlc.{Htlc}
 use Rattle.terms.specs.declared.sides.Side.{Side}
@@ -9,7 +8,6 @@ use Rattle.terms.specs.declared.agreement.BaseKeys.{BaseKeys}
 use Rattle.terms.specs.declared.agreement.Party.{Party}
 use Rattle.terms.specs.declared.agreement.Terms.{Terms}
 use Rattle.terms.specs.declared.views.View.{View}
-use Rattle.commit.specs.declared.amounts.Amounts.{Amounts}
 use Rattle.commit.specs.Amounts.{amounts_of}
 
 -- the terms of these examples: A opened the channel

@@ -1,7 +1,6 @@
 -- Fees and trimming at their limits (BOLT 3, "Fees", "Trimmed Outputs" and appendix C).
-use Rattle.std.proofs.Common.{◌≡◌, ℕ, map, List, [], ◌∷◌, Bool, true, false, refl}
+use Rattle.std.proofs.Common.{◌≡◌, ℕ, map, [], ◌∷◌, true, false, refl}
 use Rattle.terms.specs.declared.htlcs.Htlc.{Htlc}
-use Rattle.commit.specs.declared.fees.Direction.{Direction}
 use Rattle.commit.specs.declared.fees.Direction.TheVariants.{Offered, Received}
 use Rattle.commit.specs.Fees.{satoshis_of, fee_of, commitment_weight, htlc_weight, is_trimmed_by}
 

@@ -1,20 +1,19 @@
 -- Where the millisatoshis of a view go: each is in one place, so nothing is created.
-use Rattle.std.proofs.Common.{◌≡◌, ℕ, ◌+◌, ◌-◌, ◌*◌, ◌/◌, ◌%◌, ◌≤◌, min, Bool, true, false, not, cond, nat_lt, List, [], ◌∷◌, sum_by, Option, Some, None, unwrap_or, sym, ap, ◌∙◌, refl, arith}
+use Rattle.std.proofs.Common.{◌≡◌, ℕ, ◌+◌, ◌-◌, ◌*◌, ◌/◌, ◌%◌, ◌≤◌, min, Bool, true, false, not, cond, nat_lt, List, [], ◌∷◌, Some, None, unwrap_or, refl, arith}
 use Rattle.std.specs.List.{filter}
 use Rattle.std.specs.Prelude.{if◌then◌else◌}
 use Rattle.std.proofs.lemmas.List.Sums.{sum_by-cons}
 use Rattle.terms.specs.declared.htlcs.Htlc.{Htlc}
 use Rattle.terms.specs.declared.sides.Side.{Side}
 use Rattle.terms.specs.declared.sides.Side.TheVariants.{A, B}
-use Rattle.terms.specs.declared.agreement.Terms.{Terms}
 use Rattle.terms.specs.declared.views.View.{View}
 use Rattle.terms.specs.Agreement.{party}
 use Rattle.terms.specs.Sides.{other}
 use Rattle.terms.specs.Views.{share}
 use Rattle.commit.specs.declared.fees.Direction.TheVariants.{Offered, Received}
 use Rattle.commit.specs.Fees.{satoshis_of, is_trimmed_by}
-use Rattle.commit.specs.Amounts.{owed_by, left_to, unless_dust, amounts_of, offered_of, received_of}
-use Rattle.commit.specs.Sums.{millisatoshis_of, total_of, worth_of, paid_out, fee_paid, dust_worth, left_out, rests_of, rounded_off, EachIsPlaced, NothingIsCreated}
+use Rattle.commit.specs.Amounts.{owed_by, unless_dust, amounts_of}
+use Rattle.commit.specs.Sums.{millisatoshis_of, total_of, worth_of, dust_worth, rests_of, rounded_off, EachIsPlaced, NothingIsCreated}
 
 -- one HTLC has an output, or is left out
 placed_at : (b : Bool) (x : Htlc) (us vs : List Htlc)

@@ -1,3 +1,4 @@
 pub mod Fees
 pub mod Amounts
 pub mod Sums
+pub mod Keys
