@@ -26,3 +26,4 @@ pub mod FillListing
 pub mod FillPieces
 pub mod FillNumbers
 pub mod FillPattern
+pub mod PatternExamples
