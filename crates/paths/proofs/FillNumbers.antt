@@ -1,5 +1,5 @@
 -- Numbers that fill holes, as items.
-use Rattle.std.proofs.Common.{◌≡◌, ℕ, zero, suc, ◌/◌, ◌%◌, ◌<◌, ◌≤◌, Bool, true, false, ◌&&◌, [], ◌∷◌, ◌++◌, length, sym, ap, ◌∙◌, refl, arith}
+use Rattle.std.proofs.Common.{◌≡◌, ℕ, zero, suc, ◌+◌, ◌*◌, ◌/◌, ◌%◌, ◌<◌, ◌≤◌, Bool, true, false, ◌&&◌, [], ◌∷◌, ◌++◌, length, sym, ap, ◌∙◌, refl, arith}
 use Rattle.std.specs.Prelude.{nat_lt, nat_le, ◌==◌, if◌then◌else◌}
 use Rattle.script.specs.declared.opcode.Op.TheVariants.{Push, Number as SmallNumber}
 use Rattle.script.specs.Number.{lowest, digits, minimal_bytes_of}
@@ -44,3 +44,47 @@ pushed_number-fits n h = ap (fits Number) (pushed_number n) ∙ number_fits n h
 -- and has at most four bytes
 lowest_short : (n : ℕ) → n < 128 → length (lowest n) ≡ 1
 lowest_short n h = let low : nat_le 128 n ≡ false = grind (arith, h) in ap (λ b. length (if b && nat_lt n 256 then (n ∷ 0 ∷ []) else (n % 256 ∷ []))) low
+
+short_end : (fuel n : ℕ) → n < 128 → length (digits (suc fuel) n) ≤ 1
+unfolding digits
+short_end fuel n h = go (n == 0)
+  where
+    none : n / 256 ≡ 0
+    none = omega (arith, h)
+
+    low : nat_le 128 n ≡ false
+    low = grind (arith, h)
+
+    one : length (lowest n ++ digits fuel (n / 256)) ≡ 1
+    one =
+        ap (λ d. length (lowest n ++ digits fuel d)) none ∙ ap (λ ds. length (lowest n ++ ds)) (digits_zero fuel)
+        ∙ ap (λ b. length ((if b && nat_lt n 256 then (n ∷ 0 ∷ []) else (n % 256 ∷ [])) ++ [])) low
+
+    go : (b : Bool) → length (if b then [] else (lowest n ++ digits fuel (n / 256))) ≤ 1
+    go true = omega arith
+    go false = omega (arith, one)
+
+short_more : (fuel n m bound : ℕ) → ((q : ℕ) → q < bound → length (digits fuel q) ≤ m) → 1 ≤ m → n < 256 * bound → length (digits (suc fuel) n) ≤ m + 1
+unfolding digits
+short_more fuel n m bound shorter one h = go (n == 0) (nat_le 128 n && nat_lt n 256) refl
+  where
+    less : n / 256 < bound
+    less = omega (arith, h)
+
+    rest : length (digits fuel (n / 256)) ≤ m
+    rest = shorter (n / 256) less
+
+    go : (b c : Bool) → (nat_le 128 n && nat_lt n 256) ≡ c → length (if b then [] else ((if c then (n ∷ 0 ∷ []) else (n % 256 ∷ [])) ++ digits fuel (n / 256))) ≤ m + 1
+    go true c e = omega arith
+    go false true e =
+        let none : n / 256 ≡ 0 = grind (arith, e) in
+        let end : length (digits fuel (n / 256)) ≡ 0 = ap (λ d. length (digits fuel d)) none ∙ ap length (digits_zero fuel) in
+        omega (arith, end, one)
+    go false false e = omega (arith, rest)
+
+pub number_short : (n : ℕ) → nat_lt n 500000000 ≡ true → length (minimal_bytes_of n) ≤ 4
+unfolding minimal_bytes_of
+number_short n h =
+    short_more 8 n 3 8388608 (λ q k.
+    short_more 7 q 2 32768 (λ r l.
+    short_more 6 r 1 128 (λ t m. short_end 5 t m) (omega arith) l) (omega arith) k) (omega arith) (grind (arith, h))

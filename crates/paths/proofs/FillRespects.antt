@@ -65,11 +65,11 @@ hole_fits ops kind at = go (fits kind (pushed_at ops at)) refl
     go false e = blank_fits kind
 
 -- lengths
-key_length : (b : List ℕ) → fits Key b ≡ true → length b ≡ 33
+pub key_length : (b : List ℕ) → fits Key b ≡ true → length b ≡ 33
 unfolding fits is_key
 key_length b e = grind (arith, e)
 
-hash_length : (b : List ℕ) → fits Hash b ≡ true → length b ≡ 20
+pub hash_length : (b : List ℕ) → fits Hash b ≡ true → length b ≡ 20
 unfolding fits
 hash_length b e = grind (arith, e)
 

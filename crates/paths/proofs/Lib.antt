@@ -27,3 +27,4 @@ pub mod FillListing
 pub mod FillPieces
 pub mod FillNumbers
 pub mod FillPattern
+pub mod PatternExamples

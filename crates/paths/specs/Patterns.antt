@@ -107,6 +107,10 @@ abbrev pub IsPatternRefusal : List Piece → PatternError → Type 0
 IsPatternRefusal pieces (Check NoMemory) = Unit {0}
 IsPatternRefusal pieces e = pattern_of pieces ≡ Err e
 
+abbrev pub ArePatternPaths : List Piece → Result (List PatternPath) PatternError → Type 0
+ArePatternPaths pieces (Ok paths) = pattern_of pieces ≡ Ok paths
+ArePatternPaths pieces (Err e) = IsPatternRefusal pieces e
+
 abbrev pub IsPattern : List Piece → Result ListedPattern PatternError → Type 0
 IsPattern pieces (Ok p) = (p.pieces ≡ pieces) × (pattern_of pieces ≡ Ok p.paths)
 IsPattern pieces (Err e) = IsPatternRefusal pieces e

@@ -22,7 +22,7 @@ use script::{Op, Script};
 use std::alloc::Global;
 use std::marker::Model;
 
-/// A script with every way through it that runs clean. `check` alone makes one. A contract sees it as its opcodes and its paths.
+/// A script with every way through it that runs clean. `check` and [`CheckedPattern::instance`](crate::CheckedPattern::instance) alone make one. A contract sees it as its opcodes and its paths.
 #[derive(Drop)]
 pub struct Checked {
     script: Script,
@@ -45,6 +45,14 @@ impl Checked {
     ghost use Rattle.paths.specs.Listing.{listing};
     ghost use Rattle.paths.specs.Sound.{IsSound};
     ghost use Rattle.paths.specs.Exhaustive.{IsExhaustive};
+
+    /// A script with its paths. It takes no memory.
+    pub(crate) fn from_parts(script: Script, paths: List<Path>) -> Self
+        requires { listing script ≡ Ok paths }
+        ensures { result ≡ record { ops = script; paths = paths } }
+    {
+        Checked { script, paths }
+    }
 
     /// The script.
     pub fn script(&self) -> &Script

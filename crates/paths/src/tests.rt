@@ -1,3 +1,4 @@
+mod patterns;
 mod shapes;
 
 use crate::{Checked, Path, check};
