@@ -2,13 +2,12 @@ mod fixed;
 mod shapes;
 
 use crate::errors::AcceptError;
-use crate::evidence::evidence_of;
 use crate::judgement::{first_unmet, is_program};
 use crate::parts::{Slot, WitnessItem};
 use crate::{Key, OutPoint, Place, Shell, accept};
 use digest::{hash160, sha256};
-use facts::{Fact, KeySource, Stated};
-use lists::{ByteString, List};
+use facts::{Fact, Stated};
+use lists::ByteString;
 use paths::check;
 use script::Script;
 use std::alloc::{AllocError, Global};
@@ -42,61 +41,6 @@ fn two_slots(alloc: Global, top: &[u8]) -> Result<Vec<Slot>, AllocError> {
         slots.push(slot)?;
     }
     Ok(slots)
-}
-
-fn key_of(alloc: Global, byte: u8) -> Result<KeySource, AllocError> {
-    Ok(KeySource::Const(ByteString::from_slice(alloc, &key_bytes(byte))?))
-}
-
-#[test]
-fn shows_the_facts_of_to_local(rt: HostRuntime) -> Result<(), Fail> {
-    let alloc = rt.alloc();
-    let slots = two_slots(alloc, &[1])?;
-    assert_eq!(rt; slots.len(), 2);
-    assert_eq!(rt; evidence_of(None, &slots, &Fact::Truth(0)), Some(true));
-    assert_eq!(rt; evidence_of(None, &slots, &Fact::Form(1)), Some(true));
-    assert_eq!(rt;
-        evidence_of(None, &slots, &Fact::Token(1, key_of(alloc, 0x11)?)),
-        Some(true)
-    );
-    assert_eq!(rt;
-        evidence_of(None, &slots, &Fact::Token(1, key_of(alloc, 0x22)?)),
-        Some(false)
-    );
-    assert_eq!(rt; evidence_of(None, &slots, &Fact::Truth(2)), None);
-    assert_eq!(rt; evidence_of(None, &slots, &Fact::Age(144)), Some(true));
-    assert_eq!(rt; evidence_of(None, &slots, &Fact::Age(0x40_0001)), None);
-    assert_eq!(rt;
-        evidence_of(None, &slots, &Fact::Lock(499_999_999)),
-        Some(true)
-    );
-    assert_eq!(rt; evidence_of(None, &slots, &Fact::Lock(500_000_000)), None);
-    Ok(())
-}
-
-#[test]
-fn assigns_keys_in_their_order(rt: HostRuntime) -> Result<(), Fail> {
-    let alloc = rt.alloc();
-    let mut slots = Vec::new(alloc);
-    for byte in [0x11, 0x22] {
-        if let Some(slot) = sig(byte) {
-            slots.push(slot)?;
-        }
-    }
-    let mut keys = Vec::new(alloc);
-    keys.push(key_of(alloc, 0x11)?)?;
-    keys.push(key_of(alloc, 0x22)?)?;
-    let keys = List::from_vec(keys);
-    let forward = List::from_vec(Vec::from_slice(alloc, &[0, 1])?);
-    let fact = Fact::Assigned(forward, keys);
-    assert_eq!(rt; evidence_of(None, &slots, &fact), Some(true));
-    let mut keys = Vec::new(alloc);
-    keys.push(key_of(alloc, 0x11)?)?;
-    keys.push(key_of(alloc, 0x22)?)?;
-    let backward = List::from_vec(Vec::from_slice(alloc, &[1, 0])?);
-    let fact = Fact::Assigned(backward, List::from_vec(keys));
-    assert_eq!(rt; evidence_of(None, &slots, &fact), Some(false));
-    Ok(())
 }
 
 #[test]

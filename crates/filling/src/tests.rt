@@ -9,22 +9,30 @@ use paths::check;
 use script::Script;
 use sighash::{Token, digest_of};
 use std::alloc::Global;
-use std::test::Fail;
+use std::process::Abort;
 use tx::{Inputs, MAX_INPUTS, MAX_OUTPUTS, Outputs, Tx, TxIn, TxOut, Witness, total_value};
 
 const PREIMAGE: [u8; 32] = [5; 32];
 
-// HASH160 of 32 bytes 5 EQUAL, behind a lock time that is checked: h CHECKLOCKTIMEVERIFY DROP
-fn hash_code(alloc: Global, height: u8) -> Result<Vec<u8>, Fail> {
-    let mut code = Vec::from_slice(alloc, &[0x01, height, 0xb1, 0x75, 0xa9, 0x14])?;
-    code.extend_from_slice(&hash160(&PREIMAGE))?;
-    code.push(0x87)?;
-    Ok(code)
+// The bytes of three pieces.
+fn joined(rt: &impl Abort, alloc: Global, start: &[u8], middle: &[u8], end: &[u8]) -> Vec<u8> {
+    let mut bytes = Vec::from_slice(alloc, start).expect(rt, "memory");
+    bytes.extend_from_slice(middle).expect(rt, "memory");
+    bytes.extend_from_slice(end).expect(rt, "memory");
+    bytes
 }
 
-fn exact(alloc: Global, bytes: &[u8]) -> Result<Slot, Fail> {
-    let item = WitnessItem::new(ByteString::from_slice(alloc, bytes)?);
-    Ok(Slot::Exact(item.ok().ok_or("too long")?))
+// A height that is checked, and the hash of a preimage: h CHECKLOCKTIMEVERIFY DROP HASH160 hash EQUAL
+fn hash_code(rt: &impl Abort, alloc: Global, height: u8) -> Vec<u8> {
+    let hash = hash160(&PREIMAGE);
+    let start = [0x01, height, 0xb1, 0x75, 0xa9, 0x14];
+    joined(rt, alloc, &start, &hash, &[0x87])
+}
+
+// DUP HASH160 hash EQUALVERIFY CHECKSIG
+fn key_code(rt: &impl Abort, alloc: Global, key: &Key) -> Vec<u8> {
+    let hash = hash160(&key.bytes);
+    joined(rt, alloc, &[0x76, 0xa9, 0x14], &hash, &[0x88, 0xac])
 }
 
 fn at(index: u32) -> OutPoint {
@@ -34,112 +42,106 @@ fn at(index: u32) -> OutPoint {
     }
 }
 
-// The claim on path 0 of a script, on an output of 1,000 satoshis.
-fn claim_on(
-    alloc: Global,
-    code: &[u8],
-    program: Vec<u8>,
-    index: u32,
-    slots: Vec<Slot>,
-    shell: Shell,
-) -> Result<Claim, Fail> {
-    let place = Place {
+// Where an output of 1,000 satoshis stands.
+fn place(index: u32, program: Vec<u8>) -> Place {
+    Place {
         outpoint: at(index),
         value: 1000,
         program: ByteString::from_vec(program),
-    };
-    let checked = check(alloc, Script::parse(alloc, code)?)?;
-    Ok(accept(alloc, checked, 0, slots, place, shell)?)
+    }
 }
 
-// The program of a script.
-fn script_program(alloc: Global, code: &[u8]) -> Result<Vec<u8>, Fail> {
-    let mut program = Vec::from_slice(alloc, &[0x00, 0x20])?;
-    program.extend_from_slice(&sha256(code))?;
-    Ok(program)
+// The claim on path 0 of a script.
+fn claim_on(
+    rt: &impl Abort,
+    alloc: Global,
+    code: &[u8],
+    slots: Vec<Slot>,
+    place: Place,
+    shell: Shell,
+) -> Claim {
+    let script = Script::parse(alloc, code).expect(rt, "a script");
+    let checked = check(alloc, script).expect(rt, "paths");
+    accept(alloc, checked, 0, slots, place, shell).expect(rt, "accepted")
 }
 
 // A claim that wants the preimage, and a lock time.
-fn preimage_claim(alloc: Global, index: u32, height: u8) -> Result<Claim, Fail> {
-    let code = hash_code(alloc, height)?;
+fn preimage_claim(rt: &impl Abort, alloc: Global, index: u32, height: u8, shell: Shell) -> Claim {
+    let code = hash_code(rt, alloc, height);
     let mut slots = Vec::new(alloc);
-    slots.push(Slot::Preimage(sha256(&PREIMAGE)))?;
-    let program = script_program(alloc, &code)?;
-    claim_on(alloc, &code, program, index, slots, Shell::Open)
-}
-
-// DUP HASH160 hash EQUALVERIFY CHECKSIG
-fn key_code(alloc: Global, key: &Key) -> Result<Vec<u8>, Fail> {
-    let mut code = Vec::from_slice(alloc, &[0x76, 0xa9, 0x14])?;
-    code.extend_from_slice(&hash160(&key.bytes))?;
-    code.extend_from_slice(&[0x88, 0xac])?;
-    Ok(code)
+    let wanted = Slot::Preimage(sha256(&PREIMAGE));
+    slots.push(wanted).expect(rt, "memory");
+    let program = joined(rt, alloc, &[0x00, 0x20], &sha256(&code), &[]);
+    claim_on(rt, alloc, &code, slots, place(index, program), shell)
 }
 
 // A claim on an output to the hash of a key.
-fn key_claim(alloc: Global, index: u32, key: &Key) -> Result<Claim, Fail> {
-    let hash = hash160(&key.bytes);
-    let code = key_code(alloc, key)?;
-    let mut program = Vec::from_slice(alloc, &[0x00, 0x14])?;
-    program.extend_from_slice(&hash)?;
+fn key_claim(rt: &impl Abort, alloc: Global, index: u32, key: &Key) -> Claim {
+    let code = key_code(rt, alloc, key);
+    let item = ByteString::from_slice(alloc, &key.bytes).expect(rt, "memory");
+    let item = WitnessItem::new(item).expect(rt, "a short item");
     let mut slots = Vec::new(alloc);
-    slots.push(exact(alloc, &key.bytes)?)?;
-    slots.push(Slot::Sig(*key))?;
-    claim_on(alloc, &code, program, index, slots, Shell::Open)
+    slots.push(Slot::Exact(item)).expect(rt, "memory");
+    slots.push(Slot::Sig(*key)).expect(rt, "memory");
+    let program = joined(rt, alloc, &[0x00, 0x14], &hash160(&key.bytes), &[]);
+    claim_on(rt, alloc, &code, slots, place(index, program), Shell::Open)
 }
 
-fn outputs(alloc: Global, value: u64) -> Result<Vec<TxOut>, Fail> {
+fn outputs(rt: &impl Abort, alloc: Global, value: u64) -> Vec<TxOut> {
     let mut outputs = Vec::new(alloc);
-    outputs.push(TxOut::new(value, ByteString::new(alloc))?)?;
-    Ok(outputs)
-}
-
-fn other_key() -> Option<Key> {
-    Key::read(&[2; 33])
+    let output = TxOut::new(value, ByteString::new(alloc)).expect(rt, "an output");
+    outputs.push(output).expect(rt, "memory");
+    outputs
 }
 
 // What `fill` answers, of one output.
 fn answer(
+    rt: &impl Abort,
     alloc: Global,
     claims: &[&Claim],
     value: u64,
-    signer: &Signer,
     preimages: &[[u8; 32]],
-) -> Result<Result<Filled, FillError>, Fail> {
-    let outputs = outputs(alloc, value)?;
-    if claims.is_empty() || claims.len() > MAX_INPUTS || outputs.len() > MAX_OUTPUTS {
-        return Err(Fail::from("too many"));
+) -> Result<Filled, FillError> {
+    let outputs = outputs(rt, alloc, value);
+    let lawful = !claims.is_empty() && claims.len() <= MAX_INPUTS && outputs.len() <= MAX_OUTPUTS;
+    if !lawful {
+        return Err(FillError::NoMemory);
     }
-    Ok(fill(alloc, claims, outputs, signer, preimages))
+    let signer = Signer::new(alloc, &[1; 32]);
+    fill(alloc, claims, outputs, &signer, preimages)
 }
 
-// Its name.
-fn name(
+// The number of the refusal, or 100.
+fn number(
+    rt: &impl Abort,
     alloc: Global,
     claims: &[&Claim],
     value: u64,
-    signer: &Signer,
     preimages: &[[u8; 32]],
-) -> Result<String, Fail> {
-    match answer(alloc, claims, value, signer, preimages)? {
-        Ok(_) => Ok(format!(in alloc; "filled")?),
-        Err(refusal) => Ok(format!(in alloc; "{refusal} {}", refusal.number())?),
+) -> u8 {
+    match answer(rt, alloc, claims, value, preimages) {
+        Ok(_) => 100,
+        Err(refusal) => refusal.number(),
     }
+}
+
+// The signer's payment key.
+fn payment_key(alloc: Global) -> Key {
+    Signer::new(alloc, &[1; 32]).base(Base::Payment)
 }
 
 // The filling of a preimage claim of height 70, a claim of the signer's payment key, and a preimage claim of height 90.
-fn three(alloc: Global, signer: &Signer) -> Result<Filled, Fail> {
-    let one = preimage_claim(alloc, 4, 70)?;
-    let two = key_claim(alloc, 1, &signer.base(Base::Payment))?;
-    let three = preimage_claim(alloc, 3, 90)?;
+fn three(rt: &impl Abort, alloc: Global) -> Filled {
+    let one = preimage_claim(rt, alloc, 4, 70, Shell::Open);
+    let two = key_claim(rt, alloc, 1, &payment_key(alloc));
+    let three = preimage_claim(rt, alloc, 3, 90, Shell::Open);
     let given = [[6; 32], PREIMAGE];
-    let filled = answer(alloc, &[&one, &two, &three], 3000, signer, &given)?;
-    Ok(filled.ok().ok_or("refused")?)
+    answer(rt, alloc, &[&one, &two, &three], 3000, &given).expect(rt, "filled")
 }
 
 #[test]
-fn fills_open_claims(rt: HostRuntime) -> Result<(), Fail> {
-    let filled = three(rt.alloc(), &Signer::new(rt.alloc(), &[1; 32]))?;
+fn fills_open_claims(rt: HostRuntime) {
+    let filled = three(&rt, rt.alloc());
     let tx = filled.tx();
     assert_eq!(rt; tx.version(), 2);
     assert_eq!(rt; tx.lock_time(), 90);
@@ -149,97 +151,99 @@ fn fills_open_claims(rt: HostRuntime) -> Result<(), Fail> {
         assert_eq!(rt; input.outpoint, at(index));
         assert_eq!(rt; input.witness.len(), 2);
     }
-    Ok(())
+}
+
+// The token of the payment key over the digest of the second input.
+fn token(rt: &impl Abort, alloc: Global, tx: &Tx) -> Token {
+    let key = payment_key(alloc);
+    let code = key_code(rt, alloc, &key);
+    let digest = digest_of(tx, 1, &code, 1000).expect(rt, "an input");
+    Token::new(&key.bytes, &digest)
 }
 
 #[test]
-fn signs_and_shows_the_preimage(rt: HostRuntime) -> Result<(), Fail> {
-    let signer = Signer::new(rt.alloc(), &[1; 32]);
-    let key = signer.base(Base::Payment);
-    let filled = three(rt.alloc(), &signer)?;
-    let code = key_code(rt.alloc(), &key)?;
-    let digest = digest_of(filled.tx(), 1, &code, 1000)?;
-    let token = Token::new(&key.bytes, &digest);
-    let mut items = [token.bytes().as_slice(), PREIMAGE.as_slice()].into_iter();
-    for input in filled.tx().inputs().iter().skip(1) {
-        let item = input.witness.as_slice().first().ok_or("no item")?;
-        assert_eq!(rt; Some(item.bytes()), items.next());
+fn signs_and_shows_the_preimage(rt: HostRuntime) {
+    let filled = three(&rt, rt.alloc());
+    let token = token(&rt, rt.alloc(), filled.tx());
+    for (i, input) in filled.tx().inputs().iter().enumerate() {
+        let item = input.witness.as_slice().first().expect(&rt, "an item");
+        if i == 1 {
+            assert_eq!(rt; item.bytes(), token.bytes().as_slice());
+        } else {
+            assert_eq!(rt; item.bytes(), PREIMAGE.as_slice());
+        }
     }
-    Ok(())
 }
 
 #[test]
-fn refuses_in_order(rt: HostRuntime) -> Result<(), Fail> {
+fn refuses_in_order(rt: HostRuntime) {
     let alloc = rt.alloc();
-    let signer = Signer::new(alloc, &[1; 32]);
-    let first = key_claim(alloc, 1, &other_key().ok_or("no key")?)?;
-    let second = preimage_claim(alloc, 2, 70)?;
-    let again = preimage_claim(alloc, 1, 70)?;
-    let given = name(alloc, &[&first, &again], 2001, &signer, &[])?;
-    assert_eq!(rt; given.as_str(), "SameOutpoint 5");
-    let given = name(alloc, &[&second, &first], 2001, &signer, &[])?;
-    assert_eq!(rt; given.as_str(), "OutputsExceed 3");
-    let given = name(alloc, &[&second, &first], 2000, &signer, &[[6; 32]])?;
-    assert_eq!(rt; given.as_str(), "NoPreimage 2");
-    let given = name(alloc, &[&first, &second], 2000, &signer, &[])?;
-    assert_eq!(rt; given.as_str(), "NoRight 1");
-    Ok(())
+    let key = Key::read(&[2; 33]).expect(&rt, "a key");
+    let first = key_claim(&rt, alloc, 1, &key);
+    let second = preimage_claim(&rt, alloc, 2, 70, Shell::Open);
+    let again = preimage_claim(&rt, alloc, 1, 70, Shell::Open);
+    assert_eq!(rt; number(&rt, alloc, &[&first, &again], 2001, &[]), 5);
+    assert_eq!(rt; number(&rt, alloc, &[&second, &first], 2001, &[]), 3);
+    assert_eq!(rt; number(&rt, alloc, &[&second, &first], 2000, &[[6; 32]]), 2);
+    assert_eq!(rt; number(&rt, alloc, &[&first, &second], 2000, &[]), 1);
 }
 
 // A transaction on output 5, with no witness.
-fn fixed(alloc: Global) -> Result<Tx, Fail> {
+fn fixed(rt: &impl Abort, alloc: Global) -> Tx {
     let mut inputs = Inputs::new(alloc);
-    inputs.push(TxIn {
+    let input = TxIn {
         outpoint: at(5),
         sequence: 0,
         witness: Witness::new(alloc),
-    })?;
-    let outputs = Outputs::from_vec(outputs(alloc, 900)?)?;
-    Ok(Tx::new(2, inputs, outputs, 80)?)
+    };
+    inputs.push(input).expect(rt, "an input");
+    let outputs = Outputs::from_vec(outputs(rt, alloc, 900)).expect(rt, "an output");
+    Tx::new(2, inputs, outputs, 80).expect(rt, "a transaction")
 }
 
 #[test]
-fn fills_a_fixed_claim_alone(rt: HostRuntime) -> Result<(), Fail> {
+fn fills_a_fixed_claim_alone(rt: HostRuntime) {
     let alloc = rt.alloc();
-    let signer = Signer::new(alloc, &[1; 32]);
-    let code = hash_code(alloc, 70)?;
-    let mut slots = Vec::new(alloc);
-    slots.push(Slot::Preimage(sha256(&PREIMAGE)))?;
-    let program = script_program(alloc, &code)?;
-    let claim = claim_on(alloc, &code, program, 5, slots, Shell::Fixed(fixed(alloc)?))?;
-    let other = preimage_claim(alloc, 5, 70)?;
-    let given = name(alloc, &[&claim, &other], 9000, &signer, &[])?;
-    assert_eq!(rt; given.as_str(), "MixedShells 4");
-    let filled = fill(
-        alloc,
-        &[&claim],
-        outputs(alloc, 9000)?,
-        &signer,
-        &[PREIMAGE],
-    )?;
+    let shell = Shell::Fixed(fixed(&rt, alloc));
+    let claim = preimage_claim(&rt, alloc, 5, 70, shell);
+    let other = preimage_claim(&rt, alloc, 5, 70, Shell::Open);
+    assert_eq!(rt; number(&rt, alloc, &[&claim, &other], 9000, &[]), 4);
+    let filled = answer(&rt, alloc, &[&claim], 9000, &[PREIMAGE]).expect(&rt, "filled");
     assert_eq!(rt; filled.places().len(), 1);
     let mut tx = filled.into_tx();
     assert!(rt; tx.has_witness());
     tx.strip_witnesses();
-    assert!(rt; tx.equals(&fixed(alloc)?));
-    Ok(())
+    assert!(rt; tx.equals(&fixed(&rt, alloc)));
 }
 
 // A hundred claims, so that each index grows again and again.
 #[test]
-fn fills_many_claims(rt: HostRuntime) -> Result<(), Fail> {
+fn fills_many_claims(rt: HostRuntime) {
     let alloc = rt.alloc();
-    let signer = Signer::new(alloc, &[1; 32]);
     let mut claims = Vec::new(alloc);
     for index in 0..100 {
-        claims.push(preimage_claim(alloc, index, 70)?)?;
+        let claim = preimage_claim(&rt, alloc, index, 70, Shell::Open);
+        claims.push(claim).expect(&rt, "memory");
     }
     let mut lent = Vec::new(alloc);
     for claim in &claims {
-        lent.push(claim)?;
+        lent.push(claim).expect(&rt, "memory");
     }
-    let answer = answer(alloc, &lent, 0, &signer, &[PREIMAGE])?;
-    let filled = answer.ok().ok_or("refused")?;
+    let filled = answer(&rt, alloc, &lent, 0, &[PREIMAGE]).expect(&rt, "filled");
     assert_eq!(rt; filled.tx().inputs().len(), 100);
-    Ok(())
+}
+
+#[test]
+fn prints_every_refusal(rt: HostRuntime) {
+    for (refusal, text) in [
+        (FillError::NoMemory, "NoMemory"),
+        (FillError::NoRight, "NoRight"),
+        (FillError::NoPreimage, "NoPreimage"),
+        (FillError::OutputsExceed, "OutputsExceed"),
+        (FillError::MixedShells, "MixedShells"),
+        (FillError::SameOutpoint, "SameOutpoint"),
+    ] {
+        let printed = format!(in rt.alloc(); "{refusal}").expect(&rt, "memory");
+        assert_eq!(rt; printed.as_str(), text);
+    }
 }
