@@ -6,7 +6,7 @@ use crate::judgement::{first_unmet, is_program};
 use crate::parts::{Slot, WitnessItem};
 use crate::{Key, OutPoint, Place, Shell, accept};
 use digest::{hash160, sha256};
-use facts::{Fact, Stated};
+use facts::{Fact, KeySource, Stated};
 use lists::ByteString;
 use paths::check;
 use script::Script;
@@ -41,6 +41,10 @@ fn two_slots(alloc: Global, top: &[u8]) -> Result<Vec<Slot>, AllocError> {
         slots.push(slot)?;
     }
     Ok(slots)
+}
+
+fn key_of(alloc: Global, byte: u8) -> Result<KeySource, AllocError> {
+    Ok(KeySource::Const(ByteString::from_slice(alloc, &key_bytes(byte))?))
 }
 
 #[test]
