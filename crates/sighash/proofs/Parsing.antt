@@ -147,3 +147,7 @@ unparsed bytes (Truncated at) known fault =
     let r = reads_all splits.ops (length bytes) (b ∷ rest) splits.each (omega (arith, ap length splits.same)) in
     rw (le-leb (length bytes) max_script_size fault.0)
     (ap (ops_within (length bytes)) (sym splits.same) ∙ r.2 ∙ ap (before splits.ops) (short_at b rest r.0 low short))
+
+-- the bytes of opcodes are read as these
+pub parsed_spelling : (ops : List Op) → All IsOp ops → length (spelling ops) ≤ max_script_size → script_ops (spelling ops) ≡ Some ops
+parsed_spelling ops valid short = parsed ops (spelling ops) (record { each = valid; same = refl }) short
