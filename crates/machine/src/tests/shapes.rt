@@ -90,7 +90,7 @@ fn push_number(rt: &impl Abort, code: &mut Vec<u8>, n: u8) {
     code.push(n).expect(rt, "memory");
 }
 
-// CHECKMULTISIG of so many signatures, which the witness has, and so many keys, all of one key.
+// CHECKMULTISIG of `sigs` signatures, which the witness has, and `keys` keys, all of which are one.
 fn multi_sig(rt: &impl Abort, alloc: Global, sigs: u8, keys: u8) -> Vec<u8> {
     let mut code = Vec::new(alloc);
     push_number(rt, &mut code, sigs);

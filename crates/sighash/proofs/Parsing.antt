@@ -1,13 +1,18 @@
 -- The opcodes of a script, computed, are those that its bytes spell.
-use Rattle.std.proofs.Common.{◌≡◌, ℕ, zero, suc, ◌+◌, ◌<◌, ◌≤◌, List, [], ◌∷◌, ◌++◌, length, Option, Some, None, option_map, sym, ap, ◌∙◌, refl, arith, append_assoc, length-append, append-nil, le-leb}
-use Rattle.std.proofs.lemmas.Bool.{lt-leb}
+use Rattle.std.proofs.Common.{◌≡◌, ◌≢◌, ℕ, zero, suc, ◌+◌, ◌<◌, ◌≤◌, ◌==◌, List, [], ◌∷◌, ◌++◌, length, Option, Some, None, option_map, sym, ap, ◌∙◌, refl, arith, append_assoc, length-append, append-nil, le-leb, ne_eqb, replicate, lit≤, ⊎_elim}
+use Rattle.std.proofs.lemmas.Bool.{cases_lt, lt-leb}
+use Rattle.std.proofs.lemmas.List.{length-replicate}
 use Rattle.std.specs.Prelude.{All}
+use Rattle.std.specs.List.{find, AllByRecursion}
 use Rattle.std.proofs.Math.Seq.{take-append_seam, drop-append_seam}
 use Rattle.std.proofs.lemmas.List.Elements.{All-head, All-tail}
 use Rattle.script.specs.declared.opcode.Op.{Op}
 use Rattle.script.specs.declared.opcode.Op.TheVariants.{Push, Number, If, NotIf, Else, EndIf, Drop, Dup, Swap, Size, Equal, EqualVerify, Hash160, CheckSig, CheckMultiSig, CheckLockTimeVerify, CheckSequenceVerify}
-use Rattle.script.specs.Spelling.{code_of, payload_of, IsOp, spelling}
-use Rattle.sighash.specs.Programs.{single_op, op_before, ops_within, script_ops}
+use Rattle.script.specs.declared.parse.ParseError.{ParseError}
+use Rattle.script.specs.declared.parse.ParseError.TheVariants.{NoMemory, BadOpcode, Truncated, TooLong}
+use Rattle.script.specs.Limits.{max_script_size}
+use Rattle.script.specs.Spelling.{code_of, payload_of, IsOp, spelling, Spells, StartsNone, IsFault}
+use Rattle.sighash.specs.Programs.{single_ops, single_op, op_before, ops_within, script_ops}
 
 -- opcodes before those of what follows them
 abbrev before : List Op → Option (List Op) → Option (List Op)
@@ -93,12 +98,56 @@ reads_end : (m : ℕ) → ops_within m [] ≡ Some []
 reads_end zero = refl
 reads_end (suc m) = refl
 
--- the bytes of opcodes are read as these
-pub parsed : (ops : List Op) → All IsOp ops → length (spelling ops) ≤ 10000 → script_ops (spelling ops) ≡ Some ops
+-- bytes that split into opcodes are read as these
+pub parsed : (ops : List Op) (bytes : List ℕ) → Spells ops bytes → length bytes ≤ max_script_size → script_ops bytes ≡ Some ops
 unfolding script_ops
-parsed ops valid short =
-    let e : spelling ops ++ [] ≡ spelling ops = append-nil (spelling ops) in
-    let enough : length (spelling ops ++ []) ≤ length (spelling ops) = omega (arith, ap length e) in
-    let r = reads_all ops (length (spelling ops)) [] valid enough in
-    rw (le-leb (length (spelling ops)) 10000 short)
-    (ap (ops_within (length (spelling ops))) (sym e) ∙ r.2 ∙ ap (before ops) (reads_end r.0) ∙ ap Some (append-nil ops))
+parsed ops bytes spells short =
+    let e : spelling ops ++ [] ≡ bytes = append-nil (spelling ops) ∙ spells.same in
+    let enough : length (spelling ops ++ []) ≤ length bytes = omega (arith, ap length e) in
+    let r = reads_all ops (length bytes) [] spells.each enough in
+    rw (le-leb (length bytes) max_script_size short)
+    (ap (ops_within (length bytes)) (sym e) ∙ r.2 ∙ ap (before ops) (reads_end r.0) ∙ ap Some (append-nil ops))
+
+each_single : AllByRecursion IsOp single_ops
+each_single = (tt, (tt, (tt, (tt, (tt, (tt, (tt, (tt, (tt, (tt, (tt, (tt, (tt, (tt, (tt, ((lit≤ tt, lit≤ tt), ((lit≤ tt, lit≤ tt), ((lit≤ tt, lit≤ tt), ((lit≤ tt, lit≤ tt), ((lit≤ tt, lit≤ tt), ((lit≤ tt, lit≤ tt), ((lit≤ tt, lit≤ tt), ((lit≤ tt, lit≤ tt), ((lit≤ tt, lit≤ tt), ((lit≤ tt, lit≤ tt), ((lit≤ tt, lit≤ tt), ((lit≤ tt, lit≤ tt), ((lit≤ tt, lit≤ tt), ((lit≤ tt, lit≤ tt), ((lit≤ tt, lit≤ tt), ((lit≤ tt, lit≤ tt), tt)))))))))))))))))))))))))))))))
+
+-- no opcode of one byte has a byte that starts none
+none_single : (b : ℕ) (ops : List Op) → AllByRecursion IsOp ops → StartsNone b → find (λ op. code_of op == b) ops ≡ None
+none_single b [] valid none = refl
+none_single b (op ∷ ops) valid none = rw (ne_eqb (code_of op) b (none op valid.0)) (none_single b ops valid.1 none)
+
+-- a byte that starts no opcode is above the pushes
+above_pushes : (b : ℕ) → StartsNone b → 75 < b
+above_pushes b none =
+    ⊎_elim (λ h. h) (λ l. absurd (none (Push (replicate b 0)) (omega (arith, length-replicate {A = ℕ} b 0)) (length-replicate {A = ℕ} b 0))) (cases_lt 75 b)
+
+-- nothing is read where a byte starts no opcode
+none_at : (b : ℕ) (rest : List ℕ) (m : ℕ) → StartsNone b → ops_within m (b ∷ rest) ≡ None
+unfolding single_op
+none_at b rest zero none = refl
+none_at b rest (suc m) none = rw (lt-leb b 75 (above_pushes b none), none_single b single_ops each_single none) refl
+
+-- nor where a push is cut short
+short_at : (b : ℕ) (rest : List ℕ) (m : ℕ) → b ≤ 75 → length rest < b → ops_within m (b ∷ rest) ≡ None
+short_at b rest zero low short = refl
+short_at b rest (suc m) low short = rw (le-leb b 75 low, lt-leb b (length rest) short) refl
+
+-- bytes with a fault are read as no opcodes
+pub unparsed : (bytes : List ℕ) (e : ParseError) → e ≢ NoMemory → IsFault bytes e → script_ops bytes ≡ None
+unfolding script_ops
+unparsed bytes NoMemory known fault = absurd (known refl)
+unparsed bytes TooLong known fault = rw (lt-leb (length bytes) max_script_size fault) refl
+unparsed bytes (BadOpcode at) known fault =
+    let (b, rest, splits, none) = fault.1 in
+    let r = reads_all splits.ops (length bytes) (b ∷ rest) splits.each (omega (arith, ap length splits.same)) in
+    rw (le-leb (length bytes) max_script_size fault.0)
+    (ap (ops_within (length bytes)) (sym splits.same) ∙ r.2 ∙ ap (before splits.ops) (none_at b rest r.0 none))
+unparsed bytes (Truncated at) known fault =
+    let (b, rest, splits, low, short) = fault.1 in
+    let r = reads_all splits.ops (length bytes) (b ∷ rest) splits.each (omega (arith, ap length splits.same)) in
+    rw (le-leb (length bytes) max_script_size fault.0)
+    (ap (ops_within (length bytes)) (sym splits.same) ∙ r.2 ∙ ap (before splits.ops) (short_at b rest r.0 low short))
+
+-- the bytes of opcodes are read as these
+pub parsed_spelling : (ops : List Op) → All IsOp ops → length (spelling ops) ≤ max_script_size → script_ops (spelling ops) ≡ Some ops
+parsed_spelling ops valid short = parsed ops (spelling ops) (record { each = valid; same = refl }) short
