@@ -72,13 +72,14 @@ fn key(rt: &impl Abort, fill: u8) -> Key {
     Key::read(&bytes).expect(rt, "a key")
 }
 
-fn bases(rt: &impl Abort, first: u8) -> BaseKeys {
+fn bases(rt: &impl Abort, fills: [u8; 5]) -> BaseKeys {
+    let [funding, payment, delayed, htlc, revocation] = fills;
     BaseKeys {
-        funding: key(rt, first),
-        payment: key(rt, first + 1),
-        delayed: key(rt, first + 2),
-        htlc: key(rt, first + 3),
-        revocation: key(rt, first + 4),
+        funding: key(rt, funding),
+        payment: key(rt, payment),
+        delayed: key(rt, delayed),
+        htlc: key(rt, htlc),
+        revocation: key(rt, revocation),
     }
 }
 
@@ -93,14 +94,14 @@ fn unlike_terms(rt: &impl Abort) -> Terms {
         delay: 144,
         minimum: 0,
         start: 80_000_000,
-        bases: bases(rt, 0xa0),
+        bases: bases(rt, [0xa0, 0xa1, 0xa2, 0xa3, 0xa4]),
     };
     let b = Party {
         dust: 546,
         delay: 40_000,
         minimum: 0,
         start: 20_000_000,
-        bases: bases(rt, 0xb0),
+        bases: bases(rt, [0xb0, 0xb1, 0xb2, 0xb3, 0xb4]),
     };
     Terms::new(funding, 100_000, Side::A, 1000, a, b).expect(rt, "terms")
 }
