@@ -1,23 +1,29 @@
 #!/usr/bin/env python3
-"""Times commitments of few and of many HTLCs beside SHA-256 of 1 MiB, in one run. Wants the toolchain's `rt`, which proves and builds crates/commitment_costs."""
+"""Times commitments of few and of many HTLCs beside SHA-256 of 1 MiB, in one run, in processor seconds. Wants the toolchain's `rt`, which proves and builds crates/commitment_costs."""
 
 import os
+import resource
 import subprocess
-import time
 
 TOP = os.path.dirname(os.path.dirname(os.path.abspath(__file__)))
 CRATE = os.path.join(TOP, "crates", "commitment_costs")
 PROGRAM = os.path.join(CRATE, "out", "commitment_costs")
-ROUNDS = 7
+ROUNDS = 15
 
 # what a line does, and how often
 WORK = {"hash 1 MiB": ("hash", 100), "96 HTLCs": ("build 48", 1000), "966 HTLCs": ("build 483", 100)}
 
 
+def used():
+    """The processor seconds of all programs that ended."""
+    usage = resource.getrusage(resource.RUSAGE_CHILDREN)
+    return usage.ru_utime + usage.ru_stime
+
+
 def seconds(line):
-    start = time.perf_counter()
+    start = used()
     subprocess.run([PROGRAM], input=line, capture_output=True, text=True, check=True)
-    return time.perf_counter() - start
+    return used() - start
 
 
 def main():
