@@ -1,3 +1,11 @@
 pub mod Funds
 pub mod FeeExamples
 pub mod AmountExamples
+pub mod Pushes
+pub mod Spelt
+pub mod Ordered
+pub mod Collected
+pub mod Htlcs
+pub mod Limited
+pub mod Built
+pub mod Shared

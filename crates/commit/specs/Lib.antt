@@ -2,3 +2,8 @@ pub mod Fees
 pub mod Amounts
 pub mod Sums
 pub mod Keys
+pub mod Outputs
+pub mod Order
+pub mod Commitments
+pub mod Signing
+pub mod Building

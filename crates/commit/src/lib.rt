@@ -1,7 +1,8 @@
-//! Commitments: what they pay and what they cost (BOLT 3).
+//! Commitments, and the transactions that spend their HTLCs (BOLT 3).
 //!
-//! A commitment belongs to one of the two sides, its owner. [`commitment_amounts`] gives what the owner's commitment of a view pays: to the owner, to its
-//! peer, to the HTLCs that aren't trimmed, and for the fee.
+//! A commitment belongs to one of the two sides, its owner. [`build`] gives the owner's commitment of a view, exactly that of the definition
+//! `commitment_of`: its outputs with their scripts in their order, its transaction and its id. [`htlc_tx`] gives the HTLC transaction of each HTLC, and
+//! [`signing_digests`] what the owner's peer signs. [`commitment_amounts`] is what the commitment pays, before any script.
 //!
 //! ```
 //! let amounts = commitment_amounts(rt.alloc(), &terms, &view, Side::B)?;
@@ -11,13 +12,25 @@
 #![tactic(auto)]
 
 mod amounts;
+mod building;
+mod commitments;
 mod derived;
+mod errors;
 mod fees;
 pub mod laws;
+mod ordering;
+mod outputs;
+mod scripts;
+mod signing;
 #[cfg(test)]
 mod tests;
 
 pub use amounts::{Amounts, commitment_amounts};
+pub use building::build;
+pub use commitments::{Commitment, htlc_tx};
 pub use derived::{CommitmentKeys, commitment_keys};
+pub use errors::BuildError;
 pub use fees::{Direction, commitment_fee, htlc_fee, is_trimmed, satoshis};
+pub use outputs::{CommitmentOutput, HtlcOutput, OutputKind};
+pub use signing::{Digests, signing_digests};
 pub use terms::{Htlc, Side, Terms, View, mask, number_of, obscure};

@@ -1,12 +1,16 @@
-// Commitments with any number of HTLCs.
-use crate::{Htlc, Side, Terms, View, commitment_amounts, commitment_fee};
+// Commitments with any number of HTLCs, and two whole ones against a model in another language.
+use crate::{
+    BuildError, Commitment, Htlc, OutputKind, Side, Terms, View, build, commitment_amounts,
+    commitment_fee, htlc_tx, signing_digests,
+};
+use hex::FromHex;
 use keys::Key;
 use lists::List;
 use std::alloc::{AllocError, Global};
 use std::process::Abort;
 use std::test::Fail;
 use terms::{BaseKeys, Party, Share};
-use tx::OutPoint;
+use tx::{OutPoint, txid};
 
 fn party(rt: &impl Abort, start: u64) -> Party {
     let key = Key::read(&[2; 33]).expect(rt, "a key");
@@ -59,4 +63,191 @@ fn every_count_of_htlcs_has_amounts(rt: HostRuntime) -> Result<(), Fail> {
         assert_eq!(rt; amounts.to_local, Some(3_000_000));
     }
     Ok(())
+}
+
+// A key of one byte over and over, behind 02.
+fn key(rt: &impl Abort, fill: u8) -> Key {
+    let mut bytes = [fill; 33];
+    bytes[0] = 2;
+    Key::read(&bytes).expect(rt, "a key")
+}
+
+fn bases(rt: &impl Abort, first: u8) -> BaseKeys {
+    BaseKeys {
+        funding: key(rt, first),
+        payment: key(rt, first + 1),
+        delayed: key(rt, first + 2),
+        htlc: key(rt, first + 3),
+        revocation: key(rt, first + 4),
+    }
+}
+
+// Terms with unlike keys and delays, of 100,000 satoshis that A opened.
+fn unlike_terms(rt: &impl Abort) -> Terms {
+    let funding = OutPoint {
+        txid: [7; 32],
+        index: 1,
+    };
+    let a = Party {
+        dust: 546,
+        delay: 144,
+        minimum: 0,
+        start: 80_000_000,
+        bases: bases(rt, 0xa0),
+    };
+    let b = Party {
+        dust: 546,
+        delay: 40_000,
+        minimum: 0,
+        start: 20_000_000,
+        bases: bases(rt, 0xb0),
+    };
+    Terms::new(funding, 100_000, Side::A, 1000, a, b).expect(rt, "terms")
+}
+
+fn htlc(id: u64, amount: u64, fill: u8, expiry: u32) -> Htlc {
+    Htlc {
+        id,
+        amount,
+        hash: [fill; 32],
+        expiry,
+    }
+}
+
+// A offers two HTLCs of one amount and one hash, and more where B offers one too.
+fn unlike_view(rt: &impl Abort, alloc: Global, both: bool) -> View {
+    let mut from_a = Vec::new(alloc);
+    let mut from_b = Vec::new(alloc);
+    from_a
+        .push(htlc(0, 10_000_000, 9, 600))
+        .expect(rt, "memory");
+    from_a
+        .push(htlc(1, 10_000_000, 9, 500))
+        .expect(rt, "memory");
+    if both {
+        from_a
+            .push(htlc(2, 3_000_000, 8, 400_000))
+            .expect(rt, "memory");
+        from_b.push(htlc(0, 7_000_000, 5, 16)).expect(rt, "memory");
+    }
+    View {
+        a: Share {
+            balance: if both { 50_000_000 } else { 60_000_000 },
+            offered: List::from_vec(from_a),
+        },
+        b: Share {
+            balance: 20_000_000,
+            offered: List::from_vec(from_b),
+        },
+        feerate: 1000,
+    }
+}
+
+fn built(rt: &impl Abort, alloc: Global, owner: Side, n: u64, both: bool) -> Commitment {
+    let terms = unlike_terms(rt);
+    let view = unlike_view(rt, alloc, both);
+    build(alloc, &terms, &view, owner, n, &key(rt, 0xcc)).expect(rt, "a commitment")
+}
+
+fn hash(rt: &impl Abort, text: &str) -> [u8; 32] {
+    <[u8; 32] as FromHex>::from_hex(text).expect(rt, "64 hex digits")
+}
+
+// The value and the expiry of the output at an index, 0 where it has none.
+fn output(commitment: &Commitment, index: usize) -> (u64, u32) {
+    match commitment.outputs().get(index) {
+        None => (0, 0),
+        Some(output) => match &output.kind {
+            OutputKind::ToLocal => (output.value, 1),
+            OutputKind::ToRemote => (output.value, 2),
+            OutputKind::ToHtlc(_, htlc) => (output.value, htlc.expiry),
+        },
+    }
+}
+
+fn second_stage_id(rt: &impl Abort, alloc: Global, commitment: &Commitment, k: usize) -> [u8; 32] {
+    match htlc_tx(alloc, commitment, k).expect(rt, "memory") {
+        None => [0; 32],
+        Some(tx) => txid(&tx),
+    }
+}
+
+// Equal scripts and values stand by expiry.
+#[test]
+fn equal_htlcs_stand_by_expiry(rt: HostRuntime) {
+    let commitment = built(&rt, rt.alloc(), Side::A, 42, false);
+    assert_eq!(rt; output(&commitment, 0), (10_000, 500));
+    assert_eq!(rt; output(&commitment, 1), (10_000, 600));
+    assert_eq!(rt; output(&commitment, 2), (20_000, 2));
+    assert_eq!(rt; output(&commitment, 3), (58_932, 1));
+    assert_eq!(rt;
+        commitment.id(),
+        &hash(
+            &rt,
+            "0b68fca0a9b008484b31f065a8438e5570c606be55ff503cc436fa7e45f5728e"
+        )
+    );
+}
+
+// HTLCs of both directions on the accepter's commitment: the transactions and digests of an independent model.
+#[test]
+fn transactions_are_those_of_the_model(rt: HostRuntime) {
+    let commitment = built(&rt, rt.alloc(), Side::B, 43, true);
+    assert_eq!(rt;
+        commitment.id(),
+        &hash(
+            &rt,
+            "395f37e01fda6d719ec41fe55cdbd9dfafcb43d0976636c37be009e40d28c612"
+        )
+    );
+    assert_eq!(rt;
+        second_stage_id(&rt, rt.alloc(), &commitment, 0),
+        hash(
+            &rt,
+            "bab59d72d6c40e7b02e7438f8746940e5f40a9397c8a9fd389241844c9122606"
+        )
+    );
+    assert_eq!(rt;
+        second_stage_id(&rt, rt.alloc(), &commitment, 1),
+        hash(
+            &rt,
+            "512833bad453897424bfdffcd5ee2bff11e006bc1994e422d0bb0627a2751666"
+        )
+    );
+    assert_eq!(rt; second_stage_id(&rt, rt.alloc(), &commitment, 4), [0; 32]);
+}
+
+#[test]
+fn digests_are_those_of_the_model(rt: HostRuntime) {
+    let commitment = built(&rt, rt.alloc(), Side::B, 43, true);
+    let terms = unlike_terms(&rt);
+    let digests = signing_digests(rt.alloc(), &terms, &commitment).expect(&rt, "memory");
+    assert_eq!(rt;
+        digests.commitment,
+        hash(
+            &rt,
+            "38a5f6f1acee7cbd789414374fd467d818f47264ec6bbbeabea41597f67e37fc"
+        )
+    );
+    assert_eq!(rt; digests.htlcs.len(), 4);
+    assert_eq!(rt;
+        digests.htlcs.values().first(),
+        Some(&hash(
+            &rt,
+            "77140da4f98ba2601fb531b4bb5b397528622224de921b0787bd015ed9fed149"
+        ))
+    );
+    assert_eq!(rt;
+        digests.htlcs.values().last(),
+        Some(&hash(
+            &rt,
+            "009783a602b103fe4e80f9fbc21c0179c84b175678fa11971f351961430a7635"
+        ))
+    );
+}
+
+#[test]
+fn refusals_have_numbers(rt: HostRuntime) {
+    assert_eq!(rt; BuildError::TooManyOutputs.number(), 1);
+    assert_eq!(rt; BuildError::ValueTooLarge.number(), 2);
 }

@@ -5,6 +5,8 @@ use Rattle.tx.specs.declared.input.TxIn.{TxIn}
 use Rattle.tx.specs.Fields.{Transaction}
 use Rattle.tx.specs.Spelling.{number, compact_size, bytes_with_length, outpoint, output}
 use Rattle.script.specs.Token.{token_of, is_token}
+use Rattle.sighash.specs.declared.errors.DigestError.TheVariants.{NoSuchInput}
+use Rattle.sighash.specs.Refusals.{refusal_number}
 use Rattle.sighash.specs.Signing.{all_outpoints, all_sequences, all_outputs, signed_list}
 
 abbrev key : List ℕ
@@ -41,3 +43,6 @@ second_is_signed : signed_list both second (0x52 ∷ 0x53 ∷ []) 7000 ≡
     ++ (1 ∷ 0 ∷ 0 ∷ 0 ∷ [])
 unfolding signed_list all_outpoints all_sequences all_outputs outpoint output bytes_with_length compact_size number
 second_is_signed = refl
+
+only_refusal : refusal_number NoSuchInput ≡ 1
+only_refusal = refl

@@ -1,0 +1,143 @@
+-- A view that shares out the capacity has a commitment.
+use Rattle.std.proofs.Common.{◌≡◌, ℕ, ◌+◌, ◌*◌, ◌/◌, ◌≤◌, Bool, true, false, not, cond, ltb, List, [], ◌∷◌, ◌++◌, map, length, Option, Some, None, unwrap_or, refl, sym, ap, subst, ◌∙◌, arith, length-append}
+use Rattle.std.specs.List.{All, sum_by, list_any, filter}
+use Rattle.std.proofs.lemmas.Bool.{le-ltb}
+use Rattle.std.proofs.lemmas.List.{length-map}
+use Rattle.std.proofs.lemmas.List.Elements.{All-nil, All-cons, All-map}
+use Rattle.std.proofs.lemmas.List.Folds.{list_any_none}
+use Rattle.std.proofs.lemmas.List.Sums.{sum_by-append, sum_by-cons}
+use Rattle.std.proofs.lemmas.List.Sorted.{All-permutation, length_permutation}
+use Rattle.tx.specs.Limits.{max_value, max_outputs}
+use Rattle.terms.specs.declared.htlcs.Htlc.{Htlc}
+use Rattle.terms.specs.declared.sides.Side.{Side}
+use Rattle.terms.specs.declared.sides.Side.TheVariants.{A, B}
+use Rattle.terms.specs.declared.agreement.Terms.{Terms}
+use Rattle.terms.specs.declared.views.View.{View}
+use Rattle.terms.specs.Agreement.{party}
+use Rattle.commit.specs.declared.fees.Direction.{Direction}
+use Rattle.commit.specs.declared.fees.Direction.TheVariants.{Offered, Received}
+use Rattle.commit.specs.declared.amounts.Amounts.{Amounts}
+use Rattle.commit.specs.declared.outputs.CommitmentOutput.{CommitmentOutput as Output}
+use Rattle.commit.specs.declared.errors.BuildError.TheVariants.{TooManyOutputs, ValueTooLarge}
+use Rattle.commit.specs.Fees.{satoshis_of, is_trimmed_by}
+use Rattle.commit.specs.Amounts.{amounts_of}
+use Rattle.commit.specs.Sums.{paid_out, worth_of, fee_paid}
+use Rattle.commit.specs.Keys.{KeyBytes, keys_of}
+use Rattle.commit.specs.Outputs.{to_local_output, to_remote_output, htlc_output, where_paid, outputs_of}
+use Rattle.commit.specs.Order.{in_order}
+use Rattle.commit.specs.Commitments.{commitment_of}
+use Rattle.commit.specs.Building.{refusal_of, SharedViewsHaveCommitments}
+use Rattle.commit.proofs.Ordered.{there_is_one}
+use Rattle.commit.proofs.Funds.{nothing_is_created}
+
+abbrev values : List Output → ℕ
+values os = sum_by (λ o. o.value) os
+
+-- the values of all outputs are what is paid out
+of_htlcs : (k : KeyBytes) (direction : Direction) (hs : List Htlc) → values (map (htlc_output k direction) hs) ≡ worth_of hs
+of_htlcs k direction [] = refl
+of_htlcs k direction (h ∷ hs) =
+    let a = sum_by-cons (λ (o : Output). o.value) (htlc_output k direction h) (map (htlc_output k direction) hs) in
+    let b = sum_by-cons (λ (x : Htlc). satoshis_of x.amount) h hs in
+    let r : values (map (htlc_output k direction) hs) ≡ worth_of hs = of_htlcs k direction hs in
+    a ∙ ap (λ n. satoshis_of h.amount + n) r ∙ sym b
+
+of_local : (delay : ℕ) (k : KeyBytes) (v : Option ℕ) → values (where_paid (to_local_output delay k) v) ≡ unwrap_or v 0
+of_local delay k None = refl
+of_local delay k (Some v) = omega arith
+
+of_remote : (k : KeyBytes) (v : Option ℕ) → values (where_paid (to_remote_output k) v) ≡ unwrap_or v 0
+of_remote k None = refl
+of_remote k (Some v) = omega arith
+
+of_all : (delay : ℕ) (k : KeyBytes) (a : Amounts) → values (outputs_of delay k a) ≡ paid_out a
+unfolding outputs_of
+of_all delay k a =
+    let f : Output → ℕ = λ o. o.value in
+    let x = sum_by-append f ((map (htlc_output k Offered) a.offered ++ map (htlc_output k Received) a.received) ++ where_paid (to_local_output delay k) a.to_local) (where_paid (to_remote_output k) a.to_remote) in
+    let y = sum_by-append f (map (htlc_output k Offered) a.offered ++ map (htlc_output k Received) a.received) (where_paid (to_local_output delay k) a.to_local) in
+    let z = sum_by-append f (map (htlc_output k Offered) a.offered) (map (htlc_output k Received) a.received) in
+    let o = of_htlcs k Offered a.offered in
+    let r = of_htlcs k Received a.received in
+    let l = of_local delay k a.to_local in
+    let m = of_remote k a.to_remote in
+    added _ _ _ _ _ _ _ _ _ _ _ x y z o r l m
+  where
+    added : (w v u p q s t p' q' s' t' : ℕ) → w ≡ v + t → v ≡ u + s → u ≡ p + q → p ≡ p' → q ≡ q' → s ≡ s' → t ≡ t' → w ≡ p' + q' + (s' + t')
+    added w v u p q s t p' q' s' t' a b c d e f g = omega arith
+
+-- none is above their sum
+each_below : (xs : List Output) (top : ℕ) → values xs ≤ top → All (λ o. o.value ≤ top) xs
+each_below [] top l = All-nil (λ (o : Output). o.value ≤ top)
+each_below (x ∷ xs) top l =
+    let s = sum_by-cons (λ (o : Output). o.value) x xs in
+    All-cons (λ (o : Output). o.value ≤ top) x xs (omega (arith, s)) (each_below xs top (omega (arith, s)))
+
+not_above : (v : ℕ) → v ≤ max_value → ltb max_value v ≡ false
+not_above v l = le-ltb max_value v l
+
+none_above : (xs : List Output) → All (λ o. o.value ≤ max_value) xs → list_any (λ o. ltb max_value o.value) xs ≡ false
+none_above xs a = list_any_none (λ (o : Output). ltb max_value o.value) xs (λ i d l. not_above _ (a i d l))
+
+-- how many there are
+kept_fewer : (p : Htlc → Bool) (hs : List Htlc) → length (filter p hs) ≤ length hs
+kept_fewer p [] = omega arith
+kept_fewer p (h ∷ hs) = by (p h) (kept_fewer p hs)
+  where
+    by : (b : Bool) → length (filter p hs) ≤ length hs → length (cond b (h ∷ filter p hs) (filter p hs)) ≤ length (h ∷ hs)
+    by true l = omega arith
+    by false l = omega arith
+
+at_most_one : (f : ℕ → Output) (v : Option ℕ) → length (where_paid f v) ≤ 1
+at_most_one f None = omega arith
+at_most_one f (Some v) = omega arith
+
+few : (delay : ℕ) (k : KeyBytes) (a : Amounts) → length (outputs_of delay k a) ≤ length a.offered + length a.received + 2
+unfolding outputs_of
+few delay k a =
+    let x = length-append ((map (htlc_output k Offered) a.offered ++ map (htlc_output k Received) a.received) ++ where_paid (to_local_output delay k) a.to_local) (where_paid (to_remote_output k) a.to_remote) in
+    let y = length-append (map (htlc_output k Offered) a.offered ++ map (htlc_output k Received) a.received) (where_paid (to_local_output delay k) a.to_local) in
+    let z = length-append (map (htlc_output k Offered) a.offered) (map (htlc_output k Received) a.received) in
+    let o = length-map a.offered (htlc_output k Offered) in
+    let r = length-map a.received (htlc_output k Received) in
+    let l = at_most_one (to_local_output delay k) a.to_local in
+    let m = at_most_one (to_remote_output k) a.to_remote in
+    counted _ _ _ _ _ _ _ _ _ x y z o r l m
+  where
+    counted : (w v u p q s t p' q' : ℕ) → w ≡ v + t → v ≡ u + s → u ≡ p + q → p ≡ p' → q ≡ q' → s ≤ 1 → t ≤ 1 → w ≤ p' + q' + 2
+    counted w v u p q s t p' q' a b c d e f g = omega arith
+
+both : (terms : Terms) (view : View) (owner : Side)
+    → length (amounts_of terms view owner).offered + length (amounts_of terms view owner).received ≤ length view.a.offered + length view.b.offered
+both terms view A =
+    let a = kept_fewer (λ h. not (is_trimmed_by (party A terms).dust view.feerate Offered h)) view.a.offered in
+    let b = kept_fewer (λ h. not (is_trimmed_by (party A terms).dust view.feerate Received h)) view.b.offered in
+    omega (arith, a, b)
+both terms view B =
+    let a = kept_fewer (λ h. not (is_trimmed_by (party B terms).dust view.feerate Offered h)) view.b.offered in
+    let b = kept_fewer (λ h. not (is_trimmed_by (party B terms).dust view.feerate Received h)) view.a.offered in
+    omega (arith, a, b)
+
+passed : (m l : Bool) → m ≡ false → l ≡ false → cond m (Some TooManyOutputs) (cond l (Some ValueTooLarge) None) ≡ None
+passed m l e f = rw (e, f) refl
+
+not_refused : (os : List Output) → length os ≤ max_outputs → All (λ o. o.value ≤ max_value) os → refusal_of os ≡ None
+unfolding refusal_of
+not_refused os l a = passed _ _ (le-ltb max_outputs (length os) l) (none_above os a)
+
+pub shared : SharedViewsHaveCommitments
+unfolding commitment_of
+shared terms view owner n point whole count =
+    let a = amounts_of terms view owner in
+    let k = keys_of terms owner point in
+    let os = outputs_of (party owner terms).delay k a in
+    let perm = (there_is_one os).0.same in
+    let p : values os ≡ paid_out a = of_all (party owner terms).delay k a in
+    let c : paid_out a + fee_paid terms view owner ≤ terms.capacity = nothing_is_created terms view owner whole in
+    let m = terms.limited in
+    let v : values os ≤ max_value = omega (arith, p, c, m) in
+    let f : length os ≤ length a.offered + length a.received + 2 = few (party owner terms).delay k a in
+    let b : length a.offered + length a.received ≤ length view.a.offered + length view.b.offered = both terms view owner in
+    let same : length (in_order os) ≡ length os = length_permutation os (in_order os) perm in
+    let l : length (in_order os) ≤ max_outputs = omega (arith, f, b, same, count) in
+    not_refused (in_order os) l (All-permutation (λ o. o.value ≤ max_value) os (in_order os) perm (each_below os max_value v))

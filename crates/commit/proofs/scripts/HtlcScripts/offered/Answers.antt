@@ -1,0 +1,7 @@
+use Rattle.digest.proofs.OutsideVectors.{length-ripemd160}
+use Rattle.std.proofs.Common.{rules, arith, length, ap, ◌∙◌}
+use Rattle.commit.proofs.Spelt.{key_length, offered_spelt}
+use Rattle.commit.proofs.scripts.HtlcScripts.offered.Goals as goal
+
+pub returns : goal.returns
+returns c = offered_spelt c.args.self.now.revocation_hash c.args.self.now.keys.remote_htlc.bytes c.args.self.now.keys.local_htlc.bytes c.args.payment.now _ (ap length c.args.self.now.hashed ∙ length-ripemd160 _) (key_length _ c.args.self.now.keys.remote_htlc.form) (key_length _ c.args.self.now.keys.local_htlc.form) (omega arith) (search rules)

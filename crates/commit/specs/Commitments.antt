@@ -1,0 +1,127 @@
+-- Commitments, and the HTLC transactions that spend their outputs (BOLT 3, "Commitment Transaction", "HTLC-Timeout and HTLC-Success Transactions").
+use Rattle.std.specs.Prelude.{◌≡◌, ℕ, ◌+◌, ◌-◌, ◌≤◌, List, [], ◌∷◌, map, length, Option, Some, None, slice_get, option_map}
+use Rattle.std.specs.List.{All, cons_option}
+use Rattle.tx.specs.declared.input.OutPoint.{OutPoint}
+use Rattle.tx.specs.declared.input.TxIn.{TxIn}
+use Rattle.tx.specs.Limits.{max_value, max_outputs, max_bytes}
+use Rattle.tx.specs.Parts.{Output}
+use Rattle.tx.specs.Fields.{Transaction}
+use Rattle.tx.specs.Spelling.{transaction_id}
+use Rattle.terms.specs.declared.htlcs.Htlc.{Htlc}
+use Rattle.terms.specs.declared.numbers.Obscured.{Obscured}
+use Rattle.terms.specs.declared.sides.Side.{Side}
+use Rattle.terms.specs.declared.agreement.Terms.{Terms}
+use Rattle.terms.specs.declared.views.View.{View}
+use Rattle.terms.specs.Agreement.{party}
+use Rattle.terms.specs.Numbers.{mask_of, obscured}
+use Rattle.commit.specs.declared.fees.Direction.{Direction}
+use Rattle.commit.specs.declared.fees.Direction.TheVariants.{Offered, Received}
+use Rattle.commit.specs.declared.outputs.OutputKind.{OutputKind}
+use Rattle.commit.specs.declared.outputs.OutputKind.TheVariants.{ToLocal, ToRemote, ToHtlc}
+use Rattle.commit.specs.declared.outputs.CommitmentOutput.{CommitmentOutput}
+use Rattle.commit.specs.declared.outputs.HtlcOutput.{HtlcOutput}
+use Rattle.commit.specs.Fees.{satoshis_of, fee_of, htlc_weight}
+use Rattle.commit.specs.Amounts.{amounts_of}
+use Rattle.commit.specs.Keys.{KeyBytes, keys_of}
+use Rattle.commit.specs.Outputs.{to_local_script, htlc_script, script_hash_program, outputs_of}
+use Rattle.commit.specs.Order.{in_order}
+
+-- what a commitment consists of
+pub record Contents : Type 0 where
+  -- the output that it spends
+  pub funding : OutPoint
+  -- its lock time and the sequence of its input, which carry its number
+  pub hidden : Obscured
+  pub keys : KeyBytes
+  -- the delay of to_local and of the HTLC transactions' outputs
+  pub delay : ℕ
+  pub feerate : ℕ
+  -- in their order
+  pub outputs : List CommitmentOutput
+
+-- the owner's commitment of a view, with its number and the owner's per-commitment point for it
+unfoldable pub commitment_of : Terms → View → Side → ℕ → List ℕ → Contents
+commitment_of terms view owner n point = record {
+  funding = terms.funding;
+  hidden = obscured (mask_of terms) n;
+  keys = keys_of terms owner point;
+  delay = (party owner terms).delay;
+  feerate = view.feerate;
+  outputs = in_order (outputs_of (party owner terms).delay (keys_of terms owner point) (amounts_of terms view owner));
+}
+
+-- a transaction of version 2 with one input, which is not signed
+abbrev pub spending : OutPoint → ℕ → List Output → ℕ → Transaction
+spending outpoint sequence outputs lock_time = record {
+  version = 2;
+  inputs = record { outpoint = outpoint; sequence = sequence; witness = [] } ∷ [];
+  outputs = outputs;
+  lock_time = lock_time;
+}
+
+abbrev pub tx_output : CommitmentOutput → Output
+tx_output o = record { value = o.value; script = o.program }
+
+-- the commitment transaction, and its id
+unfoldable pub transaction_of : Contents → Transaction
+transaction_of c = spending c.funding c.hidden.sequence (map tx_output c.outputs) c.hidden.lock_time
+
+abbrev pub id_of : Contents → List ℕ
+id_of c = transaction_id (transaction_of c)
+
+-- the outputs to HTLCs, with the indices at which they stand
+abbrev pub htlc_at : ℕ → OutputKind → Option HtlcOutput
+htlc_at index ToLocal = None
+htlc_at index ToRemote = None
+htlc_at index (ToHtlc direction h) = Some (record { index = index; direction = direction; htlc = h })
+
+unfoldable pub htlcs_from : ℕ → List CommitmentOutput → List HtlcOutput
+htlcs_from index [] = []
+htlcs_from index (o ∷ os) = cons_option (htlc_at index o.kind) (htlcs_from (index + 1) os)
+
+abbrev pub htlcs_of : Contents → List HtlcOutput
+htlcs_of c = htlcs_from 0 c.outputs
+
+-- HTLC-timeout waits for the expiry, HTLC-success for nothing
+abbrev pub lock_time_of : Direction → Htlc → ℕ
+lock_time_of Offered h = h.expiry
+lock_time_of Received h = 0
+
+-- the output of an HTLC transaction: the HTLC's satoshis less the fee, in the form of to_local
+abbrev pub second_stage_output : Contents → HtlcOutput → Output
+second_stage_output c h = record {
+  value = satoshis_of h.htlc.amount - fee_of (htlc_weight h.direction) c.feerate;
+  script = script_hash_program (to_local_script c.delay c.keys);
+}
+
+-- the HTLC transaction of an HTLC's output
+unfoldable pub second_stage_of : Contents → HtlcOutput → Transaction
+second_stage_of c h = spending (record { txid = id_of c; index = h.index }) 0 (second_stage_output c h ∷ []) (lock_time_of h.direction h.htlc)
+
+-- the HTLC transaction of the k-th untrimmed HTLC in the order of outputs, from 0, where there is one
+unfoldable pub htlc_transaction_of : Contents → ℕ → Option Transaction
+htlc_transaction_of c k = option_map (second_stage_of c) (slice_get (htlcs_of c) k)
+
+-- an output to an HTLC has its satoshis and its script
+abbrev pub IsHtlcOf : KeyBytes → CommitmentOutput → OutputKind → Type 0
+IsHtlcOf k o ToLocal = Unit {0}
+IsHtlcOf k o ToRemote = Unit {0}
+IsHtlcOf k o (ToHtlc direction h) = (o.value ≡ satoshis_of h.amount) × (o.script ≡ htlc_script k direction h)
+
+-- an output keeps the limits of a transaction's
+pub record IsTxOutput (o : CommitmentOutput) : Type 0 where
+  pub value : o.value ≤ max_value
+  pub program : length o.program ≤ max_bytes
+
+pub record IsOutputOf (k : KeyBytes) (o : CommitmentOutput) : Type 0 where
+  pub limits : IsTxOutput o
+  pub htlc : IsHtlcOf k o o.kind
+
+-- what a commitment keeps beside its contents: its transaction and id, its HTLCs, and the program of their second stage
+pub record Keeps (c : Contents) (transaction : Transaction) (id : List ℕ) (htlcs : List HtlcOutput) (second_stage_program : List ℕ) : Type 0 where
+  pub transaction_is : transaction ≡ transaction_of c
+  pub id_is : id ≡ id_of c
+  pub htlcs_are : htlcs ≡ htlcs_of c
+  pub program_is : second_stage_program ≡ script_hash_program (to_local_script c.delay c.keys)
+  pub few : length c.outputs ≤ max_outputs
+  pub outputs_are : All (λ o. IsOutputOf c.keys o) c.outputs

@@ -1,0 +1,287 @@
+//! Commitments, and the HTLC transactions that spend their outputs.
+
+ghost use Rattle.std.specs.Prelude.{◌≡◌, ◌≤◌, ◌++◌, [], map, length, IfOk, OnOk};
+ghost use Rattle.std.specs.List.{All, cons_option};
+ghost use Rattle.tx.specs.Limits.{max_outputs};
+ghost use Rattle.commit.specs.Commitments.{IsTxOutput, tx_output, spending, htlc_at, htlcs_from, lock_time_of, htlc_transaction_of};
+
+use crate::derived::CommitmentKeys;
+use crate::fees::{Direction, htlc_fee, satoshis};
+use crate::outputs::{CommitmentOutput, HtlcOutput, OutputKind, script_hash_program};
+use crate::scripts::to_local_script;
+use lists::{ByteString, List};
+use std::alloc::{AllocError, Global};
+use std::marker::Model;
+use terms::{Htlc, Obscured};
+use tx::hashing::txid;
+use tx::{Inputs, OutPoint, Outputs, Tx, TxIn, TxOut, Witness};
+
+/// The version of all transactions here, which makes sequence numbers relative locks (BIP 68).
+const VERSION: u32 = 2;
+
+/// One side's commitment transaction, with what its outputs are and what their HTLC transactions need.
+#[derive(Debug, Drop)]
+pub struct Commitment {
+    funding: OutPoint,
+    hidden: Obscured,
+    keys: CommitmentKeys,
+    delay: u16,
+    feerate: u32,
+    outputs: List<CommitmentOutput>,
+    tx: Tx,
+    id: [u8; 32],
+    htlcs: List<HtlcOutput>,
+    second_stage_program: ByteString,
+}
+
+impl Model for Commitment {
+    ghost use Rattle.commit.specs.Commitments.{Contents, Keeps};
+    ghost use Rattle.commit.specs.Keys.{bytes_of};
+
+    ghost Value = { Contents };
+
+    ghost view = { λ a. record {
+      funding = a.funding;
+      hidden = a.hidden;
+      keys = bytes_of a.keys;
+      delay = a.delay;
+      feerate = a.feerate;
+      outputs = a.outputs;
+    } };
+
+    ghost invariant = { λ a. Keeps (record {
+      funding = a.funding;
+      hidden = a.hidden;
+      keys = bytes_of a.keys;
+      delay = a.delay;
+      feerate = a.feerate;
+      outputs = a.outputs;
+    })
+        a.tx a.id a.htlcs a.second_stage_program };
+}
+
+// The outputs of the transaction.
+fn tx_outputs(alloc: Global, outputs: &[CommitmentOutput]) -> Result<Outputs, AllocError>
+    requires few { length outputs.now ≤ max_outputs }
+    requires limited { All (λ o. IsTxOutput o) outputs.now }
+    ensures { IfOk result (λ xs. xs ≡ map tx_output outputs.now) }
+{
+    let mut items = Vec::with_capacity(alloc, outputs.len())?;
+    for output in outputs {
+        match TxOut::new(output.value, output.program.copy()?) {
+            Ok(item) => items.push(item)?,
+            Err(_) => unreachable!(),
+        }
+    }
+    match Outputs::from_vec(items) {
+        Ok(list) => Ok(list),
+        Err(_) => unreachable!(),
+    }
+}
+
+// The transaction with one input, which is not signed.
+fn spending(
+    alloc: Global,
+    outpoint: OutPoint,
+    sequence: u32,
+    outputs: Outputs,
+    lock_time: u32,
+) -> Result<Tx, AllocError>
+    ensures { IfOk result (λ t. t ≡ spending outpoint sequence outputs lock_time) }
+{
+    let mut inputs = Inputs::new(alloc);
+    inputs.push_within_limit(TxIn {
+        outpoint,
+        sequence,
+        witness: Witness::new(alloc),
+    })?;
+    match Tx::new(VERSION, inputs, outputs, lock_time) {
+        Ok(tx) => Ok(tx),
+        Err(_) => unreachable!(),
+    }
+}
+
+// The HTLC of an output, where it is to one.
+pub(crate) fn htlc_at(index: u32, kind: &OutputKind) -> Option<HtlcOutput>
+    ensures { result ≡ htlc_at index kind.now }
+{
+    match kind {
+        OutputKind::ToLocal => None,
+        OutputKind::ToRemote => None,
+        OutputKind::ToHtlc(direction, htlc) => Some(HtlcOutput {
+            index,
+            direction: *direction,
+            htlc: *htlc,
+        }),
+    }
+}
+
+// Puts the HTLC of an output at the end, where it is to one.
+fn push_htlc(htlcs: &mut Vec<HtlcOutput>, index: u32, kind: &OutputKind) -> Result<(), AllocError>
+    ensures { OnOk result (htlcs.new.items ≡ htlcs.old.items ++ cons_option (htlc_at index kind.now) []) }
+{
+    if let Some(htlc) = htlc_at(index, kind) {
+        htlcs.push(htlc)?;
+    }
+    Ok(())
+}
+
+// The outputs to HTLCs, in their order.
+fn htlc_outputs(alloc: Global, outputs: &[CommitmentOutput]) -> Result<List<HtlcOutput>, AllocError>
+    requires { length outputs.now ≤ max_outputs }
+    ensures { IfOk result (λ hs. hs ≡ htlcs_from 0 outputs.now) }
+{
+    let mut htlcs = Vec::new(alloc);
+    for (index, output) in outputs.iter().enumerate() {
+        push_htlc(&mut htlcs, index as u32, &output.kind)?;
+    }
+    Ok(List::from_vec(htlcs))
+}
+
+impl Commitment {
+    ghost use Rattle.std.specs.Prelude.{◌≡◌, ◌≤◌, IfOk, length};
+    ghost use Rattle.std.specs.List.{All};
+    ghost use Rattle.tx.specs.Limits.{max_value, max_outputs};
+    ghost use Rattle.commit.specs.Commitments.{Contents, IsOutputOf, transaction_of, id_of, htlcs_of, second_stage_of};
+    ghost use Rattle.commit.specs.Keys.{bytes_of};
+    ghost use Rattle.commit.specs.Fees.{satoshis_of};
+
+    // The commitment of these contents.
+    pub(crate) fn new(
+        alloc: Global,
+        funding: OutPoint,
+        hidden: Obscured,
+        keys: CommitmentKeys,
+        delay: u16,
+        feerate: u32,
+        outputs: List<CommitmentOutput>,
+    ) -> Result<Self, AllocError>
+        requires few { length outputs ≤ max_outputs }
+        requires each { All (λ o. IsOutputOf (bytes_of keys) o) outputs }
+        ensures { IfOk result (λ c. c ≡ record {
+          funding = funding;
+          hidden = hidden;
+          keys = bytes_of keys;
+          delay = delay;
+          feerate = feerate;
+          outputs = outputs;
+        }) }
+    {
+        let tx = spending(
+            alloc,
+            funding,
+            hidden.sequence,
+            tx_outputs(alloc, outputs.values())?,
+            hidden.lock_time,
+        )?;
+        let id = txid(&tx);
+        let htlcs = htlc_outputs(alloc, outputs.values())?;
+        let script = to_local_script(alloc, delay, &keys)?;
+        let second_stage_program = script_hash_program(alloc, script.bytes())?;
+        Ok(Commitment {
+            funding,
+            hidden,
+            keys,
+            delay,
+            feerate,
+            outputs,
+            tx,
+            id,
+            htlcs,
+            second_stage_program,
+        })
+    }
+
+    /// The transaction, which is not signed.
+    pub fn tx(&self) -> &Tx
+        ensures { result.now ≡ transaction_of self.now }
+    {
+        &self.tx
+    }
+
+    /// The transaction's id, in the hash's own byte order.
+    pub fn id(&self) -> &[u8; 32]
+        ensures { result.now ≡ id_of self.now }
+    {
+        &self.id
+    }
+
+    /// The outputs in the transaction's order.
+    pub fn outputs(&self) -> &[CommitmentOutput]
+        ensures value { result.now ≡ self.now.outputs }
+        ensures few { length result.now ≤ max_outputs }
+        ensures each { All (λ o. IsOutputOf self.now.keys o) result.now }
+    {
+        self.outputs.values()
+    }
+
+    /// The outputs to HTLCs, in the transaction's order.
+    pub fn htlcs(&self) -> &[HtlcOutput]
+        ensures value { result.now ≡ htlcs_of self.now }
+        ensures low { All (λ h. satoshis_of h.htlc.amount ≤ max_value) result.now }
+    {
+        self.htlcs.values()
+    }
+
+    /// The keys that the outputs stand under.
+    pub fn keys(&self) -> &CommitmentKeys
+        ensures { bytes_of result.now ≡ self.now.keys }
+    {
+        &self.keys
+    }
+
+    /// Blocks that the owner waits for its delayed outputs.
+    pub fn delay(&self) -> u16
+        ensures { result ≡ self.now.delay }
+    {
+        self.delay
+    }
+
+    // The HTLC transaction of an HTLC's output.
+    pub(crate) fn second_stage(&self, alloc: Global, htlc: &HtlcOutput) -> Result<Tx, AllocError>
+        requires { satoshis_of htlc.now.htlc.amount ≤ max_value }
+        ensures { IfOk result (λ t. t ≡ second_stage_of self.now htlc.now) }
+    {
+        let fee = htlc_fee(htlc.direction, self.feerate);
+        let value = satoshis(htlc.htlc.amount).saturating_sub(fee);
+        let output = match TxOut::new(value, self.second_stage_program.copy()?) {
+            Ok(output) => output,
+            Err(_) => unreachable!(),
+        };
+        let mut outputs = Outputs::new(alloc);
+        outputs.push_within_limit(output)?;
+        let outpoint = OutPoint {
+            txid: self.id,
+            index: htlc.index,
+        };
+        spending(
+            alloc,
+            outpoint,
+            0,
+            outputs,
+            lock_time(htlc.direction, &htlc.htlc),
+        )
+    }
+}
+
+// The lock time of an HTLC transaction.
+fn lock_time(direction: Direction, htlc: &Htlc) -> u32
+    ensures { result ≡ lock_time_of direction htlc.now }
+{
+    match direction {
+        Direction::Offered => htlc.expiry,
+        Direction::Received => 0,
+    }
+}
+
+/// The HTLC transaction of the commitment's `k`-th HTLC in the order of outputs, from 0 (BOLT 3, "HTLC-Timeout and HTLC-Success Transactions"), not
+/// signed. `None` where there is no such HTLC. The only error is that memory ran out.
+#[tactic(auto, unfolding(crate::specs::Commitments::htlc_transaction_of))]
+pub fn htlc_tx(alloc: Global, commitment: &Commitment, k: usize) -> Result<Option<Tx>, AllocError>
+    ensures { IfOk result (λ t. t ≡ htlc_transaction_of commitment.now k) }
+{
+    match commitment.htlcs().get(k) {
+        None => Ok(None),
+        Some(htlc) => Ok(Some(commitment.second_stage(alloc, htlc)?)),
+    }
+}

@@ -1,0 +1,41 @@
+// The order of a commitment's outputs.
+
+ghost use Rattle.std.specs.Prelude.{◌≡◌, OnOk};
+ghost use Rattle.commit.specs.Order.{expiry_of, output_cmp, in_order};
+
+use crate::outputs::{CommitmentOutput, OutputKind};
+use std::alloc::AllocError;
+use std::cmp::Ordering;
+
+// The height by which outputs of one value and one program stand.
+fn expiry(kind: &OutputKind) -> u32
+    ensures { result ≡ expiry_of kind.now }
+{
+    match kind {
+        OutputKind::ToLocal => 0,
+        OutputKind::ToRemote => 0,
+        OutputKind::ToHtlc(_, htlc) => htlc.expiry,
+    }
+}
+
+// By value, then by the bytes of the program, then by expiry.
+#[tactic(auto, unfolding(crate::specs::Order::output_cmp))]
+fn compare(x: &CommitmentOutput, y: &CommitmentOutput) -> Ordering
+    ensures { result ≡ output_cmp x.now y.now }
+{
+    match x.value.cmp(&y.value) {
+        Ordering::Equal => match x.program.bytes().cmp(y.program.bytes()) {
+            Ordering::Equal => expiry(&x.kind).cmp(&expiry(&y.kind)),
+            decided => decided,
+        },
+        decided => decided,
+    }
+}
+
+/// Puts outputs in their order. The only error is that memory ran out.
+pub(crate) fn put_in_order(outputs: &mut Vec<CommitmentOutput>) -> Result<(), AllocError>
+    ensures { OnOk result (outputs.new.items ≡ in_order outputs.old.items) }
+{
+    outputs.sort_by(|x, y| compare(x, y))?;
+    Ok(())
+}

@@ -1,0 +1,186 @@
+//! The outputs of a commitment.
+
+ghost use Rattle.std.specs.Prelude.{◌≡◌, ◌++◌, map, IfOk, OnOk};
+ghost use Rattle.commit.specs.Keys.{bytes_of};
+ghost use Rattle.commit.specs.Outputs.{script_hash_program, key_hash_program, script_output, to_local_output, to_remote_output, htlc_output, where_paid, outputs_of};
+
+use crate::amounts::Amounts;
+use crate::derived::CommitmentKeys;
+use crate::fees::{Direction, satoshis};
+use crate::scripts::{HtlcScripts, to_local_script, to_remote_script};
+use digest::{hash160, sha256};
+use keys::Key;
+use lists::ByteString;
+use std::alloc::{AllocError, Global};
+use terms::Htlc;
+
+/// What an output of a commitment is (BOLT 3, "Commitment Transaction Outputs").
+#[derive(Clone, Copy, Debug, PartialEq, Eq, Drop)]
+pub enum OutputKind {
+    /// To the owner, after the delay.
+    ToLocal,
+    /// To the owner's peer.
+    ToRemote,
+    /// An HTLC that isn't trimmed.
+    ToHtlc(Direction, Htlc),
+}
+
+/// An output of a commitment.
+#[derive(Debug, Drop)]
+pub struct CommitmentOutput {
+    /// Satoshis.
+    pub value: u64,
+    /// What a spend of it runs, and its signatures are for (BIP 143): the witness script, and of to_remote the script of its key's hash.
+    pub script: ByteString,
+    /// The output's own script: the witness program (BIP 141).
+    pub program: ByteString,
+    pub kind: OutputKind,
+}
+
+/// An output of a commitment to an HTLC.
+#[derive(Clone, Copy, Debug, PartialEq, Eq, Drop)]
+pub struct HtlcOutput {
+    /// Which of the commitment's outputs it is, from 0.
+    pub index: u32,
+    pub direction: Direction,
+    pub htlc: Htlc,
+}
+
+// The program of a script: version 0 and its SHA-256 (BIP 141).
+#[tactic(auto, unfolding(crate::specs::Outputs::script_hash_program))]
+pub(crate) fn script_hash_program(alloc: Global, script: &[u8]) -> Result<ByteString, AllocError>
+    ensures { IfOk result (λ p. p ≡ script_hash_program script.now) }
+{
+    let mut bytes = Vec::with_capacity(alloc, 34)?;
+    bytes.extend_from_slice(&[0x00, 0x20])?;
+    bytes.extend_from_slice(&sha256(script))?;
+    Ok(ByteString::from_vec(bytes))
+}
+
+// The program of a key: version 0 and its HASH160 (BIP 141).
+#[tactic(auto, unfolding(crate::specs::Outputs::key_hash_program))]
+fn key_hash_program(alloc: Global, key: &Key) -> Result<ByteString, AllocError>
+    ensures { IfOk result (λ p. p ≡ key_hash_program key.now.bytes) }
+{
+    let mut bytes = Vec::with_capacity(alloc, 22)?;
+    bytes.extend_from_slice(&[0x00, 0x14])?;
+    bytes.extend_from_slice(&hash160(&key.bytes))?;
+    Ok(ByteString::from_vec(bytes))
+}
+
+// The output of a script.
+fn script_output(
+    alloc: Global,
+    value: u64,
+    script: ByteString,
+    kind: OutputKind,
+) -> Result<CommitmentOutput, AllocError>
+    ensures { IfOk result (λ o. o ≡ script_output value script kind) }
+{
+    let program = script_hash_program(alloc, script.bytes())?;
+    Ok(CommitmentOutput {
+        value,
+        script,
+        program,
+        kind,
+    })
+}
+
+// The output to_local, where the amounts have one, goes to the end.
+fn push_to_local(
+    alloc: Global,
+    delay: u16,
+    keys: &CommitmentKeys,
+    amounts: &Amounts,
+    outputs: &mut Vec<CommitmentOutput>,
+) -> Result<(), AllocError>
+    ensures { OnOk result (outputs.new.items ≡ outputs.old.items ++ where_paid (to_local_output delay (bytes_of keys.now)) amounts.now.to_local) }
+{
+    if let Some(value) = amounts.to_local {
+        let script = to_local_script(alloc, delay, keys)?;
+        outputs.push(script_output(alloc, value, script, OutputKind::ToLocal)?)?;
+    }
+    Ok(())
+}
+
+// The output to_remote, where the amounts have one, goes to the end.
+fn push_to_remote(
+    alloc: Global,
+    keys: &CommitmentKeys,
+    amounts: &Amounts,
+    outputs: &mut Vec<CommitmentOutput>,
+) -> Result<(), AllocError>
+    ensures { OnOk result (outputs.new.items ≡ outputs.old.items ++ where_paid (to_remote_output (bytes_of keys.now)) amounts.now.to_remote) }
+{
+    if let Some(value) = amounts.to_remote {
+        let output = CommitmentOutput {
+            value,
+            script: to_remote_script(alloc, keys)?,
+            program: key_hash_program(alloc, &keys.remote)?,
+            kind: OutputKind::ToRemote,
+        };
+        outputs.push(output)?;
+    }
+    Ok(())
+}
+
+// The output to an HTLC.
+fn htlc_output(
+    alloc: Global,
+    scripts: &HtlcScripts,
+    direction: Direction,
+    htlc: &Htlc,
+) -> Result<CommitmentOutput, AllocError>
+    ensures { IfOk result (λ o. o ≡ htlc_output (bytes_of scripts.now.keys) direction htlc.now) }
+{
+    let script = scripts.script(alloc, direction, htlc)?;
+    let kind = OutputKind::ToHtlc(direction, *htlc);
+    script_output(alloc, satoshis(htlc.amount), script, kind)
+}
+
+// The outputs to HTLCs go to the end.
+fn push_htlcs(
+    alloc: Global,
+    scripts: &HtlcScripts,
+    direction: Direction,
+    htlcs: &[Htlc],
+    outputs: &mut Vec<CommitmentOutput>,
+) -> Result<(), AllocError>
+    ensures { OnOk result (outputs.new.items ≡ outputs.old.items ++ map (htlc_output (bytes_of scripts.now.keys) direction) htlcs.now) }
+{
+    for htlc in htlcs {
+        outputs.push(htlc_output(alloc, scripts, direction, htlc)?)?;
+    }
+    Ok(())
+}
+
+/// The outputs of amounts, as they come. The only error is that memory ran out.
+#[tactic(auto, unfolding(crate::specs::Outputs::outputs_of))]
+pub(crate) fn collect_outputs(
+    alloc: Global,
+    delay: u16,
+    keys: &CommitmentKeys,
+    amounts: &Amounts,
+) -> Result<Vec<CommitmentOutput>, AllocError>
+    ensures { IfOk result (λ v. v.items ≡ outputs_of delay (bytes_of keys.now) amounts.now) }
+{
+    let scripts = HtlcScripts::new(keys);
+    let mut outputs = Vec::new(alloc);
+    push_htlcs(
+        alloc,
+        &scripts,
+        Direction::Offered,
+        amounts.offered.values(),
+        &mut outputs,
+    )?;
+    push_htlcs(
+        alloc,
+        &scripts,
+        Direction::Received,
+        amounts.received.values(),
+        &mut outputs,
+    )?;
+    push_to_local(alloc, delay, keys, amounts, &mut outputs)?;
+    push_to_remote(alloc, keys, amounts, &mut outputs)?;
+    Ok(outputs)
+}

@@ -1,0 +1,124 @@
+//! What the owner's peer signs of a commitment (BOLT 2, `commitment_signed`; BIP 143).
+
+ghost use Rattle.std.specs.Prelude.{◌≡◌, ◌≤◌, ◌++◌, [], map, IfOk, OnOk};
+ghost use Rattle.std.specs.List.{cons_option};
+ghost use Rattle.tx.specs.Limits.{max_value};
+ghost use Rattle.commit.specs.Fees.{satoshis_of};
+ghost use Rattle.commit.specs.Outputs.{htlc_script};
+ghost use Rattle.commit.specs.Commitments.{IsOutputOf, htlc_at};
+ghost use Rattle.commit.specs.Signing.{funding_script as funding_script_of, commitment_digest as commitment_digest_of, htlc_digest as htlc_digest_of, htlc_digests as htlc_digests_of};
+
+use crate::commitments::{Commitment, htlc_at};
+use crate::fees::satoshis;
+use crate::outputs::{CommitmentOutput, HtlcOutput};
+use crate::scripts::two_of_two;
+use lists::List;
+use sighash::digest_of;
+use std::alloc::{AllocError, Global};
+use std::cmp::Ordering;
+use terms::Terms;
+
+/// What the signatures on a commitment and on its HTLC transactions are for.
+#[derive(Debug, Drop)]
+pub struct Digests {
+    /// The digest of the commitment, for the funding output.
+    pub commitment: [u8; 32],
+    /// The digest of each HTLC transaction, in the order of the commitment's outputs.
+    pub htlcs: List<[u8; 32]>,
+}
+
+// The script of the funding output.
+#[tactic(auto, unfolding(crate::specs::Signing::funding_script))]
+fn funding_script(alloc: Global, terms: &Terms) -> Result<Vec<u8>, AllocError>
+    ensures { IfOk result (λ v. v.items ≡ funding_script_of terms.now) }
+{
+    let a = terms.a.bases.funding;
+    let b = terms.b.bases.funding;
+    if b.bytes.cmp(&a.bytes) == Ordering::Less {
+        two_of_two(alloc, &b, &a)
+    } else {
+        two_of_two(alloc, &a, &b)
+    }
+}
+
+// The digest of the commitment.
+#[tactic(auto, unfolding(crate::specs::Signing::commitment_digest, crate::specs::Commitments::transaction_of))]
+fn commitment_digest(
+    alloc: Global,
+    terms: &Terms,
+    commitment: &Commitment,
+) -> Result<[u8; 32], AllocError>
+    ensures { IfOk result (λ d. d ≡ commitment_digest_of terms.now commitment.now) }
+{
+    let script = funding_script(alloc, terms)?;
+    match digest_of(commitment.tx(), 0, script.as_slice(), terms.capacity) {
+        Ok(digest) => Ok(digest),
+        Err(_) => unreachable!(),
+    }
+}
+
+// The digest of the HTLC transaction of an output with this script.
+#[tactic(auto, unfolding(crate::specs::Signing::htlc_digest, crate::specs::Commitments::second_stage_of))]
+fn htlc_digest(
+    alloc: Global,
+    commitment: &Commitment,
+    htlc: &HtlcOutput,
+    script: &[u8],
+) -> Result<[u8; 32], AllocError>
+    requires low { satoshis_of htlc.now.htlc.amount ≤ max_value }
+    requires its_script { script.now ≡ htlc_script commitment.now.keys htlc.now.direction htlc.now.htlc }
+    ensures { IfOk result (λ d. d ≡ htlc_digest_of commitment.now htlc.now) }
+{
+    let tx = commitment.second_stage(alloc, htlc)?;
+    match digest_of(&tx, 0, script, satoshis(htlc.htlc.amount)) {
+        Ok(digest) => Ok(digest),
+        Err(_) => unreachable!(),
+    }
+}
+
+// Puts the digest of an output's HTLC transaction at the end, where it is to an HTLC.
+fn push_digest(
+    alloc: Global,
+    commitment: &Commitment,
+    index: u32,
+    output: &CommitmentOutput,
+    digests: &mut Vec<[u8; 32]>,
+) -> Result<(), AllocError>
+    requires { IsOutputOf commitment.now.keys output.now }
+    ensures { OnOk result (digests.new.items ≡ digests.old.items ++ map (htlc_digest_of commitment.now) (cons_option (htlc_at index output.now.kind) [])) }
+{
+    if let Some(htlc) = htlc_at(index, &output.kind) {
+        digests.push(htlc_digest(alloc, commitment, &htlc, output.script.bytes())?)?;
+    }
+    Ok(())
+}
+
+// The digests of all HTLC transactions.
+fn htlc_digests(alloc: Global, commitment: &Commitment) -> Result<List<[u8; 32]>, AllocError>
+    ensures { IfOk result (λ ds. ds ≡ htlc_digests_of commitment.now) }
+{
+    let mut digests = Vec::with_capacity(alloc, commitment.htlcs().len())?;
+    let outputs = commitment.outputs();
+    for (index, output) in outputs.iter().enumerate() {
+        push_digest(alloc, commitment, index as u32, output, &mut digests)?;
+    }
+    Ok(List::from_vec(digests))
+}
+
+/// What a `commitment_signed` for the owner's commitment covers: the owner's peer signs the first digest by its funding key, and the others by the
+/// HTLC key that derives at the commitment's point. The only error is that memory ran out.
+pub fn signing_digests(
+    alloc: Global,
+    terms: &Terms,
+    commitment: &Commitment,
+) -> Result<Digests, AllocError>
+    ensures commitment { IfOk result (λ d. d.commitment ≡ commitment_digest_of terms.now commitment.now) }
+    ensures htlcs { IfOk result (λ d. d.htlcs ≡ htlc_digests_of commitment.now) }
+{
+    let first = commitment_digest(alloc, terms, commitment)?;
+    let htlcs = htlc_digests(alloc, commitment)?;
+    Ok(Digests {
+        commitment: first,
+        htlcs,
+    })
+}

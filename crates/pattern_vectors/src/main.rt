@@ -1,0 +1,238 @@
+//! Reads patterns of scripts and what fills them, a line each, and prints the instances: their bytes, their paths, and whether `check` lists the same paths for the same bytes.
+//!
+//! A line `pattern` has opcodes in hexadecimal, and `key`, `hash` and `num` for holes; a line `fill` fills the pattern that was read last, with `key=HEX`, `hash=HEX` and `num=N`.
+//! For `bench/instances.sh` a line `fill COUNT` fills so many times, and `check COUNT HEX` lists the paths of a script so many times; both print how many bytes the scripts have together.
+//! `stdout` has what an independent script says of each line.
+#![tactic(auto)]
+
+use hex::FromHex;
+use paths::{Checked, CheckedPattern, Fill, Path, PatternError, Piece, check, check_pattern};
+use script::Script;
+use std::alloc::{AllocError, Global};
+use std::fmt::Write;
+use std::{fmt, io};
+
+// Puts the pieces that a word names at the end: a hole, or opcodes; whether it names any.
+fn push_pieces(alloc: Global, pieces: &mut Vec<Piece>, word: &str) -> Result<bool, AllocError> {
+    match word {
+        "key" => pieces.push(Piece::KeyHole)?,
+        "hash" => pieces.push(Piece::HashHole)?,
+        "num" => pieces.push(Piece::NumHole)?,
+        _ => {
+            let Ok(bytes) = hex::decode(alloc, word) else {
+                return Ok(false);
+            };
+            let Ok(script) = Script::parse(alloc, &bytes) else {
+                return Ok(false);
+            };
+            for op in script.ops() {
+                pieces.push(Piece::Op(op.copy()?))?;
+            }
+        }
+    }
+    Ok(true)
+}
+
+// The pieces of these words; none where a word names none.
+fn pieces_of(alloc: Global, words: &str) -> Result<Option<Vec<Piece>>, AllocError> {
+    let mut pieces = Vec::new(alloc);
+    for word in words.split_whitespace() {
+        if !push_pieces(alloc, &mut pieces, word)? {
+            return Ok(None);
+        }
+    }
+    Ok(Some(pieces))
+}
+
+// What fills a hole, by its kind and its text.
+fn fill_of(kind: &str, text: &str) -> Option<Fill> {
+    match kind {
+        "key" => <[u8; 33] as FromHex>::from_hex(text).ok().map(Fill::Key),
+        "hash" => <[u8; 20] as FromHex>::from_hex(text).ok().map(Fill::Hash),
+        "num" => text.parse::<u32>().ok().map(Fill::Num),
+        _ => None,
+    }
+}
+
+// What these words fill in; none where a word names nothing.
+fn fills_of(alloc: Global, words: &str) -> Result<Option<Vec<Fill>>, AllocError> {
+    let mut fills = Vec::new(alloc);
+    for word in words.split_whitespace() {
+        let Some((kind, text)) = word.split_once('=') else {
+            return Ok(None);
+        };
+        let Some(fill) = fill_of(kind, text) else {
+            return Ok(None);
+        };
+        fills.push(fill)?;
+    }
+    Ok(Some(fills))
+}
+
+// A number, or `-` where there is none.
+#[derive(Drop)]
+struct OrDash(Option<u64>);
+
+impl fmt::Display for OrDash {
+    fn fmt<W: fmt::Write>(&self, f: &mut fmt::Formatter<W>) -> fmt::Result {
+        match self.0 {
+            Some(n) => write!(f, "{n}"),
+            None => write!(f, "-"),
+        }
+    }
+}
+
+// Puts the text of a path at the end.
+fn push_path(text: &mut String, path: &Path) -> Result<(), AllocError> {
+    let (arity, ops, height) = (path.arity, path.ops, path.height);
+    let lock = OrDash(path.lock);
+    let age = OrDash(path.age.map(u64::from));
+    write!(text, " | {arity} {ops} {height} {lock} {age}")?;
+    for stated in path.facts.values() {
+        write!(text, ", {stated}")?;
+    }
+    Ok(())
+}
+
+// The text of all paths.
+fn paths_text(alloc: Global, checked: &Checked) -> Result<String, AllocError> {
+    let mut text = String::new(alloc);
+    for path in checked.paths() {
+        push_path(&mut text, path)?;
+    }
+    Ok(text)
+}
+
+// Whether `check` lists paths of this text for the instance's bytes.
+fn is_listed(alloc: Global, instance: &Checked, text: &str) -> Result<bool, AllocError> {
+    let Ok(script) = Script::parse(alloc, instance.script().bytes()) else {
+        return Ok(false);
+    };
+    let Ok(checked) = check(alloc, script) else {
+        return Ok(false);
+    };
+    Ok(paths_text(alloc, &checked)?.as_str() == text)
+}
+
+// The text of a pattern that these fill.
+fn filled_text(alloc: Global, pattern: &CheckedPattern, words: &str) -> Result<String, AllocError> {
+    let Some(fills) = fills_of(alloc, words)? else {
+        return format!(in alloc; "refused BadFill");
+    };
+    let instance = match pattern.instance(alloc, &fills) {
+        Ok(instance) => instance,
+        Err(refusal) => return format!(in alloc; "refused {refusal}"),
+    };
+    let bytes = hex::encode(alloc, instance.script().bytes())?;
+    let text = paths_text(alloc, &instance)?;
+    let listed = if is_listed(alloc, &instance, text.as_str())? {
+        "listed"
+    } else {
+        "other"
+    };
+    format!(in alloc; "{bytes} {listed}{text}")
+}
+
+// The pattern of these words, or why there is none.
+fn pattern_of(alloc: Global, words: &str) -> Result<CheckedPattern, PatternError> {
+    match pieces_of(alloc, words)? {
+        Some(pieces) => check_pattern(alloc, pieces),
+        None => Err(PatternError::BadOpcode),
+    }
+}
+
+// How many bytes so many instances have together.
+fn bytes_filled(
+    alloc: Global,
+    pattern: &CheckedPattern,
+    times: u32,
+    words: &str,
+) -> Result<u64, AllocError> {
+    let Some(fills) = fills_of(alloc, words)? else {
+        return Ok(0);
+    };
+    let mut bytes = 0u64;
+    for _time in 0..times {
+        if let Ok(instance) = pattern.instance(alloc, &fills) {
+            bytes = bytes.saturating_add(instance.script().bytes().len() as u64);
+        }
+    }
+    Ok(bytes)
+}
+
+// How many bytes a script has, whose paths are listed so many times, together.
+fn bytes_checked(alloc: Global, times: u32, text: &str) -> Result<u64, AllocError> {
+    let Ok(bytes) = hex::decode(alloc, text) else {
+        return Ok(0);
+    };
+    let mut count = 0u64;
+    for _time in 0..times {
+        if let Ok(script) = Script::parse(alloc, &bytes) {
+            if let Ok(checked) = check(alloc, script) {
+                count = count.saturating_add(checked.script().bytes().len() as u64);
+            }
+        }
+    }
+    Ok(count)
+}
+
+// A number and the words behind it.
+fn counted(words: &str) -> Option<(u32, &str)> {
+    let (count, others) = words.split_once(' ')?;
+    Some((count.parse::<u32>().ok()?, others))
+}
+
+// The answer to a line that speaks of a pattern.
+fn answer(alloc: Global, pattern: &CheckedPattern, words: &str) -> Result<String, AllocError> {
+    match counted(words) {
+        Some((times, others)) => {
+            let bytes = bytes_filled(alloc, pattern, times, others)?;
+            format!(in alloc; "bytes {bytes}")
+        }
+        None => filled_text(alloc, pattern, words),
+    }
+}
+
+// The answer to a line of a script.
+fn listed(alloc: Global, words: &str) -> Result<String, AllocError> {
+    let Some((times, text)) = counted(words) else {
+        return format!(in alloc; "no words");
+    };
+    let bytes = bytes_checked(alloc, times, text)?;
+    format!(in alloc; "bytes {bytes}")
+}
+
+// What is printed of a line, which may set the pattern.
+fn line_of(
+    alloc: Global,
+    pattern: &mut Option<CheckedPattern>,
+    line: &str,
+) -> Result<String, AllocError> {
+    match line.split_once(' ') {
+        Some(("pattern", words)) => match pattern_of(alloc, words) {
+            Ok(checked) => {
+                *pattern = Some(checked);
+                format!(in alloc; "pattern")
+            }
+            Err(refusal) => {
+                *pattern = None;
+                format!(in alloc; "refused {refusal}")
+            }
+        },
+        Some(("fill", words)) => match pattern {
+            Some(pattern) => answer(alloc, pattern, words),
+            None => format!(in alloc; "no pattern"),
+        },
+        Some(("check", words)) => listed(alloc, words),
+        _ => format!(in alloc; "no words"),
+    }
+}
+
+fn main(rt: HostRuntime) -> io::Result<()> {
+    let mut pattern = None;
+    for line in rt.lines(rt.alloc()) {
+        let text = line_of(rt.alloc(), &mut pattern, line?.as_str())?;
+        println!(rt; "{text}")?;
+    }
+    Ok(())
+}
