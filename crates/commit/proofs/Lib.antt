@@ -9,3 +9,4 @@ pub mod Htlcs
 pub mod Limited
 pub mod Built
 pub mod Shared
+pub mod OrderExamples
