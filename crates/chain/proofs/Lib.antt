@@ -1,4 +1,3 @@
-pub mod Parsing
 pub mod Lists
 pub mod Finding
 pub mod Noting

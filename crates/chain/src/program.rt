@@ -49,7 +49,7 @@ fn key_hash_script(alloc: Global, hash: &[u8]) -> Result<Vec<u8>, AllocError>
 }
 
 /// Reads a script; `BadProgram` where the bytes are none.
-#[tactic(auto, using(crate::proofs::Parsing::parsed, crate::proofs::Parsing::unparsed))]
+#[tactic(auto, using(sighash::proofs::Parsing::parsed, sighash::proofs::Parsing::unparsed))]
 fn parse(alloc: Global, bytes: &[u8]) -> Result<Script, Refusal>
     ensures { IsParsed (script_ops bytes.now) result }
 {

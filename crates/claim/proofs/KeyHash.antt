@@ -21,7 +21,7 @@ use Rattle.script.specs.Step.{Elements, Effect, effect, flag, result_if, ◌>>=�
 use Rattle.script.specs.Run.{RunState, weight, jump_length, open_ifs_after, state_after_effect, state_after_skip_or_run, state_after, Outcome, Clean, Stopped, onward, outcome_from, start, is_long, outcome}
 use Rattle.sighash.specs.Programs.{script_ops}
 use Rattle.claim.specs.Judgement.{key_script, is_key_program}
-use Rattle.claim.proofs.Parsing.{parsed}
+use Rattle.sighash.proofs.Parsing.{parsed_spelling}
 
 abbrev key_ops : List ℕ → List Op
 key_ops hash = Dup ∷ Hash160 ∷ Push hash ∷ EqualVerify ∷ CheckSig ∷ []
@@ -124,8 +124,8 @@ key_opcodes ops hash valid short l e =
     let spelt : key_script hash ≡ spelling (key_ops hash) = ap (λ n. 0x76 ∷ 0xa9 ∷ n ∷ (hash ++ 0x88 ∷ 0xac ∷ [])) (sym l) in
     let same : spelling ops ≡ spelling (key_ops hash) = e ∙ spelt in
     same_ops (script_ops (spelling (key_ops hash))) ops (key_ops hash)
-    (ap script_ops (sym same) ∙ parsed ops valid short)
-    (parsed (key_ops hash) (key_valid hash l) (subst (λ s. length s ≤ 10000) same short))
+    (ap script_ops (sym same) ∙ parsed_spelling ops valid short)
+    (parsed_spelling (key_ops hash) (key_valid hash l) (subst (λ s. length s ≤ 10000) same short))
 
 pub key_items : (spend : Spend) (ops : List Op) (program : List ℕ) (items : List (List ℕ)) (n k : ℕ) → All IsOp ops → length (spelling ops) ≤ 10000 → is_key_program (spelling ops) program ≡ true → outcome spend ops items ≡ Clean n k → length items ≡ 2
 key_items spend ops program items n k valid short e run =

@@ -3,7 +3,6 @@ pub mod Telling
 pub mod Choosing
 pub mod Filled
 pub mod Locks
-pub mod Parsing
 pub mod KeyHash
 pub mod Growing
 pub mod Opening

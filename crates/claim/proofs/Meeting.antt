@@ -37,7 +37,7 @@ use Rattle.claim.specs.Evidence.{hash_evidence, size_evidence, truth_evidence, b
 use Rattle.claim.specs.Fitting.{FillsSlot, FillsSlots, Fits, output_at, Opens}
 use Rattle.claim.specs.Judgement.{has_polarity, is_met, first_unmet_or, path_or_refusal, is_program, is_shell, known_digest, judgement_of_path, judgement_of}
 use Rattle.claim.proofs.Shells.{round_of}
-use Rattle.claim.proofs.Parsing.{parsed}
+use Rattle.sighash.proofs.Parsing.{parsed_spelling}
 use Rattle.claim.proofs.KeyHash.{key_items}
 use Rattle.claim.proofs.Growing.{clean-items}
 use Rattle.claim.proofs.Opening.{given}
@@ -182,7 +182,7 @@ fits-runs ways index slots place shell p valid short j s t input f =
     let clean = s.clean (fits_spend ways place t input) f.items (fits-meets ways index slots place shell p j s t input f) in
     run_as t input (output_at place) script f.items ways.ops (Clean p.ops p.height)
     (ap (given_of place.program) f.witness ∙ given place.program script f.items j.program (λ k. key_items (fits_spend ways place t input) ways.ops place.program f.items p.ops p.height valid short k clean))
-    (parsed ways.ops valid short) clean
+    (parsed_spelling ways.ops valid short) clean
 
 -- an accepted path of a sound script opens the output
 pub judgement_of-opens : (ways : CheckedScript) (index : ℕ) (slots : List Slot) (place : Place) (shell : Shell) (p : Path) → All IsOp ways.ops → length (spelling ways.ops) ≤ 10000 → All (IsSound ways.ops) ways.paths → judgement_of ways index slots place shell ≡ Ok p → Opens ways.ops p slots place shell

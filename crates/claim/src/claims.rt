@@ -2,10 +2,12 @@
 
 ghost use Rattle.std.specs.Prelude.{◌≡◌, ◌<◌, length, slice_index_or};
 
+use crate::copies::copied_slots;
 use crate::parts::{Place, Shell, Slot};
 use lists::List;
 use paths::{Checked, Path};
 use script::limits::LOCKTIME_THRESHOLD;
+use std::alloc::AllocError;
 use std::marker::Model;
 use tx::OutPoint;
 
@@ -41,7 +43,7 @@ fn path_at(paths: &[Path], index: usize) -> &Path
 }
 
 impl Claim {
-    ghost use Rattle.std.specs.Prelude.{is_ok, IsTrue, Some, true};
+    ghost use Rattle.std.specs.Prelude.{is_ok, IsTrue, IfOk, Some, true};
     ghost use Rattle.claim.specs.Judgement.{judgement_of, is_shell};
     ghost use Rattle.claim.specs.Claims.{IsOpening, TakesPath, path_of, sequence_of, lock_time_of};
     ghost use Rattle.paths.specs.Sound.{IsSound};
@@ -64,6 +66,22 @@ impl Claim {
             place,
             shell,
         }
+    }
+
+    /// An equal claim, which counts as made by the call that made this one. The only error is that memory ran out.
+    pub fn copy(&self) -> Result<Self, AllocError>
+        ensures { IfOk result (λ c. c ≡ self.now) }
+    {
+        // The proof learns from the path that the parts were judged.
+        let _ = self.path();
+        let slots = copied_slots(self.slots.allocator(), self.slots())?;
+        Ok(Claim {
+            checked: self.checked.copy()?,
+            index: self.index,
+            slots: List::from_vec(slots),
+            place: self.place.copy()?,
+            shell: self.shell.copy()?,
+        })
     }
 
     /// The script of the claimed output, with its paths.

@@ -63,7 +63,7 @@ fn claim_of(rt: &impl Abort, alloc: Global) -> Claim {
 #[test]
 fn claims_a_checksig(rt: HostRuntime) {
     let claim = claim_of(&rt, rt.alloc());
-    let copy = claim.copy(rt.alloc()).expect(&rt, "memory");
+    let copy = claim.copy().expect(&rt, "memory");
     assert_eq!(rt; copy.needs_age(), 0);
     assert_eq!(rt; copy.needs_height(), 0);
 }

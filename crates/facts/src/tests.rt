@@ -1,95 +1,44 @@
-// Facts print their texts, and copies are equal.
+// The printed numbers of facts: the rest of their texts is a fact of the definition. That memory which is there is found.
 
 mod shapes;
 
-use crate::symbols::{Fact, KeySource, Stated, Sym};
-use lists::{ByteString, List};
+use crate::symbols::{Fact, KeySource, Stated};
+use lists::List;
 use std::alloc::Global;
 use std::process::Abort;
 use std::test::Fail;
 
-// Asserts the text of a fact, and of a copy of it.
-fn prints(rt: &impl Abort, alloc: Global, fact: Fact, holds: bool, text: &str) -> Result<(), Fail> {
-    let stated = Stated { fact, holds };
-    let copy = stated.copy()?;
-    assert_eq!(rt; format!(in alloc; "{stated}")?.as_str(), text);
-    assert_eq!(rt; format!(in alloc; "{copy}")?.as_str(), text);
-    Ok(())
-}
-
-// An item of these bytes.
-fn item(alloc: Global, bytes: &[u8]) -> Result<ByteString, Fail> {
-    Ok(ByteString::from_slice(alloc, bytes)?)
+// Asserts the text of a fact that holds.
+fn prints(rt: &impl Abort, alloc: Global, fact: Fact, text: &str) {
+    let stated = Stated { fact, holds: true };
+    let printed = format!(in alloc; "{stated}").expect(rt, "memory");
+    assert_eq!(rt; printed.as_str(), text);
 }
 
 #[test]
-fn prints_facts(rt: HostRuntime) -> Result<(), Fail> {
-    let alloc = rt.alloc();
-    prints(
-        &rt,
-        alloc,
-        Fact::Hash(0, item(alloc, &[0x33, 0xaf])?),
-        true,
-        "hash 0 33af yes",
-    )?;
-    prints(&rt, alloc, Fact::Size(0, 32), false, "size 0 32 no")?;
-    prints(&rt, alloc, Fact::Truth(12), true, "truth 12 yes")?;
-    prints(
-        &rt,
-        alloc,
-        Fact::Is(3, item(alloc, &[])?),
-        true,
-        "is 3 - yes",
-    )?;
-    prints(
-        &rt,
-        alloc,
-        Fact::Is(3, item(alloc, &[0x0a])?),
-        false,
-        "is 3 0a no",
-    )?;
-    prints(&rt, alloc, Fact::KeyForm(0), true, "key 0")?;
-    prints(&rt, alloc, Fact::Form(1), true, "form 1")?;
-    prints(&rt, alloc, Fact::Lock(500), true, "lock 500")?;
-    prints(&rt, alloc, Fact::Age(144), true, "age 144")?;
-    Ok(())
+fn prints_numbers(rt: HostRuntime) {
+    for (fact, text) in [
+        (Fact::Size(0, 520), "size 0 520 yes"),
+        (Fact::Truth(12), "truth 12 yes"),
+        (Fact::KeyForm(999), "key 999"),
+        (Fact::Form(1), "form 1"),
+        (Fact::Lock(549_755_813_887), "lock 549755813887"),
+        (Fact::Age(144), "age 144"),
+    ] {
+        prints(&rt, rt.alloc(), fact, text);
+    }
 }
 
 #[test]
-fn prints_keys(rt: HostRuntime) -> Result<(), Fail> {
+fn prints_numbers_of_keys(rt: HostRuntime) {
     let alloc = rt.alloc();
-    let key = KeySource::Const(item(alloc, &[2, 0x11])?);
-    prints(&rt, alloc, Fact::Token(1, key), true, "token 1 0211 yes")?;
-    prints(
-        &rt,
-        alloc,
-        Fact::Token(1, KeySource::Slot(0)),
-        true,
-        "token 1 slot 0 yes",
-    )?;
-    let mut slots = List::new(alloc);
-    slots.push(2)?;
-    slots.push(1)?;
-    let mut keys = List::new(alloc);
-    keys.push(KeySource::Const(item(alloc, &[2, 0x11])?))?;
-    keys.push(KeySource::Slot(7))?;
-    prints(
-        &rt,
-        alloc,
-        Fact::Assigned(slots, keys),
-        true,
-        "assigned 2,1 0211,slot 7 yes",
-    )?;
-    Ok(())
-}
-
-#[test]
-fn copies_symbols(rt: HostRuntime) -> Result<(), Fail> {
-    let alloc = rt.alloc();
-    let holds = Sym::Holds(Fact::Truth(1)).copy()?;
-    assert!(rt; matches!(holds, Sym::Holds(Fact::Truth(1))));
-    assert!(rt; matches!(Sym::HashOf(2).copy()?, Sym::HashOf(2)));
-    Ok(())
+    let (mut slots, mut keys) = (List::new(alloc), List::new(alloc));
+    for slot in [12usize, 1] {
+        slots.push(slot).expect(&rt, "memory");
+        keys.push(KeySource::Slot(slot + 100)).expect(&rt, "memory");
+    }
+    let text = "assigned 12,1 slot 112,slot 101 yes";
+    prints(&rt, alloc, Fact::Assigned(slots, keys), text);
 }
 
 // The example of the crate's page.

@@ -12,8 +12,8 @@ use Rattle.script.specs.Token.{token_of, is_key}
 use Rattle.script.specs.declared.spending.Spend.{Spend}
 use Rattle.tx.specs.declared.input.TxIn.{TxIn}
 use Rattle.tx.specs.Fields.{Transaction, signed_input, unsigned_inputs, unsigned_transaction, inputs_with_witness}
-use Rattle.tx.specs.Spelling.{number, outpoint}
-use Rattle.sighash.specs.Signing.{all_outpoints, all_sequences, signed_list}
+use Rattle.sighash.specs.Signing.{signed_list}
+use Rattle.sighash.proofs.Witnesses.{unsigned_list}
 use Rattle.sighash.specs.Programs.{spend_of}
 use Rattle.keys.specs.Rights.{Rights}
 use Rattle.paths.specs.declared.state.Path.{Path}
@@ -32,21 +32,7 @@ use Rattle.filling.specs.Filled.{RunsClean, AllRunClean, AllFit}
 use Rattle.filling.proofs.Lists.{contains-at, contains-first, contains-later}
 use Rattle.filling.proofs.Standing.{bare-of, stands-signed}
 
--- a digest does not look at witnesses
-unsigned_outpoints : (xs : List TxIn) → all_outpoints (unsigned_inputs xs) ≡ all_outpoints xs
-unfolding all_outpoints
-unsigned_outpoints [] = refl
-unsigned_outpoints (x ∷ xs) = ap (λ (t : List ℕ). outpoint x.outpoint ++ t) (unsigned_outpoints xs)
-
-unsigned_sequences : (xs : List TxIn) → all_sequences (unsigned_inputs xs) ≡ all_sequences xs
-unfolding all_sequences
-unsigned_sequences [] = refl
-unsigned_sequences (x ∷ xs) = ap (λ (t : List ℕ). number 4 x.sequence ++ t) (unsigned_sequences xs)
-
-unsigned_list : (t : Transaction) (x : TxIn) (code : List ℕ) (value : ℕ) → signed_list (unsigned_transaction t) (signed_input x []) code value ≡ signed_list t x code value
-unfolding signed_list
-unsigned_list t x code value = rw (unsigned_outpoints t.inputs, unsigned_sequences t.inputs) refl
-
+-- the digest of an input is that of the unsigned transaction
 digest-same : (c : ClaimParts) (ps : List (List ℕ)) (t u : Transaction) (x : TxIn) → unsigned_transaction u ≡ t → x ≡ filled_input t ps c → sha256d (signed_list u x (script_of c) c.place.value) ≡ digest_for t c
 digest-same c ps t u x e f =
     let bare : signed_input x [] ≡ unsigned_input c = ap (λ i. signed_input i []) f in

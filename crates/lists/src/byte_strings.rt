@@ -91,34 +91,3 @@ impl ByteString {
         self.bytes() == other.bytes()
     }
 }
-
-#[cfg(test)]
-mod tests {
-    use super::*;
-    use std::test::Fail;
-
-    #[test]
-    fn holds_its_bytes(rt: HostRuntime) -> Result<(), Fail> {
-        let string = ByteString::from_slice(rt.alloc(), &[1, 2, 3])?;
-        let copy = string.copy()?;
-        assert_eq!(rt; copy.bytes(), [1, 2, 3].as_slice());
-        assert!(rt; copy.equals(&string));
-        assert!(rt; !copy.equals(&ByteString::new(rt.alloc())));
-        assert!(rt; !copy.is_empty());
-        assert_eq!(rt; copy.into_vec().as_slice(), [1, 2, 3].as_slice());
-        Ok(())
-    }
-
-    // No length is refused where memory is there.
-    #[test]
-    fn copies_every_length(rt: HostRuntime) -> Result<(), Fail> {
-        let mut bytes = Vec::new(rt.alloc());
-        for len in 0usize..=600 {
-            let string = ByteString::from_slice(rt.alloc(), &bytes)?.copy()?;
-            assert_eq!(rt; string.len(), len);
-            assert_eq!(rt; string.bytes(), bytes.as_slice());
-            bytes.push((len % 256) as u8)?;
-        }
-        Ok(())
-    }
-}

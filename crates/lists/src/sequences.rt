@@ -78,38 +78,3 @@ impl<T: Drop> List<T> {
         self.items.as_slice()
     }
 }
-
-#[cfg(test)]
-mod tests {
-    use super::*;
-    use std::test::Fail;
-
-    #[test]
-    fn grows_at_its_end(rt: HostRuntime) -> Result<(), Fail> {
-        let mut list = List::new(rt.alloc());
-        assert!(rt; list.is_empty());
-        list.push(1u8)?;
-        list.push(2)?;
-        assert_eq!(rt; list.len(), 2);
-        assert_eq!(rt; list.values(), [1, 2].as_slice());
-        assert_eq!(rt;
-            List::from_vec(vec![in rt.alloc(); 3u8, 4]?)
-                .into_vec()
-                .as_slice(),
-            [3, 4].as_slice()
-        );
-        Ok(())
-    }
-
-    // No length is refused where memory is there.
-    #[test]
-    fn grows_to_every_length(rt: HostRuntime) -> Result<(), Fail> {
-        let mut list = List::new(rt.alloc());
-        for len in 0usize..600 {
-            assert_eq!(rt; list.len(), len);
-            list.push(len)?;
-        }
-        assert_eq!(rt; list.values().last(), Some(&599));
-        Ok(())
-    }
-}

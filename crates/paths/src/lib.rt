@@ -16,6 +16,7 @@ mod balance;
 mod branch_opcodes;
 mod comparison_opcodes;
 mod constants;
+mod copies;
 mod ending;
 mod errors;
 mod filling;

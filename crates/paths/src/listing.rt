@@ -12,6 +12,7 @@ ghost use Rattle.script.specs.Run.{counted_in as counted_of};
 
 use crate::balance::is_balanced;
 use crate::constants::HoleKind;
+use crate::copies::copied_paths;
 use crate::errors::CheckError;
 use crate::filling::filled_paths;
 use crate::state::{Path, PatternPath};
@@ -19,7 +20,7 @@ use crate::walking::walk_all;
 use lists::List;
 use script::limits::MAX_OPS_PER_SCRIPT;
 use script::{Op, Script};
-use std::alloc::Global;
+use std::alloc::{AllocError, Global};
 use std::marker::Model;
 
 /// A script with every way through it that runs clean. `check` and [`CheckedPattern::instance`](crate::CheckedPattern::instance) alone make one. A contract sees it as its opcodes and its paths.
@@ -41,7 +42,7 @@ impl Model for Checked {
 }
 
 impl Checked {
-    ghost use Rattle.std.specs.Prelude.{◌≡◌, All, Ok};
+    ghost use Rattle.std.specs.Prelude.{◌≡◌, All, Ok, IfOk};
     ghost use Rattle.paths.specs.Listing.{listing};
     ghost use Rattle.paths.specs.Sound.{IsSound};
     ghost use Rattle.paths.specs.Exhaustive.{IsExhaustive};
@@ -75,6 +76,17 @@ impl Checked {
         // Borrowing both fields gives the prover the invariant, which says that these are the script's paths.
         let _script = &self.script;
         self.paths.values()
+    }
+
+    /// The same script with the same paths, which are not listed once more. The only error is that memory ran out.
+    pub fn copy(&self) -> Result<Self, AllocError>
+        ensures { IfOk result (λ c. c ≡ self.now) }
+    {
+        let paths = copied_paths(self.paths.allocator(), self.paths.values())?;
+        Ok(Checked {
+            script: self.script.copy()?,
+            paths: List::from_vec(paths),
+        })
     }
 }
 

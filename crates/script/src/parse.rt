@@ -213,44 +213,22 @@ impl<T: Drop> From<AllocFailed<T>> for ParseError {
 #[cfg(test)]
 mod tests {
     use super::*;
-    use std::test::Fail;
 
-    // The to_local output of BOLT 3 with a delay of 40,000 blocks, with keys of one byte.
-    const TO_LOCAL: [u8; 14] = [
-        0x63, 0x01, 0x11, 0x67, 0x03, 0x40, 0x9c, 0x00, 0xb2, 0x75, 0x01, 0x22, 0x68, 0xac,
-    ];
+    const LONG: [u8; 10_001] = [0x50; 10_001];
 
     #[test]
-    fn names_the_first_fault(rt: HostRuntime) -> Result<(), Fail> {
-        let long = [0x50; 10_001];
+    fn names_the_first_fault(rt: HostRuntime) {
         for (bytes, wanted) in [
             (&[0x50][..], ParseError::BadOpcode(0)),
-            (&[0x51, 0xb3][..], ParseError::BadOpcode(1)),
-            (&[0x02, 0xff][..], ParseError::Truncated(0)),
-            (&[0x51, 0x4b][..], ParseError::Truncated(1)),
-            (&[0x4c, 0x01, 0xff][..], ParseError::BadOpcode(0)),
-            (&long[..], ParseError::TooLong),
-            (&long[1..], ParseError::BadOpcode(0)),
+            (&[0x51, 0xb3], ParseError::BadOpcode(1)),
+            (&[0x02, 0xff], ParseError::Truncated(0)),
+            (&[0x51, 0x4b], ParseError::Truncated(1)),
+            (&[0x4c, 0x01, 0xff], ParseError::BadOpcode(0)),
+            (&LONG, ParseError::TooLong),
+            (&LONG[1..], ParseError::BadOpcode(0)),
         ] {
-            match Script::parse(rt.alloc(), bytes) {
-                Ok(_) => assert!(rt; false, "{wanted}"),
-                Err(refusal) => assert_eq!(rt; refusal, wanted),
-            }
+            let refusal = Script::parse(rt.alloc(), bytes).err();
+            assert_eq!(rt; refusal, Some(wanted));
         }
-        Ok(())
-    }
-
-    #[test]
-    fn reads_a_script(rt: HostRuntime) -> Result<(), Fail> {
-        let script = Script::parse(rt.alloc(), &TO_LOCAL)?;
-        assert_eq!(rt; script.bytes(), TO_LOCAL.as_slice());
-        assert_eq!(rt; script.counted(), 6);
-        let ops = script.ops();
-        assert_eq!(rt; ops.len(), 9);
-        assert!(rt; matches!(&ops[0], Op::If));
-        assert!(rt; matches!(&ops[3], Op::Push(delay) if delay.len() == 3));
-        assert!(rt; matches!(&ops[4], Op::CheckSequenceVerify));
-        assert!(rt; matches!(&ops[8], Op::CheckSig));
-        Ok(())
     }
 }

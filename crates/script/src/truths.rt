@@ -34,20 +34,3 @@ pub fn flag(alloc: Global, holds: bool) -> Result<ByteString, AllocError>
         Ok(ByteString::new(alloc))
     }
 }
-
-#[cfg(test)]
-mod tests {
-    use super::*;
-    use std::test::Fail;
-
-    #[test]
-    fn flags_are_true_and_false(rt: HostRuntime) -> Result<(), Fail> {
-        assert_eq!(rt; flag(rt.alloc(), true)?.bytes(), [1].as_slice());
-        assert!(rt; flag(rt.alloc(), false)?.is_empty());
-        assert!(rt; is_true(&[1]));
-        assert!(rt; is_true(&[0x80, 0]));
-        assert!(rt; !is_true(&[]));
-        assert!(rt; !is_true(&[0, 0x80]));
-        Ok(())
-    }
-}

@@ -34,14 +34,6 @@ fn bytes(rt: &impl Abort, text: &str) -> [u8; 32] {
     <[u8; 32] as FromHex>::from_hex(text).expect(rt, "64 hex digits")
 }
 
-/// The number of the refusal, or 0.
-fn refusal(outcome: Result<(), StoreError>) -> u8 {
-    match outcome {
-        Ok(()) => 0,
-        Err(e) => e.number(),
-    }
-}
-
 #[test]
 fn generates_the_secrets_of_a_seed(rt: HostRuntime) {
     let rows = [
@@ -73,37 +65,33 @@ fn generates_the_secrets_of_a_seed(rt: HostRuntime) {
     }
 }
 
+/// Which of eight insertions is refused, 8 for none: `w` stands for the wrong seed's secret.
+fn refused_at(rt: &impl Abort, seeds: &[u8; 8]) -> usize {
+    let mut store = Store::new();
+    for (n, seed) in seeds.iter().enumerate() {
+        let text = if *seed == b'w' { WRONG[n] } else { RIGHT[n] };
+        let outcome = store.insert(FIRST - n as u64, &bytes(rt, text));
+        if outcome == Err(StoreError::NotOfThisSeed) {
+            return n;
+        }
+    }
+    8
+}
+
 #[test]
 fn stores_the_secrets_of_one_seed_alone(rt: HostRuntime) {
-    // which seed's secrets are inserted, true for the wrong one's, and which insertion is refused
-    let rows = [
-        ([false, false, false, false, false, false, false, false], 8),
-        ([true, false, false, false, false, false, false, false], 1),
-        ([true, true, false, false, false, false, false, false], 3),
-        ([false, false, true, false, false, false, false, false], 3),
-        ([true, true, true, true, false, false, false, false], 7),
-        ([false, false, false, false, true, false, false, false], 5),
-        ([false, false, false, false, true, true, false, false], 7),
-        ([false, false, false, false, false, false, true, false], 7),
-        ([false, false, false, false, false, false, false, true], 7),
-    ];
-    for (wrong, refused) in rows {
-        let mut store = Store::new();
-        for (n, is_wrong) in wrong.iter().enumerate() {
-            let text = if *is_wrong { WRONG[n] } else { RIGHT[n] };
-            let i = FIRST - n as u64;
-            let want = if n == refused { 2 } else { 0 };
-            assert_eq!(rt; refusal(store.insert(i, &bytes(&rt, text))), want, "at {i}");
-            if n == refused {
-                assert!(rt; store.get(i).is_none());
-                break;
-            }
-            assert_eq!(rt;
-                store.get(FIRST),
-                Some(bytes(&rt, if wrong[0] { WRONG[0] } else { RIGHT[0] }))
-            );
-            assert_eq!(rt; store.get(i), Some(bytes(&rt, text)));
-        }
+    for (seeds, refused) in [
+        (b"........", 8),
+        (b"w.......", 1),
+        (b"ww......", 3),
+        (b"..w.....", 3),
+        (b"wwww....", 7),
+        (b"....w...", 5),
+        (b"....ww..", 7),
+        (b"......w.", 7),
+        (b".......w", 7),
+    ] {
+        assert_eq!(rt; refused_at(&rt, seeds), refused);
     }
 }
 
@@ -111,27 +99,16 @@ fn stores_the_secrets_of_one_seed_alone(rt: HostRuntime) {
 fn counts_down_from_the_greatest_index(rt: HostRuntime) {
     let mut store = Store::new();
     let secret = bytes(&rt, RIGHT[1]);
-    for i in [0, FIRST - 1, FIRST + 1, u64::MAX] {
-        assert_eq!(rt;
-            store.insert(i, &secret),
-            Err(StoreError::OutOfTurn),
-            "at {i}"
-        );
-    }
-    assert_eq!(rt; refusal(store.insert(FIRST, &[7; 32])), 0);
-    assert_eq!(rt; store.insert(FIRST, &[7; 32]), Err(StoreError::OutOfTurn));
-    assert_eq!(rt;
-        store.insert(FIRST - 2, &secret),
-        Err(StoreError::OutOfTurn)
-    );
-    assert_eq!(rt;
-        store.insert(FIRST - 1, &secret),
-        Err(StoreError::NotOfThisSeed)
-    );
+    let early = Err(StoreError::OutOfTurn);
+    assert_eq!(rt; store.insert(FIRST + 1, &secret), early);
+    assert_eq!(rt; store.insert(FIRST - 1, &secret), early);
+    assert_eq!(rt; store.insert(FIRST, &[7; 32]), Ok(()));
+    assert_eq!(rt; store.insert(FIRST, &[7; 32]), early);
+    assert_eq!(rt; store.insert(FIRST - 2, &secret), early);
+    let other = Err(StoreError::NotOfThisSeed);
+    assert_eq!(rt; store.insert(FIRST - 1, &secret), other);
     assert_eq!(rt; store.get(FIRST), Some([7; 32]));
-    for i in [0, FIRST - 1, FIRST + 1, u64::MAX] {
-        assert!(rt; store.get(i).is_none(), "at {i}");
-    }
+    assert_eq!(rt; store.get(FIRST - 1), None);
 }
 
 /// A store of the first `count` secrets of a seed.
@@ -147,21 +124,11 @@ fn store_of(seed: &[u8; 32], count: u64) -> Result<Store, StoreError> {
 #[test]
 fn gives_back_a_thousand_secrets(rt: HostRuntime) {
     let seed = [0x5a; 32];
-    let store = store_of(&seed, 1000);
-    assert!(rt; store.is_ok());
-    let Ok(store) = store else { return };
-    let mut copy = store.copy();
+    let store = store_of(&seed, 1000).expect(&rt, "one seed's secrets");
     for n in 0..1000 {
         let i = FIRST - n;
         assert_eq!(rt; store.get(i), Some(from_seed(&seed, i)), "at {i}");
-        assert_eq!(rt; copy.get(i), Some(from_seed(&seed, i)), "at {i}");
     }
-    assert_eq!(rt;
-        copy.insert(FIRST - 1000, &from_seed(&seed, FIRST - 1000)),
-        Ok(())
-    );
-    assert!(rt; copy.get(FIRST - 1000).is_some());
-    assert!(rt; store.get(FIRST - 1000).is_none());
 }
 
 #[test]

@@ -2,3 +2,4 @@ pub mod Tokens
 pub mod Witnesses
 pub mod Examples
 pub mod ProgramExamples
+pub mod Parsing

@@ -22,7 +22,8 @@ unsigned_at [] i = refl
 unsigned_at (x ∷ xs) zero = refl
 unsigned_at (x ∷ xs) (suc i) = unsigned_at xs i
 
-unsigned_list : (t : Transaction) (x : TxIn) (code : List ℕ) (value : ℕ) → signed_list (unsigned_transaction t) (signed_input x []) code value ≡ signed_list t x code value
+-- what is hashed for an input
+pub unsigned_list : (t : Transaction) (x : TxIn) (code : List ℕ) (value : ℕ) → signed_list (unsigned_transaction t) (signed_input x []) code value ≡ signed_list t x code value
 unfolding signed_list
 unsigned_list t x code value = rw (unsigned_outpoints t.inputs, unsigned_sequences t.inputs) refl
 

@@ -1,9 +1,14 @@
 -- The definitions at work on known bytes.
-use Rattle.std.proofs.Common.{◌≡◌, ℕ, Bool, true, false, List, [], ◌∷◌, ◌++◌, Result, Ok, Err, refl, replicate}
+use Rattle.std.proofs.Common.{◌≡◌, ℕ, Bool, true, false, List, [], ◌∷◌, ◌++◌, map, Result, Ok, Err, refl, replicate}
 use Rattle.tx.specs.declared.input.TxIn.{TxIn}
 use Rattle.tx.specs.declared.errors.DecodeError.{DecodeError}
 use Rattle.tx.specs.declared.errors.DecodeError.TheVariants.{Truncated, LongCount, BadMarker, NoInputs, NoWitness, ValueTooLarge, Trailing, OverLimit}
 use Rattle.tx.specs.Parts.{Output}
+use Rattle.tx.specs.declared.errors.DecodeError.TheVariants.{NoMemory}
+use Rattle.tx.specs.declared.errors.EncodeError.TheVariants as encode
+use Rattle.tx.specs.declared.errors.FieldError.TheVariants as field
+use Rattle.tx.specs.declared.errors.LimitError.TheVariants as limit
+use Rattle.tx.specs.Refusals.{limit_refusal_number, field_refusal_number, decode_refusal_number, encode_refusal_number}
 use Rattle.tx.specs.Limits.{max_value, max_inputs, max_outputs, max_items, max_bytes}
 use Rattle.tx.specs.Fields.{Transaction, has_witness, transaction_with_witness, unsigned_transaction, total_value}
 use Rattle.tx.specs.Spelling.{number, compact_size, bytes_with_length, outpoint, input, output, witness, body, witnesses, spelling, stripped_spelling}
@@ -151,3 +156,9 @@ value_limits : (output_at (0x00 ∷ 0x40 ∷ 0x07 ∷ 0x5a ∷ 0xf0 ∷ 0x75 ∷
     × (output_at (0x01 ∷ 0x40 ∷ 0x07 ∷ 0x5a ∷ 0xf0 ∷ 0x75 ∷ 0x07 ∷ 0x00 ∷ []) ≡ no_output ValueTooLarge)
 unfolding output_at number_at bytes_at byte_string_at compact_size_up_to compact_size_at
 value_limits = (refl, refl)
+
+-- a refusal of one name has one number in every call
+refusal_numbers : (map decode_refusal_number (NoMemory ∷ Truncated ∷ LongCount ∷ BadMarker ∷ NoInputs ∷ NoWitness ∷ ValueTooLarge ∷ Trailing ∷ OverLimit ∷ []) ≡ 0 ∷ 1 ∷ 2 ∷ 3 ∷ 4 ∷ 5 ∷ 6 ∷ 7 ∷ 8 ∷ [])
+    × (map encode_refusal_number (encode.NoMemory ∷ encode.NoWitness ∷ []) ≡ 0 ∷ 5 ∷ []) × (map field_refusal_number (field.NoInputs ∷ field.ValueTooLarge ∷ field.OverLimit ∷ []) ≡ 4 ∷ 6 ∷ 8 ∷ [])
+    × (map limit_refusal_number (limit.NoMemory ∷ limit.OverLimit ∷ []) ≡ 0 ∷ 8 ∷ [])
+refusal_numbers = (refl, refl, refl, refl)

@@ -1,10 +1,12 @@
 //! Reads transactions, a line of hexadecimal text each, and prints what they are: the id in the hash's own byte order, the numbers of inputs, witness items
-//! and outputs, and whether the bytes that `tx` writes for them, whole and without witnesses, are those that it read.
+//! and outputs, and whether the bytes that `tx` writes for them, whole and without witnesses, are those that it read. A line of four words asks for a digest
+//! (BIP 143): a stripped transaction, the index of an input, the script code and the value that the input spends.
 //!
-//! `stdin` has published transactions and such that an independent script made; `stdout` has what that script says of them.
+//! `stdin` has published transactions, the examples of BIP 143, and such that an independent script made; `stdout` has what is published of them, or what that
+//! script says.
 #![tactic(auto)]
 
-use hex::FromHex;
+use sighash::digest_of;
 use std::alloc::{AllocError, Global};
 use std::io;
 use tx::{Tx, decode, decode_stripped, encode, encode_stripped, txid};
@@ -32,8 +34,32 @@ fn comes_back(alloc: Global, bytes: &[u8], tx: &Tx) -> Result<bool, AllocError> 
     Ok(written.as_slice() == bytes && read.equals(&bare) && txid(&bare) == txid(tx))
 }
 
+// The digest that a signature of an input signs, or why there is none.
+fn digest_line(
+    alloc: Global,
+    stripped: &str,
+    index: &str,
+    code: &str,
+    value: &str,
+) -> Result<String, AllocError> {
+    let (Ok(bytes), Ok(code)) = (hex::decode(alloc, stripped), hex::decode(alloc, code)) else {
+        return format!(in alloc; "refused BadHex");
+    };
+    let (Ok(index), Ok(value)) = (index.parse::<usize>(), value.parse::<u64>()) else {
+        return format!(in alloc; "refused BadNumber");
+    };
+    let tx = match decode_stripped(alloc, &bytes) {
+        Ok(tx) => tx,
+        Err(refusal) => return format!(in alloc; "refused {refusal}"),
+    };
+    match digest_of(&tx, index, &code, value) {
+        Ok(digest) => hex::encode(alloc, digest),
+        Err(refusal) => format!(in alloc; "refused {refusal}"),
+    }
+}
+
 // What a line's transaction is, or why it is none.
-fn line_of(alloc: Global, text: &str) -> Result<String, AllocError> {
+fn transaction_line(alloc: Global, text: &str) -> Result<String, AllocError> {
     let Ok(bytes) = hex::decode(alloc, text) else {
         return format!(in alloc; "refused BadHex");
     };
@@ -50,6 +76,16 @@ fn line_of(alloc: Global, text: &str) -> Result<String, AllocError> {
         "changed"
     };
     format!(in alloc; "{id} inputs {inputs} items {items} outputs {outputs} {back}")
+}
+
+// What there is to say of a line.
+fn line_of(alloc: Global, text: &str) -> Result<String, AllocError> {
+    let mut words = text.split(' ');
+    let first = words.next().unwrap_or("");
+    match (words.next(), words.next(), words.next()) {
+        (Some(index), Some(code), Some(value)) => digest_line(alloc, first, index, code, value),
+        _ => transaction_line(alloc, first),
+    }
 }
 
 fn main(rt: HostRuntime) -> io::Result<()> {

@@ -1,16 +1,22 @@
 -- What lists of updates make of HTLCs, balances and fees (BOLT 2), by numbers that were computed by hand.
-use Rattle.std.proofs.Common.{◌≡◌, ℕ, true, false, List, [], ◌∷◌, Some, None, refl}
+use Rattle.std.proofs.Common.{◌≡◌, ℕ, true, false, map, replicate, List, [], ◌∷◌, Option, Some, None, refl, lit≤}
+use Rattle.tx.specs.declared.input.OutPoint.{OutPoint}
+use Rattle.terms.specs.declared.agreement.BaseKeys.{BaseKeys}
+use Rattle.terms.specs.declared.agreement.Party.{Party}
+use Rattle.terms.specs.declared.agreement.Terms.{Terms}
 use Rattle.terms.specs.declared.htlcs.Htlc.{Htlc}
+use Rattle.terms.specs.declared.sides.Side.{Side}
 use Rattle.terms.specs.declared.sides.Side.TheVariants.{A, B}
 use Rattle.terms.specs.declared.views.Share.{Share}
 use Rattle.updates.specs.declared.changes.Update.{Update}
 use Rattle.updates.specs.declared.changes.Update.TheVariants.{Add, Fulfil, Fail, Fee}
 use Rattle.updates.specs.declared.fates.Fate.TheVariants.{Live, Fulfilled, Failed}
-use Rattle.updates.specs.declared.refusals.Refusal.TheVariants.{WrongId, AmountZero, OverBalance}
+use Rattle.updates.specs.declared.refusals.Refusal.{Refusal}
+use Rattle.updates.specs.declared.refusals.Refusal.TheVariants.{NoMemory, AmountZero, BelowMinimum, ExpiryTooLarge, WrongId, TooManyHtlcs, OverBalance, UnknownHtlc, WrongPreimage, NoUpdates, BadSignature, WrongSecret, NotYourTurn, NotOpener}
 use Rattle.updates.specs.Updates.{fate, offers, offer_of, spent, gained, pending, live_count, last_fee}
 use Rattle.updates.specs.Views.{share_of, feerate_of}
 use Rattle.updates.specs.Stages.{Stages, none_yet, made, to_receiver, by_receiver, to_sender, by_sender}
-use Rattle.updates.specs.Refusals.{first_refusal, covers_nothing, to_remove}
+use Rattle.updates.specs.Refusals.{refusal_number, first_refusal, update_tests, covers_nothing, to_remove}
 
 abbrev htlc : ℕ → ℕ → Htlc
 htlc id amount = record { id = id; amount = amount; hash = []; expiry = 500 }
@@ -81,3 +87,40 @@ firsts : (first_refusal [] ≡ None)
     × (first_refusal ((false, WrongId) ∷ (true, AmountZero) ∷ (true, OverBalance) ∷ []) ≡ Some AmountZero)
     × (first_refusal ((false, WrongId) ∷ (false, AmountZero) ∷ []) ≡ None)
 firsts = (refl, refl, refl)
+
+refusal_numbers : map refusal_number (NoMemory ∷ AmountZero ∷ BelowMinimum ∷ ExpiryTooLarge ∷ WrongId ∷ TooManyHtlcs ∷ OverBalance ∷ UnknownHtlc ∷ WrongPreimage ∷ NoUpdates ∷ BadSignature ∷ WrongSecret ∷ NotYourTurn ∷ NotOpener ∷ []) ≡
+    0 ∷ 1 ∷ 2 ∷ 3 ∷ 4 ∷ 5 ∷ 6 ∷ 7 ∷ 8 ∷ 9 ∷ 10 ∷ 11 ∷ 12 ∷ 13 ∷ []
+refusal_numbers = refl
+
+-- A opened a channel of 100,000 satoshis, of which it has 80,000
+module _ (funding : OutPoint) (bases : BaseKeys) where
+  abbrev party : ℕ → Party
+  party start = record { dust = 546; delay = 144; minimum = 1000; start = start; bases = bases }
+
+  abbrev terms : Terms
+  terms = record { funding = funding; capacity = 100000; opener = A; feerate = 1000; a = party 80000000; b = party 20000000; limited = lit≤ tt; whole = refl }
+
+  abbrev offer : ℕ → ℕ → ℕ → Update
+  offer id amount expiry = Add (record { id = id; amount = amount; hash = []; expiry = expiry })
+
+  abbrev refusal : Side → Stages → Update → Option Refusal
+  refusal by own u = first_refusal (update_tests terms by own none_yet u)
+
+  -- each offer fails the tests that come after its refusal, where one amount can
+  offers_tested : map (refusal A none_yet) (offer 1 0 500000000 ∷ offer 0 0 500000000 ∷ offer 0 999 500000000 ∷ offer 0 80000001 500000000 ∷ offer 0 80000001 499999999 ∷ offer 0 80000000 499999999 ∷ offer 0 1000 0 ∷ []) ≡
+      Some WrongId ∷ Some AmountZero ∷ Some BelowMinimum ∷ Some ExpiryTooLarge ∷ Some OverBalance ∷ None ∷ None ∷ []
+  offers_tested = refl
+
+  -- this many HTLCs of 1,000 millisatoshis stand live
+  abbrev live : ℕ → Stages
+  live n = record { known = replicate n (offer 0 1000 500); with_receiver = []; past_receiver = []; with_sender = []; settled = [] }
+
+  number_limit : (refusal A (live 482) (offer 482 1000 500) ≡ None) × (refusal A (live 483) (offer 483 1000 500) ≡ Some TooManyHtlcs) × (refusal A (live 483) (offer 483 79517001 500) ≡ Some TooManyHtlcs)
+      × (refusal A (live 483) (offer 483 1000 500000000) ≡ Some ExpiryTooLarge) × (refusal A (live 2) (offer 2 79998000 500) ≡ None) × (refusal A (live 2) (offer 2 79998001 500) ≡ Some OverBalance)
+  number_limit = (refl, refl, refl, refl, refl, refl)
+
+  fees_tested : (refusal A none_yet (Fee 2000) ≡ None) × (refusal B none_yet (Fee 2000) ≡ Some NotOpener)
+  fees_tested = (refl, refl)
+
+  removals_tested : (refusal A none_yet (Fail 0) ≡ Some UnknownHtlc) × ((x : List ℕ) → refusal A none_yet (Fulfil 0 x) ≡ Some UnknownHtlc)
+  removals_tested = (refl, λ x. refl)

@@ -1,17 +1,18 @@
 -- What stays true of one side's updates as a channel knows them, and why no balance of a view falls below 0.
 use Rattle.std.proofs.Common.{◌≡◌, ℕ, ◌+◌, ◌*◌, ◌<◌, ◌≤◌, false, eqb, List, [], ◌∷◌, ◌++◌, length, sym, ap, ◌∙◌, refl, arith, append-nil, length-append}
-use Rattle.std.proofs.lemmas.Bool.{eqb-true, ne_eqb, not-false, ltb-false}
+use Rattle.std.proofs.lemmas.Bool.{eqb-true, ne_eqb, not-false, ltb-false, leb-false}
 use Rattle.updates.specs.declared.changes.Update.{Update}
 use Rattle.updates.specs.declared.changes.Update.TheVariants.{Add, Fulfil, Fail, Fee}
 use Rattle.terms.specs.declared.sides.Side.{Side}
 use Rattle.terms.specs.declared.agreement.Terms.{Terms}
-use Rattle.updates.specs.Updates.{first_of_fates, fate, offers, offer_of, unless_failed, spent, gained}
+use Rattle.updates.specs.Updates.{first_of_fates, fate, offers, offer_of, unless_failed, one_if_live, spent, gained, live_count, live}
 use Rattle.updates.specs.declared.fates.Fate.{Fate}
 use Rattle.updates.specs.declared.fates.Fate.TheVariants.{Live, Fulfilled, Failed}
+use Rattle.updates.specs.declared.limits.TheConstants.{MAX_HTLCS}
 use Rattle.updates.specs.Views.{IsCovered, IsSound, start_of}
 use Rattle.updates.specs.Stages.{Stages, made, to_receiver, by_receiver, to_sender, by_sender}
 use Rattle.updates.specs.Refusals.{update_tests, to_remove, is_missing}
-use Rattle.updates.proofs.Sums.{begins_on, begins_longer, begins, fate-append, offers-append, spent_falls, spent_of_fewer, spent-append, spent_is, gained_rises, gained_of_more}
+use Rattle.updates.proofs.Sums.{begins_on, begins_longer, begins, fate-append, offers-append, spent_falls, spent_of_fewer, spent-append, spent_is, gained_rises, gained_of_more, live_count_falls, live_count-append, live_count_of_fewer, live-length}
 use Rattle.updates.proofs.Numbering.{numbered-append, numbered_start, found_below, removes_below-more, removes_below-append, gained_settled}
 use Rattle.updates.proofs.Accepting.{AllPass, removed, present}
 use Rattle.updates.specs.Steady.{InOrder, IsBeginning, IsFair, IsPart, Numbered, RemovesBelow}
@@ -58,10 +59,13 @@ fair_on start s o s' o' f k ss ok os =
     let come = gained_rises s.settled s'.settled o.known ss in
     let more = gained_of_more s'.settled o.known o'.known ok in
     let had = f.covered in
+    let live : live_count s'.known o'.settled ≤ live_count s.known o.settled = rw k (live_count_falls s.known o.settled o'.settled os) in
+    let few = f.few in
     record {
       numbered = rw k f.numbered;
       removes = rw k (removes_below-more _ _ s.known l f.removes);
       covered = omega (arith, out, come, more, had);
+      few = omega (arith, live, few);
     }
 
 -- and while the sender makes updates that pass its tests
@@ -117,11 +121,28 @@ covered_made terms by s o (Fulfil id preimage) t c = let e = spent-append s.know
 covered_made terms by s o (Fail id) t c = let e = spent-append s.known (Fail id ∷ []) o.settled in omega (arith, e, c)
 covered_made terms by s o (Fee rate) t c = let e = spent-append s.known (Fee rate ∷ []) o.settled in omega (arith, e, c)
 
+one_at_most : (f : Fate) (n : ℕ) → one_if_live f n ≤ 1
+one_at_most Live n = omega arith
+one_at_most Fulfilled n = omega arith
+one_at_most Failed n = omega arith
+
+few_made : (terms : Terms) (by : Side) (s o : Stages) (u : Update) → AllPass (update_tests terms by s o u) → live_count s.known o.settled ≤ MAX_HTLCS → live_count (s.known ++ u ∷ []) o.settled ≤ MAX_HTLCS
+few_made terms by s o (Add p) (t1, (t2, (t3, (t4, (t5, (t6, t7)))))) f =
+    let room = leb-false _ _ t5 in
+    let e = live_count-append s.known (Add p ∷ []) o.settled in
+    let w = one_at_most (fate p.id o.settled) p.amount in
+    let one : live_count (Add p ∷ []) o.settled ≤ 1 = omega (arith, w) in
+    omega (arith, room, e, one)
+few_made terms by s o (Fulfil id preimage) t f = let e = live_count-append s.known (Fulfil id preimage ∷ []) o.settled in omega (arith, e, f)
+few_made terms by s o (Fail id) t f = let e = live_count-append s.known (Fail id ∷ []) o.settled in omega (arith, e, f)
+few_made terms by s o (Fee rate) t f = let e = live_count-append s.known (Fee rate ∷ []) o.settled in omega (arith, e, f)
+
 pub fair_made : (terms : Terms) (by : Side) (s o : Stages) (u : Update) → InOrder o → Numbered 0 (offers o.known) → AllPass (update_tests terms by s o u) → IsFair (start_of by terms) s o → IsFair (start_of by terms) (made u s) o
 fair_made terms by s o u order n t f = record {
   numbered = numbered_made terms by s o u t f.numbered;
   removes = removes_below-append _ s.known (u ∷ []) f.removes (removes_made terms by s o u order n t);
   covered = covered_made terms by s o u t f.covered;
+  few = few_made terms by s o u t f.few;
 }
 
 -- the views between what is settled and what is known
@@ -147,10 +168,19 @@ covered_view start s o p q so oo f n sp oq =
     let g = gained_of_more p o.settled q oq.holds_settled in
     omega (arith, a, b, c, d, e, g)
 
+-- fewer HTLCs stand live by fewer offers and more removals
+pub few_in_view : (start : ℕ) (s o : Stages) (p q : List Update) → IsFair start s o → IsPart s p → IsPart o q → length (live p q) ≤ MAX_HTLCS
+few_in_view start s o p q f sp oq =
+    let a = live_count_of_fewer p s.known q sp.is_known in
+    let b = live_count_falls s.known o.settled q oq.holds_settled in
+    let c = f.few in
+    let e = live-length p q in
+    omega (arith, a, b, c, e)
+
 -- balances and HTLCs sum to the capacity wherever no balance is below 0
-pub sound_view : (terms : Terms) (p q : List Update) → IsCovered terms.a.start p q → IsCovered terms.b.start q p → IsSound terms p q
-sound_view terms p q a b =
+pub sound_view : (terms : Terms) (p q : List Update) → IsCovered terms.a.start p q → IsCovered terms.b.start q p → length (live p q) ≤ MAX_HTLCS → length (live q p) ≤ MAX_HTLCS → IsSound terms p q
+sound_view terms p q a b few_of_a few_of_b =
     let whole : terms.a.start + terms.b.start ≡ 1000 * terms.capacity = terms.whole in
     let d = spent_is p q in
     let e = spent_is q p in
-    record { a = a; b = b; sum = omega (arith, whole, a, b, d, e) }
+    record { a = a; b = b; sum = omega (arith, whole, a, b, d, e); few_of_a = few_of_a; few_of_b = few_of_b }

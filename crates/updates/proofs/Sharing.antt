@@ -14,11 +14,13 @@ use Rattle.terms.specs.Sides.{other}
 use Rattle.updates.specs.declared.changes.Update.{Update}
 use Rattle.updates.specs.declared.pending.Pending.{Pending}
 use Rattle.updates.specs.declared.stages.Part.{Part}
+use Rattle.updates.specs.declared.stages.Stage.{Stage}
+use Rattle.updates.specs.declared.stages.Stage.TheVariants.{Known, WithReceiver, PastReceiver, WithSender}
 use Rattle.updates.specs.declared.fates.Fate.{Fate}
 use Rattle.updates.specs.declared.fates.Fate.TheVariants.{Live, Fulfilled, Failed}
 use Rattle.updates.specs.Updates.{fate, offers, total, if_live, if_fulfilled, kept_if_live, live_in, live, spent, gained, pending, newest_fee}
 use Rattle.updates.specs.Views.{start_of, balance, share_of, feerate_of, view_by, IsCovered, IsSound, IsSoundBy}
-use Rattle.updates.specs.Stages.{Stages, Counts, IsPartOf}
+use Rattle.updates.specs.Stages.{Stages, part_of, Counts, IsPartOf}
 use Rattle.updates.specs.Pending.{pending_htlcs, live_at, fulfilled_at, IsKept}
 use Rattle.updates.specs.Shares.{amounts, out_at, in_at, share_at, IsPayable, IsPartAt, rate_at, view_from, view_in}
 use Rattle.updates.specs.Steady.{Held, IsBeginning, IsFair, IsPart, RemovesBelow, IsLedger, InOrder, Numbered}
@@ -173,19 +175,12 @@ part_at s x us c p =
         let b : length s.known ≡ length us + length p.is_known.0 = ap length (sym p.is_known.1) ∙ length-append us p.is_known.0 in
         omega (arith, a, b)
 
--- the parts that commitments hold
-
-pub known_part : (s : Stages) → InOrder s → IsPart s s.known
-known_part s o = record { holds_settled = settled_known s o; is_known = begins s.known }
-
-pub past_part : (s : Stages) → InOrder s → IsPart s s.past_receiver
-past_part s o = record { holds_settled = settled_past s o; is_known = past_known s o }
-
-pub receiver_part : (s : Stages) → InOrder s → IsPart s s.with_receiver
-receiver_part s o = record { holds_settled = settled_receiver s o; is_known = o.receiver }
-
-pub sender_part : (s : Stages) → InOrder s → IsPart s s.with_sender
-sender_part s o = record { holds_settled = o.settled; is_known = sender_known s o }
+-- a commitment may hold what has come to a stage
+pub part_may : (stage : Stage) (s : Stages) → InOrder s → IsPart s (part_of stage s)
+part_may Known s o = record { holds_settled = settled_known s o; is_known = begins s.known }
+part_may WithReceiver s o = record { holds_settled = settled_receiver s o; is_known = o.receiver }
+part_may PastReceiver s o = record { holds_settled = settled_past s o; is_known = past_known s o }
+part_may WithSender s o = record { holds_settled = o.settled; is_known = sender_known s o }
 
 -- a view of parts that are counted is that of their lists
 pub view_at : (r : Result View Refusal) (h : Held) (x y : Part) (a b : List Update) → Counts x a → Counts y b → IsPart h.own a → IsPart h.theirs b

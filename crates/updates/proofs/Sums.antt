@@ -1,9 +1,9 @@
 -- Fates and sums, over longer lists of offers and of updates.
-use Rattle.std.proofs.Common.{◌≡◌, ℕ, ◌+◌, ◌≤◌, List, [], ◌∷◌, ◌++◌, sym, ap, ◌∙◌, refl, arith, append_assoc, append-nil}
+use Rattle.std.proofs.Common.{◌≡◌, ℕ, ◌+◌, ◌≤◌, List, [], ◌∷◌, ◌++◌, length, sym, ap, ◌∙◌, refl, arith, append_assoc, append-nil}
 use Rattle.updates.specs.declared.changes.Update.{Update}
 use Rattle.updates.specs.declared.changes.Update.TheVariants.{Add, Fulfil, Fail, Fee}
 use Rattle.terms.specs.declared.htlcs.Htlc.{Htlc}
-use Rattle.updates.specs.Updates.{first_of_fates, fate_by, fate, offers, total, if_live, if_fulfilled, unless_failed, one_if_live, spent, gained, pending, live_count}
+use Rattle.updates.specs.Updates.{first_of_fates, fate_by, fate, offers, total, if_live, if_fulfilled, unless_failed, one_if_live, spent, gained, pending, live_count, kept_if_live, live_in, live}
 use Rattle.updates.specs.declared.fates.Fate.{Fate}
 use Rattle.updates.specs.declared.fates.Fate.TheVariants.{Live, Fulfilled, Failed}
 use Rattle.updates.specs.Steady.{IsBeginning}
@@ -99,6 +99,25 @@ gained_of_more mine xs ys p = let h = gained-append mine xs p.0 in rw (← p.1) 
 
 pub spent_of_fewer : (xs ys others : List Update) → IsBeginning xs ys → spent xs others ≤ spent ys others
 spent_of_fewer xs ys others p = let h = spent-append xs p.0 others in rw (← p.1) (omega (arith, h))
+
+pub live_count-append : (us vs others : List Update) → live_count (us ++ vs) others ≡ live_count us others + live_count vs others
+live_count-append us vs others = ap (λ os. total one_if_live os others) (offers-append us vs) ∙ total-append one_if_live (offers us) (offers vs) others
+
+pub live_count_of_fewer : (xs ys others : List Update) → IsBeginning xs ys → live_count xs others ≤ live_count ys others
+live_count_of_fewer xs ys others p = let h = live_count-append xs p.0 others in rw (← p.1) (omega (arith, h))
+
+-- the HTLCs that stand live are so many
+one_more : (f : Fate) (h : Htlc) (hs : List Htlc) (amount : ℕ) → length (kept_if_live f h hs) ≡ one_if_live f amount + length hs
+one_more Live h hs amount = omega arith
+one_more Fulfilled h hs amount = omega arith
+one_more Failed h hs amount = omega arith
+
+live_in-length : (os : List Htlc) (ends : List Update) → length (live_in os ends) ≡ total one_if_live os ends
+live_in-length [] ends = refl
+live_in-length (o ∷ os) ends = one_more (fate o.id ends) o (live_in os ends) o.amount ∙ ap (λ n. one_if_live (fate o.id ends) o.amount + n) (live_in-length os ends)
+
+pub live-length : (mine others : List Update) → length (live mine others) ≡ live_count mine others
+live-length mine others = live_in-length (offers mine) others
 
 -- what one side spent is what stands in HTLCs and what the other gained
 weights_add : (f : Fate) (n : ℕ) → unless_failed f n ≡ if_live f n + if_fulfilled f n

@@ -2,6 +2,8 @@
 use Rattle.std.specs.Prelude.{◌≡◌, ◌≤◌, ℕ, take, length, List, [], ◌∷◌, ◌++◌}
 use Rattle.updates.specs.declared.changes.Update.{Update}
 use Rattle.updates.specs.declared.stages.Part.{Part}
+use Rattle.updates.specs.declared.stages.Stage.{Stage}
+use Rattle.updates.specs.declared.stages.Stage.TheVariants.{Known, WithReceiver, PastReceiver, WithSender}
 use Rattle.updates.specs.Updates.{newest_fee}
 
 -- the sender is who made the updates, the receiver the other side; each part is a beginning of the one before it
@@ -11,6 +13,13 @@ pub record Stages : Type 0 where
   pub past_receiver : List Update  -- there once the receiver's revocation acknowledged it
   pub with_sender : List Update  -- in the sender's newest commitment
   pub settled : List Update  -- there once the sender's revocation acknowledged it: all five stages passed
+
+-- the updates that have come to a stage
+abbrev pub part_of : Stage → Stages → List Update
+part_of Known s = s.known
+part_of WithReceiver s = s.with_receiver
+part_of PastReceiver s = s.past_receiver
+part_of WithSender s = s.with_sender
 
 abbrev pub none_yet : Stages
 none_yet = record { known = []; with_receiver = []; past_receiver = []; with_sender = []; settled = [] }

@@ -5,7 +5,8 @@ use Rattle.terms.specs.declared.htlcs.Htlc.{Htlc}
 use Rattle.terms.specs.declared.sides.Side.{Side}
 use Rattle.terms.specs.declared.agreement.Terms.{Terms}
 use Rattle.updates.specs.declared.fates.Fate.TheVariants.{Live}
-use Rattle.updates.specs.Updates.{fate, offers, spent, gained}
+use Rattle.updates.specs.declared.limits.TheConstants.{MAX_HTLCS}
+use Rattle.updates.specs.Updates.{fate, offers, spent, gained, live_count}
 use Rattle.terms.specs.Sides.{other}
 use Rattle.updates.specs.declared.pending.Pending.{Pending}
 use Rattle.updates.specs.Views.{start_of}
@@ -33,11 +34,12 @@ Numbered k (o ∷ os) = (o.id ≡ k) × Numbered (suc k) os
 abbrev pub RemovesBelow : ℕ → List Update → Type 0
 RemovesBelow n us = (id : ℕ) → n ≤ id → fate id us ≡ Live
 
--- the ids count up, only settled HTLCs are removed, and what the sender spent it had
+-- the ids count up, only settled HTLCs are removed, what the sender spent it had, and no more HTLCs stand live than may
 pub record IsFair (start : ℕ) (s o : Stages) : Type 0 where
   pub numbered : Numbered 0 (offers s.known)
   pub removes : RemovesBelow (length (offers o.settled)) s.known
   pub covered : spent s.known o.settled ≤ start + gained s.settled o.known
+  pub few : live_count s.known o.settled ≤ MAX_HTLCS
 
 -- a part of a list of updates that a commitment may hold: what is settled is in it, what is not known isn't
 pub record IsPart (s : Stages) (part : List Update) : Type 0 where

@@ -1,5 +1,5 @@
 -- The view of a commitment: what two lists of updates leave to each side (BOLT 2, BOLT 3).
-use Rattle.std.specs.Prelude.{◌≡◌, ℕ, ◌+◌, ◌-◌, ◌*◌, ◌≤◌, List}
+use Rattle.std.specs.Prelude.{◌≡◌, ℕ, ◌+◌, ◌-◌, ◌*◌, ◌≤◌, List, length}
 use Rattle.updates.specs.declared.changes.Update.{Update}
 use Rattle.terms.specs.declared.htlcs.Htlc.{Htlc}
 use Rattle.terms.specs.declared.sides.Side.{Side}
@@ -9,6 +9,7 @@ use Rattle.terms.specs.declared.views.Share.{Share}
 use Rattle.terms.specs.declared.views.View.{View}
 use Rattle.terms.specs.declared.amounts.TheConstants.{MSAT_PER_SAT}
 use Rattle.terms.specs.Agreement.{party}
+use Rattle.updates.specs.declared.limits.TheConstants.{MAX_HTLCS}
 use Rattle.updates.specs.Updates.{spent, gained, pending, live, last_fee}
 
 -- millisatoshis that a side begins with
@@ -45,11 +46,13 @@ abbrev pub view_by : Terms → Side → List Update → List Update → View
 view_by terms A mine others = view_of terms mine others
 view_by terms B mine others = view_of terms others mine
 
--- in a sound view no balance is below 0, and balances and HTLCs sum to the capacity
+-- in a sound view no balance is below 0, balances and HTLCs sum to the capacity, and no more HTLCs of a side stand than may
 pub record IsSound (terms : Terms) (xs ys : List Update) : Type 0 where
   pub a : IsCovered terms.a.start xs ys
   pub b : IsCovered terms.b.start ys xs
   pub sum : balance terms.a.start xs ys + balance terms.b.start ys xs + pending xs ys + pending ys xs ≡ MSAT_PER_SAT * terms.capacity
+  pub few_of_a : length (live xs ys) ≤ MAX_HTLCS
+  pub few_of_b : length (live ys xs) ≤ MAX_HTLCS
 
 abbrev pub IsSoundBy : Terms → Side → List Update → List Update → Type 0
 IsSoundBy terms A mine others = IsSound terms mine others

@@ -8,7 +8,7 @@ use crate::checking::check_update;
 use crate::pending::Pending;
 use crate::refusals::Refusal;
 use crate::shares::{rate_at, share_at, view_from};
-use crate::stages::{Part, UpdateList};
+use crate::stages::{Part, Stage, UpdateList};
 use std::alloc::Global;
 use std::marker::Model;
 use terms::{Htlc, Side, Terms, View};
@@ -44,6 +44,7 @@ impl Ledger {
     ghost use Rattle.updates.specs.Updates.{offers};
     ghost use Rattle.updates.specs.declared.changes.Update.TheVariants.{Add, Fulfil, Fail, Fee};
     ghost use Rattle.updates.specs.Refusals.{first_refusal, covers_nothing, IsRefusal};
+    ghost use Rattle.updates.specs.Stages.{part_of};
     ghost use Rattle.updates.specs.Steady.{Held, own_tests, their_tests, next_htlc, holding_none, holding_made, holding_signed, holding_update, holding_signature, holding_revocation};
 
     /// No updates yet. It takes no memory.
@@ -250,12 +251,20 @@ impl Ledger {
         Ok(view_from(self.side, mine, others, rate))
     }
 
+    // The view of what has come to these stages.
+    fn view_at(&self, own: Stage, theirs: Stage) -> Result<View, Refusal>
+        ensures value { IfOk result (λ v. v ≡ view_in self.now (part_of own self.now.own) (part_of theirs self.now.theirs)) }
+        ensures sound { IsSoundIn self.now (part_of own self.now.own) (part_of theirs self.now.theirs) }
+    {
+        self.view(self.own.part(own), self.theirs.part(theirs))
+    }
+
     /// The view of the peer's next commitment, which a signature of this side would be for. The only error is that memory ran out.
     pub fn view_to_sign(&self) -> Result<View, Refusal>
         ensures value { IfOk result (λ v. v ≡ view_in self.now self.now.own.known self.now.theirs.past_receiver) }
         ensures sound { IsSoundIn self.now self.now.own.known self.now.theirs.past_receiver }
     {
-        self.view(self.own.known(), self.theirs.past_receiver())
+        self.view_at(Stage::Known, Stage::PastReceiver)
     }
 
     /// The view of this side's next commitment, which a signature of the peer has to be for. The only error is that memory ran out.
@@ -263,23 +272,7 @@ impl Ledger {
         ensures value { IfOk result (λ v. v ≡ view_in self.now self.now.own.past_receiver self.now.theirs.known) }
         ensures sound { IsSoundIn self.now self.now.own.past_receiver self.now.theirs.known }
     {
-        self.view(self.own.past_receiver(), self.theirs.known())
-    }
-
-    // The view of this side's newest commitment.
-    fn own_view(&self) -> Result<View, Refusal>
-        ensures value { IfOk result (λ v. v ≡ view_in self.now self.now.own.with_sender self.now.theirs.with_receiver) }
-        ensures sound { IsSoundIn self.now self.now.own.with_sender self.now.theirs.with_receiver }
-    {
-        self.view(self.own.with_sender(), self.theirs.with_receiver())
-    }
-
-    // The view of the peer's newest commitment that this side signed.
-    fn peers_view(&self) -> Result<View, Refusal>
-        ensures value { IfOk result (λ v. v ≡ view_in self.now self.now.own.with_receiver self.now.theirs.with_sender) }
-        ensures sound { IsSoundIn self.now self.now.own.with_receiver self.now.theirs.with_sender }
-    {
-        self.view(self.own.with_receiver(), self.theirs.with_sender())
+        self.view_at(Stage::PastReceiver, Stage::Known)
     }
 
     /// The view of a side's newest commitment, the newest that this side signed where it is the peer's. The only error is that memory ran
@@ -289,9 +282,9 @@ impl Ledger {
         ensures sound { IsNewestSound self.now owner }
     {
         if owner == self.side {
-            self.own_view()
+            self.view_at(Stage::WithSender, Stage::WithReceiver)
         } else {
-            self.peers_view()
+            self.view_at(Stage::WithReceiver, Stage::WithSender)
         }
     }
 }

@@ -16,6 +16,15 @@ pub(crate) struct Part {
     pub fee: Option<u32>,
 }
 
+/// A stage that updates come to, up to which a commitment has them.
+#[derive(Clone, Copy, Debug, Drop)]
+pub(crate) enum Stage {
+    Known,
+    WithReceiver,
+    PastReceiver,
+    WithSender,
+}
+
 /// The updates of one side, and how many of them have come to each stage.
 #[derive(Drop)]
 pub(crate) struct UpdateList {
@@ -60,7 +69,7 @@ const NONE_YET: Part = Part {
 
 impl UpdateList {
     ghost use Rattle.std.specs.Prelude.{◌≡◌, IfOk, OnErr, length, List};
-    ghost use Rattle.updates.specs.Stages.{none_yet, made, to_receiver, by_receiver, to_sender, by_sender, Counts};
+    ghost use Rattle.updates.specs.Stages.{none_yet, made, to_receiver, by_receiver, to_sender, by_sender, part_of, Counts};
 
     /// No updates yet.
     pub(crate) fn new(alloc: Global) -> UpdateList
@@ -112,6 +121,18 @@ impl UpdateList {
         ensures { Counts result self.now.settled }
     {
         self.settled
+    }
+
+    /// Those that have come to a stage.
+    pub(crate) fn part(&self, stage: Stage) -> Part
+        ensures { Counts result (part_of stage self.now) }
+    {
+        match stage {
+            Stage::Known => self.known(),
+            Stage::WithReceiver => self.with_receiver(),
+            Stage::PastReceiver => self.past_receiver(),
+            Stage::WithSender => self.with_sender(),
+        }
     }
 
     /// The sender makes an update. The only error is that memory ran out, which leaves the list as it was.

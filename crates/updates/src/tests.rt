@@ -1,9 +1,9 @@
-// Updates between two sides: the order of the tests, the stages, the views, and printed names.
+// Updates between two sides, with a hash from outside; memory that is there is found; printed names. Numbers alone are facts of the definitions.
 use crate::{Ledger, Refusal, Update};
 use keys::point;
 use std::alloc::Global;
-use std::test::Fail;
-use terms::{BaseKeys, Htlc, Party, Side, Terms, TermsError, View};
+use std::process::Abort;
+use terms::{BaseKeys, Party, Side, Terms, View};
 use tx::OutPoint;
 
 /// A preimage, and its SHA-256 (Python's hashlib).
@@ -39,62 +39,44 @@ struct Sides {
 }
 
 /// A channel of 100,000 satoshis, of which A has 80,000 and B 20,000.
-fn open(alloc: Global) -> Result<Sides, TermsError> {
+fn open(rt: &impl Abort, alloc: Global) -> Sides {
     let funding = OutPoint {
         txid: [7; 32],
         index: 0,
     };
     let (a, b) = (party(80_000_000), party(20_000_000));
-    let terms = Terms::new(funding, 100_000, Side::A, 1000, a, b)?;
+    let terms = Terms::new(funding, 100_000, Side::A, 1000, a, b).expect(rt, "terms");
     let a = Ledger::new(alloc, terms, Side::A);
     let b = Ledger::new(alloc, terms, Side::B);
-    Ok(Sides { a, b })
+    Sides { a, b }
 }
 
-/// The number of the refusal, 255 where there is none.
-fn number<T: Drop>(answer: Result<T, Refusal>) -> u8 {
-    match answer {
-        Ok(_) => 255,
-        Err(refusal) => refusal.number(),
-    }
-}
-
-/// The balances of A and B, how many HTLCs of A stand, and the feerate; zeros where there is no view.
-fn seen(answer: Result<View, Refusal>) -> (u64, u64, usize, u32) {
-    match answer {
-        Ok(view) => (
-            view.a.balance,
-            view.b.balance,
-            view.a.offered.len(),
-            view.feerate,
-        ),
-        Err(_) => (0, 0, 0, 0),
-    }
+/// The balances of A and B, how many HTLCs of A stand, and the feerate.
+fn seen(rt: &impl Abort, answer: Result<View, Refusal>) -> (u64, u64, usize, u32) {
+    let view = answer.expect(rt, "a view");
+    let htlcs = view.a.offered.len();
+    (view.a.balance, view.b.balance, htlcs, view.feerate)
 }
 
 impl Sides {
     /// A offers an HTLC, and B receives it.
-    fn add(&mut self, amount: u64) -> Result<(), Refusal> {
-        let htlc = self.a.offer(amount, HASH, 500)?;
-        self.b.receive_update(&Update::Add(htlc))
-    }
-
-    /// B fails an HTLC, and A receives it.
-    fn fail(&mut self, id: u64) -> Result<(), Refusal> {
-        self.b.fail(id)?;
-        self.a.receive_update(&Update::Fail { id })
-    }
-
-    /// B fulfils an HTLC, and A receives it.
-    fn fulfil(&mut self, id: u64, preimage: [u8; 32]) -> Result<(), Refusal> {
-        self.b.fulfil(id, preimage)?;
-        self.a.receive_update(&Update::Fulfil { id, preimage })
+    fn add(&mut self, rt: &impl Abort, amount: u64) {
+        let htlc = self.a.offer(amount, HASH, 500).expect(rt, "an offer");
+        let received = self.b.receive_update(&Update::Add(htlc));
+        received.expect(rt, "an offer");
     }
 
     /// A changes the feerate, and B receives it.
-    fn set_fee(&mut self, rate: u32) -> Result<(), Refusal> {
-        self.a.set_fee(rate)?;
-        self.b.receive_update(&Update::Fee { rate })
+    fn set_fee(&mut self, rt: &impl Abort, rate: u32) {
+        self.a.set_fee(rate).expect(rt, "a feerate");
+        let received = self.b.receive_update(&Update::Fee { rate });
+        received.expect(rt, "a feerate");
+    }
+
+    /// B makes a removal, and A receives it.
+    fn remove(&mut self, rt: &impl Abort, made: Result<(), Refusal>, update: &Update) {
+        made.expect(rt, "a removal");
+        self.a.receive_update(update).expect(rt, "a removal");
     }
 
     /// Both sign and revoke, A first.
@@ -118,110 +100,53 @@ impl Sides {
     }
 }
 
-// Each refusal is the first in its order: the later tests refuse too.
-#[test]
-fn offers_are_tested_in_order(rt: HostRuntime) -> Result<(), Fail> {
-    let mut s = open(rt.alloc())?;
-    let table = [
-        (0, 500_000_000, 1),
-        (999, 500_000_000, 2),
-        (80_000_001, 500_000_000, 3),
-        (80_000_001, 499_999_999, 6),
-        (80_000_000, 499_999_999, 255),
-        (1000, 500, 6),
-    ];
-    for (amount, expiry, refusal) in table {
-        assert_eq!(rt; number(s.a.offer(amount, HASH, expiry)), refusal);
-    }
-    let second = Htlc {
-        id: 1,
-        amount: 0,
-        hash: HASH,
-        expiry: 500,
-    };
-    assert_eq!(rt; number(s.b.receive_update(&Update::Add(second))), 4);
-    assert_eq!(rt; number(s.b.set_fee(2000)), 13);
-    assert_eq!(rt; number(s.a.set_fee(2000)), 255);
-    Ok(())
-}
-
-#[test]
-fn no_more_than_483_stand_live(rt: HostRuntime) -> Result<(), Fail> {
-    let mut s = open(rt.alloc())?;
-    for _ in 0..483 {
-        assert_eq!(rt; number(s.add(1000)), 255);
-    }
-    assert_eq!(rt; number(s.add(1000)), 5);
-    s.settle_a();
-    assert_eq!(rt;
-        seen(s.b.view_of(Side::B)),
-        (79_517_000, 20_000_000, 483, 1000)
-    );
-    assert_eq!(rt; number(s.fail(7)), 255);
-    assert_eq!(rt; number(s.add(1000)), 5);
-    s.settle_b();
-    assert_eq!(rt; number(s.add(1000)), 255);
-    Ok(())
-}
-
 // An HTLC is fulfilled once it passed all stages, and then its amount is B's.
 #[test]
-fn amounts_change_sides(rt: HostRuntime) -> Result<(), Fail> {
-    let mut s = open(rt.alloc())?;
-    assert_eq!(rt; number(s.add(3_861_000)), 255);
-    assert_eq!(rt; number(s.fulfil(0, PREIMAGE)), 7);
+fn amounts_change_sides(rt: HostRuntime) {
+    let mut s = open(&rt, rt.alloc());
+    s.add(&rt, 3_861_000);
+    assert_eq!(rt; s.b.fulfil(0, PREIMAGE), Err(Refusal::UnknownHtlc));
     s.settle_a();
-    assert_eq!(rt; number(s.fulfil(0, HASH)), 8);
-    assert_eq!(rt; number(s.fail(1)), 7);
-    assert_eq!(rt; number(s.fulfil(0, PREIMAGE)), 255);
-    assert_eq!(rt; number(s.fail(0)), 7);
-    assert_eq!(rt; seen(s.b.view_to_sign()), (76_139_000, 23_861_000, 0, 1000));
-    assert_eq!(rt;
-        seen(s.a.view_to_receive()),
-        (76_139_000, 23_861_000, 0, 1000)
-    );
-    assert_eq!(rt;
-        seen(s.a.view_of(Side::A)),
-        (76_139_000, 20_000_000, 1, 1000)
-    );
+    assert_eq!(rt; s.b.fulfil(0, HASH), Err(Refusal::WrongPreimage));
+    let made = s.b.fulfil(0, PREIMAGE);
+    let preimage = PREIMAGE;
+    s.remove(&rt, made, &Update::Fulfil { id: 0, preimage });
+    assert_eq!(rt; s.b.fail(0), Err(Refusal::UnknownHtlc));
+    let moved = (76_139_000, 23_861_000, 0, 1000);
+    assert_eq!(rt; seen(&rt, s.b.view_to_sign()), moved);
+    assert_eq!(rt; seen(&rt, s.a.view_to_receive()), moved);
+    let pending = (76_139_000, 20_000_000, 1, 1000);
+    assert_eq!(rt; seen(&rt, s.a.view_of(Side::A)), pending);
     s.settle_b();
-    assert_eq!(rt;
-        seen(s.a.view_of(Side::A)),
-        (76_139_000, 23_861_000, 0, 1000)
-    );
-    assert_eq!(rt; number(s.b.offer(23_861_000, HASH, 500)), 255);
-    Ok(())
-}
-
-#[test]
-fn signatures_cover_updates(rt: HostRuntime) -> Result<(), Fail> {
-    let mut s = open(rt.alloc())?;
-    assert!(rt; s.a.signs_nothing() && s.b.receives_nothing());
-    assert_eq!(rt; number(s.set_fee(253)), 255);
-    assert!(rt; !s.a.signs_nothing() && !s.b.receives_nothing());
-    assert!(rt; s.b.signs_nothing());
-    s.settle_a();
-    assert!(rt; s.a.signs_nothing() && s.b.signs_nothing());
-    assert_eq!(rt; (s.a.side(), s.a.terms().capacity), (Side::A, 100_000));
-    Ok(())
+    assert_eq!(rt; seen(&rt, s.a.view_of(Side::A)), moved);
 }
 
 // With ample memory no call is refused, however long the lists are.
 #[test]
-fn long_histories_are_accepted(rt: HostRuntime) -> Result<(), Fail> {
-    let mut s = open(rt.alloc())?;
+fn long_histories_are_accepted(rt: HostRuntime) {
+    let mut s = open(&rt, rt.alloc());
     for id in 0..200u64 {
-        assert_eq!(rt; number(s.add(1000)), 255);
-        assert_eq!(rt; number(s.set_fee(id as u32)), 255);
+        s.add(&rt, 1000);
+        s.set_fee(&rt, id as u32);
         s.settle_a();
-        assert_eq!(rt; number(s.fail(id)), 255);
+        let made = s.b.fail(id);
+        s.remove(&rt, made, &Update::Fail { id });
         s.settle_b();
-        assert_eq!(rt;
-            seen(s.b.view_of(Side::A)),
-            (80_000_000, 20_000_000, 0, id as u32)
-        );
+        let view = seen(&rt, s.b.view_of(Side::A));
+        assert_eq!(rt; view, (80_000_000, 20_000_000, 0, id as u32));
     }
-    Ok(())
+}
+
+// As many HTLCs as a commitment may hold.
+#[test]
+fn full_commitments_are_accepted(rt: HostRuntime) {
+    let mut s = open(&rt, rt.alloc());
+    for _htlc in 0..483 {
+        s.add(&rt, 1000);
+    }
+    s.settle_a();
+    let view = seen(&rt, s.b.view_of(Side::B));
+    assert_eq!(rt; view, (79_517_000, 20_000_000, 483, 1000));
 }
 
 /// The example of the crate's page.
@@ -236,15 +161,14 @@ fn offer_and_see(
 }
 
 #[test]
-fn an_offer_lowers_the_balance(rt: HostRuntime) -> Result<(), Fail> {
-    let mut s = open(rt.alloc())?;
+fn an_offer_lowers_the_balance(rt: HostRuntime) {
+    let mut s = open(&rt, rt.alloc());
     let left = offer_and_see(&mut s.a, 1000, HASH, 500);
     assert_eq!(rt; left.ok(), Some(79_999_000));
-    Ok(())
 }
 
 #[test]
-fn refusals_print_their_names(rt: HostRuntime) -> Result<(), Fail> {
+fn refusals_print_their_names(rt: HostRuntime) {
     let table = [
         (Refusal::NoMemory, "NoMemory"),
         (Refusal::AmountZero, "AmountZero"),
@@ -261,12 +185,8 @@ fn refusals_print_their_names(rt: HostRuntime) -> Result<(), Fail> {
         (Refusal::NotYourTurn, "NotYourTurn"),
         (Refusal::NotOpener, "NotOpener"),
     ];
-    for (number, (refusal, name)) in table.iter().enumerate() {
-        let text = format!(in rt.alloc(); "{refusal}")?;
-        assert_eq!(rt;
-            (text.as_str(), usize::from(refusal.number())),
-            (*name, number)
-        );
+    for (refusal, name) in table {
+        let text = format!(in rt.alloc(); "{refusal}").expect(&rt, "memory");
+        assert_eq!(rt; text.as_str(), name);
     }
-    Ok(())
 }

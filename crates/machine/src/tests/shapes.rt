@@ -1,154 +1,136 @@
-//! Runs of many shapes under ample memory, each with its real answer, and the printed names of stops.
+//! Runs of many shapes under ample memory, none of which runs out of it, and the printed names of stops.
 
-use super::{joined, key, ran, repeated, token};
-use crate::{Run, Stop};
-use script::{Cause, Kind};
-use std::alloc::{AllocError, Global};
-use std::test::Fail;
+use super::SPEND;
+use crate::{Stop, run};
+use lists::ByteString;
+use script::{Cause, Kind, Script};
+use std::alloc::Global;
+use std::process::Abort;
 
-// The opcode that pushes a number up to 20.
-fn number(alloc: Global, n: u8) -> Result<Vec<u8>, AllocError> {
-    match n {
-        0 => Vec::from_slice(alloc, &[0x00]),
-        1..=16 => Vec::from_slice(alloc, &[0x50 + n]),
-        _ => Vec::from_slice(alloc, &[0x01, n]),
-    }
+// Whether a run finds memory.
+fn has_memory(rt: &impl Abort, alloc: Global, code: &[u8], witness: &[ByteString]) -> bool {
+    let script = Script::parse(alloc, code).expect(rt, "a script");
+    !matches!(run(alloc, &script, witness, &SPEND), Err(Stop::NoMemory))
 }
 
-// Each opcode on items of every length; what is left is 1, or true.
+// Whether a run ends clean.
+fn is_clean(rt: &impl Abort, alloc: Global, code: &[u8], witness: &[ByteString]) -> bool {
+    let script = Script::parse(alloc, code).expect(rt, "a script");
+    run(alloc, &script, witness, &SPEND).is_ok()
+}
+
+// An item of this length.
+fn item(rt: &impl Abort, alloc: Global, len: usize) -> ByteString {
+    ByteString::from_vec(vec![in alloc; 9u8; len].expect(rt, "memory"))
+}
+
+// Each opcode on items of every length.
 #[test]
-fn runs_on_items_of_every_length(rt: HostRuntime) -> Result<(), Fail> {
+fn runs_on_items_of_every_length(rt: HostRuntime) {
     let alloc = rt.alloc();
     for len in (0usize..=520).step_by(13) {
-        let item = repeated(alloc, &[9], len)?;
-        let items: [&[u8]; 2] = [&item, &item];
-        for (code, witness, counted, height) in [
-            (&[0x75, 0x51][..], &items[1..], 1, 1),
-            (&[0x76, 0x87][..], &items[1..], 2, 2),
-            (&[0x7c, 0x75, 0x75, 0x51][..], &items[..], 3, 2),
-            (&[0x82, 0x75, 0x75, 0x51][..], &items[1..], 3, 2),
-            (&[0x87][..], &items[..], 1, 2),
-            (&[0x88, 0x51][..], &items[..], 1, 2),
-            (&[0xa9][..], &items[1..], 1, 1),
-            (&[0x63, 0x51, 0x67, 0x51, 0x68][..], &items[1..], 3, 1),
-            (&[0x64, 0x51, 0x67, 0x51, 0x68][..], &items[1..], 3, 1),
-            (&[0x00, 0xb1, 0x75, 0x75, 0x51][..], &items[1..], 3, 2),
-            (&[0x00, 0xb2, 0x75, 0x75, 0x51][..], &items[1..], 3, 2),
+        let witness = [item(&rt, alloc, len), item(&rt, alloc, len)];
+        for code in [
+            &[0x75][..],
+            &[0x76],
+            &[0x7c],
+            &[0x82],
+            &[0x87],
+            &[0x88],
+            &[0xa9],
+            &[0xac],
+            &[0x63, 0x51, 0x67, 0x51, 0x68],
+            &[0x64, 0x51, 0x67, 0x51, 0x68],
+            &[0x00, 0xb1],
+            &[0x00, 0xb2],
         ] {
-            assert_eq!(rt;
-                ran(alloc, code, witness)?,
-                Ok(Run { counted, height }),
-                "{len}"
-            );
+            assert!(rt; has_memory(&rt, alloc, code, &witness), "{len}");
         }
-        let signed = ran(alloc, &[0xac], &items)?;
-        let form = if len == 0 {
-            Kind::KeyForm
-        } else {
-            Kind::TokenForm
-        };
-        assert_eq!(rt; signed, Err(Stop::At(Cause::FailedCheck(form), 0)), "{len}");
     }
-    Ok(())
-}
-
-// The end of a run with `count` true entries, at this place.
-fn end_of(count: usize, at: usize) -> Result<Run, Stop> {
-    if count == 1 {
-        return Ok(Run {
-            counted: 0,
-            height: 1,
-        });
-    }
-    Err(Stop::At(Cause::NotOneValue, at))
 }
 
 // Each number of items of a witness, and of pushes.
 #[test]
-fn runs_on_every_count(rt: HostRuntime) -> Result<(), Fail> {
+fn runs_on_every_count(rt: HostRuntime) {
     let alloc = rt.alloc();
-    let mut items: Vec<&[u8]> = Vec::new(alloc);
+    let mut witness = Vec::new(alloc);
+    let mut pushes = Vec::new(alloc);
     for count in 0usize..=600 {
-        assert_eq!(rt; ran(alloc, &[], &items)?, end_of(count, 0), "{count}");
-        let pushes = repeated(alloc, &[0x51], count)?;
-        assert_eq!(rt; ran(alloc, &pushes, &[])?, end_of(count, count), "{count}");
-        items.push(&[1])?;
+        assert!(rt; has_memory(&rt, alloc, &[], &witness), "{count}");
+        assert!(rt; has_memory(&rt, alloc, &pushes, &[]), "{count}");
+        witness.push(item(&rt, alloc, 1)).expect(&rt, "memory");
+        pushes.push(0x51).expect(&rt, "memory");
     }
-    Ok(())
 }
 
-// Long scripts, most of which is jumped over.
+// Long scripts, all of which is jumped over.
 #[test]
-fn runs_long_scripts(rt: HostRuntime) -> Result<(), Fail> {
+fn runs_long_scripts(rt: HostRuntime) {
     let alloc = rt.alloc();
-    let clean = Ok(Run {
-        counted: 2,
-        height: 1,
-    });
-    for len in (0usize..=9_996).step_by(357) {
-        let pushes = repeated(alloc, &[0x51], len)?;
-        let code = joined(alloc, &[&[0x00, 0x63], &pushes, &[0x68, 0x51]])?;
-        assert_eq!(rt; ran(alloc, &code, &[])?, clean, "{len}");
+    for len in (2usize..=10_000).step_by(357) {
+        let mut code = vec![in alloc; 0x51u8; len].expect(&rt, "memory");
+        code[0] = 0x00;
+        code[1] = 0x63;
+        assert!(rt; has_memory(&rt, alloc, &code, &[]), "{len}");
     }
-    Ok(())
 }
 
-// CHECKMULTISIG of each number of signatures and keys, which are all of one key.
+// The push of the key 02(11*32).
+const KEY: [u8; 34] = [
+    0x21, 0x02, 0x11, 0x11, 0x11, 0x11, 0x11, 0x11, 0x11, 0x11, 0x11, 0x11, 0x11, 0x11, 0x11, 0x11,
+    0x11, 0x11, 0x11, 0x11, 0x11, 0x11, 0x11, 0x11, 0x11, 0x11, 0x11, 0x11, 0x11, 0x11, 0x11, 0x11,
+    0x11, 0x11,
+];
+
+// Pushes a number up to 75.
+fn push_number(rt: &impl Abort, code: &mut Vec<u8>, n: u8) {
+    if n > 0 {
+        code.push(1).expect(rt, "memory");
+    }
+    code.push(n).expect(rt, "memory");
+}
+
+// CHECKMULTISIG of so many signatures, which the witness has, and so many keys, all of one key.
+fn multi_sig(rt: &impl Abort, alloc: Global, sigs: u8, keys: u8) -> Vec<u8> {
+    let mut code = Vec::new(alloc);
+    push_number(rt, &mut code, sigs);
+    for _key in 0..keys {
+        code.extend_from_slice(&KEY).expect(rt, "memory");
+    }
+    push_number(rt, &mut code, keys);
+    code.push(0xae).expect(rt, "memory");
+    code
+}
+
 #[test]
-fn runs_every_choice_of_signatures(rt: HostRuntime) -> Result<(), Fail> {
+fn runs_every_choice_of_signatures(rt: HostRuntime) {
     let alloc = rt.alloc();
-    let sig = token(alloc, &key(0x11))?;
-    let push = joined(alloc, &[&[0x21], &key(0x11)])?;
+    let mut token = [0x77; 66];
+    token[..33].copy_from_slice(&KEY[1..]);
+    token[65] = 1;
     for keys in 0u8..=20 {
-        let mut items: Vec<&[u8]> = Vec::new(alloc);
-        items.push(&[])?;
+        let mut witness = Vec::new(alloc);
+        witness.push(ByteString::new(alloc)).expect(&rt, "memory");
         for sigs in 0..=keys {
-            let code = joined(
-                alloc,
-                &[
-                    &number(alloc, sigs)?,
-                    &repeated(alloc, &push, keys as usize)?,
-                    &number(alloc, keys)?,
-                    &[0xae],
-                ],
-            )?;
-            let clean = Ok(Run {
-                counted: 1 + keys as usize,
-                height: 3 + keys as usize + sigs as usize,
-            });
-            assert_eq!(rt; ran(alloc, &code, &items)?, clean, "{sigs} {keys}");
-            items.push(&sig)?;
+            let code = multi_sig(&rt, alloc, sigs, keys);
+            assert!(rt; is_clean(&rt, alloc, &code, &witness), "{sigs} {keys}");
+            let sig = ByteString::from_slice(alloc, &token).expect(&rt, "memory");
+            witness.push(sig).expect(&rt, "memory");
         }
     }
-    Ok(())
 }
 
 #[test]
-fn prints_every_stop(rt: HostRuntime) -> Result<(), Fail> {
-    let alloc = rt.alloc();
-    for (cause, text, number) in [
-        (Cause::MissingOperand, "MissingOperand 0", 1),
-        (Cause::FailedCheck(Kind::Verify), "FailedCheck Verify 0", 2),
+fn prints_every_stop(rt: HostRuntime) {
+    for (stop, name) in [
+        (Stop::NoMemory, "NoMemory"),
+        (Stop::At(Cause::FalseEnd, 1234), "FalseEnd 1234"),
         (
-            Cause::FailedCheck(Kind::Sequence),
-            "FailedCheck Sequence 0",
-            2,
+            Stop::At(Cause::FailedCheck(Kind::Verify), 0),
+            "FailedCheck Verify 0",
         ),
-        (Cause::OpenBranch, "OpenBranch 0", 3),
-        (Cause::TooManyOps, "TooManyOps 0", 4),
-        (Cause::StackTooTall, "StackTooTall 0", 5),
-        (Cause::ItemTooLong, "ItemTooLong 0", 6),
-        (Cause::NotOneValue, "NotOneValue 0", 7),
-        (Cause::FalseEnd, "FalseEnd 0", 8),
     ] {
-        let stop = Stop::At(cause, 0);
-        assert_eq!(rt; format!(in alloc; "{stop}")?.as_str(), text);
-        assert_eq!(rt; stop.number(), number);
+        let text = format!(in rt.alloc(); "{stop}").expect(&rt, "memory");
+        assert_eq!(rt; text.as_str(), name);
     }
-    let late = Stop::At(Cause::FalseEnd, 1234);
-    assert_eq!(rt; format!(in alloc; "{late}")?.as_str(), "FalseEnd 1234");
-    let none = Stop::NoMemory;
-    assert_eq!(rt; format!(in alloc; "{none}")?.as_str(), "NoMemory");
-    assert_eq!(rt; none.number(), 0);
-    Ok(())
 }

@@ -1,4 +1,4 @@
-use Rattle.chain.proofs.Parsing.{parsed}
+use Rattle.sighash.proofs.Parsing.{parsed}
 use Rattle.chain.proofs.program.parse.Goals as goal
 
 pub returns-in-Ok : goal.returns-in-Ok

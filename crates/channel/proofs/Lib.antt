@@ -1,0 +1,12 @@
+mod Secrets
+mod Sides
+mod Queues
+mod Meeting
+mod Agreement
+mod Theorem
+mod Records
+mod Playing
+mod Trusting
+mod PlayExamples
+mod RefusalExamples
+mod ScenarioExamples

@@ -1,0 +1,183 @@
+-- What a channel refuses, message by message, and in which order; the secrets are those of BOLT 3, "Storage Tests".
+use Rattle.std.proofs.Common.{◌≡◌, ℕ, true, false, List, [], ◌∷◌, length, replicate, map, Some, None, refl, lit≤}
+use Rattle.std.specs.Prelude.{IsTrue}
+use Rattle.std.specs.Int.Count.{count_trailing_zeros}
+use Rattle.sha2.specs.Sha256.{sha256, digest_bytes, hash_after, compress, rounds, schedule, first_words}
+use Rattle.script.specs.Token.{is_key}
+use Rattle.tx.specs.declared.input.OutPoint.{OutPoint}
+use Rattle.keys.specs.declared.compressed.Key.{Key}
+use Rattle.keys.specs.Derivation.{point_of}
+use Rattle.secrets.specs.Derivation.{flipped, derived_secret}
+use Rattle.terms.specs.declared.htlcs.Htlc.{Htlc}
+use Rattle.terms.specs.declared.sides.Side.TheVariants.{A, B}
+use Rattle.terms.specs.declared.agreement.BaseKeys.{BaseKeys}
+use Rattle.terms.specs.declared.agreement.Terms.{Terms}
+use Rattle.updates.specs.declared.changes.Update.TheVariants.{Add, Fulfil, Fail, Fee}
+use Rattle.updates.specs.declared.refusals.Refusal.TheVariants.{AmountZero, BelowMinimum, ExpiryTooLarge, WrongId, OverBalance, UnknownHtlc, NoUpdates, BadSignature, WrongSecret, NotYourTurn, NotOpener}
+use Rattle.channel.specs.declared.messages.Tokens.{Tokens}
+use Rattle.channel.specs.declared.messages.Message.TheVariants.{Updated, CommitmentSigned, RevokeAndAck}
+use Rattle.channel.specs.Points.{index_of, secret_at, point_at, is_foreign}
+use Rattle.channel.specs.States.{Signing, State, opened, update_refusal, sign_refusal, receive_refusal, after_update, after_sign, after, answers}
+
+-- a commitment number's index: the first, the second and the last
+indices : (index_of 0 ≡ 281474976710655) × (index_of 1 ≡ 281474976710654) × (index_of 281474976710655 ≡ 0)
+unfolding index_of
+indices = (refl, refl, refl)
+
+-- the first four secrets of a seed, and a first one of another seed
+abbrev first : List ℕ
+first = 124 ∷ 200 ∷ 84 ∷ 181 ∷ 78 ∷ 62 ∷ 13 ∷ 205 ∷ 176 ∷ 16 ∷ 215 ∷ 163 ∷ 254 ∷ 228 ∷ 100 ∷ 169 ∷ 104 ∷ 123 ∷ 230 ∷ 232 ∷ 219 ∷ 59 ∷ 230 ∷ 133 ∷ 76 ∷ 71 ∷ 86 ∷ 33 ∷ 224 ∷ 7 ∷ 165 ∷ 220 ∷ []
+
+abbrev second : List ℕ
+second = 199 ∷ 81 ∷ 140 ∷ 138 ∷ 228 ∷ 102 ∷ 14 ∷ 208 ∷ 40 ∷ 148 ∷ 223 ∷ 137 ∷ 118 ∷ 250 ∷ 26 ∷ 54 ∷ 89 ∷ 193 ∷ 168 ∷ 180 ∷ 181 ∷ 190 ∷ 192 ∷ 196 ∷ 184 ∷ 114 ∷ 171 ∷ 235 ∷ 164 ∷ 203 ∷ 137 ∷ 100 ∷ []
+
+abbrev third : List ℕ
+third = 34 ∷ 115 ∷ 226 ∷ 39 ∷ 165 ∷ 183 ∷ 68 ∷ 155 ∷ 110 ∷ 112 ∷ 241 ∷ 251 ∷ 70 ∷ 82 ∷ 134 ∷ 64 ∷ 56 ∷ 177 ∷ 203 ∷ 249 ∷ 205 ∷ 124 ∷ 4 ∷ 58 ∷ 125 ∷ 100 ∷ 86 ∷ 183 ∷ 252 ∷ 39 ∷ 90 ∷ 216 ∷ []
+
+abbrev fourth : List ℕ
+fourth = 39 ∷ 205 ∷ 218 ∷ 165 ∷ 98 ∷ 69 ∷ 52 ∷ 203 ∷ 108 ∷ 185 ∷ 215 ∷ 218 ∷ 7 ∷ 124 ∷ 242 ∷ 178 ∷ 42 ∷ 178 ∷ 30 ∷ 155 ∷ 80 ∷ 111 ∷ 212 ∷ 153 ∷ 138 ∷ 81 ∷ 213 ∷ 69 ∷ 2 ∷ 233 ∷ 145 ∷ 22 ∷ []
+
+abbrev other_first : List ℕ
+other_first = 2 ∷ 164 ∷ 12 ∷ 133 ∷ 182 ∷ 242 ∷ 141 ∷ 160 ∷ 141 ∷ 253 ∷ 190 ∷ 9 ∷ 38 ∷ 197 ∷ 63 ∷ 171 ∷ 45 ∷ 230 ∷ 210 ∷ 140 ∷ 16 ∷ 48 ∷ 31 ∷ 143 ∷ 124 ∷ 64 ∷ 115 ∷ 213 ∷ 228 ∷ 46 ∷ 49 ∷ 72 ∷ []
+
+-- the second leads to the first, the third to none, the fourth to all three
+stored : (is_foreign [] first ≡ false)
+    × (is_foreign (first ∷ []) second ≡ false)
+    × (is_foreign (other_first ∷ []) second ≡ true)
+    × (is_foreign (other_first ∷ second ∷ []) third ≡ false)
+    × (is_foreign (first ∷ second ∷ third ∷ []) fourth ≡ false)
+    × (is_foreign (first ∷ second ∷ first ∷ []) fourth ≡ true)
+    × (is_foreign (first ∷ first ∷ third ∷ []) fourth ≡ true)
+    × (is_foreign (first ∷ second ∷ third ∷ []) third ≡ true)
+unfolding is_foreign index_of derived_secret flipped count_trailing_zeros sha256 digest_bytes hash_after compress rounds schedule first_words
+stored = (refl, refl, refl, refl, refl, refl, refl, refl)
+
+key_form : (n : ℕ) → IsTrue (is_key (2 ∷ replicate 32 n))
+unfolding is_key
+key_form n = refl
+
+abbrev key : ℕ → Key
+key n = record { bytes = 2 ∷ replicate 32 n; form = key_form n }
+
+-- a secret, and its point (SHA-256 by Python's hashlib)
+abbrev secret : List ℕ
+secret = replicate 32 7
+
+abbrev point : List ℕ
+point = 2 ∷ 214 ∷ 139 ∷ 241 ∷ 59 ∷ 6 ∷ 78 ∷ 75 ∷ 13 ∷ 89 ∷ 80 ∷ 59 ∷ 132 ∷ 36 ∷ 89 ∷ 255 ∷ 4 ∷ 40 ∷ 23 ∷ 205 ∷ 69 ∷ 255 ∷ 234 ∷ 99 ∷ 71 ∷ 90 ∷ 60 ∷ 31 ∷ 96 ∷ 99 ∷ 70 ∷ 106 ∷ 53 ∷ []
+
+point_is : point_of secret ≡ point
+unfolding point_of sha256 digest_bytes hash_after compress rounds schedule first_words
+point_is = refl
+
+point_form : IsTrue (is_key point)
+unfolding is_key
+point_form = refl
+
+abbrev point_key : Key
+point_key = record { bytes = point; form = point_form }
+
+-- tokens that name the number, and the amounts of A's HTLCs
+abbrev tokens_of : Signing
+tokens_of terms c = record { commitment = c.number ∷ []; htlcs = map (λ h. h.amount ∷ []) c.view.a.offered }
+
+abbrev tokens : ℕ → List ℕ → Tokens
+tokens number amounts = record { commitment = number ∷ []; htlcs = map (λ n. n ∷ []) amounts }
+
+abbrev htlc : ℕ → ℕ → ℕ → Htlc
+htlc id amount expiry = record { id = id; amount = amount; hash = []; expiry = expiry }
+
+module _ (funding : OutPoint) (bases : BaseKeys) (seed : List ℕ) where
+  abbrev terms : Terms
+  terms = record {
+    funding = funding;
+    capacity = 100000;
+    opener = A;
+    feerate = 1000;
+    a = record { dust = 546; delay = 144; minimum = 1000; start = 80000000; bases = bases };
+    b = record { dust = 546; delay = 144; minimum = 1000; start = 20000000; bases = bases };
+    limited = lit≤ tt;
+    whole = refl;
+  }
+
+  abbrev a : State
+  a = opened terms A seed point_key (key 1)
+
+  abbrev b : State
+  b = opened terms B seed (key 0) (key 1)
+
+  -- what A may offer
+  offers : (update_refusal a (Add (htlc 0 0 500000000)) ≡ Some AmountZero)
+      × (update_refusal a (Add (htlc 0 999 500000000)) ≡ Some BelowMinimum)
+      × (update_refusal a (Add (htlc 0 80000001 500000000)) ≡ Some ExpiryTooLarge)
+      × (update_refusal a (Add (htlc 0 1000 500000000)) ≡ Some ExpiryTooLarge)
+      × (update_refusal a (Add (htlc 0 80000001 499999999)) ≡ Some OverBalance)
+      × (update_refusal a (Add (htlc 0 80000000 499999999)) ≡ None)
+  offers = (refl, refl, refl, refl, refl, refl)
+
+  -- what B receives of A, and A of B
+  received : (receive_refusal tokens_of b (Updated (Add (htlc 1 0 500))) ≡ Some WrongId)
+      × (receive_refusal tokens_of b (Updated (Add (htlc 0 80000001 500))) ≡ Some OverBalance)
+      × (receive_refusal tokens_of b (Updated (Add (htlc 0 80000000 500))) ≡ None)
+      × (receive_refusal tokens_of a (Updated (Add (htlc 0 20000001 500))) ≡ Some OverBalance)
+      × (receive_refusal tokens_of a (Updated (Add (htlc 0 20000000 500))) ≡ None)
+      × (receive_refusal tokens_of b (Updated (Fail 0)) ≡ Some UnknownHtlc)
+      × (receive_refusal tokens_of b (Updated (Fulfil 0 [])) ≡ Some UnknownHtlc)
+      × (receive_refusal tokens_of b (Updated (Fee 1)) ≡ None)
+      × (receive_refusal tokens_of a (Updated (Fee 1)) ≡ Some NotOpener)
+  received = (refl, refl, refl, refl, refl, refl, refl, refl, refl)
+
+  -- A offered two HTLCs, and B received them
+  abbrev offering : State
+  offering = after_update (Add (htlc 1 3000 500)) (after_update (Add (htlc 0 2000 500)) a)
+
+  abbrev receiving : State
+  receiving = after (after b (Updated (Add (htlc 0 2000 500)))) (Updated (Add (htlc 1 3000 500)))
+
+  -- signatures given out: one at a time, with something to cover, up to the last number
+  signed : (sign_refusal a ≡ Some NoUpdates)
+      × (sign_refusal offering ≡ None)
+      × (sign_refusal (after_sign offering) ≡ Some NotYourTurn)
+      × (sign_refusal (record offering { peer_number = 281474976710653 }) ≡ None)
+      × (sign_refusal (record offering { peer_number = 281474976710654 }) ≡ Some NotYourTurn)
+      × (sign_refusal (record a { peer_number = 281474976710653 }) ≡ Some NoUpdates)
+      × (sign_refusal (record a { peer_number = 281474976710654 }) ≡ Some NotYourTurn)
+  signed = (refl, refl, refl, refl, refl, refl, refl)
+
+  -- signatures received: each token in its place, and no other number of them
+  signatures : (receive_refusal tokens_of b (CommitmentSigned (tokens 1 [])) ≡ Some NoUpdates)
+      × (receive_refusal tokens_of receiving (CommitmentSigned (tokens 1 (2000 ∷ 3000 ∷ []))) ≡ None)
+      × (receive_refusal tokens_of receiving (CommitmentSigned (tokens 1 (2000 ∷ 3000 ∷ 3000 ∷ []))) ≡ Some BadSignature)
+      × (receive_refusal tokens_of receiving (CommitmentSigned (tokens 1 (2000 ∷ []))) ≡ Some BadSignature)
+      × (receive_refusal tokens_of receiving (CommitmentSigned (tokens 1 [])) ≡ Some BadSignature)
+      × (receive_refusal tokens_of receiving (CommitmentSigned (tokens 1 (3000 ∷ 2000 ∷ []))) ≡ Some BadSignature)
+      × (receive_refusal tokens_of receiving (CommitmentSigned (tokens 0 (2000 ∷ 3000 ∷ []))) ≡ Some BadSignature)
+      × (receive_refusal tokens_of (record receiving { number = 281474976710653 }) (CommitmentSigned (tokens 281474976710654 (2000 ∷ 3000 ∷ []))) ≡ None)
+      × (receive_refusal tokens_of (record receiving { number = 281474976710654 }) (CommitmentSigned (tokens 281474976710655 (2000 ∷ 3000 ∷ []))) ≡ Some NotYourTurn)
+      × (receive_refusal tokens_of (record b { number = 281474976710653 }) (CommitmentSigned (tokens 0 [])) ≡ Some NoUpdates)
+      × (receive_refusal tokens_of (record b { number = 281474976710654 }) (CommitmentSigned (tokens 0 [])) ≡ Some NotYourTurn)
+  signatures = (refl, refl, refl, refl, refl, refl, refl, refl, refl, refl, refl)
+
+  -- a signature is answered by the secret of the commitment that it replaces, and the point for the number after the next
+  answered : (answers receiving (CommitmentSigned (tokens 1 [])) ≡ RevokeAndAck (secret_at seed 0) (point_at seed 2) ∷ [])
+      × (answers (record receiving { number = 5 }) (CommitmentSigned (tokens 6 [])) ≡ RevokeAndAck (secret_at seed 5) (point_at seed 7) ∷ [])
+      × (answers receiving (Updated (Fail 0)) ≡ [])
+      × (answers receiving (RevokeAndAck secret (key 2)) ≡ [])
+  answered = (refl, refl, refl, refl)
+
+  -- revocations: of the commitment that is replaced, by a secret of the peer's seed
+  revoked : (receive_refusal tokens_of offering (RevokeAndAck secret (key 2)) ≡ Some NotYourTurn)
+      × (receive_refusal tokens_of (after_sign offering) (RevokeAndAck secret (key 2)) ≡ None)
+      × (receive_refusal tokens_of (after_sign offering) (RevokeAndAck (replicate 32 8) (key 2)) ≡ Some WrongSecret)
+      × (receive_refusal tokens_of (record (after_sign offering) { secrets = first ∷ [] }) (RevokeAndAck secret (key 2)) ≡ Some WrongSecret)
+      × (receive_refusal tokens_of (record offering { secrets = first ∷ [] }) (RevokeAndAck (replicate 32 8) (key 2)) ≡ Some NotYourTurn)
+  unfolding point_of is_foreign index_of derived_secret flipped count_trailing_zeros sha256 digest_bytes hash_after compress rounds schedule first_words
+  revoked = (refl, refl, refl, refl, refl)
+
+  -- what a revocation makes of a state
+  abbrev later : State
+  later = after (after_sign offering) (RevokeAndAck secret (key 2))
+
+  moved : (later.awaiting ≡ false) × (later.peer_number ≡ 1) × (later.number ≡ 0) × (later.point ≡ key 1) × (later.next_point ≡ key 2) × (later.secrets ≡ secret ∷ [])
+      × (length later.signed ≡ 2) × (length later.mine ≡ 1) × (length later.held.own.past_receiver ≡ 2) × (length later.held.own.with_sender ≡ 0)
+  moved = (refl, refl, refl, refl, refl, refl, refl, refl, refl, refl)

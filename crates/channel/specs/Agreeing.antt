@@ -1,0 +1,46 @@
+-- What two honest peers can rely on, and what one side can whatever its peer is.
+use Rattle.std.specs.Prelude.{◌≡◌, ℕ, List, ◌∷◌, ◌++◌, None}
+use Rattle.terms.specs.declared.agreement.Terms.{Terms}
+use Rattle.updates.specs.Shares.{IsSoundIn}
+use Rattle.channel.specs.declared.commitments.CommitmentState.{CommitmentState}
+use Rattle.channel.specs.declared.messages.Message.{Message}
+use Rattle.channel.specs.declared.plays.PairStep.{PairStep}
+use Rattle.channel.specs.declared.plays.Outcome.{Outcome}
+use Rattle.channel.specs.States.{Signing, State, receive_refusal}
+use Rattle.channel.specs.Peers.{World, opened_both, IsReached, IsLived}
+use Rattle.channel.specs.Playing.{IsPlay, AreDelivered}
+
+-- in each view of a state no balance is below 0, and balances and HTLCs sum to 1000 times the capacity
+pub record IsSoundState (s : State) : Type 0 where
+  pub newest : IsSoundIn s.held s.held.own.with_sender s.held.theirs.with_receiver  -- of the own newest commitment
+  pub next : IsSoundIn s.held s.held.own.past_receiver s.held.theirs.known  -- of the one that the peer's next signature is for
+  pub peers : IsSoundIn s.held s.held.own.past_receiver s.held.theirs.settled  -- of the peer's newest
+  pub peers_next : IsSoundIn s.held s.held.own.with_receiver s.held.theirs.with_sender  -- of the one after it, where it is signed
+  pub to_sign : IsSoundIn s.held s.held.own.known s.held.theirs.past_receiver  -- of the one to sign next
+
+-- the commitments that one accepted are the first ones that the other signed
+abbrev pub FirstOf : List CommitmentState → List CommitmentState → Type 0
+FirstOf accepted signed = (later : List CommitmentState) × (accepted ++ later ≡ signed)
+
+-- the oldest message that is on its way to a side is not refused; each side accepted what the other signed, commitment for commitment
+pub record AgreesIn (tokens_of : Signing) (w : World) : Type 0 where
+  pub a_takes : (m : Message) (rest : List Message) → w.to_a ≡ m ∷ rest → receive_refusal tokens_of w.a m ≡ None
+  pub b_takes : (m : Message) (rest : List Message) → w.to_b ≡ m ∷ rest → receive_refusal tokens_of w.b m ≡ None
+  pub a_accepted : FirstOf w.a.mine w.b.signed
+  pub b_accepted : FirstOf w.b.mine w.a.signed
+  pub a_sound : IsSoundState w.a
+  pub b_sound : IsSoundState w.b
+
+-- over every interleaving of the steps of two honest peers
+abbrev pub PeersAgree : Type 0
+PeersAgree = (tokens_of : Signing) (terms : Terms) (seed_a seed_b : List ℕ) (w : World) → IsReached tokens_of terms seed_a seed_b w → AgreesIn tokens_of w
+
+-- the same of two peers played by any list of steps, of which the refused ones change nothing
+abbrev pub PlaysAgree : Type 0
+PlaysAgree =
+    (tokens_of : Signing) (terms : Terms) (seed_a seed_b : List ℕ) (steps : List PairStep) (outcomes : List Outcome) (w : World)
+    → IsPlay tokens_of (opened_both terms seed_a seed_b) steps outcomes w → AreDelivered steps outcomes × AgreesIn tokens_of w
+
+-- whatever the peer sends
+abbrev pub SidesAreSound : Type 0
+SidesAreSound = (tokens_of : Signing) (s : State) → IsLived tokens_of s → IsSoundState s

@@ -1,0 +1,6 @@
+pub mod Points
+pub mod States
+pub mod Peers
+pub mod Playing
+pub mod Recording
+pub mod Agreeing

@@ -1,0 +1,134 @@
+-- The state of one side of a channel, what it refuses and in which order, and what its calls and received messages make of it (BOLT 2, "Normal Operation").
+use Rattle.std.specs.Prelude.{ℕ, ◌+◌, Bool, true, false, not, ◌&&◌, ◌||◌, nat_le, List, [], ◌∷◌, ◌++◌, Option}
+use Rattle.std.specs.Str.{bytes_eq}
+use Rattle.keys.specs.declared.compressed.Key.{Key}
+use Rattle.keys.specs.Derivation.{point_of}
+use Rattle.terms.specs.declared.sides.Side.{Side}
+use Rattle.terms.specs.declared.agreement.Terms.{Terms}
+use Rattle.terms.specs.Sides.{other}
+use Rattle.updates.specs.declared.changes.Update.{Update}
+use Rattle.updates.specs.declared.refusals.Refusal.{Refusal}
+use Rattle.updates.specs.declared.refusals.Refusal.TheVariants.{NoUpdates, BadSignature, WrongSecret, NotYourTurn}
+use Rattle.updates.specs.Views.{view_by}
+use Rattle.updates.specs.Stages.{Stages}
+use Rattle.updates.specs.Refusals.{Test, first_refusal, covers_nothing}
+use Rattle.updates.specs.Steady.{Held, own_tests, their_tests, holding_none, holding_made, holding_signed, holding_update, holding_signature, holding_revocation}
+use Rattle.channel.specs.declared.commitments.CommitmentState.{CommitmentState}
+use Rattle.channel.specs.declared.messages.Tokens.{Tokens}
+use Rattle.channel.specs.declared.messages.Message.{Message}
+use Rattle.channel.specs.declared.messages.Message.TheVariants.{Updated, CommitmentSigned, RevokeAndAck}
+use Rattle.channel.specs.declared.limits.TheConstants.{LAST_NUMBER}
+use Rattle.channel.specs.Points.{secret_at, point_at, is_foreign}
+
+-- the tokens of the owner's peer on a commitment and on its HTLC transactions
+abbrev pub Signing : Type 0
+Signing = Terms → CommitmentState → Tokens
+
+-- the state of a side
+pub record State : Type 0 where
+  pub held : Held  -- the terms, which side it is, and the updates
+  pub seed : List ℕ  -- of its signer
+  pub awaiting : Bool  -- a signature given out awaits its revocation
+  pub number : ℕ  -- of the own newest commitment
+  pub peer_number : ℕ  -- of the peer's newest commitment that revoked the one before
+  pub point : Key  -- the peer's point for that number
+  pub next_point : Key  -- and for the number after it
+  pub secrets : List (List ℕ)  -- the peer's, by number
+  pub mine : List CommitmentState  -- own commitments that the peer signed, by number
+  pub signed : List CommitmentState  -- the peer's commitments that were signed, by number
+
+-- commitment 0, which pays what the two sides begin with
+abbrev pub first_of : Terms → Side → Key → CommitmentState
+first_of terms owner point = record { view = view_by terms owner [] []; owner = owner; number = 0; point = point }
+
+-- a side of a new channel, with the peer's points for 0 and 1
+abbrev pub opened : Terms → Side → List ℕ → Key → Key → State
+opened terms side seed point next_point = record {
+  held = holding_none terms side;
+  seed = seed;
+  awaiting = false;
+  number = 0;
+  peer_number = 0;
+  point = point;
+  next_point = next_point;
+  secrets = [];
+  mine = first_of terms side (point_at seed 0) ∷ [];
+  signed = first_of terms (other side) point ∷ [];
+}
+
+-- the commitment that a signature of `by` is for: it has all of the signer's updates, and of the other side's those that the signer's revocation acknowledged
+abbrev pub next_commitment : Terms → Side → Stages → Stages → ℕ → Key → CommitmentState
+next_commitment terms by sender others number point = record { view = view_by terms by sender.known others.past_receiver; owner = other by; number = number; point = point }
+
+-- the peer's next commitment, as this side signs it
+abbrev pub peers_next : State → CommitmentState
+peers_next s = next_commitment s.held.terms s.held.side s.held.own s.held.theirs (s.peer_number + 1) s.next_point
+
+-- one's own next commitment, which the peer's signature has to be for
+abbrev pub own_next : State → CommitmentState
+own_next s = next_commitment s.held.terms (other s.held.side) s.held.theirs s.held.own (s.number + 1) (point_at s.seed (s.number + 1))
+
+abbrev pub all_eq : List (List ℕ) → List (List ℕ) → Bool
+all_eq [] [] = true
+all_eq (x ∷ xs) (y ∷ ys) = bytes_eq x y && all_eq xs ys
+all_eq [] (y ∷ ys) = false
+all_eq (x ∷ xs) [] = false
+
+-- the same token for the commitment, and as many for HTLC transactions, the same in order
+abbrev pub same_tokens : Tokens → Tokens → Bool
+same_tokens s t = bytes_eq s.commitment t.commitment && all_eq s.htlcs t.htlcs
+
+-- a signature is not given out while another awaits its revocation, nor past the last number, nor where it covers nothing
+abbrev pub sign_tests : State → List Test
+sign_tests s = (s.awaiting || nat_le LAST_NUMBER s.peer_number, NotYourTurn) ∷ (covers_nothing s.held.own s.held.theirs, NoUpdates) ∷ []
+
+abbrev pub receive_tests : Signing → State → Message → List Test
+receive_tests tokens_of s (Updated u) = their_tests s.held u
+receive_tests tokens_of s (CommitmentSigned tokens) =
+    (nat_le LAST_NUMBER s.number, NotYourTurn)
+    ∷ (covers_nothing s.held.theirs s.held.own, NoUpdates)
+    ∷ (not (same_tokens tokens (tokens_of s.held.terms (own_next s))), BadSignature)
+    ∷ []
+receive_tests tokens_of s (RevokeAndAck secret next_point) =
+    (not s.awaiting, NotYourTurn) ∷ (not (bytes_eq (point_of secret) s.point.bytes), WrongSecret) ∷ (is_foreign s.secrets secret, WrongSecret) ∷ []
+
+-- the refusals of an update of one's own, of a signature to be given out, and of a received message
+abbrev pub update_refusal : State → Update → Option Refusal
+update_refusal s u = first_refusal (own_tests s.held u)
+
+abbrev pub sign_refusal : State → Option Refusal
+sign_refusal s = first_refusal (sign_tests s)
+
+abbrev pub receive_refusal : Signing → State → Message → Option Refusal
+receive_refusal tokens_of s m = first_refusal (receive_tests tokens_of s m)
+
+-- the state after an update of one's own, after a signature given out, and after a received message; a received signature is answered at once by a
+-- revocation
+abbrev pub after_update : Update → State → State
+after_update u s = record s { held = holding_made u s.held }
+
+abbrev pub after_sign : State → State
+after_sign s = record s { held = holding_signed s.held; awaiting = true; signed = s.signed ++ peers_next s ∷ [] }
+
+abbrev pub after : State → Message → State
+after s (Updated u) = record s { held = holding_update u s.held }
+after s (CommitmentSigned tokens) = record s { held = holding_signature s.held; number = s.number + 1; mine = s.mine ++ own_next s ∷ [] }
+after s (RevokeAndAck secret next_point) = record s {
+  held = holding_revocation s.held;
+  awaiting = false;
+  peer_number = s.peer_number + 1;
+  point = s.next_point;
+  next_point = next_point;
+  secrets = s.secrets ++ secret ∷ [];
+}
+
+-- the message of a signature
+abbrev pub signature_message : Signing → State → Message
+signature_message tokens_of s = CommitmentSigned (tokens_of s.held.terms (peers_next s))
+
+-- the messages that answer a received one: a signature is answered by the secret of the commitment that it replaces, and the point for the number after the
+-- next
+abbrev pub answers : State → Message → List Message
+answers s (Updated u) = []
+answers s (CommitmentSigned tokens) = RevokeAndAck (secret_at s.seed s.number) (point_at s.seed (s.number + 2)) ∷ []
+answers s (RevokeAndAck secret next_point) = []

@@ -1,0 +1,13 @@
+-- An array of a `Value` has as many items as its list, and an object as many members as its map.
+use Rattle.std.proofs.Common.{◌≡◌, ℕ, suc, List, [], ◌∷◌, length, String, Global, ap, refl}
+use Rattle.serde_json.specs.View.{items_view, members_view}
+use Rattle.serde_json.specs.declared.value.Value.{Value}
+use Rattle.texts.specs.Values.{item_count, member_count}
+
+pub items_counted : (vs : List Value) → item_count (items_view vs) ≡ length vs
+items_counted [] = refl
+items_counted (v ∷ vs) = ap suc (items_counted vs)
+
+pub members_counted : (ms : List (String Global × Value)) → member_count (members_view ms) ≡ length ms
+members_counted [] = refl
+members_counted (m ∷ ms) = ap suc (members_counted ms)

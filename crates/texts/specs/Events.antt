@@ -1,0 +1,140 @@
+-- The events of a scenario in a text: arrays with the event's name at the front, which `event_of` looks at.
+use Rattle.std.specs.Prelude.{ℕ, ◌^◌, Bool, if◌then◌else◌, List, [], ◌∷◌, Option, Some, None, codes}
+use Rattle.std.specs.Str.{bytes_eq}
+use Rattle.serde_json.specs.Data.{Data}
+use Rattle.texts.specs.declared.events.Event.{Event}
+use Rattle.texts.specs.declared.events.Event.TheVariants.{Offer, Fulfil, Fail, Fee, Sign, Deliver, Keep, Broadcast, BroadcastHtlc, Blocks, Look, Take, Release, Reorg}
+use Rattle.texts.specs.Values.{◌>>=◌, first_some, array_of, item_of, tag_of, u64_of, u32_of, side_of, bytes_of_len}
+
+unfoldable pub offer_of : Data → Option Event
+offer_of d = do
+  form ← array_of 6 d
+  side ← item_of 1 side_of form
+  channel ← item_of 2 u64_of form
+  amount ← item_of 3 u64_of form
+  hash ← item_of 4 (bytes_of_len 32) form
+  expiry ← item_of 5 u32_of form
+  Some (Offer side channel amount hash expiry)
+
+unfoldable pub fulfil_of : Data → Option Event
+fulfil_of d = do
+  form ← array_of 5 d
+  side ← item_of 1 side_of form
+  channel ← item_of 2 u64_of form
+  id ← item_of 3 u64_of form
+  preimage ← item_of 4 (bytes_of_len 32) form
+  Some (Fulfil side channel id preimage)
+
+unfoldable pub fail_of : Data → Option Event
+fail_of d = do
+  form ← array_of 4 d
+  side ← item_of 1 side_of form
+  channel ← item_of 2 u64_of form
+  id ← item_of 3 u64_of form
+  Some (Fail side channel id)
+
+unfoldable pub fee_of : Data → Option Event
+fee_of d = do
+  form ← array_of 4 d
+  side ← item_of 1 side_of form
+  channel ← item_of 2 u64_of form
+  rate ← item_of 3 u32_of form
+  Some (Fee side channel rate)
+
+unfoldable pub sign_of : Data → Option Event
+sign_of d = do
+  form ← array_of 3 d
+  side ← item_of 1 side_of form
+  channel ← item_of 2 u64_of form
+  Some (Sign side channel)
+
+unfoldable pub deliver_of : Data → Option Event
+deliver_of d = do
+  form ← array_of 3 d
+  side ← item_of 1 side_of form
+  channel ← item_of 2 u64_of form
+  Some (Deliver side channel)
+
+unfoldable pub keep_of : Data → Option Event
+keep_of d = do
+  form ← array_of 4 d
+  side ← item_of 1 side_of form
+  channel ← item_of 2 u64_of form
+  number ← item_of 3 u64_of form
+  Some (Keep side channel number)
+
+unfoldable pub commitment_of : Data → Option Event
+commitment_of d = do
+  form ← array_of 4 d
+  side ← item_of 1 side_of form
+  channel ← item_of 2 u64_of form
+  number ← item_of 3 u64_of form
+  Some (Broadcast side channel number)
+
+unfoldable pub htlc_transaction_of : Data → Option Event
+htlc_transaction_of d = do
+  form ← array_of 5 d
+  side ← item_of 1 side_of form
+  channel ← item_of 2 u64_of form
+  number ← item_of 3 u64_of form
+  htlc ← item_of 4 u64_of form
+  Some (BroadcastHtlc side channel number htlc)
+
+unfoldable pub blocks_of : Data → Option Event
+blocks_of d = do
+  form ← array_of 2 d
+  count ← item_of 1 u64_of form
+  Some (Blocks count)
+
+unfoldable pub look_of : Data → Option Event
+look_of d = do
+  form ← array_of 2 d
+  side ← item_of 1 side_of form
+  Some (Look side)
+
+unfoldable pub take_of : Data → Option Event
+take_of d = do
+  form ← array_of 3 d
+  side ← item_of 1 side_of form
+  count ← item_of 2 u64_of form
+  Some (Take side count)
+
+unfoldable pub release_of : Data → Option Event
+release_of d = do
+  form ← array_of 3 d
+  side ← item_of 1 side_of form
+  count ← item_of 2 u64_of form
+  Some (Release side count)
+
+unfoldable pub reorg_of : Data → Option Event
+reorg_of d = do
+  form ← array_of 3 d
+  depth ← item_of 1 u64_of form
+  forgotten ← item_of 2 u64_of form
+  Some (Reorg depth forgotten)
+
+-- a commitment, or, with a fifth item, the HTLC transaction of that HTLC
+unfoldable pub broadcast_of : Data → Option Event
+broadcast_of d = first_some (commitment_of d) (htlc_transaction_of d)
+
+-- the events by their names
+unfoldable pub event_named : List ℕ → Data → Option Event
+event_named name d =
+    if bytes_eq name (codes "offer") then offer_of d
+    else if bytes_eq name (codes "fulfil") then fulfil_of d
+    else if bytes_eq name (codes "fail") then fail_of d
+    else if bytes_eq name (codes "fee") then fee_of d
+    else if bytes_eq name (codes "sign") then sign_of d
+    else if bytes_eq name (codes "deliver") then deliver_of d
+    else if bytes_eq name (codes "keep") then keep_of d
+    else if bytes_eq name (codes "broadcast") then broadcast_of d
+    else if bytes_eq name (codes "blocks") then blocks_of d
+    else if bytes_eq name (codes "look") then look_of d
+    else if bytes_eq name (codes "take") then take_of d
+    else if bytes_eq name (codes "release") then release_of d
+    else if bytes_eq name (codes "reorg") then reorg_of d
+    else None
+
+-- an array with the event's name at its front
+unfoldable pub event_of : Data → Option Event
+event_of d = tag_of d >>= (λ name. event_named name d)

@@ -1,0 +1,10 @@
+pub mod Refusals
+pub mod Values
+pub mod Outpoints
+pub mod Keys
+pub mod Terms
+pub mod Events
+pub mod Messages
+pub mod Outputs
+pub mod Claims
+pub mod Scenarios

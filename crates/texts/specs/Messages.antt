@@ -1,0 +1,47 @@
+-- Updates in a text, as messages have them (BOLT 2): arrays with the message's name at the front.
+use Rattle.std.specs.Prelude.{ℕ, if◌then◌else◌, List, Option, Some, None, codes}
+use Rattle.std.specs.Str.{bytes_eq}
+use Rattle.serde_json.specs.Data.{Data}
+use Rattle.updates.specs.declared.changes.Update.{Update}
+use Rattle.updates.specs.declared.changes.Update.TheVariants.{Add, Fulfil, Fail, Fee}
+use Rattle.texts.specs.Values.{◌>>=◌, array_of, item_of, tag_of, u64_of, u32_of, bytes_of_len}
+
+unfoldable pub add_of : Data → Option Update
+add_of d = do
+  form ← array_of 5 d
+  id ← item_of 1 u64_of form
+  amount ← item_of 2 u64_of form
+  hash ← item_of 3 (bytes_of_len 32) form
+  expiry ← item_of 4 u32_of form
+  Some (Add (record { id = id; amount = amount; hash = hash; expiry = expiry }))
+
+unfoldable pub fulfil_of : Data → Option Update
+fulfil_of d = do
+  form ← array_of 3 d
+  id ← item_of 1 u64_of form
+  preimage ← item_of 2 (bytes_of_len 32) form
+  Some (Fulfil id preimage)
+
+unfoldable pub fail_of : Data → Option Update
+fail_of d = do
+  form ← array_of 2 d
+  id ← item_of 1 u64_of form
+  Some (Fail id)
+
+unfoldable pub fee_of : Data → Option Update
+fee_of d = do
+  form ← array_of 2 d
+  rate ← item_of 1 u32_of form
+  Some (Fee rate)
+
+-- the updates by their names
+unfoldable pub update_named : List ℕ → Data → Option Update
+update_named name d =
+    if bytes_eq name (codes "add") then add_of d
+    else if bytes_eq name (codes "fulfil") then fulfil_of d
+    else if bytes_eq name (codes "fail") then fail_of d
+    else if bytes_eq name (codes "fee") then fee_of d
+    else None
+
+unfoldable pub update_of : Data → Option Update
+update_of d = tag_of d >>= (λ name. update_named name d)

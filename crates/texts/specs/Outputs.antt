@@ -1,0 +1,14 @@
+-- Outputs of transactions in a text.
+use Rattle.std.specs.Prelude.{ℕ, length, ◌||◌, nat_lt, if◌then◌else◌, Option, Some, None}
+use Rattle.serde_json.specs.Data.{Data}
+use Rattle.tx.specs.Limits.{max_value, max_bytes}
+use Rattle.tx.specs.Parts.{Output}
+use Rattle.texts.specs.Values.{◌>>=◌, array_of, item_of, u64_of, bytes_of}
+
+-- an array of the value and the script, both within their limits
+unfoldable pub output_of : Data → Option Output
+output_of d = do
+  pair ← array_of 2 d
+  value ← item_of 0 u64_of pair
+  script ← item_of 1 bytes_of pair
+  if nat_lt max_value value then None else if nat_lt max_bytes (length script) then None else Some (record { value = value; script = script })

@@ -1,0 +1,68 @@
+//! The terms of a channel, as a text has them.
+
+ghost use Rattle.std.specs.Prelude.{◌≡◌};
+
+use crate::values::{FromValue, member, object_of};
+use serde_json::Value;
+use terms::Side;
+
+/// What one side brings to the terms, but for its keys.
+#[derive(Clone, Copy, Debug, PartialEq, Eq, Drop)]
+pub struct PlainParty {
+    /// Satoshis below which its own commitments have no output (`dust_limit_satoshis`).
+    pub dust: u64,
+    /// Blocks that it waits for its own delayed outputs (the peer's `to_self_delay`).
+    pub delay: u16,
+    /// Millisatoshis that an HTLC offered to it has at least (`htlc_minimum_msat`).
+    pub minimum: u64,
+    /// Millisatoshis that it begins with.
+    pub start: u64,
+}
+
+/// The terms of a channel as a text has them, without the funding output and the keys. The two sides may still not agree on them.
+#[derive(Clone, Copy, Debug, PartialEq, Eq, Drop)]
+pub struct PlainTerms {
+    /// Satoshis.
+    pub capacity: u64,
+    /// Who opens the channel.
+    pub opener: Side,
+    /// Satoshis for 1,000 units of weight.
+    pub feerate: u32,
+    pub a: PlainParty,
+    pub b: PlainParty,
+}
+
+/// An object of seven members: `capacity`, `delay`, `dust`, `feerate`, `minimum`, `opener` and `start`.
+impl FromValue for PlainTerms {
+    ghost use Rattle.texts.specs.Terms.{terms_of};
+
+    ghost reads = { terms_of };
+
+    #[tactic(auto, unfolding(crate::specs::Terms::terms_of))]
+    fn from_value(value: &Value) -> Option<PlainTerms> {
+        let form = object_of(value, 7)?;
+        let dust: (u64, u64) = member(form, "dust")?;
+        let delay: (u16, u16) = member(form, "delay")?;
+        let minimum: (u64, u64) = member(form, "minimum")?;
+        let start: (u64, u64) = member(form, "start")?;
+        let a = PlainParty {
+            dust: dust.0,
+            delay: delay.0,
+            minimum: minimum.0,
+            start: start.0,
+        };
+        let b = PlainParty {
+            dust: dust.1,
+            delay: delay.1,
+            minimum: minimum.1,
+            start: start.1,
+        };
+        Some(PlainTerms {
+            capacity: member(form, "capacity")?,
+            opener: member(form, "opener")?,
+            feerate: member(form, "feerate")?,
+            a,
+            b,
+        })
+    }
+}

@@ -1,0 +1,27 @@
+//! Readers and writers of the forms that texts have: scenarios and dumps, over the JSON values of `serde_json` (RFC 8259).
+//!
+//! A value is read exactly where it has the form. A member that is missing, one that the form has not, and one of another kind leave the
+//! whole value without it. Forms are plain: whether what was read is lawful, a channel or a claim says later.
+#![tactic(auto)]
+
+mod agreement;
+mod allocating;
+mod claims;
+mod errors;
+mod events;
+mod key_bytes;
+mod messages;
+mod outpoints;
+mod outputs;
+mod scenarios;
+#[cfg(test)]
+mod tests;
+mod values;
+
+pub use agreement::{PlainParty, PlainTerms};
+pub use allocating::{ReadValue, bytes_of, list_of, read_item, read_member};
+pub use claims::PlainClaim;
+pub use errors::ShapeError;
+pub use events::Event;
+pub use scenarios::PlainScenario;
+pub use values::{FromValue, array_of, item, member, object_of, tag_of};

@@ -1,0 +1,59 @@
+//! Scenarios, as a text has them.
+
+use crate::agreement::PlainTerms;
+use crate::allocating::{ReadValue, read_member};
+use crate::errors::ShapeError;
+use crate::events::Event;
+use crate::values::{FromValue, member, object_of};
+use lists::List;
+use serde_json::Value;
+use std::alloc::Global;
+
+/// A scenario as a text has it: the seeds of the two sides, the terms of their channels, and what happens. Whether there are too many of
+/// something, or the two sides do not agree on terms, is not tested yet.
+#[derive(Debug, Drop)]
+pub struct PlainScenario {
+    pub seed_a: [u8; 32],
+    pub seed_b: [u8; 32],
+    pub channels: List<PlainTerms>,
+    pub events: List<Event>,
+}
+
+impl ReadValue for PlainTerms {
+    ghost use Rattle.texts.specs.Terms.{terms_of};
+
+    ghost reads = { terms_of };
+
+    fn read_value(_alloc: Global, value: &Value) -> Result<PlainTerms, ShapeError> {
+        PlainTerms::from_value(value).ok_or(ShapeError::BadShape)
+    }
+}
+
+impl ReadValue for Event {
+    ghost use Rattle.texts.specs.Events.{event_of};
+
+    ghost reads = { event_of };
+
+    fn read_value(_alloc: Global, value: &Value) -> Result<Event, ShapeError> {
+        Event::from_value(value).ok_or(ShapeError::BadShape)
+    }
+}
+
+/// An object of three members: `channels`, `events` and `seeds`.
+impl ReadValue for PlainScenario {
+    ghost use Rattle.texts.specs.Scenarios.{scenario_of};
+
+    ghost reads = { scenario_of };
+
+    #[tactic(auto, unfolding(crate::specs::Scenarios::scenario_of))]
+    fn read_value(alloc: Global, value: &Value) -> Result<PlainScenario, ShapeError> {
+        let form = object_of(value, 3).ok_or(ShapeError::BadShape)?;
+        let seeds: ([u8; 32], [u8; 32]) = member(form, "seeds").ok_or(ShapeError::BadShape)?;
+        Ok(PlainScenario {
+            seed_a: seeds.0,
+            seed_b: seeds.1,
+            channels: read_member(alloc, form, "channels")?,
+            events: read_member(alloc, form, "events")?,
+        })
+    }
+}
