@@ -1,5 +1,5 @@
 #!/bin/sh
-# Times a transaction of a block and an input of a transaction, each where there are few and where there are many, in one
+# Times a transaction of a block, an input of a transaction and a claim of a filling, each where there are few and where there are many, in one
 # run, and prints the nanoseconds of each and the ratio. Wants the toolchain's `rt`.
 set -eu
 top=$(cd "$(dirname "$0")/.." && pwd)

@@ -80,7 +80,7 @@ abbrev pub world_after : Signing → World → List PairStep → World
 world_after tokens_of w [] = w
 world_after tokens_of w (s ∷ steps) = world_after tokens_of (played tokens_of w s).world steps
 
--- a delivery is refused for want of memory alone
+-- a delivery is refused only where memory ran out
 abbrev pub IsDelivered : Action → Outcome → Type 0
 IsDelivered Deliver (Refused r) = r ≡ NoMemory
 IsDelivered action outcome = Unit {0}

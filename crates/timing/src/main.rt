@@ -1,15 +1,17 @@
 //! Times work whose cost for each piece is to stay the same however many there are: transactions that a block brings to a chain of many outputs,
-//! and inputs of one transaction.
+//! inputs of one transaction, and claims of one filling.
 //!
 //! `timing` does each work once, and says so; `timing times` does it again and again, and prints the nanoseconds of each piece in the fastest
 //! round, and the ratio.
 #![tactic(auto)]
 
 mod blocks;
+mod claims;
 mod rounds;
 
 use anyhow::Result;
 use blocks::{blocks_on, transaction_of};
+use claims::filling_of;
 use rounds::{Rounds, compare};
 use std::env;
 
@@ -35,5 +37,13 @@ fn main(rt: HostRuntime) -> Result<()> {
         what,
         &mut transaction_of(alloc, 10)?,
         &mut transaction_of(alloc, 483)?,
+    )?;
+    let what = "a claim of a filling of 10, and of 966";
+    compare(
+        &rt,
+        rounds,
+        what,
+        &mut filling_of(alloc, 10)?,
+        &mut filling_of(alloc, 966)?,
     )
 }
