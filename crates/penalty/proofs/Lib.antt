@@ -1,0 +1,10 @@
+pub mod Programs
+pub mod Pushed
+pub mod Accepting
+pub mod Filling
+pub mod Standing
+pub mod Collecting
+pub mod Second
+pub mod Covering
+pub mod ClaimableExamples
+pub mod StateExamples

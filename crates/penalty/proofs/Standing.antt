@@ -1,0 +1,95 @@
+-- What claims on the outputs of a revoked state's commitment rest on.
+use Rattle.std.proofs.Common.{◌≡◌, ℕ, ◌<◌, Bool, true, List, [], ◌∷◌, ◌++◌, map, Option, Some, None, Ok, Err, refl, sym, ap, ◌∙◌}
+use Rattle.std.specs.Prelude.{◌&&◌}
+use Rattle.std.specs.List.{All, filter}
+use Rattle.std.proofs.lemmas.Bool.{and_parts, ltb-true}
+use Rattle.std.proofs.lemmas.List.Elements.{All-nil, All-cons, All-append, All-filter, All-map}
+use Rattle.std.proofs.lemmas.List.Sorted.{All-permutation}
+use Rattle.script.specs.Limits.{locktime_threshold}
+use Rattle.terms.specs.declared.htlcs.Htlc.{Htlc}
+use Rattle.terms.specs.declared.sides.Side.{Side}
+use Rattle.terms.specs.declared.sides.Side.TheVariants.{A, B}
+use Rattle.terms.specs.declared.views.View.{View}
+use Rattle.terms.specs.Agreement.{party}
+use Rattle.terms.specs.Sides.{other}
+use Rattle.terms.specs.Views.{share}
+use Rattle.keys.specs.Derivation.{point_of}
+use Rattle.commit.specs.declared.fees.Direction.{Direction}
+use Rattle.commit.specs.declared.fees.Direction.TheVariants.{Offered, Received}
+use Rattle.commit.specs.declared.amounts.Amounts.{Amounts}
+use Rattle.commit.specs.declared.errors.BuildError.TheVariants.{NoMemory, TooManyOutputs, ValueTooLarge}
+use Rattle.commit.specs.Amounts.{amounts_of}
+use Rattle.commit.specs.Keys.{KeyBytes, keys_of}
+use Rattle.commit.specs.Outputs.{htlc_output, to_local_output, to_remote_output, where_paid, outputs_of}
+use Rattle.commit.specs.Order.{in_order}
+use Rattle.commit.specs.declared.errors.BuildError.{BuildError}
+use Rattle.commit.specs.Building.{refusal_of, Gives}
+use Rattle.commit.specs.Commitments.{Contents, commitment_of}
+use Rattle.commit.proofs.Collected.{few_outputs}
+use Rattle.commit.proofs.Ordered.{there_is_one}
+use Rattle.commit.proofs.Shared.{shared}
+use Rattle.penalty.specs.declared.states.RevokedState.{RevokedState}
+use Rattle.penalty.specs.Views.{expire_at_heights, has_heights}
+use Rattle.penalty.specs.Claimable.{commitment_in}
+use Rattle.penalty.specs.Outputs.{IsOutput, AreOutputs}
+
+abbrev ExpiresLow : Htlc → Type 0
+ExpiresLow h = h.expiry < locktime_threshold
+
+low_heights : (hs : List Htlc) → expire_at_heights hs ≡ true → All ExpiresLow hs
+low_heights [] e = All-nil ExpiresLow
+low_heights (h ∷ hs) e =
+    let p = and_parts _ _ e in
+    All-cons ExpiresLow h hs (ltb-true h.expiry locktime_threshold p.0) (low_heights hs p.1)
+
+of_side : (side : Side) (view : View) → has_heights view ≡ true → All ExpiresLow (share side view).offered
+of_side A view e = low_heights view.a.offered (and_parts _ _ e).0
+of_side B view e = low_heights view.b.offered (and_parts _ _ e).1
+
+to_htlcs : (delay : ℕ) (k : KeyBytes) (direction : Direction) (hs : List Htlc) → All ExpiresLow hs → All (IsOutput delay k) (map (htlc_output k direction) hs)
+to_htlcs delay k direction hs a = All-map (IsOutput delay k) (htlc_output k direction) hs (λ i d l. record { program = refl; height = a i d l })
+
+to_local : (delay : ℕ) (k : KeyBytes) (value : Option ℕ) → All (IsOutput delay k) (where_paid (to_local_output delay k) value)
+to_local delay k None = All-nil (IsOutput delay k)
+to_local delay k (Some v) = All-cons (IsOutput delay k) (to_local_output delay k v) [] (record { program = refl; height = tt }) (All-nil (IsOutput delay k))
+
+to_remote : (delay : ℕ) (k : KeyBytes) (value : Option ℕ) → All (IsOutput delay k) (where_paid (to_remote_output k) value)
+to_remote delay k None = All-nil (IsOutput delay k)
+to_remote delay k (Some v) = All-cons (IsOutput delay k) (to_remote_output k v) [] (record { program = refl; height = tt }) (All-nil (IsOutput delay k))
+
+collected : (delay : ℕ) (k : KeyBytes) (a : Amounts) → All ExpiresLow a.offered → All ExpiresLow a.received → All (IsOutput delay k) (outputs_of delay k a)
+unfolding outputs_of
+collected delay k a o r =
+    All-append (IsOutput delay k) _ _
+    (All-append (IsOutput delay k) _ _
+    (All-append (IsOutput delay k) _ _ (to_htlcs delay k Offered a.offered o) (to_htlcs delay k Received a.received r))
+    (to_local delay k a.to_local))
+    (to_remote delay k a.to_remote)
+
+-- the commitment of a state is not refused
+pub payable : (state : RevokedState) → refusal_of (commitment_in state).outputs ≡ None
+payable state = shared state.terms state.view state.owner state.number (point_of state.secret) state.whole state.few
+
+each_stands : (state : RevokedState) → All (IsOutput (commitment_in state).delay (commitment_in state).keys) (commitment_in state).outputs
+unfolding commitment_of
+each_stands state =
+    All-permutation (IsOutput (party state.owner state.terms).delay (keys_of state.terms state.owner (point_of state.secret))) _ _
+    (there_is_one (outputs_of (party state.owner state.terms).delay (keys_of state.terms state.owner (point_of state.secret)) (amounts_of state.terms state.view state.owner))).0.same
+    (collected _ _ _
+    (All-filter _ ExpiresLow _ (of_side state.owner state.view state.heights))
+    (All-filter _ ExpiresLow _ (of_side (other state.owner) state.view state.heights)))
+
+pub outputs_stand : (state : RevokedState) → AreOutputs (commitment_in state)
+outputs_stand state = record { few = few_outputs _ (payable state); each = each_stands state }
+
+some_none : {A : Type 0} (x : A) → Some x ≡ None → ⊥
+some_none x e = cc
+
+-- of the refusals of `build` only that memory ran out is left
+pub no_memory : (state : RevokedState) (point : List ℕ) (e : BuildError) → Gives (commitment_of state.terms state.view state.owner state.number point) (Err e) → e ≡ NoMemory
+no_memory state point NoMemory g = refl
+no_memory state point TooManyOutputs g = absurd (some_none TooManyOutputs (sym g ∙ shared state.terms state.view state.owner state.number point state.whole state.few))
+no_memory state point ValueTooLarge g = absurd (some_none ValueTooLarge (sym g ∙ shared state.terms state.view state.owner state.number point state.whole state.few))
+
+pub built : (state : RevokedState) (point : List ℕ) (c : Contents) → point ≡ point_of state.secret → Gives (commitment_of state.terms state.view state.owner state.number point) (Ok c) → c ≡ commitment_in state
+built state point c e g = g.0 ∙ ap (commitment_of state.terms state.view state.owner state.number) e

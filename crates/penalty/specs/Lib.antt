@@ -1,0 +1,7 @@
+pub mod Views
+pub mod States
+pub mod Claimable
+pub mod Sets
+pub mod Outputs
+pub mod Rights
+pub mod Covering

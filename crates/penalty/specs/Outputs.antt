@@ -1,0 +1,31 @@
+-- What a claim on an output of a commitment rests on.
+use Rattle.std.specs.Prelude.{◌≡◌, ℕ, ◌≤◌, ◌<◌, List, length}
+use Rattle.std.specs.List.{All}
+use Rattle.script.specs.Limits.{locktime_threshold}
+use Rattle.tx.specs.Limits.{max_outputs}
+use Rattle.commit.specs.declared.outputs.OutputKind.{OutputKind}
+use Rattle.commit.specs.declared.outputs.OutputKind.TheVariants.{ToLocal, ToRemote, ToHtlc}
+use Rattle.commit.specs.declared.outputs.CommitmentOutput.{CommitmentOutput}
+use Rattle.commit.specs.Keys.{KeyBytes}
+use Rattle.commit.specs.Outputs.{to_local_script, htlc_script, script_hash_program, key_hash_program}
+use Rattle.commit.specs.Commitments.{Contents}
+
+-- the program of an output, by its kind
+abbrev pub program_of : ℕ → KeyBytes → OutputKind → List ℕ
+program_of delay k ToLocal = script_hash_program (to_local_script delay k)
+program_of delay k ToRemote = key_hash_program k.remote
+program_of delay k (ToHtlc direction h) = script_hash_program (htlc_script k direction h)
+
+-- an HTLC expires at a height
+abbrev pub HasHeight : OutputKind → Type 0
+HasHeight ToLocal = Unit {0}
+HasHeight ToRemote = Unit {0}
+HasHeight (ToHtlc direction h) = h.expiry < locktime_threshold
+
+pub record IsOutput (delay : ℕ) (k : KeyBytes) (o : CommitmentOutput) : Type 0 where
+  pub program : o.program ≡ program_of delay k o.kind
+  pub height : HasHeight o.kind
+
+pub record AreOutputs (c : Contents) : Type 0 where
+  pub few : length c.outputs ≤ max_outputs
+  pub each : All (λ o. IsOutput c.delay c.keys o) c.outputs

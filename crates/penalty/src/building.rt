@@ -1,0 +1,168 @@
+// The penalty set of a revoked state.
+
+ghost use Rattle.std.specs.Prelude.{ℕ, ◌≡◌, ◌≤◌, ◌<◌, ◌++◌, [], length, Some, IsSome, IfOk, OnOk, List as Values, slice_get};
+ghost use Rattle.std.specs.List.{cons_option};
+ghost use Rattle.tx.specs.Parts.{Output};
+ghost use Rattle.commit.specs.declared.outputs.HtlcOutput.{HtlcOutput};
+ghost use Rattle.commit.specs.Commitments.{tx_output, transaction_of, htlc_at, htlcs_of};
+ghost use Rattle.penalty.specs.Claimable.{Claimable, place_in, claims_on, claims_from, claimable_of, commitment_in, second_stage_penalty};
+ghost use Rattle.penalty.specs.Sets.{IsClaimOn, AreClaimsOn};
+ghost use Rattle.penalty.specs.Outputs.{IsOutput, AreOutputs};
+
+use crate::claiming::{htlc_penalty_on, payment_on, penalty_on};
+use crate::sets::PenaltySet;
+use crate::states::RevokedState;
+use claim::{Claim, Place};
+use commit::{BuildError, Commitment, CommitmentOutput, OutputKind, build, htlc_tx};
+use keys::point;
+use lists::List;
+use std::alloc::{AllocError, Global};
+use tx::hashing::txid;
+use tx::{OutPoint, Tx};
+
+// Where an output of the commitment stands.
+fn place_of(
+    commitment: &Commitment,
+    index: u32,
+    output: &CommitmentOutput,
+) -> Result<Place, AllocError>
+    ensures { IfOk result (λ p. p ≡ place_in (transaction_of commitment.now) index (tx_output output.now)) }
+{
+    let outpoint = OutPoint {
+        txid: *commitment.id(),
+        index,
+    };
+    Ok(Place {
+        outpoint,
+        value: output.value,
+        program: output.program.copy()?,
+    })
+}
+
+// Where the first output of a transaction stands.
+fn first_place(tx: &Tx) -> Result<Place, AllocError>
+    requires { 0 < length tx.now.outputs }
+    ensures { (o : Output) → slice_get tx.now.outputs 0 ≡ Some o → IfOk result (λ p. p ≡ place_in tx.now 0 o) }
+{
+    let output = &tx.outputs()[0];
+    let outpoint = OutPoint {
+        txid: txid(tx),
+        index: 0,
+    };
+    Ok(Place {
+        outpoint,
+        value: output.value(),
+        program: output.script().copy()?,
+    })
+}
+
+// The penalty on the output of the HTLC transaction of the k-th HTLC.
+fn second_stage_penalty(
+    alloc: Global,
+    commitment: &Commitment,
+    k: usize,
+) -> Result<Claim, AllocError>
+    requires { IsSome (slice_get (htlcs_of commitment.now) k) }
+    ensures { (h : HtlcOutput) → slice_get (htlcs_of commitment.now) k ≡ Some h → IfOk result (IsClaimOn (second_stage_penalty commitment.now h)) }
+{
+    match htlc_tx(alloc, commitment, k)? {
+        None => unreachable!(),
+        Some(tx) => penalty_on(alloc, commitment, first_place(&tx)?),
+    }
+}
+
+// What an output lets the peer claim goes to the end. Where it is an HTLC's, that one is the k-th.
+fn push_claims_on(
+    alloc: Global,
+    commitment: &Commitment,
+    index: u32,
+    k: usize,
+    output: &CommitmentOutput,
+    claims: &mut Vec<Claim>,
+) -> Result<(), AllocError>
+    requires output { IsOutput commitment.now.delay commitment.now.keys output.now }
+    requires htlc { (h : HtlcOutput) → htlc_at index output.now.kind ≡ Some h → slice_get (htlcs_of commitment.now) k ≡ Some h }
+    ensures { OnOk result ((done : Values Claimable) → AreClaimsOn done claims.old.items →
+        AreClaimsOn (done ++ claims_on commitment.now index (place_in (transaction_of commitment.now) index (tx_output output.now)) output.now.kind) claims.new.items) }
+{
+    let place = place_of(commitment, index, output)?;
+    match &output.kind {
+        OutputKind::ToLocal => {
+            claims.push(penalty_on(alloc, commitment, place)?)?;
+            Ok(())
+        }
+        OutputKind::ToRemote => {
+            claims.push(payment_on(alloc, commitment, place)?)?;
+            Ok(())
+        }
+        OutputKind::ToHtlc(direction, htlc) => {
+            claims.push(htlc_penalty_on(alloc, commitment, *direction, htlc, place)?)?;
+            claims.push(second_stage_penalty(alloc, commitment, k)?)?;
+            Ok(())
+        }
+    }
+}
+
+// How many HTLCs an output is for.
+fn count(kind: &OutputKind) -> usize
+    ensures value { (index : ℕ) → result ≡ length (cons_option (htlc_at index kind.now) []) }
+    ensures bound { result ≤ 1 }
+{
+    match kind {
+        OutputKind::ToLocal => 0,
+        OutputKind::ToRemote => 0,
+        OutputKind::ToHtlc(_, _) => 1,
+    }
+}
+
+// The claims on all outputs.
+fn claims_of(alloc: Global, commitment: &Commitment) -> Result<List<Claim>, AllocError>
+    requires { AreOutputs commitment.now }
+    ensures { IfOk result (AreClaimsOn (claims_from commitment.now 0 commitment.now.outputs)) }
+{
+    let mut claims = Vec::new(alloc);
+    let mut htlcs = 0;
+    let outputs = commitment.outputs();
+    for (index, output) in outputs.iter().enumerate() {
+        push_claims_on(alloc, commitment, index as u32, htlcs, output, &mut claims)?;
+        htlcs += count(&output.kind);
+    }
+    Ok(List::from_vec(claims))
+}
+
+// The commitment that was revoked.
+fn revoked_commitment(alloc: Global, state: &RevokedState) -> Result<Commitment, AllocError>
+    ensures value { IfOk result (λ c. c ≡ commitment_in state.now) }
+    ensures outputs { IfOk result AreOutputs }
+{
+    let point = point(&state.secret);
+    match build(
+        alloc,
+        &state.terms,
+        &state.view,
+        state.owner,
+        state.number,
+        &point,
+    ) {
+        Ok(commitment) => Ok(commitment),
+        Err(refusal) => match refusal {
+            BuildError::NoMemory => Err(AllocError),
+            BuildError::TooManyOutputs => unreachable!(),
+            BuildError::ValueTooLarge => unreachable!(),
+        },
+    }
+}
+
+/// All that a revoked state lets the owner's peer claim (BOLT 5, "Revoked Transaction Close Handling"): accepted claims on to_local and to_remote where they are
+/// outputs, on each HTLC that isn't trimmed, and on the output of the HTLC transaction that the peer signed for it, HTLC-timeout where the owner offered the
+/// HTLC and HTLC-success where it was offered to the owner. They stand by output, each HTLC's followed by that of its HTLC transaction. The only
+/// error is that memory ran out.
+#[tactic(auto, unfolding(crate::specs::Claimable::claimable_of))]
+pub fn penalties(alloc: Global, state: &RevokedState) -> Result<PenaltySet, AllocError>
+    ensures state { IfOk result (λ p. p.state ≡ state.now) }
+    ensures claims { IfOk result (λ p. AreClaimsOn (claimable_of state.now) p.claims) }
+{
+    let commitment = revoked_commitment(alloc, state)?;
+    let claims = claims_of(alloc, &commitment)?;
+    Ok(PenaltySet::new(state.copy()?, claims))
+}

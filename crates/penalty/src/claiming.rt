@@ -1,0 +1,117 @@
+// Claims on the outputs of a revoked commitment.
+
+ghost use Rattle.std.specs.Prelude.{◌≡◌, ◌<◌, true, IsSome, IfOk, slice_get};
+ghost use Rattle.script.specs.Limits.{locktime_threshold};
+ghost use Rattle.script.specs.Spelling.{spelling};
+ghost use Rattle.claim.specs.declared.parts.Shell.TheVariants.{Open};
+ghost use Rattle.claim.specs.Judgement.{is_program};
+ghost use Rattle.commit.specs.Outputs.{to_local_script, htlc_script as htlc_script_of, script_hash_program, key_hash_program};
+ghost use Rattle.forms.specs.Claims.{Claims, path_taken_by};
+ghost use Rattle.forms.specs.Fillings.{fillings_of};
+ghost use Rattle.commit.specs.Keys.{bytes_of};
+ghost use Rattle.penalty.specs.Claimable.{htlc_form, penalty_on, payment_on, htlc_penalty_on};
+ghost use Rattle.penalty.specs.Sets.{IsClaimOn};
+
+use claim::{Claim, Place, Shell, accept};
+use commit::{Commitment, CommitmentKeys, Direction};
+use forms::{ClaimKind, Expiry, HtlcKeys, accepted_slots, key_hash, offered, received, to_local};
+use paths::Checked;
+use std::alloc::{AllocError, Global};
+use terms::Htlc;
+
+// The claim of a kind on an output of its form.
+fn claim_of(
+    alloc: Global,
+    kind: &ClaimKind,
+    checked: Checked,
+    place: Place,
+) -> Result<Claim, AllocError>
+    requires form { Claims kind.now checked (path_taken_by kind.now) place Open }
+    requires path { IsSome (slice_get checked.paths (path_taken_by kind.now)) }
+    requires program { is_program (spelling checked.ops) place.program ≡ true }
+    ensures { IfOk result (IsClaimOn (record { place = place; form = checked; path = path_taken_by kind.now; slots = fillings_of kind.now })) }
+{
+    let slots = accepted_slots(alloc, kind)?;
+    match accept(alloc, checked, kind.path(), slots, place, Shell::Open) {
+        Ok(claim) => Ok(claim),
+        Err(_) => unreachable!(),
+    }
+}
+
+/// The penalty on an output of the form of to_local.
+pub(crate) fn penalty_on(
+    alloc: Global,
+    commitment: &Commitment,
+    place: Place,
+) -> Result<Claim, AllocError>
+    requires { place.program ≡ script_hash_program (to_local_script commitment.now.delay commitment.now.keys) }
+    ensures { IfOk result (IsClaimOn (penalty_on commitment.now place)) }
+{
+    let keys = commitment.keys();
+    let revocation = keys.revocation;
+    let checked = to_local(alloc, &revocation, commitment.delay(), &keys.delayed)?;
+    claim_of(alloc, &ClaimKind::Penalty { revocation }, checked, place)
+}
+
+/// The claim on to_remote.
+pub(crate) fn payment_on(
+    alloc: Global,
+    commitment: &Commitment,
+    place: Place,
+) -> Result<Claim, AllocError>
+    requires { place.program ≡ key_hash_program commitment.now.keys.remote }
+    ensures { IfOk result (IsClaimOn (payment_on commitment.now place)) }
+{
+    let key = commitment.keys().remote;
+    let checked = key_hash(alloc, &key)?;
+    claim_of(alloc, &ClaimKind::KeyHash { key }, checked, place)
+}
+
+// The script of an HTLC's output.
+fn htlc_script(
+    alloc: Global,
+    keys: &CommitmentKeys,
+    direction: Direction,
+    htlc: &Htlc,
+) -> Result<Checked, AllocError>
+    requires { htlc.now.expiry < locktime_threshold }
+    ensures { IfOk result (λ s. s ≡ htlc_form (bytes_of keys.now) direction htlc.now) }
+{
+    let htlc_keys = HtlcKeys {
+        revocation: keys.revocation,
+        remote: keys.remote_htlc,
+        local: keys.local_htlc,
+    };
+    match direction {
+        Direction::Offered => offered(alloc, &htlc_keys, &htlc.hash),
+        Direction::Received => {
+            let expiry = Expiry {
+                height: htlc.expiry,
+            };
+            received(alloc, &htlc_keys, &htlc.hash, expiry)
+        }
+    }
+}
+
+/// The penalty on an HTLC's output.
+pub(crate) fn htlc_penalty_on(
+    alloc: Global,
+    commitment: &Commitment,
+    direction: Direction,
+    htlc: &Htlc,
+    place: Place,
+) -> Result<Claim, AllocError>
+    requires height { htlc.now.expiry < locktime_threshold }
+    requires program { place.program ≡ script_hash_program (htlc_script_of commitment.now.keys direction htlc.now) }
+    ensures { IfOk result (IsClaimOn (htlc_penalty_on commitment.now direction htlc.now place)) }
+{
+    let keys = commitment.keys();
+    let revocation = keys.revocation;
+    let checked = htlc_script(alloc, keys, direction, htlc)?;
+    claim_of(
+        alloc,
+        &ClaimKind::HtlcPenalty { revocation },
+        checked,
+        place,
+    )
+}

@@ -1,0 +1,27 @@
+//! Penalties: all that a revoked commitment lets its owner's peer claim (BOLT 5, "Revoked Transaction Close Handling").
+//!
+//! [`penalties`] gives one accepted claim for each output of the commitment, to_local, to_remote and each HTLC, and behind each HTLC's claim one
+//! for the output of the HTLC transaction with which the cheater may get there first. That these are exactly the definition's
+//! (`claimable_of`), in its order, is a fact of the type [`PenaltySet`].
+//!
+//! ```rust
+//! let state = RevokedState::new(terms, view, Side::A, 7, secret)?; // of a view with one HTLC
+//! let set = penalties(alloc, &state)?;
+//! assert_eq!(rt; set.claims().len(), 4);
+//! ```
+#![tactic(auto)]
+
+mod building;
+mod claiming;
+mod errors;
+pub mod laws;
+mod sets;
+mod states;
+#[cfg(test)]
+mod tests;
+
+pub use building::penalties;
+pub use errors::StateError;
+pub use sets::PenaltySet;
+pub use states::{MAX_STATE_HTLCS, RevokedState};
+pub use terms::{Htlc, Side, Terms, View};

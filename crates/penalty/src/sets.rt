@@ -1,0 +1,56 @@
+//! Sets of penalties.
+
+use crate::states::RevokedState;
+use claim::Claim;
+use lists::List;
+use std::marker::Model;
+
+/// All that a revoked state lets the owner's peer claim: accepted claims on exactly the outputs of `claimable_of`, in its order. `penalties` alone makes
+/// one.
+#[derive(Drop)]
+pub struct PenaltySet {
+    state: RevokedState,
+    claims: List<Claim>,
+}
+
+impl Model for PenaltySet {
+    ghost use Rattle.penalty.specs.Sets.{Penalties, AreClaimsOn};
+    ghost use Rattle.penalty.specs.Claimable.{claimable_of};
+
+    ghost Value = { Penalties };
+
+    ghost view = { λ s. record { state = s.state; claims = s.claims } };
+
+    ghost invariant = { λ s. AreClaimsOn (claimable_of s.state) s.claims };
+}
+
+impl PenaltySet {
+    ghost use Rattle.std.specs.Prelude.{◌≡◌};
+    ghost use Rattle.penalty.specs.Claimable.{claimable_of};
+    ghost use Rattle.penalty.specs.Sets.{AreClaimsOn};
+
+    // The claims of a state.
+    pub(crate) fn new(state: RevokedState, claims: List<Claim>) -> PenaltySet
+        requires { AreClaimsOn (claimable_of state) claims }
+        ensures { result ≡ record { state = state; claims = claims } }
+    {
+        PenaltySet { state, claims }
+    }
+
+    /// The revoked state.
+    pub fn state(&self) -> &RevokedState
+        ensures { result.now ≡ self.now.state }
+    {
+        &self.state
+    }
+
+    /// The claims: by output of the commitment, and behind each HTLC's the one on the output of its HTLC transaction.
+    pub fn claims(&self) -> &[Claim]
+        ensures value { result.now ≡ self.now.claims }
+        ensures full { AreClaimsOn (claimable_of self.now.state) self.now.claims }
+    {
+        // Borrowing both fields gives the prover the invariant.
+        let _state = &self.state;
+        self.claims.values()
+    }
+}

@@ -1,0 +1,122 @@
+//! Revoked states.
+
+ghost use Rattle.std.specs.Prelude.{◌≡◌, ◌+◌, ◌*◌, ◌<◌, ◌≤◌, ◌^◌, length, IsTrue};
+ghost use Rattle.terms.specs.declared.amounts.TheConstants.{MSAT_PER_SAT};
+ghost use Rattle.commit.specs.Sums.{millisatoshis_of, total_of};
+ghost use Rattle.penalty.specs.Views.{expire_at_heights, has_heights, htlc_count};
+
+use crate::errors::StateError;
+use script::limits::LOCKTIME_THRESHOLD;
+use std::alloc::AllocError;
+use terms::{Htlc, MSAT_PER_SAT, Share, Side, Terms, View};
+
+/// How many HTLCs a state can have, so that to_local and to_remote have room beside them in one transaction.
+pub const MAX_STATE_HTLCS: usize = 3998;
+
+/// A commitment that its owner revoked, by what it pays and by the secret. The type keeps that a commitment can pay the view.
+#[derive(Debug, Drop)]
+pub struct RevokedState {
+    pub terms: Terms,
+    /// What the commitment pays.
+    pub view: View,
+    /// Whose commitment it is: the side that revoked it.
+    pub owner: Side,
+    /// The commitment's number, of which the low 48 bits count.
+    pub number: u64,
+    /// The commitment's per-commitment secret, which its owner gave away (BOLT 2, `revoke_and_ack`).
+    pub secret: [u8; 32],
+    pub ghost few: { htlc_count view ≤ 3998 },
+    pub ghost heights: { IsTrue (has_heights view) },
+    pub ghost whole: { total_of view ≡ MSAT_PER_SAT * terms.capacity },
+}
+
+// Whether each HTLC expires at a height.
+fn expire_at_heights(htlcs: &[Htlc]) -> bool
+    ensures { result ≡ expire_at_heights htlcs.now }
+{
+    htlcs
+        .iter()
+        .all(|htlc| u64::from(htlc.expiry) < LOCKTIME_THRESHOLD)
+}
+
+// The millisatoshis of HTLCs. No number of them passes the width.
+fn millisatoshis(htlcs: &[Htlc]) -> u128
+    ensures value { result ≡ millisatoshis_of htlcs.now }
+    ensures bound { result ≤ length htlcs.now * 2 ^ 64 }
+{
+    let mut total = 0;
+    for htlc in htlcs {
+        let amount = htlc.amount;
+        total += u128::from(amount);
+    }
+    total
+}
+
+// The millisatoshis of what a view gives to one side.
+fn share_total(share: &Share) -> u128
+    requires { length share.now.offered ≤ 3998 }
+    ensures value { result ≡ share.now.balance + millisatoshis_of share.now.offered }
+    ensures bound { result < 2 ^ 100 }
+{
+    let balance = share.balance;
+    u128::from(balance) + millisatoshis(share.offered.values())
+}
+
+// The millisatoshis of a view.
+fn total(view: &View) -> u128
+    requires { htlc_count view.now ≤ 3998 }
+    ensures { result ≡ total_of view.now }
+{
+    share_total(&view.a) + share_total(&view.b)
+}
+
+impl RevokedState {
+    ghost use Rattle.std.specs.Prelude.{◌≡◌, Some, None, MatchResult, IfOk};
+    ghost use Rattle.penalty.specs.States.{HasParts, refusal_of};
+
+    /// The state of these values: TooManyHtlcs where there are more than 3,998, ExpiryTooLarge where one expires at a time and not a height, and
+    /// WrongTotal where balances and HTLCs are together not the capacity.
+    pub fn new(
+        terms: Terms,
+        view: View,
+        owner: Side,
+        number: u64,
+        secret: [u8; 32],
+    ) -> Result<RevokedState, StateError>
+        ensures ok { MatchResult result (λ _. refusal_of terms view ≡ None) (λ e. refusal_of terms view ≡ Some e) }
+        ensures parts { IfOk result (HasParts terms view owner number secret) }
+    {
+        let a = view.a.offered.values();
+        let b = view.b.offered.values();
+        if a.len() > MAX_STATE_HTLCS || b.len() > MAX_STATE_HTLCS - a.len() {
+            return Err(StateError::TooManyHtlcs);
+        }
+        if !(expire_at_heights(a) && expire_at_heights(b)) {
+            return Err(StateError::ExpiryTooLarge);
+        }
+        if total(&view) != u128::from(MSAT_PER_SAT) * u128::from(terms.capacity) {
+            return Err(StateError::WrongTotal);
+        }
+        Ok(RevokedState {
+            terms,
+            view,
+            owner,
+            number,
+            secret,
+        })
+    }
+
+    /// An equal state. The only error is that memory ran out.
+    pub fn copy(&self) -> Result<RevokedState, AllocError>
+        ensures { IfOk result (λ s. s ≡ self.now) }
+    {
+        let view = self.view.copy()?;
+        Ok(RevokedState {
+            terms: self.terms,
+            view,
+            owner: self.owner,
+            number: self.number,
+            secret: self.secret,
+        })
+    }
+}
