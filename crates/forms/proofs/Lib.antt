@@ -1,5 +1,6 @@
 pub mod Pushes
 pub mod Listed
+pub mod Assembled
 pub mod Forms
 pub mod ScriptExamples
 pub mod Accepted

@@ -1,8 +1,7 @@
 // The scripts of BOLT 3, Appendix C, scripts of every shape of number, and slots of every kind of claim.
 
 use crate::{
-    ClaimKind, Expiry, HtlcKeys, accepted_slots, funding, key_hash, offered, patterns, received,
-    to_local,
+    ClaimKind, Expiry, HtlcKeys, accepted_slots, funding, key_hash, offered, received, to_local,
 };
 use claim::{Place, Shell, accept};
 use digest::sha256;
@@ -74,40 +73,26 @@ fn spells(
 #[test]
 fn builds_the_outputs_of_a_commitment(rt: HostRuntime) -> Result<(), Fail> {
     let alloc = rt.alloc();
-    let patterns = patterns(alloc)?;
     let local = key(&rt, LOCAL_FUNDING);
     let remote = key(&rt, REMOTE_FUNDING);
-    spells(
-        &rt,
-        alloc,
-        &funding(alloc, &patterns, &local, &remote)?,
-        FUNDING,
-        1,
-    )?;
-    spells(
-        &rt,
-        alloc,
-        &funding(alloc, &patterns, &remote, &local)?,
-        FUNDING,
-        1,
-    )?;
+    spells(&rt, alloc, &funding(alloc, &local, &remote)?, FUNDING, 1)?;
+    spells(&rt, alloc, &funding(alloc, &remote, &local)?, FUNDING, 1)?;
     let revocation = key(&rt, LOCAL_REVOCATION);
     let delayed = key(&rt, LOCAL_DELAYED);
-    let checked = to_local(alloc, &patterns, &revocation, 144, &delayed)?;
+    let checked = to_local(alloc, &revocation, 144, &delayed)?;
     spells(&rt, alloc, &checked, TO_LOCAL, 2)?;
-    let checked = key_hash(alloc, &patterns, &key(&rt, REMOTE_HTLC))?;
+    let checked = key_hash(alloc, &key(&rt, REMOTE_HTLC))?;
     spells(&rt, alloc, &checked, KEY_HASH, 1)
 }
 
 #[test]
 fn builds_the_outputs_of_htlcs(rt: HostRuntime) -> Result<(), Fail> {
     let alloc = rt.alloc();
-    let patterns = patterns(alloc)?;
     let keys = htlc_keys(&rt);
     let expiry = Expiry::new(500).expect(&rt, "a height");
-    let checked = received(alloc, &patterns, &keys, &sha256(&[0; 32]), expiry)?;
+    let checked = received(alloc, &keys, &sha256(&[0; 32]), expiry)?;
     spells(&rt, alloc, &checked, HTLC_0, 3)?;
-    let checked = offered(alloc, &patterns, &keys, &sha256(&[2; 32]))?;
+    let checked = offered(alloc, &keys, &sha256(&[2; 32]))?;
     spells(&rt, alloc, &checked, HTLC_2, 3)
 }
 
@@ -125,15 +110,14 @@ fn takes_heights_alone(rt: HostRuntime) {
 #[test]
 fn builds_every_shape_of_number(rt: HostRuntime) -> Result<(), Fail> {
     let alloc = rt.alloc();
-    let patterns = patterns(alloc)?;
     let keys = htlc_keys(&rt);
     for delay in [
         0u16, 1, 16, 17, 127, 128, 255, 256, 32767, 32768, 40000, 65535,
     ] {
-        let checked = to_local(alloc, &patterns, &keys.revocation, delay, &keys.local)?;
+        let checked = to_local(alloc, &keys.revocation, delay, &keys.local)?;
         assert_eq!(rt; checked.paths().len(), 2);
         let expiry = Expiry::new(u32::from(delay) * 7629).expect(&rt, "a height");
-        let checked = received(alloc, &patterns, &keys, &[7; 32], expiry)?;
+        let checked = received(alloc, &keys, &[7; 32], expiry)?;
         assert_eq!(rt; checked.paths().len(), 3);
     }
     Ok(())
@@ -157,15 +141,8 @@ fn place(alloc: Global, checked: &Checked) -> Result<Place, AllocError> {
 #[test]
 fn claims_after_a_delay(rt: HostRuntime) -> Result<(), Fail> {
     let alloc = rt.alloc();
-    let patterns = patterns(alloc)?;
     let delayed = key(&rt, LOCAL_DELAYED);
-    let checked = to_local(
-        alloc,
-        &patterns,
-        &key(&rt, LOCAL_REVOCATION),
-        40_000,
-        &delayed,
-    )?;
+    let checked = to_local(alloc, &key(&rt, LOCAL_REVOCATION), 40_000, &delayed)?;
     let kind = ClaimKind::Delayed { delayed };
     let slots = accepted_slots(alloc, &kind)?;
     let place = place(alloc, &checked)?;
