@@ -28,7 +28,7 @@ fn compare<C: Coins>(
     Ok(())
 }
 
-/// Whether it was refused for want of memory.
+/// Whether it was refused for being out of memory.
 fn is_out_of_memory(answer: &Result<u64, BlockError>) -> bool {
     match answer {
         Ok(_) => false,

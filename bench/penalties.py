@@ -1,0 +1,53 @@
+#!/usr/bin/env python3
+"""Times the penalty set of a state with many HTLCs beside SHA-256 of 1 MiB, in one run, and prints both and their ratio; and that of a state with half as many.
+
+Wants the toolchain's `rt`, which proves and builds crates/penalty_vectors.
+"""
+
+import os
+import subprocess
+import time
+
+TOP = os.path.dirname(os.path.dirname(os.path.abspath(__file__)))
+CRATE = os.path.join(TOP, "crates", "penalty_vectors")
+SETS, HASHES, ROUNDS = 10, 40, 7
+
+
+def seconds(program, text):
+    """What the program takes for a line, and what it prints."""
+    start = time.perf_counter()
+    done = subprocess.run([program], input=text, capture_output=True, text=True, check=True)
+    return time.perf_counter() - start, done.stdout
+
+
+def each(program, line, times):
+    """The milliseconds of one piece of work: the fastest of the rounds, without what the program takes to start and to read the line."""
+    best, start = 1e9, 1e9
+    for _ in range(ROUNDS):
+        start = min(start, seconds(program, line.format(0))[0])
+        best = min(best, seconds(program, line.format(times))[0])
+    return (best - start) / times * 1e3
+
+
+def state(htlcs):
+    """A state of ten million satoshis, half of its HTLCs offered by each side."""
+    words = [f"{'AB'[i % 2]}:{(2000 + i) * 1000}:{500 + i}:{i % 256}" for i in range(htlcs)]
+    offered = sum((2000 + i) * 1000 for i in range(htlcs))
+    return f"A 7 1000 {10_000_000_000 - offered} 0 " + " ".join(words)
+
+
+def main():
+    with open(os.path.join(CRATE, "stdin")) as given:
+        subprocess.run(["rt", "run"], cwd=CRATE, stdin=given, stdout=subprocess.DEVNULL, check=True)
+    program = os.path.join(CRATE, "out", "penalty_vectors")
+    hashing = each(program, "hash {}\n", HASHES)
+    print(f"SHA-256 of 1 MiB      {hashing:8.2f} ms")
+    for htlcs in (483, 966):
+        line = "repeat {} " + state(htlcs) + "\n"
+        print(seconds(program, line.format(1))[1].strip())
+        took = each(program, line, SETS)
+        print(f"penalties, {htlcs} HTLCs {took:8.2f} ms  ratio {took / hashing:.2f}")
+
+
+if __name__ == "__main__":
+    main()

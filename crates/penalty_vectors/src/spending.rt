@@ -1,0 +1,80 @@
+//! Transactions that take what a commitment pays.
+
+use claim::Claim;
+use filling::{FillError, Filled, fill};
+use keys::Signer;
+use lists::ByteString;
+use penalty::PenaltySet;
+use std::alloc::{AllocError, Global};
+use tx::{MAX_INPUTS, MAX_OUTPUTS, TxOut, encode, txid};
+
+// The filling of claims, with one output to nobody's script.
+fn filled(
+    alloc: Global,
+    claims: &[&Claim],
+    value: u64,
+    signer: &Signer,
+) -> Result<Filled, FillError> {
+    let mut outputs = Vec::new(alloc);
+    let Ok(output) = TxOut::new(value, ByteString::new(alloc)) else {
+        return Err(FillError::OutputsExceed);
+    };
+    outputs.push(output)?;
+    if claims.is_empty() || claims.len() > MAX_INPUTS || outputs.len() > MAX_OUTPUTS {
+        return Err(FillError::NoMemory);
+    }
+    fill(alloc, claims, outputs, signer, &[])
+}
+
+// What a filling is, or why there is none.
+fn write_filling(
+    alloc: Global,
+    answer: Result<Filled, FillError>,
+    text: &mut String,
+) -> Result<(), AllocError> {
+    let filled = match answer {
+        Ok(filled) => filled,
+        Err(refusal) => {
+            return text.push_str(format!(in alloc; "refused {refusal}\n")?.as_str());
+        }
+    };
+    let tx = filled.tx();
+    let id = hex::encode(alloc, txid(tx))?;
+    let (inputs, lock_time) = (tx.inputs().len(), tx.lock_time());
+    text.push_str(format!(in alloc;
+        "filled {id} inputs {inputs} lock {lock_time} bytes "
+    )?.as_str())?;
+    let Ok(bytes) = encode(alloc, tx) else {
+        return text.push_str("none\n");
+    };
+    text.push_str(hex::encode(alloc, &digest::sha256d(&bytes))?.as_str())?;
+    text.push_str("\n")
+}
+
+/// The transaction that takes what the commitment's own outputs have together; the same with a satoshi more; and the first claim with itself.
+pub(crate) fn write_spends(
+    alloc: Global,
+    set: &PenaltySet,
+    signer: &Signer,
+    text: &mut String,
+) -> Result<(), AllocError> {
+    let mut own = Vec::new(alloc);
+    let mut total = 0u64;
+    let Some(first) = set.claims().first() else {
+        return Ok(());
+    };
+    // The commitment's own outputs are those with the first one's id.
+    for claim in set.claims() {
+        if claim.outpoint().txid == first.outpoint().txid {
+            own.push(claim)?;
+            total = total.saturating_add(claim.place().value);
+        }
+    }
+    write_filling(alloc, filled(alloc, own.as_slice(), total, signer), text)?;
+    write_filling(
+        alloc,
+        filled(alloc, own.as_slice(), total.saturating_add(1), signer),
+        text,
+    )?;
+    write_filling(alloc, filled(alloc, &[first, first], total, signer), text)
+}
