@@ -21,7 +21,7 @@ pub there : (a b : Bool) → b ≡ true → (a || b) ≡ true
 there true b e = refl
 there false b e = e
 
-or_assoc : (a b c : Bool) → ((a || b) || c) ≡ (a || (b || c))
+pub or_assoc : (a b c : Bool) → ((a || b) || c) ≡ (a || (b || c))
 or_assoc true b c = refl
 or_assoc false b c = refl
 

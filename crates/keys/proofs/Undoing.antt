@@ -9,7 +9,7 @@ use Rattle.std.proofs.lemmas.Slice.Eq.{bytes_eq-Decides}
 use Rattle.std.proofs.lemmas.Map.Text.{is_eq-slice_cmp}
 use Rattle.keys.specs.Derivation.{point_of}
 use Rattle.keys.specs.Keys.{keys_at, revocations_at, learnt_keys, is_among}
-use Rattle.keys.proofs.Among.{learnt_point, learnt_secret}
+use Rattle.keys.proofs.Among.{or_assoc, is_among-append, learnt_point, learnt_secret}
 
 taken_again : (key q : List ℕ) (c0 : List ℕ → Bool) (c1 c2 c3 : Bool) (t : Bool) → bytes_eq key q ≡ t → c0 key ≡ false → c1 ≡ cond t true (c0 q) → c2 ≡ c1 → c3 ≡ cond t false c2 → c3 ≡ c0 q
 taken_again key q c0 c1 c2 c3 true e absent a b c = c ∙ sym absent ∙ ap c0 ((bytes_eq-Decides key q).0 e)
@@ -71,3 +71,23 @@ learnt_one_secret c0 c2 seed points secrets after more s point pe m f a i q =
     ∙ ap (λ ks. is_among q ks || is_among q (learnt_keys seed points secrets)) (m ∙ ap (revocations_at seed) pe)
     ∙ sym (learnt_secret seed points secrets s q)
     ∙ ap (λ ss. is_among q (learnt_keys seed points ss)) (sym f)
+
+-- a point and a secret are learnt
+pub learnt_both :
+    (c0 c2 : List ℕ → Bool) (seed : List ℕ) (points secrets points_after secrets_after more : List (List ℕ)) (p s point : List ℕ)
+    → point ≡ point_of s → more ≡ keys_at seed p ++ revocations_at seed point → points_after ≡ points ++ p ∷ [] → secrets_after ≡ secrets ++ s ∷ []
+    → ((q : List ℕ) → c2 q ≡ (is_among q more || c0 q)) → ((q : List ℕ) → c0 q ≡ is_among q (learnt_keys seed points secrets))
+    → (q : List ℕ) → c2 q ≡ is_among q (learnt_keys seed points_after secrets_after)
+learnt_both c0 c2 seed points secrets points_after secrets_after more p s point e m ps ss a i q =
+    let ks : List (List ℕ) = keys_at seed p in
+    let rs : List (List ℕ) = revocations_at seed (point_of s) in
+    let old : Bool = is_among q (learnt_keys seed points secrets) in
+    a q
+    ∙ ap (λ x. is_among q more || x) (i q)
+    ∙ ap (λ xs. is_among q xs || old) (m ∙ ap (λ x. ks ++ revocations_at seed x) e)
+    ∙ ap (λ b. b || old) (is_among-append q ks rs)
+    ∙ or_assoc (is_among q ks) (is_among q rs) old
+    ∙ ap (λ b. is_among q ks || b) (sym (learnt_secret seed points secrets s q))
+    ∙ sym (learnt_point seed points (secrets ++ s ∷ []) p q)
+    ∙ ap (λ xs. is_among q (learnt_keys seed xs (secrets ++ s ∷ []))) (sym ps)
+    ∙ ap (λ xs. is_among q (learnt_keys seed points_after xs)) (sym ss)

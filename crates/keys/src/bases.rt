@@ -77,7 +77,7 @@ fn base_key(seed: &[u8; 32], base: Base) -> Key
 }
 
 impl BaseKeys {
-    ghost use Rattle.std.specs.Prelude.{◌≡◌, ◌||◌};
+    ghost use Rattle.std.specs.Prelude.{◌≡◌, ◌||◌, ◌++◌};
     ghost use Rattle.keys.specs.Derivation.{base_key as base_key_of};
     ghost use Rattle.keys.specs.Keys.{is_among, base_keys, keys_at, revocations_at};
 
@@ -162,5 +162,14 @@ impl BaseKeys {
         let htlc = revocation(&self.htlc, point).bytes;
         let revoking = revocation(&self.revocation, point).bytes;
         [funding, payment, delayed, htlc, revoking]
+    }
+
+    /// The keys that derive from these at a point, and their revocation keys at a revoked one.
+    pub(crate) fn keys_after(&self, point: &Key, revoked: &Key) -> [[u8; 33]; 10]
+        ensures { result ≡ keys_at self.now point.now.bytes ++ revocations_at self.now revoked.now.bytes }
+    {
+        let [a, b, c, d, e] = self.keys_at(point);
+        let [f, g, h, i, j] = self.revocations_at(revoked);
+        [a, b, c, d, e, f, g, h, i, j]
     }
 }

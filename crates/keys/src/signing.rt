@@ -120,6 +120,27 @@ impl Signer {
         Ok(())
     }
 
+    /// Learns what a revocation brings: the peer's secret, and its next point. Where memory runs out, the signer learnt neither.
+    pub fn learn_revocation(
+        &mut self,
+        secret: &[u8; 32],
+        next_point: &Key,
+    ) -> Result<(), AllocError>
+        ensures ok { OnOk result (self.new ≡ record self.old {
+          points = self.old.points ++ next_point.now.bytes ∷ [];
+          secrets = self.old.secrets ++ secret.now ∷ [];
+        }) }
+        ensures err { OnErr result (self.new ≡ self.old) }
+    {
+        self.points.reserve(1)?;
+        self.secrets.reserve(1)?;
+        let keys = self.bases.keys_after(next_point, &point(secret));
+        insert_all(&mut self.learnt, &keys)?;
+        self.points.push(next_point.bytes).unwrap();
+        self.secrets.push(*secret).unwrap();
+        Ok(())
+    }
+
     /// Whether the signer may sign for the key. It takes no memory.
     pub fn can_sign(&self, key: &Key) -> bool
         ensures { IsTrue result ↔ MaySign self.now key.now.bytes }

@@ -169,8 +169,12 @@ fn learns_many_and_forgets_none(rt: HostRuntime) -> Result<(), Fail> {
     let mut signer = Signer::new(rt.alloc(), &SEED);
     for number in 0..300 {
         let secret = numbered_secret(number);
-        signer.learn_point(&point(&secret))?;
-        signer.learn_secret(&secret)?;
+        if number % 2 == 0 {
+            signer.learn_revocation(&secret, &point(&secret))?;
+        } else {
+            signer.learn_point(&point(&secret))?;
+            signer.learn_secret(&secret)?;
+        }
     }
     for number in 0..300 {
         let learnt = point(&numbered_secret(number));
