@@ -1,5 +1,11 @@
 mod Secrets
 mod Sides
+mod TokenLists
+mod Foreign
+mod Kept
+mod SameKeys
+mod Built
+mod SignRights
 mod Queues
 mod Meeting
 mod Agreement

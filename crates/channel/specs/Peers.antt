@@ -25,6 +25,14 @@ opened_both terms seed_a seed_b = record {
   to_b = [];
 }
 
+-- two states are those of both sides of a new channel
+pub record AreOpened (a b : State) : Type 0 where
+  pub terms : Terms
+  pub seed_a : List ℕ
+  pub seed_b : List ℕ
+  pub a_is : a ≡ (opened_both terms seed_a seed_b).a
+  pub b_is : b ≡ (opened_both terms seed_a seed_b).b
+
 -- one step of a peer `me` that isn't refused: what it is then, what it has sent, and what is left of its queue
 pub data Acts (tokens_of : Signing) (me : State) (queue : List Message) : State → List Message → List Message → Type 0 where
   updates : (u : Update) → update_refusal me u ≡ None → Acts tokens_of me queue (after_update u me) (Updated u ∷ []) queue

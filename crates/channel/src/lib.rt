@@ -1,17 +1,38 @@
 //! The states of a payment channel, and two peers that always agree (BOLT 2, "Normal Operation").
 //!
-//! The definitions of this crate say for each call and each message when it is refused, what it makes of a side's state, and what answers it.
-//! [`laws::peers_agree`] proves of them that two honest peers agree over every interleaving of their steps, and [`laws::sides_are_sound`] what one side can
-//! rely on whatever its peer sends.
+//! A [`Channel`] is one side. The definitions say of each call and each message when it is refused, what it makes of the side's state, what is sent and what
+//! answers it; each call of a channel does exactly that, and a refusal leaves the channel as it was. [`laws::peers_agree`] proves of the definitions that two
+//! honest peers agree over every interleaving of their steps, and [`laws::sides_are_sound`] what one side can rely on whatever its peer sends.
+//!
+//! ```rust
+//! /// Offers an HTLC of `amount` millisatoshis, and signs the peer's commitment with it. Both messages are to be sent, the offer first.
+//! fn offer_and_sign(
+//!     channel: &mut Channel,
+//!     amount: u64,
+//!     hash: [u8; 32],
+//!     expiry: u32,
+//! ) -> Result<(Message, Message), Refusal> {
+//!     let offer = channel.offer(amount, hash, expiry)?;
+//!     let signature = channel.signed()?;
+//!     Ok((offer, signature))
+//! }
+//! ```
 #![tactic(auto)]
 
+mod channel;
 mod commitments;
 pub mod laws;
 mod limits;
 mod messages;
+mod opening;
 mod plays;
+#[cfg(test)]
+mod tests;
+mod tokens;
 
+pub use channel::Channel;
 pub use commitments::CommitmentState;
 pub use limits::LAST_NUMBER;
 pub use messages::{Message, Tokens};
+pub use opening::{OpeningPoints, opening_points, opening_token};
 pub use plays::{Action, Outcome, PairStep};

@@ -1,0 +1,52 @@
+#!/usr/bin/env python3
+"""Times rounds of a channel beside SHA-256 of 1 MiB, in one run, in processor seconds. Wants the toolchain's `rt`, which proves and builds crates/channel_costs."""
+
+import os
+import resource
+import subprocess
+
+TOP = os.path.dirname(os.path.dirname(os.path.abspath(__file__)))
+CRATE = os.path.join(TOP, "crates", "channel_costs")
+PROGRAM = os.path.join(CRATE, "out", "channel_costs")
+TURNS = 9
+
+# what a line does, from which round to which
+WORK = {
+    "hash 1 MiB": ("hash", 1, 101),
+    "round of 483 HTLCs": ("sign 483", 1, 31),
+    "round of few, 10 to 210": ("trade", 10, 210),
+    "round of few, 1,000 to 1,200": ("trade", 1000, 1200),
+}
+
+
+def used():
+    """The processor seconds of all programs that ended."""
+    usage = resource.getrusage(resource.RUSAGE_CHILDREN)
+    return usage.ru_utime + usage.ru_stime
+
+
+def seconds(line):
+    start = used()
+    subprocess.run([PROGRAM], input=line, capture_output=True, text=True, check=True)
+    return used() - start
+
+
+def main():
+    done = subprocess.run(["rt", "run"], cwd=CRATE, stdin=subprocess.DEVNULL, capture_output=True, text=True)
+    if done.returncode:
+        raise SystemExit(done.stdout + done.stderr)
+    # the median of the turns, without what goes before the first of the rounds
+    cost = {name: [] for name in WORK}
+    for _ in range(TURNS):
+        for name, (line, first, last) in WORK.items():
+            took = seconds(f"{line} {last}\n") - seconds(f"{line} {first}\n")
+            cost[name].append(took / (last - first))
+    cost = {name: sorted(times)[TURNS // 2] for name, times in cost.items()}
+    for name, took in cost.items():
+        print(f"{name}: {took * 1e3:.3f} ms")
+    print(f"round of 483 HTLCs to 1 MiB: {cost['round of 483 HTLCs'] / cost['hash 1 MiB']:.2f} (at most 6)")
+    print(f"rounds 1,000 to 1,200, to rounds 10 to 210: {cost['round of few, 1,000 to 1,200'] / cost['round of few, 10 to 210']:.2f} (at most 1.2)")
+
+
+if __name__ == "__main__":
+    main()

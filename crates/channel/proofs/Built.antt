@@ -1,0 +1,51 @@
+-- A sound view has a commitment.
+use Rattle.std.proofs.Common.{◌≡◌, ℕ, ◌+◌, ◌*◌, ◌≤◌, List, [], ◌∷◌, length, None, refl, sym, ap, subst, ◌∙◌, arith}
+use Rattle.std.proofs.lemmas.List.Sums.{sum_by-cons}
+use Rattle.terms.specs.declared.htlcs.Htlc.{Htlc}
+use Rattle.terms.specs.declared.sides.Side.{Side}
+use Rattle.terms.specs.declared.sides.Side.TheVariants.{A, B}
+use Rattle.terms.specs.declared.agreement.Terms.{Terms}
+use Rattle.terms.specs.declared.amounts.TheConstants.{MSAT_PER_SAT}
+use Rattle.terms.specs.declared.views.View.{View}
+use Rattle.updates.specs.declared.changes.Update.{Update}
+use Rattle.updates.specs.declared.fates.Fate.{Fate}
+use Rattle.updates.specs.declared.fates.Fate.TheVariants.{Live, Fulfilled, Failed}
+use Rattle.updates.specs.Updates.{fate, offers, total, if_live, pending, kept_if_live, live_in, live}
+use Rattle.updates.specs.Views.{balance, view_of, view_by, IsSound, IsSoundBy}
+use Rattle.commit.specs.Sums.{millisatoshis_of}
+use Rattle.commit.specs.Commitments.{commitment_of}
+use Rattle.commit.specs.Building.{refusal_of}
+use Rattle.commit.proofs.Shared.{shared}
+
+amounts_kept : (f : Fate) (o : Htlc) (os : List Htlc) → millisatoshis_of (kept_if_live f o os) ≡ if_live f o.amount + millisatoshis_of os
+amounts_kept Live o os = sum_by-cons (λ (h : Htlc). h.amount) o os
+amounts_kept Fulfilled o os = omega arith
+amounts_kept Failed o os = omega arith
+
+amounts_live : (os : List Htlc) (ends : List Update) → millisatoshis_of (live_in os ends) ≡ total if_live os ends
+amounts_live [] ends = refl
+amounts_live (o ∷ os) ends = amounts_kept (fate o.id ends) o (live_in os ends) ∙ ap (λ n. if_live (fate o.id ends) o.amount + n) (amounts_live os ends)
+
+summed : (a b p q m n whole : ℕ) → m ≡ p → n ≡ q → a + b + p + q ≡ whole → a + m + (b + n) ≡ whole
+summed a b p q m n whole e f h = omega (arith, e, f, h)
+
+few : (m n : ℕ) → m ≤ 483 → n ≤ 483 → m + n ≤ 3998
+few m n h k = omega (arith, h, k)
+
+pub built_of : (terms : Terms) (xs ys : List Update) (owner : Side) (n : ℕ) (point : List ℕ) → IsSound terms xs ys
+    → refusal_of (commitment_of terms (view_of terms xs ys) owner n point).outputs ≡ None
+built_of terms xs ys owner n point s =
+    shared terms (view_of terms xs ys) owner n point
+    (summed (balance terms.a.start xs ys) (balance terms.b.start ys xs) (pending xs ys) (pending ys xs) (millisatoshis_of (live xs ys)) (millisatoshis_of (live ys xs))
+    (MSAT_PER_SAT * terms.capacity) (amounts_live (offers xs) ys) (amounts_live (offers ys) xs) s.sum)
+    (few (length (live xs ys)) (length (live ys xs)) s.few_of_a s.few_of_b)
+
+pub built_by : (terms : Terms) (side : Side) (mine others : List Update) (owner : Side) (n : ℕ) (point : List ℕ) → IsSoundBy terms side mine others
+    → refusal_of (commitment_of terms (view_by terms side mine others) owner n point).outputs ≡ None
+built_by terms A mine others owner n point s = built_of terms mine others owner n point s
+built_by terms B mine others owner n point s = built_of terms others mine owner n point s
+
+pub built_view : (terms : Terms) (side : Side) (mine others : List Update) (view : View) (owner : Side) (n : ℕ) (point : List ℕ) → view ≡ view_by terms side mine others
+    → IsSoundBy terms side mine others → refusal_of (commitment_of terms view owner n point).outputs ≡ None
+built_view terms side mine others view owner n point e s =
+    subst (λ v. refusal_of (commitment_of terms v owner n point).outputs ≡ None) (sym e) (built_by terms side mine others owner n point s)

@@ -1,0 +1,390 @@
+//! One side of a channel.
+
+use crate::commitments::CommitmentState;
+use crate::limits::LAST_NUMBER;
+use crate::messages::{Message, Tokens};
+use crate::opening::{FIRST_INDEX, first_commitment, own_point, own_secret};
+use crate::tokens::{peer_tokens, same_tokens, sign_tokens};
+use keys::{Key, Signer, point};
+use secrets::Store;
+use sighash::Token;
+use std::alloc::Global;
+use std::marker::Model;
+use terms::{Side, Terms};
+use updates::{Ledger, Refusal, Update};
+
+/// One side of a channel: its updates, the numbers of both sides' commitments, the peer's points and secrets, and every commitment that was signed. A
+/// contract sees it as its `State`.
+#[derive(Drop)]
+pub struct Channel {
+    ledger: Ledger,
+    signer: Signer,
+    awaiting: bool,
+    number: u64,
+    peer_number: u64,
+    point: Key,
+    next_point: Key,
+    secrets: Store,
+    mine: Vec<CommitmentState>,
+    signed: Vec<CommitmentState>,
+}
+
+impl Model for Channel {
+    ghost use Rattle.channel.specs.States.{State};
+    ghost use Rattle.channel.specs.Keeping.{IsChannel};
+
+    ghost Value = { State };
+
+    ghost view = { λ c. record {
+      held = c.ledger;
+      seed = c.signer.seed;
+      awaiting = c.awaiting;
+      number = c.number;
+      peer_number = c.peer_number;
+      point = c.point;
+      next_point = c.next_point;
+      secrets = c.secrets;
+      mine = c.mine.items;
+      signed = c.signed.items;
+    } };
+
+    ghost invariant = { λ c. IsChannel (record {
+      held = c.ledger;
+      seed = c.signer.seed;
+      awaiting = c.awaiting;
+      number = c.number;
+      peer_number = c.peer_number;
+      point = c.point;
+      next_point = c.next_point;
+      secrets = c.secrets;
+      mine = c.mine.items;
+      signed = c.signed.items;
+    }) c.signer };
+}
+
+impl Channel {
+    ghost use Rattle.std.specs.Prelude.{◌≡◌, ◌+◌, ◌^◌, ◌<◌, ◌≤◌, [], ◌∷◌, ◌++◌, false, true, None, IfOk, IfErr, IfSome, IfNone, OnErr, MatchResult};
+    ghost use Rattle.std.specs.List.{cons_option};
+    ghost use Rattle.updates.specs.declared.changes.Update.TheVariants.{Add, Fulfil, Fail, Fee};
+    ghost use Rattle.updates.specs.declared.refusals.Refusal.TheVariants.{NoMemory};
+    ghost use Rattle.updates.specs.Refusals.{first_refusal, IsRefusal};
+    ghost use Rattle.updates.specs.Steady.{next_htlc};
+    ghost use Rattle.channel.specs.declared.messages.Message.TheVariants.{Updated, CommitmentSigned, RevokeAndAck};
+    ghost use Rattle.channel.specs.declared.limits.TheConstants.{LAST_NUMBER as last_number};
+    ghost use Rattle.channel.specs.Points.{is_foreign};
+    ghost use Rattle.channel.specs.Keeping.{HasBases};
+    ghost use Rattle.channel.specs.Tokens.{IsBuilt, opening_tests, peer_tokens as tokens_of};
+    ghost use Rattle.channel.specs.States.{opened, peers_next, own_next, update_refusal, sign_refusal, receive_refusal, receive_tests, after_update, after_sign, after, answers, signature_message};
+
+    /// A side of a new channel, with the peer's points for 0 and 1, and the peer's token on this side's commitment 0: BadSignature where it is
+    /// another. The signer's funding and HTLC base keys stand in the terms.
+    pub fn new(
+        alloc: Global,
+        terms: Terms,
+        side: Side,
+        signer: Signer,
+        first_point: Key,
+        next_point: Key,
+        token: &Token,
+    ) -> Result<Channel, Refusal>
+        requires { HasBases terms side signer.seed }
+        ensures ok { IfOk result (λ c. c ≡ opened terms side signer.seed first_point next_point) }
+        ensures tested { let first = first_refusal (opening_tests terms side signer.seed token.now)
+            in MatchResult result (λ _. first ≡ None) (IsRefusal first) }
+    {
+        let own = own_point(&signer, 0);
+        let first = match first_commitment(alloc, terms, side, own) {
+            Ok(first) => first,
+            Err(_) => return Err(Refusal::NoMemory),
+        };
+        let expected = match peer_tokens(alloc, &terms, &first) {
+            Ok(tokens) => tokens,
+            Err(_) => return Err(Refusal::NoMemory),
+        };
+        if token.bytes() != expected.commitment.bytes() {
+            return Err(Refusal::BadSignature);
+        }
+        let peers = match first_commitment(alloc, terms, side.other(), first_point) {
+            Ok(peers) => peers,
+            Err(_) => return Err(Refusal::NoMemory),
+        };
+        let mut signer = signer;
+        signer.learn_point(&first_point)?;
+        signer.learn_point(&next_point)?;
+        let mut mine = Vec::new(alloc);
+        mine.push(first)?;
+        let mut signed = Vec::new(alloc);
+        signed.push(peers)?;
+        Ok(Channel {
+            ledger: Ledger::new(alloc, terms, side),
+            signer,
+            awaiting: false,
+            number: 0,
+            peer_number: 0,
+            point: first_point,
+            next_point,
+            secrets: Store::new(),
+            mine,
+            signed,
+        })
+    }
+
+    /// Offers an HTLC of `amount` millisatoshis, and gives the message. It is tested for AmountZero, BelowMinimum, ExpiryTooLarge, TooManyHtlcs and
+    /// OverBalance, in this order. A refusal leaves the channel as it was.
+    pub fn offer(&mut self, amount: u64, hash: [u8; 32], expiry: u32) -> Result<Message, Refusal>
+        ensures message { IfOk result (λ m. m ≡ Updated (Add (next_htlc self.old.held.own amount hash expiry))) }
+        ensures ok { IfOk result (λ _. self.new ≡ after_update (Add (next_htlc self.old.held.own amount hash expiry)) self.old) }
+        ensures tested { let first = update_refusal self.old (Add (next_htlc self.old.held.own amount hash expiry))
+            in MatchResult result (λ _. first ≡ None) (IsRefusal first) }
+        ensures err { OnErr result (self.new ≡ self.old) }
+    {
+        match self.ledger.offer(amount, hash, expiry) {
+            Ok(htlc) => Ok(Message::Updated(Update::Add(htlc))),
+            Err(refusal) => Err(refusal),
+        }
+    }
+
+    /// Fulfils an HTLC of the peer, and gives the message: UnknownHtlc where the peer has none of this id that passed all stages and that nobody
+    /// removed, else WrongPreimage. A refusal leaves the channel as it was.
+    pub fn fulfil(&mut self, id: u64, preimage: [u8; 32]) -> Result<Message, Refusal>
+        ensures message { IfOk result (λ m. m ≡ Updated (Fulfil id preimage)) }
+        ensures ok { IfOk result (λ _. self.new ≡ after_update (Fulfil id preimage) self.old) }
+        ensures tested { let first = update_refusal self.old (Fulfil id preimage) in MatchResult result (λ _. first ≡ None) (IsRefusal first) }
+        ensures err { OnErr result (self.new ≡ self.old) }
+    {
+        match self.ledger.fulfil(id, preimage) {
+            Ok(()) => Ok(Message::Updated(Update::Fulfil { id, preimage })),
+            Err(refusal) => Err(refusal),
+        }
+    }
+
+    /// Fails an HTLC of the peer, and gives the message: UnknownHtlc as of `fulfil`. A refusal leaves the channel as it was.
+    pub fn fail(&mut self, id: u64) -> Result<Message, Refusal>
+        ensures message { IfOk result (λ m. m ≡ Updated (Fail id)) }
+        ensures ok { IfOk result (λ _. self.new ≡ after_update (Fail id) self.old) }
+        ensures tested { let first = update_refusal self.old (Fail id) in MatchResult result (λ _. first ≡ None) (IsRefusal first) }
+        ensures err { OnErr result (self.new ≡ self.old) }
+    {
+        match self.ledger.fail(id) {
+            Ok(()) => Ok(Message::Updated(Update::Fail { id })),
+            Err(refusal) => Err(refusal),
+        }
+    }
+
+    /// Changes the feerate, and gives the message: NotOpener where this side did not open the channel. A refusal leaves the channel as it was.
+    pub fn set_fee(&mut self, rate: u32) -> Result<Message, Refusal>
+        ensures message { IfOk result (λ m. m ≡ Updated (Fee rate)) }
+        ensures ok { IfOk result (λ _. self.new ≡ after_update (Fee rate) self.old) }
+        ensures tested { let first = update_refusal self.old (Fee rate) in MatchResult result (λ _. first ≡ None) (IsRefusal first) }
+        ensures err { OnErr result (self.new ≡ self.old) }
+    {
+        match self.ledger.set_fee(rate) {
+            Ok(()) => Ok(Message::Updated(Update::Fee { rate })),
+            Err(refusal) => Err(refusal),
+        }
+    }
+
+    // This side's next commitment.
+    #[tactic(auto, using(crate::proofs::Built::built_view))]
+    fn own_next(&self) -> Result<CommitmentState, Refusal>
+        requires { self.now.number < last_number }
+        ensures ok { IfOk result (λ c. c ≡ own_next self.now) }
+        ensures built { IfOk result (λ c. IsBuilt self.now.held.terms c) }
+        ensures err { IfErr result (λ e. e ≡ NoMemory) }
+    {
+        let view = match self.ledger.view_to_receive() {
+            Ok(view) => view,
+            Err(_) => return Err(Refusal::NoMemory),
+        };
+        Ok(CommitmentState {
+            view,
+            owner: self.ledger.side(),
+            number: self.number + 1,
+            point: own_point(&self.signer, self.number + 1),
+        })
+    }
+
+    // The peer's next commitment.
+    #[tactic(auto, using(crate::proofs::Built::built_view))]
+    fn peers_next(&self) -> Result<CommitmentState, Refusal>
+        requires { self.now.peer_number < last_number }
+        ensures ok { IfOk result (λ c. c ≡ peers_next self.now) }
+        ensures built { IfOk result (λ c. IsBuilt self.now.held.terms c) }
+        ensures err { IfErr result (λ e. e ≡ NoMemory) }
+    {
+        let view = match self.ledger.view_to_sign() {
+            Ok(view) => view,
+            Err(_) => return Err(Refusal::NoMemory),
+        };
+        Ok(CommitmentState {
+            view,
+            owner: self.ledger.side().other(),
+            number: self.peer_number + 1,
+            point: self.next_point,
+        })
+    }
+
+    // Whether this side may sign.
+    fn check_sign(&self) -> Result<(), Refusal>
+        ensures tested { MatchResult result (λ _. sign_refusal self.now ≡ None) (IsRefusal (sign_refusal self.now)) }
+        ensures waits { IfOk result (λ _. self.now.awaiting ≡ false) }
+        ensures below { IfOk result (λ _. self.now.peer_number < last_number) }
+    {
+        if self.awaiting || self.peer_number >= LAST_NUMBER {
+            return Err(Refusal::NotYourTurn);
+        }
+        if self.ledger.signs_nothing() {
+            return Err(Refusal::NoUpdates);
+        }
+        Ok(())
+    }
+
+    /// The peer's next commitment, which [`signed`](Channel::signed) would sign: NotYourTurn while a signature awaits its revocation, and past the last
+    /// number, else NoUpdates where it would cover no new update.
+    pub fn ready(&self) -> Result<CommitmentState, Refusal>
+        ensures ok { IfOk result (λ c. c ≡ peers_next self.now) }
+        ensures tested { MatchResult result (λ _. sign_refusal self.now ≡ None) (IsRefusal (sign_refusal self.now)) }
+    {
+        match self.check_sign() {
+            Ok(()) => self.peers_next(),
+            Err(refusal) => Err(refusal),
+        }
+    }
+
+    /// Signs the peer's next commitment, and gives the message: refused as [`ready`](Channel::ready). A refusal leaves the channel as it was.
+    pub fn signed(&mut self) -> Result<Message, Refusal>
+        ensures message { IfOk result (λ m. m ≡ signature_message tokens_of self.old) }
+        ensures ok { IfOk result (λ _. self.new ≡ after_sign self.old) }
+        ensures tested { MatchResult result (λ _. sign_refusal self.old ≡ None) (IsRefusal (sign_refusal self.old)) }
+        ensures err { OnErr result (self.new ≡ self.old) }
+    {
+        match self.check_sign() {
+            Ok(()) => {}
+            Err(refusal) => return Err(refusal),
+        }
+        let next = match self.peers_next() {
+            Ok(next) => next,
+            Err(_) => return Err(Refusal::NoMemory),
+        };
+        let alloc = *self.signed.allocator();
+        let tokens = match sign_tokens(alloc, &self.signer, self.ledger.terms(), &next) {
+            Ok(tokens) => tokens,
+            Err(_) => return Err(Refusal::NoMemory),
+        };
+        match self.signed.push(next) {
+            Ok(()) => {}
+            Err(_) => return Err(Refusal::NoMemory),
+        }
+        self.ledger.sign();
+        self.awaiting = true;
+        Ok(Message::CommitmentSigned(tokens))
+    }
+
+    // The peer's secrets with one more, where it is of their seed.
+    fn with_secret(&self, secret: &[u8; 32]) -> Option<Store>
+        requires { self.now.peer_number < last_number }
+        ensures some { IfSome result (λ s. s ≡ self.now.secrets ++ secret.now ∷ []) }
+        ensures own { IfSome result (λ _. is_foreign self.now.secrets secret.now ≡ false) }
+        ensures foreign { IfNone result (is_foreign self.now.secrets secret.now ≡ true) }
+    {
+        let mut secrets = self.secrets.copy();
+        match secrets.insert(FIRST_INDEX - self.peer_number, secret) {
+            Ok(()) => Some(secrets),
+            Err(_) => None,
+        }
+    }
+
+    // A signature came. It is answered at once.
+    fn receive_signature(&mut self, tokens: &Tokens) -> Result<Message, Refusal>
+        ensures answer { IfOk result (λ m. m ∷ [] ≡ answers self.old (CommitmentSigned tokens.now)) }
+        ensures ok { IfOk result (λ _. self.new ≡ after self.old (CommitmentSigned tokens.now)) }
+        ensures tested { let first = receive_refusal tokens_of self.old (CommitmentSigned tokens.now)
+            in MatchResult result (λ _. first ≡ None) (IsRefusal first) }
+        ensures err { OnErr result (self.new ≡ self.old) }
+    {
+        if self.number >= LAST_NUMBER {
+            return Err(Refusal::NotYourTurn);
+        }
+        if self.ledger.receives_nothing() {
+            return Err(Refusal::NoUpdates);
+        }
+        let next = match self.own_next() {
+            Ok(next) => next,
+            Err(_) => return Err(Refusal::NoMemory),
+        };
+        let alloc = *self.mine.allocator();
+        let expected = match peer_tokens(alloc, self.ledger.terms(), &next) {
+            Ok(expected) => expected,
+            Err(_) => return Err(Refusal::NoMemory),
+        };
+        if !same_tokens(tokens, &expected) {
+            return Err(Refusal::BadSignature);
+        }
+        match self.mine.push(next) {
+            Ok(()) => {}
+            Err(_) => return Err(Refusal::NoMemory),
+        }
+        let secret = own_secret(&self.signer, self.number);
+        let next_point = own_point(&self.signer, self.number + 2);
+        self.ledger.receive_signature();
+        self.number += 1;
+        Ok(Message::RevokeAndAck { secret, next_point })
+    }
+
+    // A revocation came.
+    fn receive_revocation(&mut self, secret: &[u8; 32], next_point: &Key) -> Result<(), Refusal>
+        ensures ok { IfOk result (λ _. self.new ≡ after self.old (RevokeAndAck secret.now next_point.now)) }
+        ensures tested { let first = receive_refusal tokens_of self.old (RevokeAndAck secret.now next_point.now)
+            in MatchResult result (λ _. first ≡ None) (IsRefusal first) }
+        ensures err { OnErr result (self.new ≡ self.old) }
+    {
+        if !self.awaiting {
+            return Err(Refusal::NotYourTurn);
+        }
+        if point(secret).bytes != self.point.bytes {
+            return Err(Refusal::WrongSecret);
+        }
+        let Some(secrets) = self.with_secret(secret) else {
+            return Err(Refusal::WrongSecret);
+        };
+        match self.signer.learn_point(next_point) {
+            Ok(()) => {}
+            Err(_) => return Err(Refusal::NoMemory),
+        }
+        self.secrets = secrets;
+        self.ledger.receive_revocation();
+        self.awaiting = false;
+        self.peer_number += 1;
+        self.point = self.next_point;
+        self.next_point = *next_point;
+        Ok(())
+    }
+
+    /// Receives a message of the peer, and gives the answer: a `commitment_signed` is answered by a `revoke_and_ack`. An update is tested as one of one's
+    /// own, a `commitment_signed` for NotYourTurn, NoUpdates and BadSignature, a `revoke_and_ack` for NotYourTurn and WrongSecret, in these orders. A refusal
+    /// leaves the channel as it was.
+    pub fn receive(&mut self, message: &Message) -> Result<Option<Message>, Refusal>
+        ensures answer { IfOk result (λ m. cons_option m [] ≡ answers self.old message.now) }
+        ensures ok { IfOk result (λ _. self.new ≡ after self.old message.now) }
+        ensures tested { let first = receive_refusal tokens_of self.old message.now
+            in MatchResult result (λ _. first ≡ None) (IsRefusal first) }
+        ensures err { OnErr result (self.new ≡ self.old) }
+    {
+        match message {
+            Message::Updated(update) => match self.ledger.receive_update(update) {
+                Ok(()) => Ok(None),
+                Err(refusal) => Err(refusal),
+            },
+            Message::CommitmentSigned(tokens) => match self.receive_signature(tokens) {
+                Ok(answer) => Ok(Some(answer)),
+                Err(refusal) => Err(refusal),
+            },
+            Message::RevokeAndAck { secret, next_point } => {
+                match self.receive_revocation(secret, next_point) {
+                    Ok(()) => Ok(None),
+                    Err(refusal) => Err(refusal),
+                }
+            }
+        }
+    }
+}

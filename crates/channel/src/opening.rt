@@ -1,0 +1,101 @@
+//! What a side hands to its peer as a channel opens.
+
+ghost use Rattle.std.specs.Prelude.{◌≡◌, ◌^◌, ◌<◌, IfOk, IfErr};
+ghost use Rattle.updates.specs.declared.refusals.Refusal.TheVariants.{NoMemory};
+ghost use Rattle.terms.specs.Sides.{other};
+ghost use Rattle.channel.specs.Points.{secret_at, point_at};
+ghost use Rattle.channel.specs.States.{first_of};
+ghost use Rattle.channel.specs.Tokens.{peer_tokens, IsBuilt};
+ghost use Rattle.channel.specs.Keeping.{HasBases};
+
+use crate::commitments::CommitmentState;
+use crate::tokens::sign_commitment;
+use keys::{Key, Signer, point};
+use secrets::from_seed;
+use sighash::Token;
+use std::alloc::Global;
+use terms::{Side, Terms};
+use updates::{Ledger, Refusal};
+
+// The index of the secret of commitment number 0.
+pub(crate) const FIRST_INDEX: u64 = 281_474_976_710_655;
+
+/// A side's per-commitment points that its peer has from the beginning (BOLT 2, `first_per_commitment_point` and `second_per_commitment_point`).
+#[derive(Clone, Copy, Debug, PartialEq, Eq, Drop)]
+pub struct OpeningPoints {
+    /// For commitment 0.
+    pub first: Key,
+    /// For commitment 1.
+    pub second: Key,
+}
+
+/// The points of a signer for commitments 0 and 1.
+pub fn opening_points(signer: &Signer) -> OpeningPoints
+    ensures first { result.first ≡ point_at signer.now.seed 0 }
+    ensures second { result.second ≡ point_at signer.now.seed 1 }
+{
+    OpeningPoints {
+        first: own_point(signer, 0),
+        second: own_point(signer, 1),
+    }
+}
+
+/// The token of a side on commitment 0 of its peer, whose point for it is `point` (BOLT 2, `funding_created` and `funding_signed`). The signer's funding
+/// and HTLC base keys stand in the terms. The only error is that memory ran out.
+pub fn opening_token(
+    alloc: Global,
+    terms: &Terms,
+    side: Side,
+    signer: &Signer,
+    point: &Key,
+) -> Result<Token, Refusal>
+    requires { HasBases terms.now side signer.now.seed }
+    ensures ok { IfOk result (λ t. t ≡ (peer_tokens terms.now (first_of terms.now (other side) point.now)).commitment) }
+    ensures err { IfErr result (λ e. e ≡ NoMemory) }
+{
+    match first_commitment(alloc, *terms, side.other(), *point) {
+        Ok(first) => sign_commitment(alloc, signer, terms, &first),
+        Err(refusal) => Err(refusal),
+    }
+}
+
+// A signer's secret of a commitment number.
+#[tactic(auto, unfolding(crate::specs::Points::secret_at, crate::specs::Points::index_of))]
+pub(crate) fn own_secret(signer: &Signer, number: u64) -> [u8; 32]
+    requires { number < 2 ^ 48 }
+    ensures { result ≡ secret_at signer.now.seed number }
+{
+    from_seed(&signer.commitment_seed(), FIRST_INDEX - number)
+}
+
+// A signer's point for a commitment number.
+#[tactic(auto, using(crate::proofs::SameKeys::key_of_point))]
+pub(crate) fn own_point(signer: &Signer, number: u64) -> Key
+    requires { number < 2 ^ 48 }
+    ensures { result ≡ point_at signer.now.seed number }
+{
+    point(&own_secret(signer, number))
+}
+
+// Commitment 0 of an owner, which pays what the two sides begin with.
+#[tactic(auto, using(crate::proofs::Built::built_view))]
+pub(crate) fn first_commitment(
+    alloc: Global,
+    terms: Terms,
+    owner: Side,
+    point: Key,
+) -> Result<CommitmentState, Refusal>
+    ensures ok { IfOk result (λ c. c ≡ first_of terms owner point) }
+    ensures built { IfOk result (λ c. IsBuilt terms c) }
+    ensures err { IfErr result (λ e. e ≡ NoMemory) }
+{
+    match Ledger::new(alloc, terms, owner).view_to_receive() {
+        Ok(view) => Ok(CommitmentState {
+            view,
+            owner,
+            number: 0,
+            point,
+        }),
+        Err(_) => Err(Refusal::NoMemory),
+    }
+}

@@ -1,0 +1,113 @@
+//! The two sides of a new channel, for programs that play with it.
+//!
+//! [`open_sides`] makes both from one value of the terms, each with the other's points and token; a contract says so by `AreOpened`.
+//!
+//! ```rust
+//! /// Whether A may offer 1,000 satoshis of its 80,000.
+//! fn offers_once(alloc: Global) -> Result<bool> {
+//!     let mut sides = open_sides(alloc, 100_000, [80_000_000, 20_000_000])?;
+//!     Ok(sides.a.offer(1_000_000, [9; 32], 500).is_ok())
+//! }
+//! ```
+#![tactic(auto)]
+
+ghost use Rattle.std.specs.Prelude.{◌≡◌, IfOk};
+ghost use Rattle.keys.specs.declared.bases.Base.TheVariants.{Funding, Htlc};
+ghost use Rattle.keys.specs.Derivation.{base_key};
+ghost use Rattle.terms.specs.Sides.{other};
+ghost use Rattle.channel.specs.Points.{point_at};
+ghost use Rattle.channel.specs.States.{opened};
+ghost use Rattle.channel.specs.Keeping.{HasBases};
+ghost use Rattle.channel.specs.Peers.{AreOpened};
+
+use anyhow::Result;
+use channel::{Channel, opening_points, opening_token};
+use keys::{Base, Signer};
+use std::alloc::Global;
+use terms::{BaseKeys, Party, Side, Terms};
+use tx::OutPoint;
+
+/// The seeds of the two signers.
+const SEED_A: [u8; 32] = [1; 32];
+
+const SEED_B: [u8; 32] = [2; 32];
+
+/// The two sides of one channel.
+#[derive(Drop)]
+pub struct Sides {
+    pub a: Channel,
+    pub b: Channel,
+}
+
+// What a side brings to the terms, by its signer.
+fn party(signer: &Signer, start: u64) -> Party
+    ensures funding { result.bases.funding.bytes ≡ base_key signer.now.seed Funding }
+    ensures htlc { result.bases.htlc.bytes ≡ base_key signer.now.seed Htlc }
+{
+    Party {
+        dust: 546,
+        delay: 144,
+        minimum: 1000,
+        start,
+        bases: BaseKeys {
+            funding: signer.base(Base::Funding),
+            payment: signer.base(Base::Payment),
+            delayed: signer.base(Base::Delayed),
+            htlc: signer.base(Base::Htlc),
+            revocation: signer.base(Base::Revocation),
+        },
+    }
+}
+
+// The terms of a channel that A opened, at 1,000 satoshis for 1,000 units of weight.
+fn terms_of(capacity: u64, a: Party, b: Party) -> Result<Terms>
+    ensures a { IfOk result (λ t. t.a ≡ a) }
+    ensures b { IfOk result (λ t. t.b ≡ b) }
+{
+    let funding = OutPoint {
+        txid: [7; 32],
+        index: 0,
+    };
+    Ok(Terms::new(funding, capacity, Side::A, 1000, a, b)?)
+}
+
+// A side of a new channel, by both sides' signers.
+fn open_side(
+    alloc: Global,
+    terms: Terms,
+    side: Side,
+    signer: Signer,
+    peer: &Signer,
+) -> Result<Channel>
+    requires own { HasBases terms side signer.seed }
+    requires peers { HasBases terms (other side) peer.now.seed }
+    ensures { IfOk result (λ c. c ≡ opened terms side signer.seed (point_at peer.now.seed 0) (point_at peer.now.seed 1)) }
+{
+    let own = opening_points(&signer);
+    let token = opening_token(alloc, &terms, side.other(), peer, &own.first)?;
+    let peers = opening_points(peer);
+    let opened = Channel::new(
+        alloc,
+        terms,
+        side,
+        signer,
+        peers.first,
+        peers.second,
+        &token,
+    )?;
+    Ok(opened)
+}
+
+/// The sides of a new channel of so many satoshis, of which A and B have so many millisatoshis at the start, in this order. A opened it, and its terms are else
+/// those of a channel of Bitcoin: dust limits of 546 satoshis, delays of 144 blocks, HTLCs of at least 1,000 millisatoshis and 1,000 satoshis for 1,000 units
+/// of weight.
+pub fn open_sides(alloc: Global, capacity: u64, starts: [u64; 2]) -> Result<Sides>
+    ensures { IfOk result (λ s. AreOpened s.a s.b) }
+{
+    let (a, b) = (Signer::new(alloc, &SEED_A), Signer::new(alloc, &SEED_B));
+    let terms = terms_of(capacity, party(&a, starts[0]), party(&b, starts[1]))?;
+    Ok(Sides {
+        a: open_side(alloc, terms, Side::A, Signer::new(alloc, &SEED_A), &b)?,
+        b: open_side(alloc, terms, Side::B, Signer::new(alloc, &SEED_B), &a)?,
+    })
+}
