@@ -12,6 +12,7 @@ mod Agreement
 mod Theorem
 mod Records
 mod Playing
+mod Pairing
 mod Trusting
 mod PlayExamples
 mod RefusalExamples

@@ -41,6 +41,18 @@ PlaysAgree =
     (tokens_of : Signing) (terms : Terms) (seed_a seed_b : List ℕ) (steps : List PairStep) (outcomes : List Outcome) (w : World)
     → IsPlay tokens_of (opened_both terms seed_a seed_b) steps outcomes w → AreDelivered steps outcomes × AgreesIn tokens_of w
 
+-- a world that steps of two honest peers led to from a new channel
+pub record IsPaired (tokens_of : Signing) (w : World) : Type 0 where
+  pub terms : Terms
+  pub seed_a : List ℕ
+  pub seed_b : List ℕ
+  pub reached : IsReached tokens_of terms seed_a seed_b w
+
+-- at every moment of a play of these steps, as after each beginning of them, the two agree
+abbrev pub AgreesThroughout : Signing → World → List PairStep → Type 0
+AgreesThroughout tokens_of w steps =
+    (first rest : List PairStep) (outcomes : List Outcome) (v : World) → first ++ rest ≡ steps → IsPlay tokens_of w first outcomes v → IsPaired tokens_of v × AgreesIn tokens_of v
+
 -- whatever the peer sends
 abbrev pub SidesAreSound : Type 0
 SidesAreSound = (tokens_of : Signing) (s : State) → IsLived tokens_of s → IsSoundState s

@@ -62,6 +62,24 @@ acted tokens_of w side Deliver = delivered_to tokens_of w side (queue_of side w)
 abbrev pub played : Signing → World → PairStep → Played
 played tokens_of w s = acted tokens_of w s.side s.action
 
+-- a step with this outcome, which leads to this world; where memory runs out, it changes nothing
+abbrev pub IsPlayed : World → Played → Outcome → World → Type 0
+IsPlayed w p o v = ((o ≡ Refused NoMemory) × (v ≡ w)) ⊎ ((o ≡ p.outcome) × (v ≡ p.world))
+
+abbrev pub IsStep : Signing → World → PairStep → Outcome → World → Type 0
+IsStep tokens_of w s o v = IsPlayed w (played tokens_of w s) o v
+
+-- the world of a side and its peer, with the messages on their way to each
+abbrev pub placed : Side → State → State → List Message → List Message → World
+placed A me peer to_me to_peer = record { a = me; b = peer; to_a = to_me; to_b = to_peer }
+placed B me peer to_me to_peer = record { a = peer; b = me; to_a = to_peer; to_b = to_me }
+
+-- what one side does in its step: the outcome, and what is then its state, the queue to it and the one to its peer. It is either side, and its peer stays as
+-- it is
+abbrev pub IsTurn : Signing → Action → State → List Message → List Message → Outcome → State → List Message → List Message → Type 0
+IsTurn tokens_of action me to_me to_peer o new_me new_to_me new_to_peer =
+    (side : Side) (peer : State) → IsStep tokens_of (placed side me peer to_me to_peer) (record { side = side; action = action }) o (placed side new_me peer new_to_me new_to_peer)
+
 -- steps that have these outcomes and lead to this world; where memory runs out, a step changes nothing
 abbrev pub IsPlay : Signing → World → List PairStep → List Outcome → World → Type 0
 IsPlay tokens_of w [] [] v = v ≡ w

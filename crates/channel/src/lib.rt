@@ -25,6 +25,7 @@ pub mod laws;
 mod limits;
 mod messages;
 mod opening;
+mod pair;
 mod plays;
 #[cfg(test)]
 mod tests;
@@ -35,4 +36,5 @@ pub use commitments::CommitmentState;
 pub use limits::LAST_NUMBER;
 pub use messages::{Message, Tokens};
 pub use opening::{OpeningPoints, opening_points, opening_token};
+pub use pair::Pair;
 pub use plays::{Action, Outcome, PairStep};

@@ -35,6 +35,8 @@ const SEED_B: [u8; 32] = [2; 32];
 /// The two sides of one channel.
 #[derive(Drop)]
 pub struct Sides {
+    /// What both agreed on.
+    pub terms: Terms,
     pub a: Channel,
     pub b: Channel,
 }
@@ -107,6 +109,7 @@ pub fn open_sides(alloc: Global, capacity: u64, starts: [u64; 2]) -> Result<Side
     let (a, b) = (Signer::new(alloc, &SEED_A), Signer::new(alloc, &SEED_B));
     let terms = terms_of(capacity, party(&a, starts[0]), party(&b, starts[1]))?;
     Ok(Sides {
+        terms,
         a: open_side(alloc, terms, Side::A, Signer::new(alloc, &SEED_A), &b)?,
         b: open_side(alloc, terms, Side::B, Signer::new(alloc, &SEED_B), &a)?,
     })

@@ -1,0 +1,83 @@
+//! Plays two peers of a channel, as the lines of its input say: `open` opens a new channel; `A offer MILLISATOSHIS EXPIRY`, `A fulfil ID`, `A fail ID`, `A fee RATE`,
+//! `A sign` and `A deliver`, or the same of B, are steps; `random STEPS` plays so many at random.
+//!
+//! It prints the outcome of each step, before a signature the outputs of what is signed, and after steps at random how many of each kind were done.
+#![tactic(auto)]
+
+mod random;
+mod steps;
+
+use anyhow::Result;
+use channel::{Channel, Pair};
+use channel_sides::open_sides;
+use commit::build;
+use random::play_at_random;
+use std::alloc::Global;
+use steps::step_of;
+use terms::{Side, Terms};
+
+/// Two peers of a channel of 100,000 satoshis, of which A has 80,000.
+#[derive(Drop)]
+struct Peers {
+    terms: Terms,
+    pair: Pair,
+}
+
+fn open(alloc: Global) -> Result<Peers> {
+    let sides = open_sides(alloc, 100_000, [80_000_000, 20_000_000])?;
+    Ok(Peers {
+        terms: sides.terms,
+        pair: Pair::new(alloc, sides.a, sides.b),
+    })
+}
+
+/// Prints the values of the outputs of the commitment that a side would sign next, where it may sign.
+fn print_next(rt: &impl Print, alloc: Global, terms: &Terms, channel: &Channel) -> Result<()> {
+    let Ok(next) = channel.ready() else {
+        return Ok(());
+    };
+    let built = build(
+        alloc,
+        terms,
+        &next.view,
+        next.owner,
+        next.number,
+        &next.point,
+    )?;
+    print!(rt; "commitment {} of {:?}:", next.number, next.owner)?;
+    for output in built.outputs() {
+        print!(rt; " {}", output.value)?;
+    }
+    println!(rt; "")?;
+    Ok(())
+}
+
+/// Plays the step of a line, and prints its outcome.
+fn play(rt: &impl Print, alloc: Global, peers: &mut Peers, line: &str) -> Result<()> {
+    let step = step_of(line)?;
+    if line.ends_with("sign") {
+        print_next(rt, alloc, &peers.terms, peers.pair.channel(step.side))?;
+    }
+    for outcome in peers.pair.play(&[step])? {
+        println!(rt; "{line}: {outcome:?}")?;
+    }
+    Ok(())
+}
+
+fn main(rt: HostRuntime) -> Result<()> {
+    let alloc = rt.alloc();
+    let mut peers = open(alloc)?;
+    for line in rt.lines(alloc) {
+        let line = line?;
+        match line.as_str().split_once(' ') {
+            None => peers = open(alloc)?,
+            Some(("random", steps)) => {
+                play_at_random(&rt, alloc, &mut peers.pair, steps.parse()?)?;
+                print_next(&rt, alloc, &peers.terms, peers.pair.channel(Side::A))?;
+                print_next(&rt, alloc, &peers.terms, peers.pair.channel(Side::B))?;
+            }
+            Some(_) => play(&rt, alloc, &mut peers, line.as_str())?,
+        }
+    }
+    Ok(())
+}
