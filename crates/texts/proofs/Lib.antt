@@ -1,6 +1,10 @@
 pub mod Counts
+pub mod Names
 pub mod SameKeys
 pub mod Elements
 pub mod ValueExamples
 pub mod FormExamples
 pub mod SameItems
+pub mod Returning
+pub mod ClaimReturning
+pub mod ClaimExamples

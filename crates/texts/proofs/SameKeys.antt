@@ -14,7 +14,7 @@ found_if : (k : Key) (bytes : List ℕ) (form : Bool) (h : is_key bytes ≡ form
 found_if k bytes true h same = ap Some (same_key (record { bytes = bytes; form = h }) k (sym same))
 found_if k bytes false h same = absurd (true≢false (sym k.form ∙ ap is_key same ∙ h))
 
-key_found : (k : Key) (bytes : List ℕ) → k.bytes ≡ bytes → key_in bytes ≡ Some k
+pub key_found : (k : Key) (bytes : List ℕ) → k.bytes ≡ bytes → key_in bytes ≡ Some k
 key_found k bytes same = found_if k bytes (is_key bytes) refl same
 
 none_if : (bytes : List ℕ) (form : Bool) (h : is_key bytes ≡ form) → form ≡ false → key_if bytes form h ≡ None

@@ -1,5 +1,6 @@
 pub mod Refusals
 pub mod Values
+pub mod Names
 pub mod Outpoints
 pub mod Keys
 pub mod Terms
@@ -8,3 +9,5 @@ pub mod Messages
 pub mod Outputs
 pub mod Claims
 pub mod Scenarios
+pub mod Writing
+pub mod ClaimWriting

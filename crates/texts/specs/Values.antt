@@ -59,7 +59,7 @@ member_count (member k d ms) = suc (member_count ms)
 abbrev pub array_of : ℕ → Data → Option Data
 array_of count d = as_array d >>= (λ ds. if item_count ds == count then Some d else None)
 
--- the value, where it is an object of this many members. An object has each name once, so members at that many names are all of them
+-- the value, where it is an object of this many members. An object has each name once, so members at that many names are all of them (`NamesAreAll`)
 abbrev pub object_of : ℕ → Data → Option Data
 object_of count d = as_object d >>= (λ ms. if member_count ms == count then Some d else None)
 

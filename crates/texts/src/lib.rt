@@ -1,15 +1,23 @@
-//! Readers and writers of the forms that texts have: scenarios and dumps, over the JSON values of `serde_json` (RFC 8259).
+//! Readers and writers of the forms that texts have: scenarios, messages and claims, over the JSON values of `serde_json` (RFC 8259).
 //!
 //! A value is read exactly where it has the form. A member that is missing, one that the form has not, and one of another kind leave the
-//! whole value without it. Forms are plain: whether what was read is lawful, a channel or a claim says later.
+//! whole value without it. Forms are plain: whether what was read is lawful, a channel or a claim says later. What takes no memory is read by
+//! [`FromValue`], the rest by [`ReadValue`]; [`WriteValue`] writes the value that is read as the same.
+//!
+//! ```rust
+//! let value = Value::from_str(alloc, "[\"blocks\",10001]")?;
+//! assert!(rt; Event::from_value(&value) == Some(Event::Blocks { count: 10_001 }));
+//! ```
 #![tactic(auto)]
 
 mod agreement;
 mod allocating;
+mod claim_writing;
 mod claims;
 mod errors;
 mod events;
 mod key_bytes;
+pub mod laws;
 mod messages;
 mod outpoints;
 mod outputs;
@@ -17,11 +25,14 @@ mod scenarios;
 #[cfg(test)]
 mod tests;
 mod values;
+mod writing;
 
 pub use agreement::{PlainParty, PlainTerms};
 pub use allocating::{ReadValue, bytes_of, list_of, read_item, read_member};
+pub use claim_writing::write_each;
 pub use claims::PlainClaim;
 pub use errors::ShapeError;
 pub use events::Event;
 pub use scenarios::PlainScenario;
 pub use values::{FromValue, array_of, item, member, object_of, tag_of};
+pub use writing::{WriteValue, write_bytes};

@@ -1,6 +1,7 @@
 // Texts of each form, and texts that are near a form, written by hand. The hash is SHA-256 of 32 zero bytes (Python's hashlib).
 use crate::{
     Event, FromValue, PlainClaim, PlainParty, PlainScenario, PlainTerms, ReadValue, ShapeError,
+    WriteValue,
 };
 use claim::{Shell, Slot};
 use lists::{ByteString, List};
@@ -336,4 +337,36 @@ fn reads_scenarios(rt: HostRuntime) {
     assert!(rt; scenario.seed_a == [10; 32] && scenario.seed_b == [11; 32]);
     assert!(rt; scenario.channels.is_empty() && scenario.events.len() == 2);
     assert!(rt; scenario.events.values()[1] == Event::Look { side: Side::B });
+}
+
+/// The text that is written for what a text stands for is that text.
+fn check_back<T: FromValue + WriteValue + Drop>(rt: &impl Abort, alloc: Global, text: &str) {
+    let read: T = read(rt, alloc, text).expect(rt, "a value of the form");
+    let value = read.write_value(alloc).expect(rt, "memory");
+    let written = value.to_string(alloc).expect(rt, "memory");
+    assert!(rt; written.as_str() == text);
+}
+
+#[test]
+fn writes_what_it_reads(rt: HostRuntime) {
+    check_back::<Update>(&rt, rt.alloc(), "[\"fee\",9]");
+    check_back::<Update>(&rt, rt.alloc(), "[\"fail\",1]");
+    check_back::<Update>(
+        &rt,
+        rt.alloc(),
+        "[\"fulfil\",1,\"66687aadf862bd776c8fc18b8e9f8e20089714856ee233b3902a591d0d5f2925\"]",
+    );
+    check_back::<Update>(
+        &rt,
+        rt.alloc(),
+        "[\"add\",1,2,\"66687aadf862bd776c8fc18b8e9f8e20089714856ee233b3902a591d0d5f2925\",3]",
+    );
+    check_back::<OutPoint>(
+        &rt,
+        rt.alloc(),
+        "\"66687aadf862bd776c8fc18b8e9f8e20089714856ee233b3902a591d0d5f2925:4294967295\"",
+    );
+    let terms =
+        "{\"capacity\":1,\"delay\":[2,3],\"dust\":[4,5],\"feerate\":6,\"minimum\":[7,8],\"opener\":\"B\",\"start\":[9,10]}";
+    check_back::<PlainTerms>(&rt, rt.alloc(), terms);
 }

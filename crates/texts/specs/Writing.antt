@@ -1,0 +1,73 @@
+-- The values of the forms, as they are written: hexadecimal in lower case.
+use Rattle.std.specs.Prelude.{◌≡◌, ℕ, ◌<◌, ◌^◌, List, Some, length, codes, ⊤}
+use Rattle.hex.specs.Hex.{encode_lower, IsBytes}
+use Rattle.serde_json.specs.Data.{Data, Members, no_members, member, Items, no_items, item, number, unsigned, string, array, object}
+use Rattle.terms.specs.declared.sides.Side.{Side}
+use Rattle.terms.specs.declared.sides.Side.TheVariants.{A, B}
+use Rattle.terms.specs.declared.htlcs.Htlc.{Htlc}
+use Rattle.tx.specs.Parts.{Output, IsOutput}
+use Rattle.updates.specs.declared.changes.Update.{Update}
+use Rattle.updates.specs.declared.changes.Update.TheVariants.{Add, Fulfil, Fail, Fee}
+use Rattle.texts.specs.declared.agreement.PlainTerms.{PlainTerms}
+use Rattle.texts.specs.Terms.{terms_of}
+use Rattle.texts.specs.Messages.{update_of}
+use Rattle.texts.specs.Outputs.{output_of}
+
+abbrev pub number_data : ℕ → Data
+number_data n = number (unsigned n)
+
+abbrev pub bytes_data : List ℕ → Data
+bytes_data bytes = string (encode_lower bytes)
+
+abbrev pub side_data : Side → Data
+side_data A = string (codes "A")
+side_data B = string (codes "B")
+
+abbrev pub pair_data : ℕ → ℕ → Data
+pair_data a b = array (item (number_data a) (item (number_data b) no_items))
+
+unfoldable pub terms_data : PlainTerms → Data
+terms_data t =
+    object (member (codes "capacity") (number_data t.capacity) (member (codes "delay") (pair_data t.a.delay t.b.delay) (member (codes "dust") (pair_data t.a.dust t.b.dust)
+    (member (codes "feerate") (number_data t.feerate) (member (codes "minimum") (pair_data t.a.minimum t.b.minimum) (member (codes "opener") (side_data t.opener)
+    (member (codes "start") (pair_data t.a.start t.b.start) no_members)))))))
+
+unfoldable pub output_data : Output → Data
+output_data o = array (item (number_data o.value) (item (bytes_data o.script) no_items))
+
+unfoldable pub add_data : Htlc → Data
+add_data h = array (item (string (codes "add")) (item (number_data h.id) (item (number_data h.amount) (item (bytes_data h.hash) (item (number_data h.expiry) no_items)))))
+
+unfoldable pub update_data : Update → Data
+update_data (Add htlc) = add_data htlc
+update_data (Fulfil id preimage) = array (item (string (codes "fulfil")) (item (number_data id) (item (bytes_data preimage) no_items)))
+update_data (Fail id) = array (item (string (codes "fail")) (item (number_data id) no_items))
+update_data (Fee rate) = array (item (string (codes "fee")) (item (number_data rate) no_items))
+
+-- ---- what was written is read as the same
+
+-- the widths of the numbers of terms
+pub record HasWidths (t : PlainTerms) : Type 0 where
+  pub feerate : t.feerate < 2 ^ 32
+  pub delay_a : t.a.delay < 2 ^ 16
+  pub delay_b : t.b.delay < 2 ^ 16
+
+-- 32 bytes
+abbrev pub Is32Bytes : List ℕ → Type 0
+Is32Bytes bytes = (length bytes ≡ 32) × IsBytes bytes
+
+-- the widths of the parts of an update
+abbrev pub IsUpdate : Update → Type 0
+IsUpdate (Add htlc) = Is32Bytes htlc.hash × (htlc.expiry < 2 ^ 32)
+IsUpdate (Fulfil id preimage) = Is32Bytes preimage
+IsUpdate (Fail id) = ⊤
+IsUpdate (Fee rate) = rate < 2 ^ 32
+
+abbrev pub TermsComeBack : Type 0
+TermsComeBack = (t : PlainTerms) → HasWidths t → terms_of (terms_data t) ≡ Some t
+
+abbrev pub OutputsComeBack : Type 0
+OutputsComeBack = (o : Output) → IsOutput o → IsBytes o.script → output_of (output_data o) ≡ Some o
+
+abbrev pub UpdatesComeBack : Type 0
+UpdatesComeBack = (u : Update) → IsUpdate u → update_of (update_data u) ≡ Some u
