@@ -1,0 +1,6 @@
+use Rattle.penalty.proofs.Collecting.{Collects}
+use Rattle.resolve.specs.Due.{peers_on}
+use Rattle.resolve.proofs.due.peers_due.Given as goal
+
+-- what is left gives the whole
+abbrev pub invariant-loop-index : goal.invariant-loop-index

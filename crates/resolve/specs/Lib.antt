@@ -1,0 +1,5 @@
+pub mod Refusals
+pub mod Known
+pub mod Due
+pub mod Kinds
+pub mod Preimages
