@@ -121,7 +121,6 @@ claims_second c k h checked place token b t o p e =
     (subst (λ y. Claims (second_stage_kind_of k h.direction h.htlc y) (htlc_form (bytes_of k) h.direction h.htlc) 1 place (Fixed (second_stage_of c h))) (sym u)
     (claims_second_at c k h.direction h.htlc h place (subst (λ y. IsSecondStage y h.direction h.htlc) (sym b) o) (second_stage_digest c h _ place.value s p.value)))
 
-
 pub claims_fixed : (c : Contents) (k : CommitmentKeys) (h : HtlcOutput) (checked : CheckedScript) (place : Place) (token : List ℕ) (kind : ClaimKind) (shell : Shell)
     → kind ≡ second_stage_kind_of k h.direction h.htlc token → shell ≡ Fixed (second_stage_of c h)
     → Claims (second_stage_kind_of k h.direction h.htlc token) checked 1 place (Fixed (second_stage_of c h)) → Claims kind checked (path_taken_by kind) place (bare_shell shell)

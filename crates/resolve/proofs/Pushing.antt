@@ -24,7 +24,7 @@ use Rattle.penalty.specs.Outputs.{HasHeight, program_of, IsOutput}
 use Rattle.script.specs.Limits.{locktime_threshold}
 use Rattle.resolve.specs.Due.{can_time_out, can_pay, is_known, is_owners, is_peers, direct_on, second_stage_on, delayed_second_stage, owners_on, peers_on}
 use Rattle.resolve.specs.Kinds.{IsDirect, IsSecondStage, IsHtlcPlace}
-use Rattle.resolve.specs.Known.{AreHtlcTokens}
+use Rattle.resolve.specs.Signed.{AreHtlcTokens}
 
 -- the token of the k-th HTLC
 pub token_at : (c : Contents) (tokens : List (List ℕ)) (k : ℕ) (h : HtlcOutput) → AreHtlcTokens c tokens → slice_get (htlcs_of c) k ≡ Some h

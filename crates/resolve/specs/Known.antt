@@ -1,8 +1,6 @@
 -- What is known of a channel's commitments.
-use Rattle.std.specs.Prelude.{◌≡◌, ℕ, Bool, List, map, Option, Some, None}
-use Rattle.script.specs.Token.{token_of}
+use Rattle.std.specs.Prelude.{◌≡◌, ℕ, Bool, List, Option, Some, None}
 use Rattle.commit.specs.Commitments.{Contents}
-use Rattle.commit.specs.Signing.{htlc_digests}
 use Rattle.penalty.specs.declared.errors.StateError.{StateError}
 use Rattle.resolve.specs.declared.errors.KnownError.{KnownError}
 use Rattle.resolve.specs.declared.errors.KnownError.TheVariants.{NoMemory, BadSignature}
@@ -10,10 +8,7 @@ use Rattle.penalty.specs.declared.states.RevokedState.{RevokedState}
 use Rattle.resolve.specs.declared.known.SignedCommitment.{SignedCommitment}
 use Rattle.resolve.specs.declared.known.RevokedCommitment.{RevokedCommitment}
 use Rattle.resolve.specs.Refusals.{refusal_by}
-
--- tokens are those of the owner's peer on the HTLC transactions of a commitment, in the order of its outputs
-abbrev pub AreHtlcTokens : Contents → List (List ℕ) → Type 0
-AreHtlcTokens c tokens = tokens ≡ map (token_of c.keys.remote_htlc) (htlc_digests c)
+use Rattle.resolve.specs.Signed.{AreHtlcTokens}
 
 -- a refusal is the one of the view, or, where there is none, that memory ran out
 abbrev pub IsNamed : Option StateError → KnownError → Type 0

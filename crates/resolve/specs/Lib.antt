@@ -1,4 +1,5 @@
 pub mod Refusals
+pub mod Signed
 pub mod Known
 pub mod Due
 pub mod Kinds

@@ -1,17 +1,15 @@
 // The claims that are due beside penalties.
 
-ghost use Rattle.std.specs.Prelude.{◌≡◌, ◌<◌, ◌∷◌, [], true, Some, IsTrue, IfOk, slice_get};
+ghost use Rattle.std.specs.Prelude.{◌≡◌, ◌<◌, IfOk};
 ghost use Rattle.script.specs.Limits.{locktime_threshold};
 ghost use Rattle.script.specs.Token.{token_of};
-ghost use Rattle.claim.specs.declared.parts.Place.{Place as PlaceParts};
-ghost use Rattle.commit.specs.declared.outputs.HtlcOutput.{HtlcOutput as HtlcParts};
-ghost use Rattle.commit.specs.Fees.{satoshis_of};
 ghost use Rattle.commit.specs.Outputs.{to_local_script, htlc_script as htlc_script_of, script_hash_program};
 ghost use Rattle.commit.specs.Keys.{bytes_of};
-ghost use Rattle.commit.specs.Commitments.{id_of, htlcs_of, second_stage_of};
+ghost use Rattle.commit.specs.Commitments.{second_stage_of};
 ghost use Rattle.commit.specs.Signing.{htlc_digest};
 ghost use Rattle.penalty.specs.Sets.{IsClaimOn};
-ghost use Rattle.resolve.specs.Due.{is_known, can_time_out, can_pay, is_owners, is_peers, delayed_on, direct_on, second_stage_on};
+ghost use Rattle.resolve.specs.Due.{can_time_out, can_pay, is_owners, is_peers, delayed_on, direct_on, second_stage_on};
+ghost use Rattle.resolve.specs.Kinds.{direct_kind_of, second_stage_kind_of, IsDirect, IsSecondStage, IsHtlcPlace};
 
 use crate::hashes::KnownHashes;
 use claim::{Claim, Place, Shell};

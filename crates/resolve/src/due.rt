@@ -1,14 +1,14 @@
 //! What is due by a verdict.
 
-ghost use Rattle.std.specs.Prelude.{ℕ, ◌≡◌, ◌==◌, ◌++◌, length, Some, IfOk, OnOk, List as Values, slice_get};
-ghost use Rattle.std.specs.List.{find};
+ghost use Rattle.std.specs.Prelude.{ℕ, ◌≡◌, ◌<◌, ◌++◌, ◌∷◌, [], Some, IfOk, OnOk, List as Values, slice_get, option_map};
+ghost use Rattle.script.specs.Limits.{locktime_threshold};
 ghost use Rattle.commit.specs.declared.outputs.HtlcOutput.{HtlcOutput as HtlcParts};
 ghost use Rattle.commit.specs.Commitments.{tx_output, transaction_of, htlc_at, htlcs_of, IsOutputOf};
 ghost use Rattle.penalty.specs.Claimable.{Claimable, place_in};
-ghost use Rattle.penalty.specs.Sets.{IsClaimOn, AreClaimsOn};
-ghost use Rattle.penalty.specs.Outputs.{IsOutput, AreOutputs};
+ghost use Rattle.penalty.specs.Sets.{AreClaimsOn};
+ghost use Rattle.penalty.specs.Outputs.{IsOutput};
 ghost use Rattle.resolve.specs.Kinds.{IsSecondStage, IsHtlcPlace};
-ghost use Rattle.resolve.specs.Due.{owners_on, peers_on, owners_due, peers_due, peers_due_if, penalties_if, second_stage_on, delayed_second_stage, due_of};
+ghost use Rattle.resolve.specs.Due.{owners_on, peers_on, owners_due, peers_due, penalties_if, second_stage_on, delayed_second_stage, due_of};
 
 use crate::claiming::{delayed_on, direct_on, is_owners, is_peers, second_stage_on};
 use crate::hashes::KnownHashes;
@@ -97,7 +97,8 @@ fn owners_due(
 {
     let mut claims = Vec::new(alloc);
     let mut htlcs = 0;
-    let outputs = own.commitment.commitment().outputs();
+    let commitment = own.commitment.commitment();
+    let outputs = commitment.outputs();
     for (index, output) in outputs.iter().enumerate() {
         push_owners(alloc, own, known, index as u32, htlcs, output, &mut claims)?;
         htlcs += htlc_count(&output.kind);
@@ -145,7 +146,8 @@ fn peers_due(
     ensures { IfOk result (λ v. AreClaimsOn (peers_due known.now theirs.now) v.items) }
 {
     let mut claims = Vec::new(alloc);
-    let outputs = theirs.commitment().outputs();
+    let commitment = theirs.commitment();
+    let outputs = commitment.outputs();
     for (index, output) in outputs.iter().enumerate() {
         push_peers(alloc, theirs, known, index as u32, output, &mut claims)?;
     }

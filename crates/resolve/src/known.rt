@@ -3,7 +3,7 @@
 ghost use Rattle.std.specs.Prelude.{◌≡◌};
 ghost use Rattle.commit.specs.Commitments.{id_of};
 ghost use Rattle.penalty.specs.Claimable.{commitment_in};
-ghost use Rattle.resolve.specs.Known.{AreHtlcTokens};
+ghost use Rattle.resolve.specs.Signed.{AreHtlcTokens};
 
 use crate::errors::{KnownError, of_view};
 use crate::tokens::are_tokens;

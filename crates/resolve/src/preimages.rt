@@ -1,6 +1,6 @@
 //! Preimages that spends of HTLCs show, and what is buried deep enough.
 
-ghost use Rattle.std.specs.Prelude.{◌≡◌};
+ghost use Rattle.std.specs.Prelude.{◌≡◌, option_map};
 ghost use Rattle.resolve.specs.Preimages.{shown_by, preimage_shown, is_deep};
 
 use lists::ByteString;

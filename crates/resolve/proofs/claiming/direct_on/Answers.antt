@@ -30,6 +30,6 @@ pub returns : goal.returns
 returns c =
     IfOk-weaker c.claim_of.result _ _
     (λ claim i.
-      as_direct c.args.commitment.now c.keys-keys.result.now c.args.direction c.args.htlc.now c.in_ok-checked.checked c.args.place claim c.keys-keys.ensures c.in_ok-checked.ensures
-      (subst (λ (x : ClaimKind). IsClaimOn (record { place = c.args.place; form = c.in_ok-checked.checked; path = path_taken_by x; slots = fillings_of x; shell = Open }) claim) c.direct_kind-kind.ensures i))
+    as_direct c.args.commitment.now c.keys-keys.result.now c.args.direction c.args.htlc.now c.in_ok-checked.checked c.args.place claim c.keys-keys.ensures c.in_ok-checked.ensures
+    (subst (λ (x : ClaimKind). IsClaimOn (record { place = c.args.place; form = c.in_ok-checked.checked; path = path_taken_by x; slots = fillings_of x; shell = Open }) claim) c.direct_kind-kind.ensures i))
     c.claim_of.ensures

@@ -24,6 +24,6 @@ pub returns : goal.returns
 returns c =
     IfOk-weaker c.claim_of.result _ _
     (λ claim i.
-      as_second c.args.commitment.now c.keys-keys.result.now c.args.htlc.now c.in_ok-checked.checked c.args.place c.args.token _ _ claim c.keys-keys.ensures c.requires.token
-      c.second_stage_kind-kind.ensures (ap Fixed c.requires.tx) c.in_ok-checked.ensures i)
+    as_second c.args.commitment.now c.keys-keys.result.now c.args.htlc.now c.in_ok-checked.checked c.args.place c.args.token _ _ claim c.keys-keys.ensures c.requires.token
+    c.second_stage_kind-kind.ensures (ap Fixed c.requires.tx) c.in_ok-checked.ensures i)
     c.claim_of.ensures
