@@ -1,20 +1,29 @@
--- Each form's ways are listed, and a checked script of its opcodes has these ways.
-use Rattle.std.proofs.Common.{◌≡◌, ℕ, ◌^◌, ◌<◌, true, leb, List, length, Result, Ok, Err, sym, ap, ◌∙◌, refl, subst, lit<, arith}
-use Rattle.std.specs.Prelude.{IfOk, is_ok}
-use Rattle.std.proofs.lemmas.Bool.{le-leb, eqb-true, and_parts, and_from}
+-- Each form's ways are listed, and its pattern, filled, has its opcodes.
+use Rattle.std.proofs.Common.{◌≡◌, ℕ, ◌^◌, ◌<◌, true, List, [], ◌∷◌, length, Some, None, Result, Ok, Err, sym, ap, ◌∙◌, refl, subst, arith}
+use Rattle.std.specs.Prelude.{IfOk, is_ok, is_some, nat_lt}
+use Rattle.std.proofs.lemmas.Bool.{lt-ltb, eqb-true, and_parts, false≢true}
 use Rattle.digest.specs.Hash.{hash160}
 use Rattle.digest.specs.Ripemd160.{ripemd160}
 use Rattle.digest.proofs.OutsideVectors.{length-ripemd160}
 use Rattle.script.specs.declared.opcode.Op.{Op}
-use Rattle.script.specs.Token.{is_key}
+use Rattle.script.specs.declared.opcode.Op.TheVariants.{Push}
+use Rattle.script.specs.Limits.{locktime_threshold}
+use Rattle.script.specs.Number.{number_of, minimal_bytes_of, digits}
+use Rattle.script.specs.Token.{is_key, is_signature, is_token}
 use Rattle.paths.specs.declared.state.Path.{Path}
-use Rattle.paths.specs.declared.errors.CheckError.{CheckError}
+use Rattle.paths.specs.declared.pieces.Piece.{Piece}
+use Rattle.paths.specs.declared.pieces.Fill.{Fill}
+use Rattle.paths.specs.declared.pieces.Fill.TheVariants.{Key, Hash, Num}
+use Rattle.paths.specs.declared.pieces.PatternError.{PatternError}
+use Rattle.paths.specs.Holes.{fits}
+use Rattle.paths.specs.HoleRules.{rule_of, check_multi_sig}
+use Rattle.paths.specs.HoleListing.{pattern_listing}
 use Rattle.paths.specs.Listing.{CheckedScript, listing}
-use Rattle.forms.specs.Scripts.{number_push, two_of_two, to_local, key_hash, offered, received}
-use Rattle.forms.specs.Ways.{two_of_two_ways, to_local_ways, key_hash_ways, offered_ways, received_ways}
-use Rattle.forms.specs.Forms.{key_hash_form, offered_form, received_form}
-use Rattle.forms.specs.Parts.{is_op, IsListed}
-use Rattle.forms.proofs.Pushes.{by_push}
+use Rattle.paths.specs.Patterns.{pattern_of, filled, IsListedAs}
+use Rattle.forms.specs.Scripts.{number_push}
+use Rattle.forms.specs.Forms.{two_of_two_form, to_local_form, key_hash_form, offered_form, received_form}
+use Rattle.forms.specs.Pieces.{two_of_two_pieces, to_local_pieces, key_hash_pieces, offered_pieces, received_pieces, is_listed, are_taken}
+use Rattle.forms.proofs.Pushes.{pushed_alike}
 use Rattle.forms.proofs.Listed.{two_of_two-listed, to_local-listed, key_hash-listed, offered-listed, received-listed}
 
 -- a key has 33 bytes
@@ -22,99 +31,115 @@ pub key_length : (k : List ℕ) → is_key k ≡ true → length k ≡ 33
 unfolding is_key
 key_length k e = eqb-true (length k) 33 (and_parts _ _ e).0
 
-push_in_range : (n : ℕ) → n < 2 ^ 32 → is_op (number_push n) ≡ true
-push_in_range n h = by_push (λ op. is_op op ≡ true) n h (λ b s e. le-leb (length b) 75 (omega arith)) (λ p q e. and_from (leb 1 n) (leb n 16) (le-leb 1 n (omega arith)) (le-leb n 16 q))
-
 abbrev pub key : List ℕ → Type 0
 key k = is_key k ≡ true
+
+abbrev pub hash : List ℕ → Type 0
+hash h = length h ≡ 20
 
 abbrev pub listed : List Op → List Path → Type 0
 listed ops ways = listing ops ≡ Ok ways
 
-pub two_of_two_listed : (first second : List ℕ) → key first → key second → listed (two_of_two first second) (two_of_two_ways first second)
-two_of_two_listed first second k l = two_of_two-listed first second k l (key_length first k) (key_length second l)
+-- a pattern that is listed has no refusal, and fills that are taken are right
+pub never_refused : (pieces : List Piece) (e : PatternError) → is_listed pieces ≡ true → pattern_of pieces ≡ Err e → ⊥
+never_refused pieces e l h = false≢true (sym (ap is_ok h) ∙ l)
 
-pub two_of_two_few : (first second : List ℕ) → key first → key second → IsListed (two_of_two first second)
-two_of_two_few first second k l = record {
-  each = let m = key_length first k in let n = key_length second l in rw (m, n) refl;
-  few = omega arith;
-  listed = ap is_ok (two_of_two_listed first second k l);
-}
+pub never_wrong : (pieces : List Piece) (fills : List Fill) → are_taken pieces fills ≡ true → filled pieces fills ≡ None → ⊥
+never_wrong pieces fills t h = false≢true (sym (ap is_some h) ∙ t)
 
-pub to_local_listed : (revocation : List ℕ) (delay : ℕ) (delayed : List ℕ) → delay < 2 ^ 16 → key revocation → key delayed → listed (to_local revocation delay delayed) (to_local_ways revocation delay delayed)
-to_local_listed revocation delay delayed h k l = to_local-listed revocation delay delayed h k l (key_length revocation k) (key_length delayed l)
+-- a form, as its pattern and its fills give it
+pub record IsFilledTo (pieces : List Piece) (fills : List Fill) (form : CheckedScript) : Type 0 where
+  ops : filled pieces fills ≡ Some form.ops
+  ways : listed form.ops form.paths
 
-pub to_local_few : (revocation : List ℕ) (delay : ℕ) (delayed : List ℕ) → delay < 2 ^ 16 → key revocation → key delayed → IsListed (to_local revocation delay delayed)
-to_local_few revocation delay delayed h k l = record {
-  each = let m = key_length revocation k in let n = key_length delayed l in let o = push_in_range delay (omega arith) in rw (m, o, n) refl;
-  few = omega arith;
-  listed = ap is_ok (to_local_listed revocation delay delayed h k l);
-}
+-- the fills are taken, and the script has the form's opcodes and ways
+pub taken : (own pieces : List Piece) (fills : List Fill) (form : CheckedScript) → own ≡ pieces → IsFilledTo pieces fills form → are_taken own fills ≡ true
+taken own pieces fills form e f = ap (λ p. are_taken p fills) e ∙ ap is_some f.ops
 
-pub key_hash_listed : (bytes : List ℕ) → listed (key_hash (hash160 bytes)) (key_hash_ways (hash160 bytes))
-key_hash_listed bytes = key_hash-listed (hash160 bytes) (length-ripemd160 _)
-
-pub key_hash_few : (bytes : List ℕ) → IsListed (key_hash (hash160 bytes))
-key_hash_few bytes = record {
-  each = let m : length (hash160 bytes) ≡ 20 = length-ripemd160 _ in rw m refl;
-  few = omega arith;
-  listed = ap is_ok (key_hash_listed bytes);
-}
-
-pub offered_listed : (revocation remote local payment : List ℕ) → key remote → key local → listed (offered (hash160 revocation) remote local (ripemd160 payment)) (offered_ways (hash160 revocation) remote local (ripemd160 payment))
-offered_listed revocation remote local payment k l = offered-listed (hash160 revocation) remote local (ripemd160 payment) k l (key_length remote k) (key_length local l) (length-ripemd160 _) (length-ripemd160 _)
-
-pub offered_few : (revocation remote local payment : List ℕ) → key remote → key local → IsListed (offered (hash160 revocation) remote local (ripemd160 payment))
-offered_few revocation remote local payment k l = record {
-  each = let m = key_length remote k in let n = key_length local l in let r : length (hash160 revocation) ≡ 20 = length-ripemd160 _ in let p : length (ripemd160 payment) ≡ 20 = length-ripemd160 _ in let t = push_in_range 32 (lit< tt) in rw (r, m, t, n, p) refl;
-  few = omega arith;
-  listed = ap is_ok (offered_listed revocation remote local payment k l);
-}
-
-pub received_listed : (revocation remote local payment : List ℕ) (expiry : ℕ) → expiry < 2 ^ 32 → key remote → key local → listed (received (hash160 revocation) remote local (ripemd160 payment) expiry) (received_ways (hash160 revocation) remote local (ripemd160 payment) expiry)
-received_listed revocation remote local payment expiry h k l = received-listed (hash160 revocation) remote local (ripemd160 payment) expiry h k l (key_length remote k) (key_length local l) (length-ripemd160 _) (length-ripemd160 _)
-
-pub received_few : (revocation remote local payment : List ℕ) (expiry : ℕ) → expiry < 2 ^ 32 → key remote → key local → IsListed (received (hash160 revocation) remote local (ripemd160 payment) expiry)
-received_few revocation remote local payment expiry h k l = record {
-  each = let m = key_length remote k in let n = key_length local l in let r : length (hash160 revocation) ≡ 20 = length-ripemd160 _ in let p : length (ripemd160 payment) ≡ 20 = length-ripemd160 _ in let o = push_in_range expiry h in let t = push_in_range 32 (lit< tt) in rw (r, m, t, p, n, o) refl;
-  few = omega arith;
-  listed = ap is_ok (received_listed revocation remote local payment expiry h k l);
-}
-
--- the same ways, where they are listed
-same_ways : (r : Result (List Path) CheckError) (ways paths : List Path) → r ≡ Ok ways → r ≡ Ok paths → paths ≡ ways
+same_ways : {E : Type 0} (r : Result (List Path) E) (ways paths : List Path) → r ≡ Ok ways → r ≡ Ok paths → paths ≡ ways
 same_ways r ways paths e g = cc
 
-pub form_of : {E : Type 0} (r : Result CheckedScript E) (ops : List Op) (ways : List Path) → listed ops ways → IfOk r (λ c. (c.ops ≡ ops) × (listing ops ≡ Ok c.paths)) → IfOk r (λ c. c ≡ record { ops = ops; paths = ways })
-form_of (Ok c) ops ways e h = ap (λ o. record { ops = o; paths = c.paths }) h.0 ∙ ap (λ p. record { ops = ops; paths = p }) (same_ways (listing ops) ways c.paths e h.1)
-form_of (Err e) ops ways l h = tt
+pub built : {E : Type 0} (r : Result CheckedScript E) (own pieces : List Piece) (fills : List Fill) (form : CheckedScript) → own ≡ pieces → IsFilledTo pieces fills form → IfOk r (IsListedAs (filled own fills)) → IfOk r (λ c. c ≡ form)
+built (Ok c) own pieces fills form e f h =
+    let g : IsListedAs (Some form.ops) c = subst (λ o. IsListedAs o c) (ap (λ p. filled p fills) e ∙ f.ops) h in
+    ap (λ o. record { ops = o; paths = c.paths }) g.0 ∙ ap (λ p. record { ops = form.ops; paths = p }) (same_ways (listing form.ops) form.paths c.paths f.ways g.1)
+built (Err x) own pieces fills form e f h = tt
+
+pub two_of_two_filled : (first second : List ℕ) → key first → key second → IsFilledTo two_of_two_pieces (Key first ∷ Key second ∷ []) (two_of_two_form first second)
+unfolding fits
+two_of_two_filled first second k l = record {
+  ops = rw (k, l) refl;
+  ways = two_of_two-listed first second k l (key_length first k) (key_length second l);
+}
+
+-- the push of a preimage's size
+size_pushed : number_push 32 ≡ Push (32 ∷ [])
+unfolding number_push minimal_bytes_of digits
+size_pushed = refl
+
+low : (n : ℕ) → n < locktime_threshold → nat_lt n locktime_threshold ≡ true
+low n h = lt-ltb n locktime_threshold h
+
+pub to_local_filled : (revocation : List ℕ) (delay : ℕ) (delayed : List ℕ) → delay < 2 ^ 16 → key revocation → key delayed → IsFilledTo to_local_pieces (Key revocation ∷ Num delay ∷ Key delayed ∷ []) (to_local_form revocation delay delayed)
+unfolding fits
+to_local_filled revocation delay delayed h k l = record {
+  ops = let n = low delay (omega arith) in let p = pushed_alike delay in rw (k, n, l, p) refl;
+  ways = to_local-listed revocation delay delayed h k l (key_length revocation k) (key_length delayed l);
+}
+
+key_hash_filled : (h : List ℕ) → hash h → IsFilledTo key_hash_pieces (Hash h ∷ []) (key_hash_form h)
+unfolding fits
+key_hash_filled h n = record { ops = rw n refl; ways = key_hash-listed h n }
+
+offered_filled : (r remote local p : List ℕ) → hash r → hash p → key remote → key local → IsFilledTo offered_pieces (Hash r ∷ Key remote ∷ Key local ∷ Hash p ∷ []) (offered_form r remote local p)
+unfolding fits number_push minimal_bytes_of digits
+offered_filled r remote local p m n k l = record {
+  ops = rw (m, k, l, n) refl;
+  ways = offered-listed r remote local p k l (key_length remote k) (key_length local l) m n;
+}
+
+received_filled : (r remote local p : List ℕ) (expiry : ℕ) → hash r → hash p → key remote → key local → expiry < locktime_threshold → IsFilledTo received_pieces (Hash r ∷ Key remote ∷ Hash p ∷ Key local ∷ Num expiry ∷ []) (received_form r remote local p expiry)
+unfolding fits
+received_filled r remote local p expiry m n k l h = record {
+  ops = let s = size_pushed in let o = low expiry h in let q = pushed_alike expiry in rw (m, k, n, l, o, q, s) refl;
+  ways = received-listed r remote local p expiry (omega arith) k l (key_length remote k) (key_length local l) m n;
+}
 
 -- the same of hashes that were computed
-pub key_hash_at : (hash bytes : List ℕ) → hash ≡ hash160 bytes → IsListed (key_hash hash)
-key_hash_at hash bytes e = subst (λ h. IsListed (key_hash h)) (sym e) (key_hash_few bytes)
+pub key_hash_at : (h bytes : List ℕ) → h ≡ hash160 bytes → IsFilledTo key_hash_pieces (Hash h ∷ []) (key_hash_form (hash160 bytes))
+key_hash_at h bytes e = subst (λ x. IsFilledTo key_hash_pieces (Hash x ∷ []) (key_hash_form (hash160 bytes))) (sym e) (key_hash_filled (hash160 bytes) (length-ripemd160 _))
 
-pub key_hash_of : {E : Type 0} (r : Result CheckedScript E) (hash bytes : List ℕ) → hash ≡ hash160 bytes → IfOk r (λ c. (c.ops ≡ key_hash hash) × (listing (key_hash hash) ≡ Ok c.paths)) → IfOk r (λ c. c ≡ key_hash_form (hash160 bytes))
-key_hash_of r hash bytes e h =
-    form_of r (key_hash (hash160 bytes)) (key_hash_ways (hash160 bytes)) (key_hash_listed bytes) (subst (λ x. IfOk r (λ c. (c.ops ≡ key_hash x) × (listing (key_hash x) ≡ Ok c.paths))) e h)
+pub offered_at : (r revocation remote local p payment : List ℕ) → r ≡ hash160 revocation → p ≡ ripemd160 payment → key remote → key local → IsFilledTo offered_pieces (Hash r ∷ Key remote ∷ Key local ∷ Hash p ∷ []) (offered_form (hash160 revocation) remote local (ripemd160 payment))
+offered_at r revocation remote local p payment e f k l =
+    let form = offered_form (hash160 revocation) remote local (ripemd160 payment) in
+    subst (λ x. IsFilledTo offered_pieces (Hash x ∷ Key remote ∷ Key local ∷ Hash p ∷ []) form) (sym e) (
+    subst (λ y. IsFilledTo offered_pieces (Hash (hash160 revocation) ∷ Key remote ∷ Key local ∷ Hash y ∷ []) form) (sym f) (
+    offered_filled (hash160 revocation) remote local (ripemd160 payment) (length-ripemd160 _) (length-ripemd160 _) k l))
 
-pub offered_at : (hash revocation remote local payment payment_hash : List ℕ) → hash ≡ hash160 revocation → payment_hash ≡ ripemd160 payment → key remote → key local → IsListed (offered hash remote local payment_hash)
-offered_at hash revocation remote local payment payment_hash e f k l =
-    subst (λ h. IsListed (offered h remote local payment_hash)) (sym e) (subst (λ p. IsListed (offered (hash160 revocation) remote local p)) (sym f) (offered_few revocation remote local payment k l))
+pub received_at : (r revocation remote local p payment : List ℕ) (expiry : ℕ) → r ≡ hash160 revocation → p ≡ ripemd160 payment → key remote → key local → expiry < locktime_threshold → IsFilledTo received_pieces (Hash r ∷ Key remote ∷ Hash p ∷ Key local ∷ Num expiry ∷ []) (received_form (hash160 revocation) remote local (ripemd160 payment) expiry)
+received_at r revocation remote local p payment expiry e f k l h =
+    let form = received_form (hash160 revocation) remote local (ripemd160 payment) expiry in
+    subst (λ x. IsFilledTo received_pieces (Hash x ∷ Key remote ∷ Hash p ∷ Key local ∷ Num expiry ∷ []) form) (sym e) (
+    subst (λ y. IsFilledTo received_pieces (Hash (hash160 revocation) ∷ Key remote ∷ Hash y ∷ Key local ∷ Num expiry ∷ []) form) (sym f) (
+    received_filled (hash160 revocation) remote local (ripemd160 payment) expiry (length-ripemd160 _) (length-ripemd160 _) k l h))
 
-pub offered_of : {E : Type 0} (r : Result CheckedScript E) (hash revocation remote local payment payment_hash : List ℕ) → hash ≡ hash160 revocation → payment_hash ≡ ripemd160 payment → key remote → key local
-    → IfOk r (λ c. (c.ops ≡ offered hash remote local payment_hash) × (listing (offered hash remote local payment_hash) ≡ Ok c.paths))
-    → IfOk r (λ c. c ≡ offered_form (hash160 revocation) remote local (ripemd160 payment))
-offered_of r hash revocation remote local payment payment_hash e f k l h =
-    let P : List ℕ → List ℕ → Type 0 = λ x y. IfOk r (λ c. (c.ops ≡ offered x remote local y) × (listing (offered x remote local y) ≡ Ok c.paths)) in
-    form_of r (offered (hash160 revocation) remote local (ripemd160 payment)) (offered_ways (hash160 revocation) remote local (ripemd160 payment)) (offered_listed revocation remote local payment k l) (subst (λ y. P (hash160 revocation) y) f (subst (λ x. P x payment_hash) e h))
+-- each pattern's ways are listed
+pub two_of_two_is_listed : is_listed two_of_two_pieces ≡ true
+unfolding pattern_listing rule_of check_multi_sig number_of minimal_bytes_of digits is_key is_signature is_token
+two_of_two_is_listed = refl
 
-pub received_at : (hash revocation remote local payment payment_hash : List ℕ) (expiry : ℕ) → hash ≡ hash160 revocation → payment_hash ≡ ripemd160 payment → expiry < 2 ^ 32 → key remote → key local → IsListed (received hash remote local payment_hash expiry)
-received_at hash revocation remote local payment payment_hash expiry e f n k l =
-    subst (λ h. IsListed (received h remote local payment_hash expiry)) (sym e) (subst (λ p. IsListed (received (hash160 revocation) remote local p expiry)) (sym f) (received_few revocation remote local payment expiry n k l))
+pub to_local_is_listed : is_listed to_local_pieces ≡ true
+unfolding pattern_listing rule_of
+to_local_is_listed = refl
 
-pub received_of : {E : Type 0} (r : Result CheckedScript E) (hash revocation remote local payment payment_hash : List ℕ) (expiry : ℕ) → hash ≡ hash160 revocation → payment_hash ≡ ripemd160 payment → expiry < 2 ^ 32 → key remote → key local
-    → IfOk r (λ c. (c.ops ≡ received hash remote local payment_hash expiry) × (listing (received hash remote local payment_hash expiry) ≡ Ok c.paths))
-    → IfOk r (λ c. c ≡ received_form (hash160 revocation) remote local (ripemd160 payment) expiry)
-received_of r hash revocation remote local payment payment_hash expiry e f n k l h =
-    let P : List ℕ → List ℕ → Type 0 = λ x y. IfOk r (λ c. (c.ops ≡ received x remote local y expiry) × (listing (received x remote local y expiry) ≡ Ok c.paths)) in
-    form_of r (received (hash160 revocation) remote local (ripemd160 payment) expiry) (received_ways (hash160 revocation) remote local (ripemd160 payment) expiry) (received_listed revocation remote local payment expiry n k l) (subst (λ y. P (hash160 revocation) y) f (subst (λ x. P x payment_hash) e h))
+pub key_hash_is_listed : is_listed key_hash_pieces ≡ true
+unfolding pattern_listing rule_of
+key_hash_is_listed = refl
+
+pub offered_is_listed : is_listed offered_pieces ≡ true
+unfolding pattern_listing rule_of check_multi_sig number_of minimal_bytes_of digits is_key is_signature is_token
+offered_is_listed = refl
+
+pub received_is_listed : is_listed received_pieces ≡ true
+unfolding pattern_listing rule_of check_multi_sig number_of minimal_bytes_of digits is_key is_signature is_token
+received_is_listed = refl

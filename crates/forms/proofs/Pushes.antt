@@ -1,13 +1,14 @@
 -- Number pushes: an item, or an opcode of its own.
-use Rattle.std.proofs.Common.{◌≡◌, ◌≢◌, ℕ, zero, suc, ◌/◌, ◌%◌, ◌^◌, ◌<◌, ◌≤◌, Bool, true, false, eqb, leb, List, [], ◌∷◌, length, Option, Some, None, sym, ap, ◌∙◌, refl, arith}
+use Rattle.std.proofs.Common.{◌≡◌, ℕ, zero, suc, ◌/◌, ◌%◌, ◌^◌, ◌<◌, ◌≤◌, Bool, true, false, eqb, leb, List, [], ◌∷◌, length, Option, Some, None, sym, ap, ◌∙◌, refl, arith}
 use Rattle.std.specs.Prelude.{if◌then◌else◌}
-use Rattle.std.proofs.lemmas.Bool.{le-leb, lt-leb, leb-true, leb-false, eqb-true, eq-eqb, ne_eqb}
+use Rattle.std.proofs.lemmas.Bool.{le-leb, lt-leb, leb-true, leb-false, eqb-true, ne_eqb}
 use Rattle.script.specs.declared.opcode.Op.{Op}
 use Rattle.script.specs.declared.opcode.Op.TheVariants.{Push, Number}
 use Rattle.script.specs.declared.num.Number.{Number as Signed}
 use Rattle.script.specs.Number.{number_of, minimal_bytes_of, digits}
 use Rattle.script.proofs.RoundTrip.{read_back}
 use Rattle.script.proofs.Numbers.{number_of-nil, number_of-long}
+use Rattle.paths.specs.Patterns.{number_op}
 use Rattle.forms.specs.Scripts.{number_push}
 
 -- a number that is not negative
@@ -35,8 +36,12 @@ by_length : (b : List ℕ) (n : ℕ) (t : Bool) → number_of 5 b ≡ signed n �
 by_length b n true e l = leb-true (length b) 5 l
 by_length b n false e l = absurd (let none : number_of 5 b ≡ None = number_of-long 5 b (leb-false (length b) 5 l) in some_none _ (sym e ∙ none))
 
-pub short_item : (b : List ℕ) (n : ℕ) → number_of 5 b ≡ signed n → length b ≤ 5
+short_item : (b : List ℕ) (n : ℕ) → number_of 5 b ≡ signed n → length b ≤ 5
 short_item b n e = by_length b n (leb (length b) 5) e refl
+
+positive : (m : ℕ) → eqb m 0 ≡ false → 0 < m
+positive zero e = absurd (let t : true ≡ false = e in cc)
+positive (suc m) e = omega arith
 
 -- what holds of each form of a push, holds of the push: an item that is read as the number, or an opcode
 pub by_push : (P : Op → Type 0) (n : ℕ) → n < 2 ^ 32
@@ -46,10 +51,6 @@ pub by_push : (P : Op → Type 0) (n : ℕ) → n < 2 ^ 32
 unfolding number_push
 by_push P n l item number = zero_or (eqb n 0) (leb n 16) refl refl
   where
-    positive : (m : ℕ) → eqb m 0 ≡ false → 0 < m
-    positive zero e = absurd (let t : true ≡ false = e in cc)
-    positive (suc m) e = omega arith
-
     long : P (Push (minimal_bytes_of n))
     long = item (minimal_bytes_of n) (short_item (minimal_bytes_of n) n (read_back n l)) (read_back n l)
 
@@ -61,18 +62,21 @@ by_push P n l item number = zero_or (eqb n 0) (leb n 16) refl refl
         number p q (small_read n p q)
     zero_or false false e f = long
 
--- the bytes of a push
-pub push_of_zero : (n : ℕ) → n ≡ 0 → number_push n ≡ Push []
-unfolding number_push
-push_of_zero n e = rw (eq-eqb n 0 e) refl
+-- a pattern spells numbers alike
+empty_item : minimal_bytes_of 0 ≡ []
+unfolding minimal_bytes_of digits
+empty_item = refl
 
-pub push_of_small : (n : ℕ) → n ≢ 0 → n ≤ 16 → number_push n ≡ Number n
+pub pushed_alike : (n : ℕ) → number_op n ≡ number_push n
 unfolding number_push
-push_of_small n e l = rw (ne_eqb n 0 e, le-leb n 16 l) refl
-
-pub push_of_great : (n : ℕ) → 16 < n → number_push n ≡ Push (minimal_bytes_of n)
-unfolding number_push
-push_of_great n l = rw (ne_eqb n 0 (λ e. omega arith), lt-leb n 16 l) refl
-
-pub short_push : (n : ℕ) → n < 2 ^ 32 → length (minimal_bytes_of n) ≤ 5
-short_push n l = short_item (minimal_bytes_of n) n (read_back n l)
+pushed_alike n = by_zero (eqb n 0) refl
+  where
+    by_zero : (z : Bool) → eqb n 0 ≡ z → number_op n ≡ number_push n
+    by_zero true e =
+        let z : n ≡ 0 = eqb-true n 0 e in
+        let l : leb 1 n ≡ false = lt-leb 1 n (omega arith) in
+        rw (e, l) (ap (λ m. Push (minimal_bytes_of m)) z ∙ ap Push empty_item)
+    by_zero false e =
+        let p = positive n e in
+        let l : leb 1 n ≡ true = le-leb 1 n (omega arith) in
+        rw (e, l) refl

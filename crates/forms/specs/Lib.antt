@@ -1,6 +1,6 @@
 pub mod Scripts
 pub mod Ways
 pub mod Forms
-pub mod Parts
+pub mod Pieces
 pub mod Fillings
 pub mod Claims

@@ -1,11 +1,12 @@
 //! The scripts of BOLT 3, checked for all parameters, and the slots with which claims on them are accepted.
 //!
-//! [`funding`], [`to_local`], [`key_hash`] (the script behind to_remote), [`offered`] and [`received`] give the script of an output with exactly
-//! its ways, in the text order of their branches; the only error is that memory ran out. [`accepted_slots`] fills the slots of a
-//! [`ClaimKind`], with which `claim::accept` takes a claim on any output of that kind's form.
+//! [`patterns`] lists the ways through each script once. With these [`funding`], [`to_local`], [`key_hash`] (the script behind to_remote), [`offered`] and
+//! [`received`] give the script of an output with exactly its ways, in the text order of their branches; the only error is that memory ran
+//! out. [`accepted_slots`] fills the slots of a [`ClaimKind`], with which `claim::accept` takes a claim on any output of that kind's form.
 //!
 //! ```
-//! let checked = to_local(alloc, &revocation, 144, &delayed)?;
+//! let patterns = patterns(alloc)?;
+//! let checked = to_local(alloc, &patterns, &revocation, 144, &delayed)?;
 //! let kind = ClaimKind::Delayed { delayed };
 //! let slots = accepted_slots(alloc, &kind)?;
 //! let claim = accept(alloc, checked, kind.path(), slots, place, Shell::Open)?;
@@ -13,17 +14,19 @@
 //! ```
 #![tactic(auto)]
 
-mod assembling;
+mod checking;
+mod htlc_scripts;
+mod instances;
 mod kinds;
-mod offered_htlc;
 mod parameters;
-mod received_htlc;
+mod pattern_set;
 mod scripts;
 #[cfg(test)]
 mod tests;
 
+pub use checking::patterns;
+pub use htlc_scripts::{offered, received};
 pub use kinds::{ClaimKind, accepted_slots};
-pub use offered_htlc::offered;
 pub use parameters::{Expiry, HtlcKeys};
-pub use received_htlc::received;
+pub use pattern_set::Patterns;
 pub use scripts::{funding, key_hash, to_local};

@@ -4,38 +4,41 @@ ghost use Rattle.std.specs.Prelude.{◌≡◌, IfOk};
 ghost use Rattle.digest.specs.Hash.{hash160 as hash160_of};
 ghost use Rattle.forms.specs.Forms.{two_of_two_form, funding_form, to_local_form, key_hash_form};
 
-use crate::assembling::Part::{Code, Compressed, Count, Hash};
-use crate::assembling::assemble;
+use crate::instances::instance_of;
+use crate::pattern_set::Patterns;
 use digest::hash160;
 use keys::Key;
-use paths::Checked;
-use script::Op;
+use paths::{Checked, Fill};
 use std::alloc::{AllocError, Global};
 use std::cmp::Ordering;
 
 // The script that both keys sign, the first one's signature first.
-fn two_of_two(alloc: Global, first: &Key, second: &Key) -> Result<Checked, AllocError>
+fn two_of_two(
+    alloc: Global,
+    patterns: &Patterns,
+    first: &Key,
+    second: &Key,
+) -> Result<Checked, AllocError>
     ensures { IfOk result (λ c. c ≡ two_of_two_form first.now.bytes second.now.bytes) }
 {
-    let parts = [
-        Code(Op::Number(2)),
-        Compressed(*first),
-        Compressed(*second),
-        Code(Op::Number(2)),
-        Code(Op::CheckMultiSig),
-    ];
-    assemble(alloc, &parts)
+    let fills = [Fill::Key(first.bytes), Fill::Key(second.bytes)];
+    instance_of(alloc, &patterns.two_of_two, &fills)
 }
 
 /// The funding output's script (BOLT 3, "Funding Transaction Output"): both keys sign, the lesser one first, whichever of them comes first here. It
 /// has one path. The only error is that memory ran out.
-pub fn funding(alloc: Global, key: &Key, other: &Key) -> Result<Checked, AllocError>
+pub fn funding(
+    alloc: Global,
+    patterns: &Patterns,
+    key: &Key,
+    other: &Key,
+) -> Result<Checked, AllocError>
     ensures { IfOk result (λ c. c ≡ funding_form key.now.bytes other.now.bytes) }
 {
     if other.bytes.cmp(&key.bytes) == Ordering::Less {
-        two_of_two(alloc, other, key)
+        two_of_two(alloc, patterns, other, key)
     } else {
-        two_of_two(alloc, key, other)
+        two_of_two(alloc, patterns, key, other)
     }
 }
 
@@ -43,38 +46,27 @@ pub fn funding(alloc: Global, key: &Key, other: &Key) -> Result<Checked, AllocEr
 /// after `delay` blocks. Its paths are these two, in this order. The only error is that memory ran out.
 pub fn to_local(
     alloc: Global,
+    patterns: &Patterns,
     revocation: &Key,
     delay: u16,
     delayed: &Key,
 ) -> Result<Checked, AllocError>
     ensures { IfOk result (λ c. c ≡ to_local_form revocation.now.bytes delay delayed.now.bytes) }
 {
-    let parts = [
-        Code(Op::If),
-        Compressed(*revocation),
-        Code(Op::Else),
-        Count(delay as u32),
-        Code(Op::CheckSequenceVerify),
-        Code(Op::Drop),
-        Compressed(*delayed),
-        Code(Op::EndIf),
-        Code(Op::CheckSig),
+    let fills = [
+        Fill::Key(revocation.bytes),
+        Fill::Num(delay as u32),
+        Fill::Key(delayed.bytes),
     ];
-    assemble(alloc, &parts)
+    instance_of(alloc, &patterns.to_local, &fills)
 }
 
 /// The script behind a program of version 0 and the key's HASH160 (BIP 141), which a commitment's to_remote output has (BOLT 3): the key
 /// and its signature. It has one path. The only error is that memory ran out.
-pub fn key_hash(alloc: Global, key: &Key) -> Result<Checked, AllocError>
+pub fn key_hash(alloc: Global, patterns: &Patterns, key: &Key) -> Result<Checked, AllocError>
     ensures { IfOk result (λ c. c ≡ key_hash_form (hash160_of key.now.bytes)) }
 {
     let hash = hash160(&key.bytes);
-    let parts = [
-        Code(Op::Dup),
-        Code(Op::Hash160),
-        Hash(hash),
-        Code(Op::EqualVerify),
-        Code(Op::CheckSig),
-    ];
-    assemble(alloc, &parts)
+    let fills = [Fill::Hash(hash)];
+    instance_of(alloc, &patterns.key_hash, &fills)
 }

@@ -16,6 +16,7 @@ use crate::sets::PenaltySet;
 use crate::states::RevokedState;
 use claim::{Claim, Place};
 use commit::{BuildError, Commitment, CommitmentOutput, OutputKind, build, htlc_tx};
+use forms::{Patterns, patterns};
 use keys::{Key, point};
 use lists::List;
 use std::alloc::{AllocError, Global};
@@ -24,6 +25,7 @@ use terms::{Side, Terms, View};
 // The penalty on the output of the HTLC transaction of the k-th HTLC.
 fn second_stage_penalty(
     alloc: Global,
+    patterns: &Patterns,
     commitment: &Commitment,
     k: usize,
 ) -> Result<Claim, AllocError>
@@ -32,13 +34,14 @@ fn second_stage_penalty(
 {
     match htlc_tx(alloc, commitment, k)? {
         None => unreachable!(),
-        Some(tx) => penalty_on(alloc, commitment, first_place(&tx)?),
+        Some(tx) => penalty_on(alloc, patterns, commitment, first_place(&tx)?),
     }
 }
 
 // What an output lets the peer claim goes to the end. Where it is an HTLC's, that one is the k-th.
 fn push_claims_on(
     alloc: Global,
+    patterns: &Patterns,
     commitment: &Commitment,
     index: u32,
     k: usize,
@@ -53,16 +56,16 @@ fn push_claims_on(
     let place = place_of(commitment, index, output)?;
     match &output.kind {
         OutputKind::ToLocal => {
-            claims.push(penalty_on(alloc, commitment, place)?)?;
+            claims.push(penalty_on(alloc, patterns, commitment, place)?)?;
             Ok(())
         }
         OutputKind::ToRemote => {
-            claims.push(payment_on(alloc, commitment, place)?)?;
+            claims.push(payment_on(alloc, patterns, commitment, place)?)?;
             Ok(())
         }
         OutputKind::ToHtlc(direction, htlc) => {
-            claims.push(htlc_penalty_on(alloc, commitment, *direction, htlc, place)?)?;
-            claims.push(second_stage_penalty(alloc, commitment, k)?)?;
+            claims.push(htlc_penalty_on(alloc, patterns, commitment, *direction, htlc, place)?)?;
+            claims.push(second_stage_penalty(alloc, patterns, commitment, k)?)?;
             Ok(())
         }
     }
@@ -73,11 +76,20 @@ fn claims_of(alloc: Global, commitment: &Commitment) -> Result<List<Claim>, Allo
     requires { AreOutputs commitment.now }
     ensures { IfOk result (AreClaimsOn (claims_from commitment.now 0 commitment.now.outputs)) }
 {
+    let patterns = patterns(alloc)?;
     let mut claims = Vec::new(alloc);
     let mut htlcs = 0;
     let outputs = commitment.outputs();
     for (index, output) in outputs.iter().enumerate() {
-        push_claims_on(alloc, commitment, index as u32, htlcs, output, &mut claims)?;
+        push_claims_on(
+            alloc,
+            &patterns,
+            commitment,
+            index as u32,
+            htlcs,
+            output,
+            &mut claims,
+        )?;
         htlcs += htlc_count(&output.kind);
     }
     Ok(List::from_vec(claims))

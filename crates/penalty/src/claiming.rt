@@ -14,7 +14,9 @@ ghost use Rattle.penalty.specs.Outputs.{HasWay};
 
 use claim::{Claim, Place, Shell, accept};
 use commit::{Commitment, CommitmentKeys, Direction};
-use forms::{ClaimKind, Expiry, HtlcKeys, accepted_slots, key_hash, offered, received, to_local};
+use forms::{
+    ClaimKind, Expiry, HtlcKeys, Patterns, accepted_slots, key_hash, offered, received, to_local,
+};
 use paths::Checked;
 use std::alloc::{AllocError, Global};
 use terms::Htlc;
@@ -42,6 +44,7 @@ pub fn claim_of(
 /// The penalty on an output of the form of to_local.
 pub(crate) fn penalty_on(
     alloc: Global,
+    patterns: &Patterns,
     commitment: &Commitment,
     place: Place,
 ) -> Result<Claim, AllocError>
@@ -50,7 +53,13 @@ pub(crate) fn penalty_on(
 {
     let keys = commitment.keys();
     let revocation = keys.revocation;
-    let checked = to_local(alloc, &revocation, commitment.delay(), &keys.delayed)?;
+    let checked = to_local(
+        alloc,
+        patterns,
+        &revocation,
+        commitment.delay(),
+        &keys.delayed,
+    )?;
     claim_of(
         alloc,
         &ClaimKind::Penalty { revocation },
@@ -61,12 +70,17 @@ pub(crate) fn penalty_on(
 }
 
 /// The claim on to_remote. The only error is that memory ran out.
-pub fn payment_on(alloc: Global, commitment: &Commitment, place: Place) -> Result<Claim, AllocError>
+pub fn payment_on(
+    alloc: Global,
+    patterns: &Patterns,
+    commitment: &Commitment,
+    place: Place,
+) -> Result<Claim, AllocError>
     requires { place.program ≡ key_hash_program commitment.now.keys.remote }
     ensures { IfOk result (IsClaimOn (payment_on commitment.now place)) }
 {
     let key = commitment.keys().remote;
-    let checked = key_hash(alloc, &key)?;
+    let checked = key_hash(alloc, patterns, &key)?;
     claim_of(
         alloc,
         &ClaimKind::KeyHash { key },
@@ -79,6 +93,7 @@ pub fn payment_on(alloc: Global, commitment: &Commitment, place: Place) -> Resul
 /// The script of an HTLC's output. The only error is that memory ran out.
 pub fn htlc_script(
     alloc: Global,
+    patterns: &Patterns,
     keys: &CommitmentKeys,
     direction: Direction,
     htlc: &Htlc,
@@ -92,12 +107,12 @@ pub fn htlc_script(
         local: keys.local_htlc,
     };
     match direction {
-        Direction::Offered => offered(alloc, &htlc_keys, &htlc.hash),
+        Direction::Offered => offered(alloc, patterns, &htlc_keys, &htlc.hash),
         Direction::Received => {
             let expiry = Expiry {
                 height: htlc.expiry,
             };
-            received(alloc, &htlc_keys, &htlc.hash, expiry)
+            received(alloc, patterns, &htlc_keys, &htlc.hash, expiry)
         }
     }
 }
@@ -105,6 +120,7 @@ pub fn htlc_script(
 /// The penalty on an HTLC's output.
 pub(crate) fn htlc_penalty_on(
     alloc: Global,
+    patterns: &Patterns,
     commitment: &Commitment,
     direction: Direction,
     htlc: &Htlc,
@@ -116,7 +132,7 @@ pub(crate) fn htlc_penalty_on(
 {
     let keys = commitment.keys();
     let revocation = keys.revocation;
-    let checked = htlc_script(alloc, keys, direction, htlc)?;
+    let checked = htlc_script(alloc, patterns, keys, direction, htlc)?;
     claim_of(
         alloc,
         &ClaimKind::HtlcPenalty { revocation },

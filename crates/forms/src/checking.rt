@@ -1,0 +1,155 @@
+// Checks the patterns of the scripts.
+
+ghost use Rattle.std.specs.Prelude.{◌≡◌, true, IfOk};
+ghost use Rattle.forms.specs.Pieces.{is_listed, two_of_two_pieces, to_local_pieces, key_hash_pieces, htlc_beginning_pieces, offered_pieces, received_pieces};
+
+use crate::pattern_set::Patterns;
+use lists::ByteString;
+use paths::Piece::{HashHole, KeyHole, NumHole, Op as Code};
+use paths::{CheckError, CheckedPattern, PatternError, Piece, check_pattern};
+use script::Op;
+use std::alloc::{AllocError, Global};
+
+/// Checks the patterns of all scripts. The only error is that memory ran out.
+pub fn patterns(alloc: Global) -> Result<Patterns, AllocError> {
+    Ok(Patterns {
+        two_of_two: listed(alloc, two_of_two(alloc)?)?,
+        to_local: listed(alloc, to_local(alloc)?)?,
+        key_hash: listed(alloc, key_hash(alloc)?)?,
+        offered: listed(alloc, offered(alloc)?)?,
+        received: listed(alloc, received(alloc)?)?,
+    })
+}
+
+// The pattern of pieces whose ways are listed. The only error is that memory ran out.
+#[tactic(auto, using(crate::proofs::Forms::never_refused))]
+fn listed(alloc: Global, pieces: Vec<Piece>) -> Result<CheckedPattern, AllocError>
+    requires { is_listed pieces.items ≡ true }
+    ensures { IfOk result (λ p. p.pieces ≡ pieces.items) }
+{
+    match check_pattern(alloc, pieces) {
+        Ok(pattern) => Ok(pattern),
+        Err(refusal) => match refusal {
+            PatternError::Check(CheckError::NoMemory) => Err(AllocError),
+            _ => unreachable!(),
+        },
+    }
+}
+
+// Both keys sign. The only error is that memory ran out.
+fn two_of_two(alloc: Global) -> Result<Vec<Piece>, AllocError>
+    ensures { IfOk result (λ v. v.items ≡ two_of_two_pieces) }
+{
+    Ok(vec![in alloc;
+        Code(Op::Number(2)),
+        KeyHole,
+        KeyHole,
+        Code(Op::Number(2)),
+        Code(Op::CheckMultiSig),
+    ]?)
+}
+
+// The revocation key, or the delayed key after the delay. The only error is that memory ran out.
+fn to_local(alloc: Global) -> Result<Vec<Piece>, AllocError>
+    ensures { IfOk result (λ v. v.items ≡ to_local_pieces) }
+{
+    Ok(vec![in alloc;
+        Code(Op::If),
+        KeyHole,
+        Code(Op::Else),
+        NumHole,
+        Code(Op::CheckSequenceVerify),
+        Code(Op::Drop),
+        KeyHole,
+        Code(Op::EndIf),
+        Code(Op::CheckSig),
+    ]?)
+}
+
+// The key of this hash. The only error is that memory ran out.
+fn key_hash(alloc: Global) -> Result<Vec<Piece>, AllocError>
+    ensures { IfOk result (λ v. v.items ≡ key_hash_pieces) }
+{
+    Ok(vec![in alloc;
+        Code(Op::Dup),
+        Code(Op::Hash160),
+        HashHole,
+        Code(Op::EqualVerify),
+        Code(Op::CheckSig),
+    ]?)
+}
+
+// What the script of an HTLC begins with: the revocation key's branch, and in the other the remote key and the test for a preimage. The only error is
+// that memory ran out.
+fn htlc_beginning(alloc: Global) -> Result<Vec<Piece>, AllocError>
+    ensures { IfOk result (λ v. v.items ≡ htlc_beginning_pieces) }
+{
+    let preimage_size = ByteString::from_slice(alloc, &[32])?;
+    Ok(vec![in alloc;
+        Code(Op::Dup),
+        Code(Op::Hash160),
+        HashHole,
+        Code(Op::Equal),
+        Code(Op::If),
+        Code(Op::CheckSig),
+        Code(Op::Else),
+        KeyHole,
+        Code(Op::Swap),
+        Code(Op::Size),
+        Code(Op::Push(preimage_size)),
+        Code(Op::Equal),
+    ]?)
+}
+
+// The revocation key; both HTLC keys, for the timeout; or the remote key with the preimage. The only error is that memory ran out.
+fn offered(alloc: Global) -> Result<Vec<Piece>, AllocError>
+    ensures { IfOk result (λ v. v.items ≡ offered_pieces) }
+{
+    let mut pieces = htlc_beginning(alloc)?;
+    let mut branches = vec![in alloc;
+        Code(Op::NotIf),
+        Code(Op::Drop),
+        Code(Op::Number(2)),
+        Code(Op::Swap),
+        KeyHole,
+        Code(Op::Number(2)),
+        Code(Op::CheckMultiSig),
+        Code(Op::Else),
+        Code(Op::Hash160),
+        HashHole,
+        Code(Op::EqualVerify),
+        Code(Op::CheckSig),
+        Code(Op::EndIf),
+        Code(Op::EndIf),
+    ]?;
+    pieces.append(&mut branches)?;
+    Ok(pieces)
+}
+
+// The revocation key; both HTLC keys with the preimage; or the remote key from the expiry on. The only error is that memory ran out.
+fn received(alloc: Global) -> Result<Vec<Piece>, AllocError>
+    ensures { IfOk result (λ v. v.items ≡ received_pieces) }
+{
+    let mut pieces = htlc_beginning(alloc)?;
+    let mut branches = vec![in alloc;
+        Code(Op::If),
+        Code(Op::Hash160),
+        HashHole,
+        Code(Op::EqualVerify),
+        Code(Op::Number(2)),
+        Code(Op::Swap),
+        KeyHole,
+        Code(Op::Number(2)),
+        Code(Op::CheckMultiSig),
+        Code(Op::Else),
+        Code(Op::Drop),
+        NumHole,
+        Code(Op::CheckLockTimeVerify),
+        Code(Op::Drop),
+        Code(Op::CheckSig),
+        Code(Op::EndIf),
+        Code(Op::EndIf),
+    ]?;
+    pieces.append(&mut branches)?;
+    Ok(pieces)
+}
