@@ -21,7 +21,7 @@ use Rattle.commit.specs.Outputs.{outputs_of, to_local_script, script_hash_progra
 use Rattle.commit.specs.Order.{output_cmp, in_order}
 use Rattle.commit.specs.Commitments.{Contents, commitment_of, transaction_of, second_stage_of, id_of, htlcs_from}
 use Rattle.penalty.specs.declared.states.RevokedState.{RevokedState}
-use Rattle.penalty.specs.Claimable.{Claimable, claims_from, claimable_of, commitment_in}
+use Rattle.penalty.specs.Claimable.{Claimable, claims_by, claims_from, claimable_of, commitment_in}
 
 -- the index and the value of an output that is claimed, and how it is claimed
 abbrev spot : Claimable → ℕ × ℕ
@@ -46,7 +46,7 @@ module _ (funding : OutPoint) (hidden : Obscured) (k : KeyBytes) (hash : List �
   }
 
   twin_claims : map spot (claims_from twins 0 twins.outputs) ≡ (0, 10000) ∷ (0, 9337) ∷ (1, 10000) ∷ (0, 9337) ∷ (2, 20000) ∷ (3, 58932) ∷ []
-  unfolding claims_from
+  unfolding claims_by
   twin_claims = refl
 
   abbrev commitment_id : List ℕ
@@ -62,7 +62,7 @@ module _ (funding : OutPoint) (hidden : Obscured) (k : KeyBytes) (hash : List �
   })
 
   twin_ids : map (λ o. o.place.outpoint.txid) (claims_from twins 0 twins.outputs) ≡ commitment_id ∷ timeout_id 0 500 ∷ commitment_id ∷ timeout_id 1 600 ∷ commitment_id ∷ commitment_id ∷ []
-  unfolding claims_from second_stage_of
+  unfolding claims_by second_stage_of
   twin_ids = refl
 
 module _ (funding : OutPoint) (of_a of_b : BaseKeys) (hash secret : List ℕ) where
@@ -88,7 +88,7 @@ module _ (funding : OutPoint) (of_a of_b : BaseKeys) (hash secret : List ℕ) wh
   plain = record { terms = terms; view = view 80000000 [] 20000000 []; owner = A; number = 7; secret = secret; few = lit≤ tt; heights = refl; whole = refl }
 
   plain_claims : summary plain ≡ (0, 20000) ∷ (1, 79276) ∷ []
-  unfolding claimable_of claims_from commitment_of outputs_of in_order output_cmp keys_of
+  unfolding claimable_of claims_by commitment_of outputs_of in_order output_cmp keys_of
   plain_claims = refl
 
   -- by the revocation key with 01 on to_local, and by the peer's payment key on to_remote
@@ -96,7 +96,7 @@ module _ (funding : OutPoint) (of_a of_b : BaseKeys) (hash secret : List ℕ) wh
       ≡ (0, Bytes of_b.payment.bytes ∷ Signature of_b.payment.bytes ∷ [])
       ∷ (0, Bytes (1 ∷ []) ∷ Signature (revocation_key of_b.revocation.bytes (point_of secret)) ∷ [])
       ∷ []
-  unfolding claimable_of claims_from commitment_of outputs_of in_order output_cmp keys_of
+  unfolding claimable_of claims_by commitment_of outputs_of in_order output_cmp keys_of
   plain_slots = refl
 
   -- an HTLC of each direction, and one of each that is trimmed: 546 and the fee of 663 or 703
@@ -113,5 +113,5 @@ module _ (funding : OutPoint) (of_a of_b : BaseKeys) (hash secret : List ℕ) wh
   }
 
   mixed_claims : summary mixed ≡ (0, 1249) ∷ (0, 546) ∷ (1, 10000) ∷ (0, 9337) ∷ (2, 11000) ∷ (0, 10297) ∷ (3, 16542) ∷ (4, 58760) ∷ []
-  unfolding claimable_of claims_from commitment_of outputs_of in_order output_cmp keys_of
+  unfolding claimable_of claims_by commitment_of outputs_of in_order output_cmp keys_of
   mixed_claims = refl

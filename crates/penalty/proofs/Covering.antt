@@ -15,7 +15,7 @@ use Rattle.commit.specs.declared.outputs.CommitmentOutput.{CommitmentOutput}
 use Rattle.commit.specs.declared.outputs.HtlcOutput.{HtlcOutput}
 use Rattle.commit.specs.Commitments.{Contents, tx_output, transaction_of, htlc_at, htlcs_from, htlcs_of, htlc_transaction_of, second_stage_output, second_stage_of}
 use Rattle.penalty.specs.declared.states.RevokedState.{RevokedState}
-use Rattle.penalty.specs.Claimable.{Claimable, place_in, penalty_on, payment_on, htlc_penalty_on, second_stage_penalty, claims_on, claims_from, commitment_in, claimable_of}
+use Rattle.penalty.specs.Claimable.{Claimable, place_in, penalty_on, payment_on, htlc_penalty_on, second_stage_penalty, claims_on, claims_by, claims_from, commitment_in, claimable_of}
 use Rattle.penalty.specs.Covering.{IsClaimedAt, EachOutputIsClaimed, EachSecondStageIsClaimed}
 use Rattle.penalty.proofs.Second.{first_output}
 
@@ -53,7 +53,7 @@ none_some x e = cc
 
 each_from : (c : Contents) (i : ℕ) (os : List CommitmentOutput) (n : ℕ) (o : CommitmentOutput) → slice_get os n ≡ Some o
     → IsClaimedAt (claims_from c i os) (place_in (transaction_of c) (i + n) (tx_output o))
-unfolding claims_from
+unfolding claims_by
 each_from c i [] n o e = absurd (none_some o e)
 each_from c i (p ∷ os) zero o e =
     let f : p ≡ o = some_is p o e in
@@ -79,7 +79,7 @@ at_kind c i place (ToHtlc direction htlc) rest claims (suc k) h f e = behind (cl
 
 seconds_from : (c : Contents) (i : ℕ) (os : List CommitmentOutput) (k : ℕ) (h : HtlcOutput) → slice_get (htlcs_from i os) k ≡ Some h
     → IsClaimedAt (claims_from c i os) (place_in (second_stage_of c h) 0 (second_stage_output c h))
-unfolding claims_from htlcs_from
+unfolding claims_by htlcs_from
 seconds_from c i [] k h e = absurd (none_some h e)
 seconds_from c i (p ∷ os) k h e =
     at_kind c i (place_in (transaction_of c) i (tx_output p)) p.kind (htlcs_from (i + 1) os) (claims_from c (i + 1) os) k h (λ j f. seconds_from c (i + 1) os j h f) e

@@ -14,7 +14,7 @@ use Rattle.commit.specs.declared.outputs.CommitmentOutput.{CommitmentOutput}
 use Rattle.commit.specs.Keys.{keys_of}
 use Rattle.commit.specs.Commitments.{Contents, commitment_of, tx_output, transaction_of}
 use Rattle.penalty.specs.declared.states.RevokedState.{RevokedState}
-use Rattle.penalty.specs.Claimable.{Claimable, place_in, claims_on, claims_from, claimable_of, commitment_in}
+use Rattle.penalty.specs.Claimable.{Claimable, place_in, claims_on, claims_by, claims_from, claimable_of, commitment_in}
 use Rattle.penalty.specs.Rights.{CanFillAll, AreBasesOf, PeerCanFill}
 
 all_append : (r : Rights) (os ps : List Claimable) → AllByRecursion (CanFillAll r) os → AllByRecursion (CanFillAll r) ps → AllByRecursion (CanFillAll r) (os ++ ps)
@@ -27,7 +27,7 @@ on_output r c index place ToRemote penalty payment = ((tt, (payment, tt)), tt)
 on_output r c index place (ToHtlc direction h) penalty payment = ((tt, (penalty, tt)), ((tt, (penalty, tt)), tt))
 
 from_here : (r : Rights) (c : Contents) (index : ℕ) (os : List CommitmentOutput) → MaySign r c.keys.revocation → MaySign r c.keys.remote → AllByRecursion (CanFillAll r) (claims_from c index os)
-unfolding claims_from
+unfolding claims_by
 from_here r c index [] penalty payment = tt
 from_here r c index (o ∷ os) penalty payment =
     all_append r _ _ (on_output r c index (place_in (transaction_of c) index (tx_output o)) o.kind penalty payment) (from_here r c (index + 1) os penalty payment)

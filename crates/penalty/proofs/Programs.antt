@@ -34,7 +34,7 @@ same_to_local delay k = refl
 pub to_local_program : (delay : ℕ) (k : KeyBytes) → is_program (spelling (to_local k.revocation delay k.delayed)) (script_hash_program (to_local_script delay k)) ≡ true
 to_local_program delay k = by_hash _ _ (same_to_local delay k)
 
-same_htlc : (k : KeyBytes) (direction : Direction) (h : Htlc) → htlc_script k direction h ≡ spelling (htlc_form k direction h).ops
+pub same_htlc : (k : KeyBytes) (direction : Direction) (h : Htlc) → htlc_script k direction h ≡ spelling (htlc_form k direction h).ops
 unfolding htlc_script
 same_htlc k Offered h = refl
 same_htlc k Received h = refl

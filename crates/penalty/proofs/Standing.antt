@@ -9,6 +9,7 @@ use Rattle.script.specs.Limits.{locktime_threshold}
 use Rattle.terms.specs.declared.htlcs.Htlc.{Htlc}
 use Rattle.terms.specs.declared.sides.Side.{Side}
 use Rattle.terms.specs.declared.sides.Side.TheVariants.{A, B}
+use Rattle.terms.specs.declared.agreement.Terms.{Terms}
 use Rattle.terms.specs.declared.views.View.{View}
 use Rattle.terms.specs.Agreement.{party}
 use Rattle.terms.specs.Sides.{other}
@@ -30,6 +31,7 @@ use Rattle.commit.proofs.Ordered.{there_is_one}
 use Rattle.commit.proofs.Shared.{shared}
 use Rattle.penalty.specs.declared.states.RevokedState.{RevokedState}
 use Rattle.penalty.specs.Views.{expire_at_heights, has_heights}
+use Rattle.penalty.specs.Paying.{CanPay}
 use Rattle.penalty.specs.Claimable.{commitment_in}
 use Rattle.penalty.specs.Outputs.{IsOutput, AreOutputs}
 
@@ -66,30 +68,30 @@ collected delay k a o r =
     (to_local delay k a.to_local))
     (to_remote delay k a.to_remote)
 
--- the commitment of a state is not refused
-pub payable : (state : RevokedState) → refusal_of (commitment_in state).outputs ≡ None
-payable state = shared state.terms state.view state.owner state.number (point_of state.secret) state.whole state.few
-
-each_stands : (state : RevokedState) → All (IsOutput (commitment_in state).delay (commitment_in state).keys) (commitment_in state).outputs
+each_stands : (terms : Terms) (view : View) (owner : Side) (number : ℕ) (point : List ℕ) → CanPay terms view
+    → All (IsOutput (commitment_of terms view owner number point).delay (commitment_of terms view owner number point).keys) (commitment_of terms view owner number point).outputs
 unfolding commitment_of
-each_stands state =
-    All-permutation (IsOutput (party state.owner state.terms).delay (keys_of state.terms state.owner (point_of state.secret))) _ _
-    (there_is_one (outputs_of (party state.owner state.terms).delay (keys_of state.terms state.owner (point_of state.secret)) (amounts_of state.terms state.view state.owner))).0.same
+each_stands terms view owner number point p =
+    All-permutation (IsOutput (party owner terms).delay (keys_of terms owner point)) _ _
+    (there_is_one (outputs_of (party owner terms).delay (keys_of terms owner point) (amounts_of terms view owner))).0.same
     (collected _ _ _
-    (All-filter _ ExpiresLow _ (of_side state.owner state.view state.heights))
-    (All-filter _ ExpiresLow _ (of_side (other state.owner) state.view state.heights)))
+    (All-filter _ ExpiresLow _ (of_side owner view p.heights))
+    (All-filter _ ExpiresLow _ (of_side (other owner) view p.heights)))
 
-pub outputs_stand : (state : RevokedState) → AreOutputs (commitment_in state)
-outputs_stand state = record { few = few_outputs _ (payable state); each = each_stands state }
+pub outputs_stand : (terms : Terms) (view : View) (owner : Side) (number : ℕ) (point : List ℕ) → CanPay terms view → AreOutputs (commitment_of terms view owner number point)
+outputs_stand terms view owner number point p = record { few = few_outputs _ (shared terms view owner number point p.whole p.few); each = each_stands terms view owner number point p }
 
 some_none : {A : Type 0} (x : A) → Some x ≡ None → ⊥
 some_none x e = cc
 
 -- of the refusals of `build` only that memory ran out is left
-pub no_memory : (state : RevokedState) (point : List ℕ) (e : BuildError) → Gives (commitment_of state.terms state.view state.owner state.number point) (Err e) → e ≡ NoMemory
-no_memory state point NoMemory g = refl
-no_memory state point TooManyOutputs g = absurd (some_none TooManyOutputs (sym g ∙ shared state.terms state.view state.owner state.number point state.whole state.few))
-no_memory state point ValueTooLarge g = absurd (some_none ValueTooLarge (sym g ∙ shared state.terms state.view state.owner state.number point state.whole state.few))
+pub no_memory : (terms : Terms) (view : View) (owner : Side) (number : ℕ) (point : List ℕ) (e : BuildError) → CanPay terms view → Gives (commitment_of terms view owner number point) (Err e) → e ≡ NoMemory
+no_memory terms view owner number point NoMemory p g = refl
+no_memory terms view owner number point TooManyOutputs p g = absurd (some_none TooManyOutputs (sym g ∙ shared terms view owner number point p.whole p.few))
+no_memory terms view owner number point ValueTooLarge p g = absurd (some_none ValueTooLarge (sym g ∙ shared terms view owner number point p.whole p.few))
 
-pub built : (state : RevokedState) (point : List ℕ) (c : Contents) → point ≡ point_of state.secret → Gives (commitment_of state.terms state.view state.owner state.number point) (Ok c) → c ≡ commitment_in state
-built state point c e g = g.0 ∙ ap (commitment_of state.terms state.view state.owner state.number) e
+pub state_pays : (state : RevokedState) → CanPay state.terms state.view
+state_pays state = record { few = state.few; heights = state.heights; whole = state.whole }
+
+pub in_state : (state : RevokedState) (point : List ℕ) (c : Contents) → point ≡ point_of state.secret → c ≡ commitment_of state.terms state.view state.owner state.number point → c ≡ commitment_in state
+in_state state point c e g = g ∙ ap (commitment_of state.terms state.view state.owner state.number) e

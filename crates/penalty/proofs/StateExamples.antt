@@ -8,7 +8,7 @@ use Rattle.terms.specs.declared.agreement.Party.{Party}
 use Rattle.terms.specs.declared.agreement.Terms.{Terms}
 use Rattle.terms.specs.declared.views.View.{View}
 use Rattle.penalty.specs.declared.errors.StateError.TheVariants.{TooManyHtlcs, ExpiryTooLarge, WrongTotal}
-use Rattle.penalty.specs.States.{refusal_of}
+use Rattle.penalty.specs.Paying.{refusal_of}
 
 module _ (funding : OutPoint) (bases : BaseKeys) where
   abbrev side : ℕ → Party

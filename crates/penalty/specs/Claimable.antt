@@ -9,6 +9,8 @@ use Rattle.keys.specs.Derivation.{point_of}
 use Rattle.terms.specs.declared.htlcs.Htlc.{Htlc}
 use Rattle.paths.specs.Listing.{CheckedScript}
 use Rattle.claim.specs.declared.parts.Place.{Place}
+use Rattle.claim.specs.declared.parts.Shell.{Shell}
+use Rattle.claim.specs.declared.parts.Shell.TheVariants.{Open}
 use Rattle.commit.specs.declared.fees.Direction.{Direction}
 use Rattle.commit.specs.declared.fees.Direction.TheVariants.{Offered, Received}
 use Rattle.commit.specs.declared.outputs.OutputKind.{OutputKind}
@@ -21,13 +23,14 @@ use Rattle.forms.specs.Forms.{to_local_form, key_hash_form, offered_form, receiv
 use Rattle.forms.specs.Fillings.{Filling, Signature, Bytes}
 use Rattle.penalty.specs.declared.states.RevokedState.{RevokedState}
 
--- an output that may be claimed: where it stands, with its value and program; its script with the ways through it; which of these is taken; and
--- what fills its slots, the top of the stack first
+-- an output that may be claimed: where it stands, with its value and program; its script with the ways through it; which of these is taken; what
+-- fills its slots, the top of the stack first; and the transaction round the claim
 pub record Claimable : Type 0 where
   pub place : Place
   pub form : CheckedScript
   pub path : ℕ
   pub slots : List Filling
+  pub shell : Shell
 
 -- where an output of a transaction stands
 abbrev pub place_in : Transaction → ℕ → Output → Place
@@ -40,6 +43,7 @@ penalty_on c place = record {
   form = to_local_form c.keys.revocation c.delay c.keys.delayed;
   path = 0;
   slots = Bytes (1 ∷ []) ∷ Signature c.keys.revocation ∷ [];
+  shell = Open;
 }
 
 -- to_remote: by the peer's payment key
@@ -49,6 +53,7 @@ payment_on c place = record {
   form = key_hash_form (hash160 c.keys.remote);
   path = 0;
   slots = Bytes c.keys.remote ∷ Signature c.keys.remote ∷ [];
+  shell = Open;
 }
 
 -- the form of an HTLC's output
@@ -63,6 +68,7 @@ htlc_penalty_on c direction h place = record {
   form = htlc_form c.keys direction h;
   path = 0;
   slots = Bytes c.keys.revocation ∷ Signature c.keys.revocation ∷ [];
+  shell = Open;
 }
 
 -- the output of the one HTLC transaction that the peer signed for an HTLC: HTLC-timeout where the owner offered it, else HTLC-success
@@ -78,10 +84,13 @@ claims_on c index place (ToHtlc direction h) =
     ∷ second_stage_penalty c (record { index = index; direction = direction; htlc = h })
     ∷ []
 
--- the outputs from an index on
-unfoldable pub claims_from : Contents → ℕ → List CommitmentOutput → List Claimable
-claims_from c index [] = []
-claims_from c index (o ∷ os) = claims_on c index (place_in (transaction_of c) index (tx_output o)) o.kind ++ claims_from c (index + 1) os
+-- the outputs from an index on, by what an output at an index and a place gives
+unfoldable pub claims_by : (ℕ → Place → OutputKind → List Claimable) → Contents → ℕ → List CommitmentOutput → List Claimable
+claims_by on c index [] = []
+claims_by on c index (o ∷ os) = on index (place_in (transaction_of c) index (tx_output o)) o.kind ++ claims_by on c (index + 1) os
+
+abbrev pub claims_from : Contents → ℕ → List CommitmentOutput → List Claimable
+claims_from c = claims_by (claims_on c) c
 
 -- the commitment that was revoked, with the point of the secret
 abbrev pub commitment_in : RevokedState → Contents

@@ -1,4 +1,5 @@
 pub mod Views
+pub mod Paying
 pub mod States
 pub mod Claimable
 pub mod Sets

@@ -1,8 +1,13 @@
 -- What a claim on an output of a commitment rests on.
-use Rattle.std.specs.Prelude.{◌≡◌, ℕ, ◌≤◌, ◌<◌, List, length}
+use Rattle.std.specs.Prelude.{◌≡◌, ℕ, ◌≤◌, ◌<◌, true, List, length, Some, slice_get}
 use Rattle.std.specs.List.{All}
 use Rattle.script.specs.Limits.{locktime_threshold}
 use Rattle.tx.specs.Limits.{max_outputs}
+use Rattle.paths.specs.declared.state.Path.{Path}
+use Rattle.paths.specs.Listing.{CheckedScript}
+use Rattle.claim.specs.declared.parts.Place.{Place}
+use Rattle.claim.specs.declared.parts.Shell.{Shell}
+use Rattle.claim.specs.Judgement.{is_shell}
 use Rattle.commit.specs.declared.outputs.OutputKind.{OutputKind}
 use Rattle.commit.specs.declared.outputs.OutputKind.TheVariants.{ToLocal, ToRemote, ToHtlc}
 use Rattle.commit.specs.declared.outputs.CommitmentOutput.{CommitmentOutput}
@@ -29,3 +34,7 @@ pub record IsOutput (delay : ℕ) (k : KeyBytes) (o : CommitmentOutput) : Type 0
 pub record AreOutputs (c : Contents) : Type 0 where
   pub few : length c.outputs ≤ max_outputs
   pub each : All (λ o. IsOutput c.delay c.keys o) c.outputs
+
+-- a form has the path at an index, and the transaction may stand round it
+abbrev pub HasWay : CheckedScript → ℕ → Place → Shell → Type 0
+HasWay form index place shell = (p : Path) × (slice_get form.paths index ≡ Some p) × (is_shell p place shell ≡ true)

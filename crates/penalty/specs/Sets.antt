@@ -1,6 +1,5 @@
 -- Sets of penalties.
 use Rattle.std.specs.Prelude.{◌≡◌, List, [], ◌∷◌, map}
-use Rattle.claim.specs.declared.parts.Shell.TheVariants.{Open}
 use Rattle.claim.specs.Claims.{ClaimParts, IsAccepted}
 use Rattle.forms.specs.Fillings.{filling_of}
 use Rattle.penalty.specs.declared.states.RevokedState.{RevokedState}
@@ -8,13 +7,12 @@ use Rattle.penalty.specs.Claimable.{Claimable, claimable_of}
 
 -- what a claim claims
 abbrev pub claimed_by : ClaimParts → Claimable
-claimed_by c = record { place = c.place; form = c.ways; path = c.index; slots = map filling_of c.slots }
+claimed_by c = record { place = c.place; form = c.ways; path = c.index; slots = map filling_of c.slots; shell = c.shell }
 
--- an accepted claim on an output, which any transaction may make
+-- an accepted claim on an output
 pub record IsClaimOn (output : Claimable) (c : ClaimParts) : Type 0 where
   pub exact : claimed_by c ≡ output
   pub accepted : IsAccepted c
-  pub shell : c.shell ≡ Open
 
 -- one accepted claim for each output, in order
 abbrev pub AreClaimsOn : List Claimable → List ClaimParts → Type 0

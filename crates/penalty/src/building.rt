@@ -4,58 +4,23 @@ ghost use Rattle.std.specs.Prelude.{ℕ, ◌≡◌, ◌≤◌, ◌<◌, ◌++◌
 ghost use Rattle.std.specs.List.{cons_option};
 ghost use Rattle.tx.specs.Parts.{Output};
 ghost use Rattle.commit.specs.declared.outputs.HtlcOutput.{HtlcOutput};
-ghost use Rattle.commit.specs.Commitments.{tx_output, transaction_of, htlc_at, htlcs_of};
+ghost use Rattle.commit.specs.Commitments.{commitment_of, tx_output, transaction_of, htlc_at, htlcs_of};
 ghost use Rattle.penalty.specs.Claimable.{Claimable, place_in, claims_on, claims_from, claimable_of, commitment_in, second_stage_penalty};
 ghost use Rattle.penalty.specs.Sets.{IsClaimOn, AreClaimsOn};
 ghost use Rattle.penalty.specs.Outputs.{IsOutput, AreOutputs};
+ghost use Rattle.penalty.specs.Paying.{CanPay};
 
 use crate::claiming::{htlc_penalty_on, payment_on, penalty_on};
+use crate::places::{first_place, htlc_count, place_of};
 use crate::sets::PenaltySet;
 use crate::states::RevokedState;
 use claim::{Claim, Place};
 use commit::{BuildError, Commitment, CommitmentOutput, OutputKind, build, htlc_tx};
 use forms::{Patterns, patterns};
-use keys::point;
+use keys::{Key, point};
 use lists::List;
 use std::alloc::{AllocError, Global};
-use tx::hashing::txid;
-use tx::{OutPoint, Tx};
-
-// Where an output of the commitment stands.
-fn place_of(
-    commitment: &Commitment,
-    index: u32,
-    output: &CommitmentOutput,
-) -> Result<Place, AllocError>
-    ensures { IfOk result (λ p. p ≡ place_in (transaction_of commitment.now) index (tx_output output.now)) }
-{
-    let outpoint = OutPoint {
-        txid: *commitment.id(),
-        index,
-    };
-    Ok(Place {
-        outpoint,
-        value: output.value,
-        program: output.program.copy()?,
-    })
-}
-
-// Where the first output of a transaction stands.
-fn first_place(tx: &Tx) -> Result<Place, AllocError>
-    requires { 0 < length tx.now.outputs }
-    ensures { (o : Output) → slice_get tx.now.outputs 0 ≡ Some o → IfOk result (λ p. p ≡ place_in tx.now 0 o) }
-{
-    let output = &tx.outputs()[0];
-    let outpoint = OutPoint {
-        txid: txid(tx),
-        index: 0,
-    };
-    Ok(Place {
-        outpoint,
-        value: output.value(),
-        program: output.script().copy()?,
-    })
-}
+use terms::{Side, Terms, View};
 
 // The penalty on the output of the HTLC transaction of the k-th HTLC.
 fn second_stage_penalty(
@@ -106,18 +71,6 @@ fn push_claims_on(
     }
 }
 
-// How many HTLCs an output is for.
-fn count(kind: &OutputKind) -> usize
-    ensures value { (index : ℕ) → result ≡ length (cons_option (htlc_at index kind.now) []) }
-    ensures bound { result ≤ 1 }
-{
-    match kind {
-        OutputKind::ToLocal => 0,
-        OutputKind::ToRemote => 0,
-        OutputKind::ToHtlc(_, _) => 1,
-    }
-}
-
 // The claims on all outputs.
 fn claims_of(alloc: Global, commitment: &Commitment) -> Result<List<Claim>, AllocError>
     requires { AreOutputs commitment.now }
@@ -137,25 +90,25 @@ fn claims_of(alloc: Global, commitment: &Commitment) -> Result<List<Claim>, Allo
             output,
             &mut claims,
         )?;
-        htlcs += count(&output.kind);
+        htlcs += htlc_count(&output.kind);
     }
     Ok(List::from_vec(claims))
 }
 
-// The commitment that was revoked.
-fn revoked_commitment(alloc: Global, state: &RevokedState) -> Result<Commitment, AllocError>
-    ensures value { IfOk result (λ c. c ≡ commitment_in state.now) }
+/// The owner's commitment of a view that the terms can pay, as `commit::build` gives it. The only error is that memory ran out.
+pub fn payable_commitment(
+    alloc: Global,
+    terms: &Terms,
+    view: &View,
+    owner: Side,
+    number: u64,
+    point: &Key,
+) -> Result<Commitment, AllocError>
+    requires { CanPay terms.now view.now }
+    ensures value { IfOk result (λ c. c ≡ commitment_of terms.now view.now owner number point.now.bytes) }
     ensures outputs { IfOk result AreOutputs }
 {
-    let point = point(&state.secret);
-    match build(
-        alloc,
-        &state.terms,
-        &state.view,
-        state.owner,
-        state.number,
-        &point,
-    ) {
+    match build(alloc, terms, view, owner, number, point) {
         Ok(commitment) => Ok(commitment),
         Err(refusal) => match refusal {
             BuildError::NoMemory => Err(AllocError),
@@ -163,6 +116,22 @@ fn revoked_commitment(alloc: Global, state: &RevokedState) -> Result<Commitment,
             BuildError::ValueTooLarge => unreachable!(),
         },
     }
+}
+
+/// The commitment that was revoked. The only error is that memory ran out.
+pub fn revoked_commitment(alloc: Global, state: &RevokedState) -> Result<Commitment, AllocError>
+    ensures value { IfOk result (λ c. c ≡ commitment_in state.now) }
+    ensures outputs { IfOk result AreOutputs }
+{
+    let point = point(&state.secret);
+    payable_commitment(
+        alloc,
+        &state.terms,
+        &state.view,
+        state.owner,
+        state.number,
+        &point,
+    )
 }
 
 /// All that a revoked state lets the owner's peer claim (BOLT 5, "Revoked Transaction Close Handling"): accepted claims on to_local and to_remote where they are

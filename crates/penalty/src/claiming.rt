@@ -1,16 +1,16 @@
-// Claims on the outputs of a revoked commitment.
+//! Claims on the outputs of a commitment.
 
-ghost use Rattle.std.specs.Prelude.{◌≡◌, ◌<◌, true, IsSome, IfOk, slice_get};
+ghost use Rattle.std.specs.Prelude.{◌≡◌, ◌<◌, true, IfOk};
 ghost use Rattle.script.specs.Limits.{locktime_threshold};
 ghost use Rattle.script.specs.Spelling.{spelling};
-ghost use Rattle.claim.specs.declared.parts.Shell.TheVariants.{Open};
-ghost use Rattle.claim.specs.Judgement.{is_program};
+ghost use Rattle.claim.specs.Judgement.{is_program, bare_shell};
 ghost use Rattle.commit.specs.Outputs.{to_local_script, htlc_script as htlc_script_of, script_hash_program, key_hash_program};
 ghost use Rattle.forms.specs.Claims.{Claims, path_taken_by};
 ghost use Rattle.forms.specs.Fillings.{fillings_of};
 ghost use Rattle.commit.specs.Keys.{bytes_of};
 ghost use Rattle.penalty.specs.Claimable.{htlc_form, penalty_on, payment_on, htlc_penalty_on};
 ghost use Rattle.penalty.specs.Sets.{IsClaimOn};
+ghost use Rattle.penalty.specs.Outputs.{HasWay};
 
 use claim::{Claim, Place, Shell, accept};
 use commit::{Commitment, CommitmentKeys, Direction};
@@ -21,20 +21,21 @@ use paths::Checked;
 use std::alloc::{AllocError, Global};
 use terms::Htlc;
 
-// The claim of a kind on an output of its form.
-fn claim_of(
+/// The claim of a kind on an output of its form, with this transaction round it. The only error is that memory ran out.
+pub fn claim_of(
     alloc: Global,
     kind: &ClaimKind,
     checked: Checked,
     place: Place,
+    shell: Shell,
 ) -> Result<Claim, AllocError>
-    requires form { Claims kind.now checked (path_taken_by kind.now) place Open }
-    requires path { IsSome (slice_get checked.paths (path_taken_by kind.now)) }
+    requires form { Claims kind.now checked (path_taken_by kind.now) place (bare_shell shell) }
+    requires way { HasWay checked (path_taken_by kind.now) place (bare_shell shell) }
     requires program { is_program (spelling checked.ops) place.program ≡ true }
-    ensures { IfOk result (IsClaimOn (record { place = place; form = checked; path = path_taken_by kind.now; slots = fillings_of kind.now })) }
+    ensures { IfOk result (IsClaimOn (record { place = place; form = checked; path = path_taken_by kind.now; slots = fillings_of kind.now; shell = bare_shell shell })) }
 {
     let slots = accepted_slots(alloc, kind)?;
-    match accept(alloc, checked, kind.path(), slots, place, Shell::Open) {
+    match accept(alloc, checked, kind.path(), slots, place, shell) {
         Ok(claim) => Ok(claim),
         Err(_) => unreachable!(),
     }
@@ -59,11 +60,17 @@ pub(crate) fn penalty_on(
         commitment.delay(),
         &keys.delayed,
     )?;
-    claim_of(alloc, &ClaimKind::Penalty { revocation }, checked, place)
+    claim_of(
+        alloc,
+        &ClaimKind::Penalty { revocation },
+        checked,
+        place,
+        Shell::Open,
+    )
 }
 
-/// The claim on to_remote.
-pub(crate) fn payment_on(
+/// The claim on to_remote. The only error is that memory ran out.
+pub fn payment_on(
     alloc: Global,
     patterns: &Patterns,
     commitment: &Commitment,
@@ -74,11 +81,17 @@ pub(crate) fn payment_on(
 {
     let key = commitment.keys().remote;
     let checked = key_hash(alloc, patterns, &key)?;
-    claim_of(alloc, &ClaimKind::KeyHash { key }, checked, place)
+    claim_of(
+        alloc,
+        &ClaimKind::KeyHash { key },
+        checked,
+        place,
+        Shell::Open,
+    )
 }
 
-// The script of an HTLC's output.
-fn htlc_script(
+/// The script of an HTLC's output. The only error is that memory ran out.
+pub fn htlc_script(
     alloc: Global,
     patterns: &Patterns,
     keys: &CommitmentKeys,
@@ -125,5 +138,6 @@ pub(crate) fn htlc_penalty_on(
         &ClaimKind::HtlcPenalty { revocation },
         checked,
         place,
+        Shell::Open,
     )
 }

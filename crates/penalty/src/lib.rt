@@ -12,16 +12,17 @@
 #![tactic(auto)]
 
 mod building;
-mod claiming;
+pub mod claiming;
 mod errors;
 pub mod laws;
+pub mod places;
 mod sets;
 mod states;
 #[cfg(test)]
 mod tests;
 
-pub use building::penalties;
+pub use building::{payable_commitment, penalties, revoked_commitment};
 pub use errors::StateError;
 pub use sets::PenaltySet;
-pub use states::{MAX_STATE_HTLCS, RevokedState};
+pub use states::{MAX_STATE_HTLCS, RevokedState, refusal};
 pub use terms::{Htlc, Side, Terms, View};

@@ -53,4 +53,16 @@ impl PenaltySet {
         let _state = &self.state;
         self.claims.values()
     }
+
+    /// The claims, without memory.
+    pub fn into_claims(self) -> Vec<Claim>
+        ensures value { result.items ≡ self.claims }
+        ensures full { AreClaimsOn (claimable_of self.state) self.claims }
+    {
+        let PenaltySet {
+            state: _state,
+            claims,
+        } = self;
+        claims.into_vec()
+    }
 }

@@ -1,9 +1,10 @@
 //! Revoked states.
 
-ghost use Rattle.std.specs.Prelude.{◌≡◌, ◌+◌, ◌*◌, ◌<◌, ◌≤◌, ◌^◌, length, IsTrue};
+ghost use Rattle.std.specs.Prelude.{◌≡◌, ◌+◌, ◌*◌, ◌<◌, ◌≤◌, ◌^◌, length, IsTrue, IfNone};
 ghost use Rattle.terms.specs.declared.amounts.TheConstants.{MSAT_PER_SAT};
 ghost use Rattle.commit.specs.Sums.{millisatoshis_of, total_of};
 ghost use Rattle.penalty.specs.Views.{expire_at_heights, has_heights, htlc_count};
+ghost use Rattle.penalty.specs.Paying.{CanPay, refusal_of};
 
 use crate::errors::StateError;
 use script::limits::LOCKTIME_THRESHOLD;
@@ -70,12 +71,32 @@ fn total(view: &View) -> u128
     share_total(&view.a) + share_total(&view.b)
 }
 
+/// Why a commitment of the terms can't pay a view: TooManyHtlcs where there are more than 3,998, ExpiryTooLarge where one expires at a time and not a
+/// height, and WrongTotal where balances and HTLCs are together not the capacity. `None` where it can.
+pub fn refusal(terms: &Terms, view: &View) -> Option<StateError>
+    ensures value { result ≡ refusal_of terms.now view.now }
+    ensures passed { IfNone result (CanPay terms.now view.now) }
+{
+    let a = view.a.offered.values();
+    let b = view.b.offered.values();
+    if a.len() > MAX_STATE_HTLCS || b.len() > MAX_STATE_HTLCS - a.len() {
+        return Some(StateError::TooManyHtlcs);
+    }
+    if !(expire_at_heights(a) && expire_at_heights(b)) {
+        return Some(StateError::ExpiryTooLarge);
+    }
+    if total(view) != u128::from(MSAT_PER_SAT) * u128::from(terms.capacity) {
+        return Some(StateError::WrongTotal);
+    }
+    None
+}
+
 impl RevokedState {
     ghost use Rattle.std.specs.Prelude.{◌≡◌, Some, None, MatchResult, IfOk};
-    ghost use Rattle.penalty.specs.States.{HasParts, refusal_of};
+    ghost use Rattle.penalty.specs.States.{HasParts};
+    ghost use Rattle.penalty.specs.Paying.{refusal_of};
 
-    /// The state of these values: TooManyHtlcs where there are more than 3,998, ExpiryTooLarge where one expires at a time and not a height, and
-    /// WrongTotal where balances and HTLCs are together not the capacity.
+    /// The state of these values, or why there is none, as `refusal` says.
     pub fn new(
         terms: Terms,
         view: View,
@@ -86,16 +107,8 @@ impl RevokedState {
         ensures ok { MatchResult result (λ _. refusal_of terms view ≡ None) (λ e. refusal_of terms view ≡ Some e) }
         ensures parts { IfOk result (HasParts terms view owner number secret) }
     {
-        let a = view.a.offered.values();
-        let b = view.b.offered.values();
-        if a.len() > MAX_STATE_HTLCS || b.len() > MAX_STATE_HTLCS - a.len() {
-            return Err(StateError::TooManyHtlcs);
-        }
-        if !(expire_at_heights(a) && expire_at_heights(b)) {
-            return Err(StateError::ExpiryTooLarge);
-        }
-        if total(&view) != u128::from(MSAT_PER_SAT) * u128::from(terms.capacity) {
-            return Err(StateError::WrongTotal);
+        if let Some(refusal) = refusal(&terms, &view) {
+            return Err(refusal);
         }
         Ok(RevokedState {
             terms,

@@ -1,14 +1,9 @@
-use Rattle.std.proofs.Common.{◌≡◌, sym, subst}
-use Rattle.commit.specs.declared.errors.BuildError.TheVariants.{NoMemory, TooManyOutputs, ValueTooLarge}
-use Rattle.penalty.specs.Outputs.{AreOutputs}
-use Rattle.penalty.proofs.Standing.{no_memory, built, outputs_stand}
+use Rattle.std.proofs.lemmas.Result.{IfOk-weaker}
+use Rattle.penalty.proofs.Standing.{state_pays, in_state}
 use Rattle.penalty.proofs.building.revoked_commitment.Goals as goal
 
-pub unreachable-requires : goal.unreachable-requires
-unreachable-requires c = let e : c.in-Err.refusal ≡ NoMemory = no_memory c.args.state.now c.point-point.result.bytes c.in-Err.refusal c.in-Err.ensures in let f : c.in-Err.refusal ≡ TooManyOutputs = c.in-TooManyOutputs.is in cc
+pub payable_commitment-requires : goal.payable_commitment-requires
+payable_commitment-requires c = state_pays c.args.state.now
 
-pub unreachable-requires-in-ValueTooLarge : goal.unreachable-requires-in-ValueTooLarge
-unreachable-requires-in-ValueTooLarge c = let e : c.in-Err.refusal ≡ NoMemory = no_memory c.args.state.now c.point-point.result.bytes c.in-Err.refusal c.in-Err.ensures in let f : c.in-Err.refusal ≡ ValueTooLarge = c.in-ValueTooLarge.is in cc
-
-pub returns-in-Ok-clause-outputs : goal.returns-in-Ok-clause-outputs
-returns-in-Ok-clause-outputs c = subst AreOutputs (sym (built c.args.state.now c.point-point.result.bytes c.in-Ok.commitment c.point-point.ensures c.in-Ok.ensures)) (outputs_stand c.args.state.now)
+pub returns-clause-value : goal.returns-clause-value
+returns-clause-value c = IfOk-weaker c.payable_commitment.result _ _ (λ k e. in_state c.args.state.now c.point-point.result.bytes k c.point-point.ensures e) c.payable_commitment.ensures.value

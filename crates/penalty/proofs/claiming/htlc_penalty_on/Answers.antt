@@ -1,13 +1,13 @@
 use Rattle.std.proofs.lemmas.Result.{IfOk-weaker}
-use Rattle.penalty.proofs.Accepting.{claims_htlc, first_way, as_htlc_penalty}
+use Rattle.penalty.proofs.Accepting.{claims_htlc, open_way, as_htlc_penalty}
 use Rattle.penalty.proofs.Programs.{on_htlc}
 use Rattle.penalty.proofs.claiming.htlc_penalty_on.Goals as goal
 
 pub claim_of-requires-clause-form : goal.claim_of-requires-clause-form
 claim_of-requires-clause-form c = claims_htlc c.keys-keys.result.now c.args.direction c.args.htlc.now c.in_ok-checked.checked c.args.place c.in_ok-checked.ensures
 
-pub claim_of-requires-clause-path : goal.claim_of-requires-clause-path
-claim_of-requires-clause-path c = first_way _ c.in_ok-checked.checked c.args.place (claims_htlc c.keys-keys.result.now c.args.direction c.args.htlc.now c.in_ok-checked.checked c.args.place c.in_ok-checked.ensures)
+pub claim_of-requires-clause-way : goal.claim_of-requires-clause-way
+claim_of-requires-clause-way c = open_way _ c.in_ok-checked.checked 0 c.args.place (claims_htlc c.keys-keys.result.now c.args.direction c.args.htlc.now c.in_ok-checked.checked c.args.place c.in_ok-checked.ensures)
 
 pub claim_of-requires-clause-program : goal.claim_of-requires-clause-program
 claim_of-requires-clause-program c =

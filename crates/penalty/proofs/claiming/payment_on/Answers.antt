@@ -1,5 +1,5 @@
 use Rattle.std.proofs.lemmas.Result.{IfOk-weaker}
-use Rattle.penalty.proofs.Accepting.{claims_key, first_way, as_payment}
+use Rattle.penalty.proofs.Accepting.{claims_key, open_way, as_payment}
 use Rattle.penalty.proofs.Programs.{on_key}
 use Rattle.std.proofs.Common.{ap}
 use Rattle.commit.specs.Keys.{KeyBytes}
@@ -8,8 +8,8 @@ use Rattle.penalty.proofs.claiming.payment_on.Goals as goal
 pub claim_of-requires-clause-form : goal.claim_of-requires-clause-form
 claim_of-requires-clause-form c = claims_key c.keys.result.now.remote c.in_ok-checked.checked c.args.place c.in_ok-checked.ensures
 
-pub claim_of-requires-clause-path : goal.claim_of-requires-clause-path
-claim_of-requires-clause-path c = first_way _ c.in_ok-checked.checked c.args.place (claims_key c.keys.result.now.remote c.in_ok-checked.checked c.args.place c.in_ok-checked.ensures)
+pub claim_of-requires-clause-way : goal.claim_of-requires-clause-way
+claim_of-requires-clause-way c = open_way _ c.in_ok-checked.checked 0 c.args.place (claims_key c.keys.result.now.remote c.in_ok-checked.checked c.args.place c.in_ok-checked.ensures)
 
 pub claim_of-requires-clause-program : goal.claim_of-requires-clause-program
 claim_of-requires-clause-program c =

@@ -1,0 +1,4 @@
+mod Knowing
+mod Standing
+mod Accepting
+mod Pushing

@@ -1,0 +1,6 @@
+pub mod Refusals
+pub mod Signed
+pub mod Known
+pub mod Due
+pub mod Kinds
+pub mod Preimages

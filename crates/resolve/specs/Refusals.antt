@@ -1,0 +1,19 @@
+-- The refusals by their numbers.
+use Rattle.std.specs.Prelude.{◌≡◌, ℕ, Option, Some}
+use Rattle.penalty.specs.declared.errors.StateError.{StateError}
+use Rattle.penalty.specs.declared.errors.StateError.TheVariants.{TooManyHtlcs as ManyHtlcs, ExpiryTooLarge as LargeExpiry, WrongTotal as OtherTotal}
+use Rattle.resolve.specs.declared.errors.KnownError.{KnownError}
+use Rattle.resolve.specs.declared.errors.KnownError.TheVariants.{NoMemory, TooManyHtlcs, ExpiryTooLarge, WrongTotal, BadSignature}
+
+abbrev pub refusal_number : KnownError → ℕ
+refusal_number NoMemory = 0
+refusal_number TooManyHtlcs = 1
+refusal_number ExpiryTooLarge = 2
+refusal_number WrongTotal = 3
+refusal_number BadSignature = 4
+
+-- as a view's refusal is named here
+abbrev pub refusal_by : StateError → KnownError
+refusal_by ManyHtlcs = TooManyHtlcs
+refusal_by LargeExpiry = ExpiryTooLarge
+refusal_by OtherTotal = WrongTotal

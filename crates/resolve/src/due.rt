@@ -1,0 +1,195 @@
+//! What is due by a verdict.
+
+ghost use Rattle.std.specs.Prelude.{ℕ, ◌≡◌, ◌<◌, ◌++◌, ◌∷◌, [], Some, IfOk, OnOk, List as Values, slice_get, option_map};
+ghost use Rattle.script.specs.Limits.{locktime_threshold};
+ghost use Rattle.commit.specs.declared.outputs.HtlcOutput.{HtlcOutput as HtlcParts};
+ghost use Rattle.commit.specs.Commitments.{tx_output, transaction_of, htlc_at, htlcs_of, IsOutputOf};
+ghost use Rattle.penalty.specs.Claimable.{Claimable, place_in};
+ghost use Rattle.penalty.specs.Sets.{AreClaimsOn};
+ghost use Rattle.penalty.specs.Outputs.{IsOutput};
+ghost use Rattle.resolve.specs.Kinds.{IsSecondStage, IsHtlcPlace};
+ghost use Rattle.resolve.specs.Due.{owners_on, peers_on, owners_due, peers_due, penalties_if, second_stage_on, delayed_second_stage, due_of};
+
+use crate::claiming::{delayed_on, direct_on, is_owners, is_peers, second_stage_on};
+use crate::hashes::KnownHashes;
+use crate::known::{Known, KnownCommitment, RevokedCommitment, SignedCommitment};
+use crate::verdicts::Verdict;
+use claim::{Claim, Place};
+use commit::{CommitmentOutput, HtlcOutput, OutputKind, htlc_tx};
+use penalty::claiming::payment_on;
+use penalty::penalties;
+use penalty::places::{first_place, htlc_count, place_of};
+use std::alloc::{AllocError, Global};
+
+// The claims on the output of the k-th HTLC, and on that of its HTLC transaction, go to the end.
+fn push_second_stage(
+    alloc: Global,
+    own: &SignedCommitment,
+    k: usize,
+    htlc: &HtlcOutput,
+    place: Place,
+    claims: &mut Vec<Claim>,
+) -> Result<(), AllocError>
+    requires kth { slice_get (htlcs_of own.now.commitment) k ≡ Some htlc.now }
+    requires open { IsSecondStage own.now.commitment.keys htlc.now.direction htlc.now.htlc }
+    requires height { htlc.now.htlc.expiry < locktime_threshold }
+    requires place { IsHtlcPlace own.now.commitment htlc.now place }
+    ensures { OnOk result ((done : Values Claimable) → AreClaimsOn done claims.old.items →
+        AreClaimsOn (done ++ second_stage_on own.now.commitment htlc.now place ∷ delayed_second_stage own.now.commitment htlc.now ∷ []) claims.new.items) }
+{
+    let commitment = own.commitment.commitment();
+    let token = own.htlc_tokens.values()[k];
+    let Some(tx) = htlc_tx(alloc, commitment, k)? else {
+        unreachable!();
+    };
+    let second = first_place(&tx)?;
+    claims.push(second_stage_on(alloc, commitment, htlc, token, tx, place)?)?;
+    claims.push(delayed_on(alloc, commitment, second)?)?;
+    Ok(())
+}
+
+// What an output of one's own commitment gives goes to the end. Where it is an HTLC's, that one is the k-th.
+fn push_owners(
+    alloc: Global,
+    own: &SignedCommitment,
+    known: &KnownHashes<'_>,
+    index: u32,
+    k: usize,
+    output: &CommitmentOutput,
+    claims: &mut Vec<Claim>,
+) -> Result<(), AllocError>
+    requires output { IsOutput own.now.commitment.delay own.now.commitment.keys output.now }
+    requires value { IsOutputOf own.now.commitment.keys output.now }
+    requires htlc { (h : HtlcParts) → htlc_at index output.now.kind ≡ Some h → slice_get (htlcs_of own.now.commitment) k ≡ Some h }
+    ensures { OnOk result ((done : Values Claimable) → AreClaimsOn done claims.old.items →
+        AreClaimsOn (done ++ owners_on known.now own.now.commitment index (place_in (transaction_of own.now.commitment) index (tx_output output.now)) output.now.kind) claims.new.items) }
+{
+    let commitment = own.commitment.commitment();
+    let place = place_of(commitment, index, output)?;
+    match &output.kind {
+        OutputKind::ToLocal => {
+            claims.push(delayed_on(alloc, commitment, place)?)?;
+            Ok(())
+        }
+        OutputKind::ToRemote => Ok(()),
+        OutputKind::ToHtlc(direction, htlc) => {
+            if is_owners(known, commitment.keys(), *direction, htlc) {
+                let output = HtlcOutput {
+                    index,
+                    direction: *direction,
+                    htlc: *htlc,
+                };
+                push_second_stage(alloc, own, k, &output, place, claims)?;
+            }
+            Ok(())
+        }
+    }
+}
+
+// What one's own commitment gives.
+#[tactic(auto, unfolding(crate::specs::Due::owners_due))]
+fn owners_due(
+    alloc: Global,
+    own: &SignedCommitment,
+    known: &KnownHashes<'_>,
+) -> Result<Vec<Claim>, AllocError>
+    ensures { IfOk result (λ v. AreClaimsOn (owners_due known.now own.now.commitment) v.items) }
+{
+    let mut claims = Vec::new(alloc);
+    let mut htlcs = 0;
+    let commitment = own.commitment.commitment();
+    let outputs = commitment.outputs();
+    for (index, output) in outputs.iter().enumerate() {
+        push_owners(alloc, own, known, index as u32, htlcs, output, &mut claims)?;
+        htlcs += htlc_count(&output.kind);
+    }
+    Ok(claims)
+}
+
+// What an output of the peer's commitment gives goes to the end.
+fn push_peers(
+    alloc: Global,
+    theirs: &KnownCommitment,
+    known: &KnownHashes<'_>,
+    index: u32,
+    output: &CommitmentOutput,
+    claims: &mut Vec<Claim>,
+) -> Result<(), AllocError>
+    requires { IsOutput theirs.now.delay theirs.now.keys output.now }
+    ensures { OnOk result ((done : Values Claimable) → AreClaimsOn done claims.old.items →
+        AreClaimsOn (done ++ peers_on known.now theirs.now index (place_in (transaction_of theirs.now) index (tx_output output.now)) output.now.kind) claims.new.items) }
+{
+    let commitment = theirs.commitment();
+    let place = place_of(commitment, index, output)?;
+    match &output.kind {
+        OutputKind::ToLocal => Ok(()),
+        OutputKind::ToRemote => {
+            claims.push(payment_on(alloc, commitment, place)?)?;
+            Ok(())
+        }
+        OutputKind::ToHtlc(direction, htlc) => {
+            if is_peers(known, commitment.keys(), *direction, htlc) {
+                claims.push(direct_on(alloc, commitment, *direction, htlc, place)?)?;
+            }
+            Ok(())
+        }
+    }
+}
+
+// What a commitment of the peer gives.
+#[tactic(auto, unfolding(crate::specs::Due::peers_due))]
+fn peers_due(
+    alloc: Global,
+    theirs: &KnownCommitment,
+    known: &KnownHashes<'_>,
+) -> Result<Vec<Claim>, AllocError>
+    ensures { IfOk result (λ v. AreClaimsOn (peers_due known.now theirs.now) v.items) }
+{
+    let mut claims = Vec::new(alloc);
+    let commitment = theirs.commitment();
+    let outputs = commitment.outputs();
+    for (index, output) in outputs.iter().enumerate() {
+        push_peers(alloc, theirs, known, index as u32, output, &mut claims)?;
+    }
+    Ok(claims)
+}
+
+// The penalty set of a revoked commitment.
+fn penalties_of(
+    alloc: Global,
+    revoked: Option<&RevokedCommitment>,
+) -> Result<Vec<Claim>, AllocError>
+    ensures { IfOk result (λ v. AreClaimsOn (penalties_if (option_map (λ r. r.now) revoked)) v.items) }
+{
+    match revoked {
+        None => Ok(Vec::new(alloc)),
+        Some(revoked) => Ok(penalties(alloc, &revoked.state)?.into_claims()),
+    }
+}
+
+/// What is due by a verdict, each claim accepted, in the order of the commitment's outputs (BOLT 5). `Ours`: the delayed claim on to_local; the HTLC-timeout
+/// transaction of each HTLC that was offered, and the HTLC-success transaction of each received one whose preimage is known, each followed by the delayed claim
+/// on its output. `Theirs` and `TheirsNext`: the key hash claim on to_remote, the direct timeout of each HTLC that one offered oneself, and the direct preimage
+/// claim of each other one whose preimage is known. `Revoked(n)`: the penalty set of n. `Unknown`: none.
+///
+/// The two claims that `accept` refuses are not due, nor is the delayed claim behind one: a timeout where the revocation key's HASH160 is that of the empty
+/// item, and a preimage where it is the RIPEMD-160 of the payment hash. The only error is that memory ran out.
+#[tactic(auto, unfolding(crate::specs::Due::due_of))]
+pub fn due_claims(alloc: Global, known: &Known, verdict: Verdict) -> Result<Vec<Claim>, AllocError>
+    ensures { IfOk result (λ v. AreClaimsOn (due_of known.now verdict) v.items) }
+{
+    let hashes = KnownHashes::new(alloc, known.preimages.values())?;
+    match verdict {
+        Verdict::Ours => owners_due(alloc, &known.own, &hashes),
+        Verdict::Theirs => peers_due(alloc, &known.theirs, &hashes),
+        Verdict::TheirsNext => match &known.next {
+            None => Ok(Vec::new(alloc)),
+            Some(next) => peers_due(alloc, next, &hashes),
+        },
+        Verdict::Revoked(n) => {
+            let mut revoked = known.revoked.values().iter();
+            penalties_of(alloc, revoked.find(|r| r.state.number == n))
+        }
+        Verdict::Unknown => Ok(Vec::new(alloc)),
+    }
+}

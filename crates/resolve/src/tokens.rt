@@ -1,0 +1,22 @@
+//! Tokens on HTLC transactions.
+
+ghost use Rattle.std.specs.Prelude.{◌≡◌, ◌↔◌, IsTrue, map};
+ghost use Rattle.script.specs.Token.{token_of};
+
+use keys::Key;
+use sighash::Token;
+
+/// Whether tokens are those of a key over digests, one for each in order.
+pub(crate) fn are_tokens(key: &Key, digests: &[[u8; 32]], tokens: &[Token]) -> bool
+    ensures { IsTrue result ↔ (tokens.now ≡ map (token_of key.now.bytes) digests.now) }
+{
+    if tokens.len() != digests.len() {
+        return false;
+    }
+    for (i, digest) in digests.iter().enumerate() {
+        if tokens[i] != Token::new(&key.bytes, digest) {
+            return false;
+        }
+    }
+    true
+}
