@@ -1,4 +1,6 @@
 mod Knowing
+mod TokenLists
 mod Standing
 mod Accepting
 mod Pushing
+mod DueExamples

@@ -18,11 +18,11 @@ use Rattle.commit.specs.Keys.{KeyBytes}
 use Rattle.commit.specs.Outputs.{htlc_script, script_hash_program}
 use Rattle.commit.specs.Commitments.{Contents, IsOutputOf, IsHtlcOf, tx_output, transaction_of, id_of, htlcs_of, htlc_at}
 use Rattle.commit.specs.Signing.{htlc_digest, htlc_digests}
-use Rattle.penalty.specs.Claimable.{Claimable, place_in}
+use Rattle.penalty.specs.Claimable.{Claimable, place_in, claims_by}
 use Rattle.penalty.specs.Sets.{IsClaimOn, AreClaimsOn}
 use Rattle.penalty.specs.Outputs.{HasHeight, program_of, IsOutput}
 use Rattle.script.specs.Limits.{locktime_threshold}
-use Rattle.resolve.specs.Due.{can_time_out, can_pay, is_known, is_owners, is_peers, direct_on, second_stage_on, delayed_second_stage, owners_on, peers_on}
+use Rattle.resolve.specs.Due.{can_time_out, can_pay, is_known, is_owners, is_peers, direct_on, second_stage_on, delayed_second_stage, owners_on, peers_on, owners_due, peers_due}
 use Rattle.resolve.specs.Kinds.{IsDirect, IsSecondStage, IsHtlcPlace}
 use Rattle.resolve.specs.Signed.{AreHtlcTokens}
 
@@ -93,3 +93,19 @@ peers_yes preimages c index place direction h kind k e = ap (peers_on preimages 
 pub peers_no : (preimages : List (List ℕ)) (c : Contents) (index : ℕ) (place : Place) (direction : Direction) (h : Htlc) (kind : OutputKind) → kind ≡ ToHtlc direction h
     → is_peers preimages c.keys direction h ≡ false → peers_on preimages c index place kind ≡ []
 peers_no preimages c index place direction h kind k e = ap (peers_on preimages c index place) k ∙ ap (λ t. if t then direct_on c direction h place ∷ [] else []) e
+
+-- a claim of the commitment as it is known, at the place of its output
+pub claim_at : (on : Contents → Place → Claimable) (k c : Contents) (index : ℕ) (o : CommitmentOutput) (place : Place) (claim : ClaimParts) → k ≡ c → place ≡ place_in (transaction_of k) index (tx_output o)
+    → IsClaimOn (on k place) claim → IsClaimOn (on c (place_in (transaction_of c) index (tx_output o))) claim
+claim_at on k c index o place claim e f i =
+    subst (λ y. IsClaimOn (on y (place_in (transaction_of y) index (tx_output o))) claim) e (subst (λ p. IsClaimOn (on k p) claim) f i)
+
+pub owners_all : (preimages : List (List ℕ)) (c : Contents) (os : List CommitmentOutput) (cs : List ClaimParts) → os ≡ c.outputs → AreClaimsOn (claims_by (owners_on preimages c) c 0 os) cs
+    → AreClaimsOn (owners_due preimages c) cs
+unfolding owners_due
+owners_all preimages c os cs e a = subst (λ x. AreClaimsOn (claims_by (owners_on preimages c) c 0 x) cs) e a
+
+pub peers_all : (preimages : List (List ℕ)) (c : Contents) (os : List CommitmentOutput) (cs : List ClaimParts) → os ≡ c.outputs → AreClaimsOn (claims_by (peers_on preimages c) c 0 os) cs
+    → AreClaimsOn (peers_due preimages c) cs
+unfolding peers_due
+peers_all preimages c os cs e a = subst (λ x. AreClaimsOn (claims_by (peers_on preimages c) c 0 x) cs) e a

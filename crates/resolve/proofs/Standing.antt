@@ -1,6 +1,6 @@
 -- An HTLC transaction stands round the claim on its HTLC's output.
 use Rattle.std.proofs.Common.{◌≡◌, ℕ, ◌+◌, ◌-◌, ◌≤◌, ◌<◌, Bool, true, List, [], ◌∷◌, Option, Some, None, refl, sym, ap, subst, ◌∙◌, arith}
-use Rattle.std.specs.Prelude.{◌&&◌, nat_le, nat_lt, ◌==◌, unwrap_or}
+use Rattle.std.specs.Prelude.{slice_get, ◌&&◌, nat_le, nat_lt, ◌==◌, unwrap_or}
 use Rattle.std.specs.Str.{bytes_eq}
 use Rattle.std.proofs.lemmas.Bool.{and_from, eq-eqb, lt-ltb, le-leb}
 use Rattle.std.proofs.lemmas.Slice.Eq.{bytes_eq-Decides}
@@ -64,10 +64,14 @@ stands_round c h place p l a low w =
     let four : nat_le (height_of p) t.lock_time ≡ true = ap (λ n. nat_le n t.lock_time) height ∙ no_height t.lock_time in
     and_from _ _ (and_from _ _ (and_from _ _ (and_from _ _ one two) three) four) (within_value c h place w)
 
+way_of : (c : Contents) (h : HtlcOutput) (place : Place) (form : CheckedScript) (p : Path) → slice_get form.paths 1 ≡ Some p → p.lock ≡ None → p.age ≡ None → h.htlc.expiry < locktime_threshold
+    → IsHtlcPlace c h place → HasWay form 1 place (Fixed (second_stage_of c h))
+way_of c h place form p e l a low w = (p, e, stands_round c h place p l a low w)
+
 way_at : (k : KeyBytes) (direction : Direction) (htlc : Htlc) (c : Contents) (h : HtlcOutput) (place : Place) → h.htlc.expiry < locktime_threshold → IsHtlcPlace c h place
     → HasWay (htlc_form k direction htlc) 1 place (Fixed (second_stage_of c h))
-way_at k Offered htlc c h place low w = (_, refl, stands_round c h place _ refl refl low w)
-way_at k Received htlc c h place low w = (_, refl, stands_round c h place _ refl refl low w)
+way_at k Offered htlc c h place low w = way_of c h place (htlc_form k Offered htlc) _ refl refl refl low w
+way_at k Received htlc c h place low w = way_of c h place (htlc_form k Received htlc) _ refl refl refl low w
 
 pub second_stage_way : (k : KeyBytes) (c : Contents) (h : HtlcOutput) (checked : CheckedScript) (place : Place) → checked ≡ htlc_form k h.direction h.htlc → h.htlc.expiry < locktime_threshold
     → IsHtlcPlace c h place → HasWay checked 1 place (Fixed (second_stage_of c h))

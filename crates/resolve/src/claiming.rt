@@ -15,7 +15,7 @@ use crate::hashes::KnownHashes;
 use claim::{Claim, Place, Shell};
 use commit::{Commitment, CommitmentKeys, Direction, HtlcOutput};
 use digest::{hash160, ripemd160};
-use forms::{ClaimKind, to_local};
+use forms::{ClaimKind, Patterns, to_local};
 use penalty::claiming::{claim_of, htlc_script};
 use sighash::Token;
 use std::alloc::{AllocError, Global};
@@ -69,6 +69,7 @@ pub(crate) fn is_peers(
 /// The owner's claim on an output of the form of to_local. The only error is that memory ran out.
 pub(crate) fn delayed_on(
     alloc: Global,
+    patterns: &Patterns,
     commitment: &Commitment,
     place: Place,
 ) -> Result<Claim, AllocError>
@@ -77,7 +78,13 @@ pub(crate) fn delayed_on(
 {
     let keys = commitment.keys();
     let delayed = keys.delayed;
-    let checked = to_local(alloc, &keys.revocation, commitment.delay(), &delayed)?;
+    let checked = to_local(
+        alloc,
+        patterns,
+        &keys.revocation,
+        commitment.delay(),
+        &delayed,
+    )?;
     claim_of(
         alloc,
         &ClaimKind::Delayed { delayed },
@@ -104,6 +111,7 @@ fn direct_kind(keys: &CommitmentKeys, direction: Direction, htlc: &Htlc) -> Clai
 /// The claim of the owner's peer on an HTLC's output. The only error is that memory ran out.
 pub(crate) fn direct_on(
     alloc: Global,
+    patterns: &Patterns,
     commitment: &Commitment,
     direction: Direction,
     htlc: &Htlc,
@@ -115,7 +123,7 @@ pub(crate) fn direct_on(
     ensures { IfOk result (IsClaimOn (direct_on commitment.now direction htlc.now place)) }
 {
     let keys = commitment.keys();
-    let checked = htlc_script(alloc, keys, direction, htlc)?;
+    let checked = htlc_script(alloc, patterns, keys, direction, htlc)?;
     let kind = direct_kind(keys, direction, htlc);
     claim_of(alloc, &kind, checked, place, Shell::Open)
 }
@@ -146,6 +154,7 @@ fn second_stage_kind(
 /// The owner's claim on an HTLC's output by its HTLC transaction, with the peer's token on it. The only error is that memory ran out.
 pub(crate) fn second_stage_on(
     alloc: Global,
+    patterns: &Patterns,
     commitment: &Commitment,
     htlc: &HtlcOutput,
     token: Token,
@@ -160,7 +169,7 @@ pub(crate) fn second_stage_on(
     ensures { IfOk result (IsClaimOn (second_stage_on commitment.now htlc.now place)) }
 {
     let keys = commitment.keys();
-    let checked = htlc_script(alloc, keys, htlc.direction, &htlc.htlc)?;
+    let checked = htlc_script(alloc, patterns, keys, htlc.direction, &htlc.htlc)?;
     let kind = second_stage_kind(keys, htlc.direction, &htlc.htlc, token);
     claim_of(alloc, &kind, checked, place, Shell::Fixed(tx))
 }

@@ -8,7 +8,7 @@ ghost use Rattle.penalty.specs.Claimable.{Claimable, place_in};
 ghost use Rattle.penalty.specs.Sets.{AreClaimsOn};
 ghost use Rattle.penalty.specs.Outputs.{IsOutput};
 ghost use Rattle.resolve.specs.Kinds.{IsSecondStage, IsHtlcPlace};
-ghost use Rattle.resolve.specs.Due.{owners_on, peers_on, owners_due, peers_due, penalties_if, second_stage_on, delayed_second_stage, due_of};
+ghost use Rattle.resolve.specs.Due.{owners_on, peers_on, owners_due, peers_due, penalties_if, revoked_at, second_stage_on, delayed_second_stage, due_of};
 
 use crate::claiming::{delayed_on, direct_on, is_owners, is_peers, second_stage_on};
 use crate::hashes::KnownHashes;
@@ -16,6 +16,7 @@ use crate::known::{Known, KnownCommitment, RevokedCommitment, SignedCommitment};
 use crate::verdicts::Verdict;
 use claim::{Claim, Place};
 use commit::{CommitmentOutput, HtlcOutput, OutputKind, htlc_tx};
+use forms::{Patterns, patterns};
 use penalty::claiming::payment_on;
 use penalty::penalties;
 use penalty::places::{first_place, htlc_count, place_of};
@@ -24,6 +25,7 @@ use std::alloc::{AllocError, Global};
 // The claims on the output of the k-th HTLC, and on that of its HTLC transaction, go to the end.
 fn push_second_stage(
     alloc: Global,
+    patterns: &Patterns,
     own: &SignedCommitment,
     k: usize,
     htlc: &HtlcOutput,
@@ -43,14 +45,15 @@ fn push_second_stage(
         unreachable!();
     };
     let second = first_place(&tx)?;
-    claims.push(second_stage_on(alloc, commitment, htlc, token, tx, place)?)?;
-    claims.push(delayed_on(alloc, commitment, second)?)?;
+    claims.push(second_stage_on(alloc, patterns, commitment, htlc, token, tx, place)?)?;
+    claims.push(delayed_on(alloc, patterns, commitment, second)?)?;
     Ok(())
 }
 
 // What an output of one's own commitment gives goes to the end. Where it is an HTLC's, that one is the k-th.
 fn push_owners(
     alloc: Global,
+    patterns: &Patterns,
     own: &SignedCommitment,
     known: &KnownHashes<'_>,
     index: u32,
@@ -68,7 +71,7 @@ fn push_owners(
     let place = place_of(commitment, index, output)?;
     match &output.kind {
         OutputKind::ToLocal => {
-            claims.push(delayed_on(alloc, commitment, place)?)?;
+            claims.push(delayed_on(alloc, patterns, commitment, place)?)?;
             Ok(())
         }
         OutputKind::ToRemote => Ok(()),
@@ -79,7 +82,7 @@ fn push_owners(
                     direction: *direction,
                     htlc: *htlc,
                 };
-                push_second_stage(alloc, own, k, &output, place, claims)?;
+                push_second_stage(alloc, patterns, own, k, &output, place, claims)?;
             }
             Ok(())
         }
@@ -90,6 +93,7 @@ fn push_owners(
 #[tactic(auto, unfolding(crate::specs::Due::owners_due))]
 fn owners_due(
     alloc: Global,
+    patterns: &Patterns,
     own: &SignedCommitment,
     known: &KnownHashes<'_>,
 ) -> Result<Vec<Claim>, AllocError>
@@ -100,7 +104,16 @@ fn owners_due(
     let commitment = own.commitment.commitment();
     let outputs = commitment.outputs();
     for (index, output) in outputs.iter().enumerate() {
-        push_owners(alloc, own, known, index as u32, htlcs, output, &mut claims)?;
+        push_owners(
+            alloc,
+            patterns,
+            own,
+            known,
+            index as u32,
+            htlcs,
+            output,
+            &mut claims,
+        )?;
         htlcs += htlc_count(&output.kind);
     }
     Ok(claims)
@@ -109,6 +122,7 @@ fn owners_due(
 // What an output of the peer's commitment gives goes to the end.
 fn push_peers(
     alloc: Global,
+    patterns: &Patterns,
     theirs: &KnownCommitment,
     known: &KnownHashes<'_>,
     index: u32,
@@ -124,12 +138,12 @@ fn push_peers(
     match &output.kind {
         OutputKind::ToLocal => Ok(()),
         OutputKind::ToRemote => {
-            claims.push(payment_on(alloc, commitment, place)?)?;
+            claims.push(payment_on(alloc, patterns, commitment, place)?)?;
             Ok(())
         }
         OutputKind::ToHtlc(direction, htlc) => {
             if is_peers(known, commitment.keys(), *direction, htlc) {
-                claims.push(direct_on(alloc, commitment, *direction, htlc, place)?)?;
+                claims.push(direct_on(alloc, patterns, commitment, *direction, htlc, place)?)?;
             }
             Ok(())
         }
@@ -140,6 +154,7 @@ fn push_peers(
 #[tactic(auto, unfolding(crate::specs::Due::peers_due))]
 fn peers_due(
     alloc: Global,
+    patterns: &Patterns,
     theirs: &KnownCommitment,
     known: &KnownHashes<'_>,
 ) -> Result<Vec<Claim>, AllocError>
@@ -149,19 +164,37 @@ fn peers_due(
     let commitment = theirs.commitment();
     let outputs = commitment.outputs();
     for (index, output) in outputs.iter().enumerate() {
-        push_peers(alloc, theirs, known, index as u32, output, &mut claims)?;
+        push_peers(
+            alloc,
+            patterns,
+            theirs,
+            known,
+            index as u32,
+            output,
+            &mut claims,
+        )?;
     }
     Ok(claims)
 }
 
-// The penalty set of a revoked commitment.
-fn penalties_of(
-    alloc: Global,
-    revoked: Option<&RevokedCommitment>,
-) -> Result<Vec<Claim>, AllocError>
-    ensures { IfOk result (λ v. AreClaimsOn (penalties_if (option_map (λ r. r.now) revoked)) v.items) }
+/// The first commitment of a number among those that the peer revoked. It takes no memory.
+pub fn revoked_at(known: &Known, n: u64) -> Option<&RevokedCommitment>
+    ensures { option_map (λ r. r.now) result ≡ revoked_at known.now n }
 {
-    match revoked {
+    let list = known.revoked.values();
+    for revoked in list {
+        if revoked.state.number == n {
+            return Some(revoked);
+        }
+    }
+    None
+}
+
+// The penalty set of the revoked commitment of a number.
+fn revoked_due(alloc: Global, known: &Known, n: u64) -> Result<Vec<Claim>, AllocError>
+    ensures { IfOk result (λ v. AreClaimsOn (penalties_if (revoked_at known.now n)) v.items) }
+{
+    match revoked_at(known, n) {
         None => Ok(Vec::new(alloc)),
         Some(revoked) => Ok(penalties(alloc, &revoked.state)?.into_claims()),
     }
@@ -178,18 +211,16 @@ fn penalties_of(
 pub fn due_claims(alloc: Global, known: &Known, verdict: Verdict) -> Result<Vec<Claim>, AllocError>
     ensures { IfOk result (λ v. AreClaimsOn (due_of known.now verdict) v.items) }
 {
+    let patterns = patterns(alloc)?;
     let hashes = KnownHashes::new(alloc, known.preimages.values())?;
     match verdict {
-        Verdict::Ours => owners_due(alloc, &known.own, &hashes),
-        Verdict::Theirs => peers_due(alloc, &known.theirs, &hashes),
+        Verdict::Ours => owners_due(alloc, &patterns, &known.own, &hashes),
+        Verdict::Theirs => peers_due(alloc, &patterns, &known.theirs, &hashes),
         Verdict::TheirsNext => match &known.next {
             None => Ok(Vec::new(alloc)),
-            Some(next) => peers_due(alloc, next, &hashes),
+            Some(next) => peers_due(alloc, &patterns, next, &hashes),
         },
-        Verdict::Revoked(n) => {
-            let mut revoked = known.revoked.values().iter();
-            penalties_of(alloc, revoked.find(|r| r.state.number == n))
-        }
+        Verdict::Revoked(n) => revoked_due(alloc, known, n),
         Verdict::Unknown => Ok(Vec::new(alloc)),
     }
 }

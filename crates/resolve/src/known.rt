@@ -36,7 +36,7 @@ impl Model for KnownCommitment {
 impl KnownCommitment {
     ghost use Rattle.std.specs.Prelude.{◌≡◌, None, IfOk, IfErr};
     ghost use Rattle.commit.specs.Commitments.{commitment_of};
-    ghost use Rattle.penalty.specs.States.{refusal_of};
+    ghost use Rattle.penalty.specs.Paying.{refusal_of};
     ghost use Rattle.penalty.specs.Outputs.{AreOutputs};
     ghost use Rattle.resolve.specs.Known.{IsNamed};
 

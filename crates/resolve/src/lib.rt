@@ -23,7 +23,7 @@ mod tests;
 mod tokens;
 mod verdicts;
 
-pub use due::due_claims;
+pub use due::{due_claims, revoked_at};
 pub use errors::KnownError;
 pub use known::{Known, KnownCommitment, RevokedCommitment, SignedCommitment};
 pub use preimages::{is_final, preimage_in};

@@ -1,6 +1,7 @@
 use Rattle.std.proofs.Common.{◌≡◌, ap, ◌∙◌}
 use Rattle.std.proofs.lemmas.Result.{IfOk-weaker}
 use Rattle.claim.specs.declared.parts.Shell.TheVariants.{Fixed}
+use Rattle.commit.specs.Keys.{bytes_of}
 use Rattle.penalty.proofs.Programs.{on_htlc}
 use Rattle.resolve.proofs.Standing.{second_stage_way}
 use Rattle.resolve.proofs.Accepting.{claims_second, claims_fixed, way_fixed, as_second}
@@ -14,7 +15,7 @@ claim_of-requires-clause-form c =
 pub claim_of-requires-clause-way : goal.claim_of-requires-clause-way
 claim_of-requires-clause-way c =
     way_fixed c.args.commitment.now c.keys-keys.result.now c.args.htlc.now c.in_ok-checked.checked c.args.place c.args.token _ _ c.second_stage_kind-kind.ensures (ap Fixed c.requires.tx)
-    (second_stage_way _ c.args.commitment.now c.args.htlc.now c.in_ok-checked.checked c.args.place c.in_ok-checked.ensures c.requires.height c.requires.place)
+    (second_stage_way (bytes_of c.keys-keys.result.now) c.args.commitment.now c.args.htlc.now c.in_ok-checked.checked c.args.place c.in_ok-checked.ensures c.requires.height c.requires.place)
 
 pub claim_of-requires-clause-program : goal.claim_of-requires-clause-program
 claim_of-requires-clause-program c =
