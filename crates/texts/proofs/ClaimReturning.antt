@@ -102,7 +102,7 @@ key_length : (k : Key) → length k.bytes ≡ 33
 unfolding is_key
 key_length k = eqb-true (length k.bytes) 33 (and_parts (length k.bytes == 33) _ k.form).0
 
-key_back : (k : Key) → IsBytes k.bytes → key_of (bytes_data k.bytes) ≡ Some k
+pub key_back : (k : Key) → IsBytes k.bytes → key_of (bytes_data k.bytes) ≡ Some k
 key_back k each =
     let read : bytes_of_len 33 (bytes_data k.bytes) ≡ Some k.bytes = ap result_ok (decode_sized-encode_lower k.bytes 33 (key_length k) each) in
     rw read (key_found k k.bytes refl)

@@ -8,3 +8,5 @@ pub mod SameItems
 pub mod Returning
 pub mod ClaimReturning
 pub mod ClaimExamples
+pub mod CallReturning
+pub mod CallExamples

@@ -17,7 +17,7 @@ use Rattle.texts.specs.Outputs.{output_of}
 use Rattle.texts.specs.Messages.{add_of, fulfil_of, fail_of, fee_of, update_named, update_of}
 use Rattle.texts.specs.Writing.{bytes_data, side_data, terms_data, output_data, add_data, update_data, HasWidths, Is32Bytes, IsUpdate, TermsComeBack, OutputsComeBack, UpdatesComeBack}
 
-side_back : (s : Side) → side_of (side_data s) ≡ Some s
+pub side_back : (s : Side) → side_of (side_data s) ≡ Some s
 side_back A = refl
 side_back B = refl
 

@@ -11,3 +11,6 @@ pub mod Claims
 pub mod Scenarios
 pub mod Writing
 pub mod ClaimWriting
+pub mod Steps
+pub mod Calls
+pub mod CallWriting

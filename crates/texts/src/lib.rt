@@ -12,6 +12,10 @@
 
 mod agreement;
 mod allocating;
+#[cfg(test)]
+mod call_tests;
+mod call_writing;
+mod calls;
 mod claim_writing;
 mod claims;
 mod errors;
@@ -22,6 +26,7 @@ mod messages;
 mod outpoints;
 mod outputs;
 mod scenarios;
+mod steps;
 #[cfg(test)]
 mod tests;
 mod values;
@@ -29,10 +34,16 @@ mod writing;
 
 pub use agreement::{PlainParty, PlainTerms};
 pub use allocating::{ReadValue, bytes_of, list_of, read_item, read_member};
+pub use call_writing::{
+    write_dump, write_entry, write_keep, write_own, write_receive, write_release, write_revoke,
+    write_sign,
+};
+pub use calls::{PlainCall, PlainDump, PlainEntry, PlainOpening};
 pub use claim_writing::write_each;
 pub use claims::PlainClaim;
 pub use errors::ShapeError;
 pub use events::Event;
 pub use scenarios::PlainScenario;
-pub use values::{FromValue, array_of, item, member, object_of, tag_of};
+pub use steps::{OwnUpdate, PlainReceived, PlainRevocation, PlainSignature, PlainStep};
+pub use values::{FromValue, array_of, item, member, name_at, object_of, tag_of};
 pub use writing::{WriteValue, write_bytes};

@@ -2,6 +2,7 @@
 
 ghost use Rattle.std.specs.Prelude.{◌≡◌, Option, option_map};
 ghost use Rattle.serde_json.specs.Data.{Data};
+ghost use Rattle.serde_json.specs.Find.{as_str};
 ghost use Rattle.serde_json.specs.View.{view};
 ghost use Rattle.texts.specs.Values.{array_of, object_of, item_of, member_of, pair_of, tag_of};
 
@@ -124,6 +125,13 @@ pub fn member<T: FromValue>(object: &Value, name: &str) -> Option<T>
     ensures { result ≡ member_of name.now T.reads (view object.now) }
 {
     T::from_value(object.get(name)?)
+}
+
+/// The text that an array has at an index.
+pub fn name_at(array: &Value, index: usize) -> Option<&str>
+    ensures { option_map (λ t. t.now) result ≡ item_of index as_str (view array.now) }
+{
+    array.get(index)?.as_str()
 }
 
 /// The text at the front of an array, which says what the rest of it is.

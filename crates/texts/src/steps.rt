@@ -1,0 +1,228 @@
+//! Messages and steps of a channel, as a text has them.
+
+ghost use Rattle.std.specs.Prelude.{◌≡◌};
+ghost use Rattle.serde_json.specs.View.{view};
+ghost use Rattle.texts.specs.Values.{Gives};
+ghost use Rattle.texts.specs.Steps.{signature_in, revocation_in, own_offer_of, own_fulfil_of, own_fail_of, own_fee_of, own_named, receive_of};
+
+use crate::allocating::{ReadValue, read_item};
+use crate::errors::ShapeError;
+use crate::values::{FromValue, array_of, item, name_at, tag_of};
+use keys::Key;
+use lists::List;
+use serde_json::Value;
+use sighash::Token;
+use std::alloc::Global;
+use updates::Update;
+
+/// A `commitment_signed` as a text has it (BOLT 2).
+#[derive(Debug, Drop)]
+pub struct PlainSignature {
+    /// The token on the commitment.
+    pub commitment: Token,
+    /// The tokens on the HTLC transactions of its untrimmed HTLCs, in the order of its outputs.
+    pub htlcs: List<Token>,
+}
+
+/// A `revoke_and_ack` as a text has it (BOLT 2).
+#[derive(Clone, Copy, Debug)]
+pub struct PlainRevocation {
+    /// The per-commitment secret of the revoked commitment.
+    pub secret: [u8; 32],
+    /// The point for the second number after it.
+    pub next_point: Key,
+}
+
+/// An update that a side makes.
+#[derive(Clone, Copy, Debug, PartialEq, Eq, Drop)]
+pub enum OwnUpdate {
+    /// Offers an HTLC.
+    Offer {
+        /// Millisatoshis.
+        amount: u64,
+        /// SHA-256 of the payment preimage.
+        hash: [u8; 32],
+        /// The height from which on it can be timed out.
+        expiry: u32,
+    },
+    /// Fulfils an HTLC of the peer.
+    Fulfil {
+        id: u64,
+        preimage: [u8; 32],
+    },
+    /// Fails an HTLC of the peer.
+    Fail {
+        id: u64,
+    },
+    /// Changes the feerate, in satoshis for 1,000 units of weight.
+    SetFee {
+        rate: u32,
+    },
+}
+
+/// A message that a step receives: one that is no revocation.
+#[derive(Debug, Drop)]
+pub enum PlainReceived {
+    Updated(Update),
+    Signed(PlainSignature),
+}
+
+/// A step of a channel as a text has it.
+#[derive(Debug, Drop)]
+pub enum PlainStep {
+    /// An update of this side.
+    Own(OwnUpdate),
+    /// A message of the peer.
+    Receive(PlainReceived),
+}
+
+impl ReadValue for Token {
+    ghost use Rattle.texts.specs.Keys.{token_bytes_of};
+
+    ghost reads = { token_bytes_of };
+
+    fn read_value(_alloc: Global, value: &Value) -> Result<Token, ShapeError> {
+        Token::from_value(value).ok_or(ShapeError::BadShape)
+    }
+}
+
+#[tactic(auto, unfolding(crate::specs::Steps::signature_in))]
+fn signature_in(alloc: Global, value: &Value) -> Result<PlainSignature, ShapeError>
+    ensures { Gives (λ s. s) result (signature_in (view value.now)) }
+{
+    let form = array_of(value, 3).ok_or(ShapeError::BadShape)?;
+    let commitment = item(form, 1).ok_or(ShapeError::BadShape)?;
+    Ok(PlainSignature {
+        commitment,
+        htlcs: read_item(alloc, form, 2)?,
+    })
+}
+
+#[tactic(auto, unfolding(crate::specs::Steps::revocation_in))]
+fn revocation_in(value: &Value) -> Option<PlainRevocation>
+    ensures { result ≡ revocation_in (view value.now) }
+{
+    let form = array_of(value, 3)?;
+    Some(PlainRevocation {
+        secret: item(form, 1)?,
+        next_point: item(form, 2)?,
+    })
+}
+
+/// An array of `revoke`, the secret and the point.
+impl FromValue for PlainRevocation {
+    ghost use Rattle.texts.specs.Steps.{revocation_of};
+
+    ghost reads = { revocation_of };
+
+    #[tactic(auto, unfolding(crate::specs::Steps::revocation_of))]
+    fn from_value(value: &Value) -> Option<PlainRevocation> {
+        if tag_of(value)? == "revoke" {
+            revocation_in(value)
+        } else {
+            None
+        }
+    }
+}
+
+/// An array of `signed`, the token on the commitment and the array of those on its HTLC transactions; or an update.
+impl ReadValue for PlainReceived {
+    ghost use Rattle.texts.specs.Steps.{received_of};
+
+    ghost reads = { received_of };
+
+    #[tactic(auto, unfolding(crate::specs::Steps::received_of, crate::specs::Steps::received_named))]
+    fn read_value(alloc: Global, value: &Value) -> Result<PlainReceived, ShapeError> {
+        if tag_of(value).ok_or(ShapeError::BadShape)? == "signed" {
+            Ok(PlainReceived::Signed(signature_in(alloc, value)?))
+        } else {
+            let update = Update::from_value(value).ok_or(ShapeError::BadShape)?;
+            Ok(PlainReceived::Updated(update))
+        }
+    }
+}
+
+#[tactic(auto, unfolding(crate::specs::Steps::own_offer_of))]
+fn own_offer_of(value: &Value) -> Option<OwnUpdate>
+    ensures { result ≡ own_offer_of (view value.now) }
+{
+    let form = array_of(value, 6)?;
+    Some(OwnUpdate::Offer {
+        amount: item(form, 3)?,
+        hash: item(form, 4)?,
+        expiry: item(form, 5)?,
+    })
+}
+
+#[tactic(auto, unfolding(crate::specs::Steps::own_fulfil_of))]
+fn own_fulfil_of(value: &Value) -> Option<OwnUpdate>
+    ensures { result ≡ own_fulfil_of (view value.now) }
+{
+    let form = array_of(value, 5)?;
+    Some(OwnUpdate::Fulfil {
+        id: item(form, 3)?,
+        preimage: item(form, 4)?,
+    })
+}
+
+#[tactic(auto, unfolding(crate::specs::Steps::own_fail_of))]
+fn own_fail_of(value: &Value) -> Option<OwnUpdate>
+    ensures { result ≡ own_fail_of (view value.now) }
+{
+    let form = array_of(value, 4)?;
+    Some(OwnUpdate::Fail { id: item(form, 3)? })
+}
+
+#[tactic(auto, unfolding(crate::specs::Steps::own_fee_of))]
+fn own_fee_of(value: &Value) -> Option<OwnUpdate>
+    ensures { result ≡ own_fee_of (view value.now) }
+{
+    let form = array_of(value, 4)?;
+    Some(OwnUpdate::SetFee {
+        rate: item(form, 3)?,
+    })
+}
+
+// An update of this side, by its name.
+#[tactic(auto, unfolding(crate::specs::Steps::own_named))]
+fn own_named(name: &str, value: &Value) -> Option<OwnUpdate>
+    ensures { result ≡ own_named name.now (view value.now) }
+{
+    if name == "offer" {
+        own_offer_of(value)
+    } else if name == "fulfil" {
+        own_fulfil_of(value)
+    } else if name == "fail" {
+        own_fail_of(value)
+    } else if name == "fee" {
+        own_fee_of(value)
+    } else {
+        None
+    }
+}
+
+#[tactic(auto, unfolding(crate::specs::Steps::receive_of))]
+fn receive_of(alloc: Global, value: &Value) -> Result<PlainStep, ShapeError>
+    ensures { Gives (λ s. s) result (receive_of (view value.now)) }
+{
+    let form = array_of(value, 4).ok_or(ShapeError::BadShape)?;
+    Ok(PlainStep::Receive(read_item(alloc, form, 3)?))
+}
+
+/// An array with the step's name behind `step` and the channel: `offer`, `fulfil`, `fail` or `fee` and what belongs to it, or `receive` and a message.
+impl ReadValue for PlainStep {
+    ghost use Rattle.texts.specs.Steps.{step_of};
+
+    ghost reads = { step_of };
+
+    #[tactic(auto, unfolding(crate::specs::Steps::step_of, crate::specs::Steps::step_named))]
+    fn read_value(alloc: Global, value: &Value) -> Result<PlainStep, ShapeError> {
+        let name = name_at(value, 2).ok_or(ShapeError::BadShape)?;
+        if name == "receive" {
+            receive_of(alloc, value)
+        } else {
+            let update = own_named(name, value).ok_or(ShapeError::BadShape)?;
+            Ok(PlainStep::Own(update))
+        }
+    }
+}
