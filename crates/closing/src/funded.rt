@@ -1,0 +1,119 @@
+// An output of each form on a chain.
+
+use crate::cases::Claimed;
+use crate::parties::Parties;
+use anyhow::{Result, anyhow};
+use chain::{Chain, Coins};
+use claim::Place;
+use digest::{hash160, sha256};
+use forms::{Expiry, funding, key_hash, offered, received, to_local};
+use keys::Base;
+use lists::ByteString;
+use paths::Checked;
+use std::alloc::{AllocError, Global};
+use tx::TxOut;
+
+/// What the output is worth in satoshis.
+pub const VALUE: u64 = 100_000;
+
+/// The preimage of the HTLCs, their expiry, and the delay of to_local.
+pub const PREIMAGE: [u8; 32] = [5; 32];
+
+pub const EXPIRY: u32 = 500;
+
+const DELAY: u16 = 144;
+
+/// The script of the received HTLC.
+fn received_script(alloc: Global, parties: &Parties) -> Result<Checked> {
+    let Some(expiry) = Expiry::new(EXPIRY) else {
+        return Err(anyhow!("an expiry is a height"));
+    };
+    let patterns = &parties.patterns;
+    let keys = parties.htlc_keys();
+    Ok(received(alloc, patterns, &keys, &sha256(&PREIMAGE), expiry)?)
+}
+
+/// The script of an HTLC that the owner offered.
+fn offered_script(alloc: Global, parties: &Parties) -> Result<Checked, AllocError> {
+    offered(
+        alloc,
+        &parties.patterns,
+        &parties.htlc_keys(),
+        &sha256(&PREIMAGE),
+    )
+}
+
+/// The script of to_local.
+fn to_local_script(alloc: Global, parties: &Parties) -> Result<Checked, AllocError> {
+    to_local(
+        alloc,
+        &parties.patterns,
+        &parties.htlc_keys().revocation,
+        DELAY,
+        &parties.delayed(),
+    )
+}
+
+/// The script of the funding output.
+fn funding_script(alloc: Global, parties: &Parties) -> Result<Checked, AllocError> {
+    let key = parties.owner.base(Base::Funding);
+    funding(
+        alloc,
+        &parties.patterns,
+        &key,
+        &parties.peer.base(Base::Funding),
+    )
+}
+
+/// The script of what is claimed.
+pub fn script_of(alloc: Global, parties: &Parties, claimed: Claimed) -> Result<Checked> {
+    match claimed {
+        Claimed::Penalty | Claimed::Delayed => Ok(to_local_script(alloc, parties)?),
+        Claimed::OfferedPenalty | Claimed::DirectPreimage | Claimed::HtlcTimeout => {
+            Ok(offered_script(alloc, parties)?)
+        }
+        Claimed::ReceivedPenalty | Claimed::DirectTimeout | Claimed::HtlcSuccess => {
+            received_script(alloc, parties)
+        }
+        Claimed::KeyHash => Ok(key_hash(alloc, &parties.patterns, &parties.payment())?),
+        Claimed::Funding => Ok(funding_script(alloc, parties)?),
+    }
+}
+
+/// The program of what is claimed (BIP 141): 00 14 and the hash of the key, or 00 20 and the hash of the script.
+fn program_of(
+    alloc: Global,
+    parties: &Parties,
+    claimed: Claimed,
+    script: &[u8],
+) -> Result<ByteString> {
+    let mut program = Vec::new(alloc);
+    match claimed {
+        Claimed::KeyHash => {
+            program.extend_from_slice(&[0x00, 0x14])?;
+            program.extend_from_slice(&hash160(&parties.payment().bytes))?;
+        }
+        _ => {
+            program.extend_from_slice(&[0x00, 0x20])?;
+            program.extend_from_slice(&sha256(script))?;
+        }
+    }
+    Ok(ByteString::from_vec(program))
+}
+
+/// Grants the output to a chain, and says where it stands.
+pub fn grant(
+    alloc: Global,
+    parties: &Parties,
+    claimed: Claimed,
+    script: &[u8],
+    chain: &mut Chain,
+) -> Result<Place> {
+    let program = program_of(alloc, parties, claimed, script)?;
+    let outpoint = chain.grant(TxOut::new(VALUE, program.copy()?)?)?;
+    Ok(Place {
+        outpoint,
+        value: VALUE,
+        program,
+    })
+}

@@ -1,0 +1,25 @@
+//! Claims on outputs of a chain, from the form of the script to the block that takes the claim's transaction: the eight kinds of claims on the forms
+//! of BOLT 3, and the funding output with both signatures. A line says what comes of each, first with nothing wrong, and then with one thing wrong.
+//!
+//! What must be printed is what an independent model of BOLT 3 and of BIP 65, 68, 112, 141 and 143 prints, with keys, tokens, facts and refusals as `docs/` has them.
+#![tactic(auto)]
+
+mod cases;
+mod funded;
+mod outcomes;
+mod parties;
+mod playing;
+mod shapes;
+mod slips;
+mod tables;
+mod together;
+
+use anyhow::Result;
+use parties::Parties;
+
+fn main(rt: HostRuntime) -> Result<()> {
+    let parties = Parties::new(rt.alloc())?;
+    tables::show_all(&rt, &parties)?;
+    together::show_all(&rt, &parties)?;
+    shapes::show_all(&rt, &parties)
+}

@@ -1,0 +1,248 @@
+// A claim from the script to the block.
+
+use crate::cases::{Case, Claimed, Slip};
+use crate::funded::{EXPIRY, PREIMAGE, VALUE, grant, script_of};
+use crate::outcomes::Outcome;
+use crate::parties::Parties;
+use crate::shapes::exact as exact_slot;
+use crate::slips::spoil;
+use anyhow::{Result, bail};
+use chain::{Chain, Coins};
+use claim::{AcceptError, Claim, Place, Shell, Slot, accept};
+use digest::sha256;
+use filling::{FillError, Filled, fill};
+use forms::{ClaimKind, accepted_slots};
+use keys::{Base, Key, Signer};
+use lists::ByteString;
+use sighash::{Token, digest_of};
+use std::alloc::Global;
+use tx::{Inputs, MAX_OUTPUTS, OutPoint, Outputs, Tx, TxIn, TxOut, Witness};
+
+/// One output of this value, to a program that nobody claims here.
+pub fn outputs(alloc: Global, value: u64) -> Result<Vec<TxOut>> {
+    let mut program = Vec::from_slice(alloc, &[0x00, 0x14])?;
+    program.extend_from_slice(&[7; 20])?;
+    let mut outputs = Vec::new(alloc);
+    outputs.push(TxOut::new(value, ByteString::from_vec(program))?)?;
+    Ok(outputs)
+}
+
+/// The transaction that both sides signed: of sequence 0, with this lock time and an output of this value. It comes with a witness item.
+fn fixed(alloc: Global, outpoint: OutPoint, lock_time: u32, value: u64) -> Result<Tx> {
+    let mut witness = Witness::new(alloc);
+    witness.push(ByteString::from_slice(alloc, &[1])?)?;
+    let mut inputs = Inputs::new(alloc);
+    inputs.push(TxIn {
+        outpoint,
+        sequence: 0,
+        witness,
+    })?;
+    let outputs = Outputs::from_vec(outputs(alloc, value)?)?;
+    Ok(Tx::new(2, inputs, outputs, lock_time)?)
+}
+
+/// The transaction round the claim.
+fn shell(alloc: Global, case: &Case, place: &Place) -> Result<Shell> {
+    let lock_time = match (case.claimed, case.slip) {
+        (_, Slip::TimeLock) => 500_000_000,
+        (Claimed::HtlcTimeout, _) => EXPIRY,
+        (Claimed::HtlcSuccess | Claimed::Funding, _) => 0,
+        _ => return Ok(Shell::Open),
+    };
+    let value = match case.slip {
+        Slip::GreaterOutputs => VALUE + 1,
+        _ => VALUE,
+    };
+    let tx = fixed(alloc, place.outpoint, lock_time, value)?;
+    Ok(Shell::Fixed(tx))
+}
+
+/// The other side's token over the fixed transaction, or over another digest; over nothing where the shell is open.
+fn remote_token(key: &Key, script: &[u8], shell: &Shell, slip: Slip) -> Result<Token> {
+    let Shell::Fixed(tx) = shell else {
+        return Ok(Token::new(&key.bytes, &[0; 32]));
+    };
+    let mut digest = digest_of(tx, 0, script, VALUE)?;
+    if let Slip::OtherRemoteToken = slip {
+        digest[31] ^= 1;
+    }
+    Ok(Token::new(&key.bytes, &digest))
+}
+
+/// The kind of the claim; none of the funding output.
+fn kind_of(parties: &Parties, claimed: Claimed, remote_token: Token) -> Option<ClaimKind> {
+    let keys = parties.htlc_keys();
+    let payment_hash = sha256(&PREIMAGE);
+    let (local, remote, revocation) = (keys.local, keys.remote, keys.revocation);
+    Some(match claimed {
+        Claimed::Penalty => ClaimKind::Penalty { revocation },
+        Claimed::Delayed => ClaimKind::Delayed {
+            delayed: parties.delayed(),
+        },
+        Claimed::OfferedPenalty | Claimed::ReceivedPenalty => ClaimKind::HtlcPenalty { revocation },
+        Claimed::DirectPreimage => ClaimKind::DirectPreimage {
+            payment_hash,
+            remote,
+        },
+        Claimed::DirectTimeout => ClaimKind::DirectTimeout { remote },
+        Claimed::KeyHash => ClaimKind::KeyHash {
+            key: parties.payment(),
+        },
+        Claimed::HtlcTimeout => ClaimKind::HtlcTimeout {
+            local,
+            remote_token,
+        },
+        Claimed::HtlcSuccess => ClaimKind::HtlcSuccess {
+            payment_hash,
+            local,
+            remote_token,
+        },
+        Claimed::Funding => return None,
+    })
+}
+
+/// A slot of exactly these bytes.
+fn exact(alloc: Global, bytes: &[u8]) -> Result<Slot> {
+    match exact_slot(alloc, bytes)? {
+        Some(slot) => Ok(slot),
+        None => bail!("an item has at most 520 bytes"),
+    }
+}
+
+/// The slots of the funding output, the top first: the signature of the greater key, that of the lesser, and the empty item.
+fn funding_slots(alloc: Global, parties: &Parties, token: &Token) -> Result<Vec<Slot>> {
+    let local = parties.owner.base(Base::Funding);
+    let mut slots = Vec::new(alloc);
+    slots.push(exact(alloc, token.bytes())?)?;
+    slots.push(Slot::Sig(local))?;
+    if parties.peer.base(Base::Funding).bytes < local.bytes {
+        slots.reverse();
+    }
+    slots.push(exact(alloc, &[])?)?;
+    Ok(slots)
+}
+
+/// The key of the other side's token.
+fn remote_key(parties: &Parties, claimed: Claimed) -> Key {
+    match claimed {
+        Claimed::Funding => parties.peer.base(Base::Funding),
+        _ => parties.htlc_keys().remote,
+    }
+}
+
+/// The slots, the top first, and the path that they are for.
+fn slots_of(
+    alloc: Global,
+    parties: &Parties,
+    case: &Case,
+    token: Token,
+) -> Result<(Vec<Slot>, usize)> {
+    let (mut slots, mut path) = match kind_of(parties, case.claimed, token) {
+        Some(kind) => (accepted_slots(alloc, &kind)?, kind.path()),
+        None => (funding_slots(alloc, parties, &token)?, 0),
+    };
+    match (case.slip, slots.first_mut()) {
+        (Slip::OtherFlag, Some(top)) => *top = exact(alloc, &[])?,
+        (Slip::OtherSlots, _) => {
+            slots.pop();
+        }
+        (Slip::OtherPath, _) => path = 2,
+        _ => {}
+    }
+    Ok((slots, path))
+}
+
+/// The claim, or why it is not accepted.
+pub fn claim_of(
+    alloc: Global,
+    parties: &Parties,
+    case: &Case,
+    chain: &mut Chain,
+) -> Result<Result<Claim, AcceptError>> {
+    let checked = script_of(alloc, parties, case.claimed)?;
+    let script = checked.script().bytes();
+    let granted = match case.slip {
+        Slip::OtherProgram => &[0x51],
+        _ => script,
+    };
+    let place = grant(alloc, parties, case.claimed, granted, chain)?;
+    let shell = shell(alloc, case, &place)?;
+    let token = remote_token(
+        &remote_key(parties, case.claimed),
+        script,
+        &shell,
+        case.slip,
+    )?;
+    let (slots, path) = slots_of(alloc, parties, case, token)?;
+    Ok(accept(alloc, checked, path, slots, place, shell))
+}
+
+/// Who claims: the owner of the commitment, or its peer.
+fn signer_of<'a>(parties: &'a Parties, case: &Case) -> &'a Signer {
+    match (case.claimed, case.slip) {
+        (_, Slip::OtherSigner) => &parties.owner,
+        (Claimed::Delayed | Claimed::HtlcTimeout | Claimed::HtlcSuccess | Claimed::Funding, _) => {
+            &parties.owner
+        }
+        _ => &parties.peer,
+    }
+}
+
+/// The claim, filled, or why it is not.
+fn fill_of(
+    alloc: Global,
+    parties: &Parties,
+    case: &Case,
+    claim: &Claim,
+) -> Result<Result<Filled, FillError>> {
+    let preimage = match case.slip {
+        Slip::OtherPreimage => [6; 32],
+        _ => PREIMAGE,
+    };
+    let outputs = outputs(alloc, 90_000)?;
+    if outputs.len() > MAX_OUTPUTS {
+        bail!("a transaction can't have so many outputs");
+    }
+    let signer = signer_of(parties, case);
+    Ok(fill(alloc, &[claim], outputs, signer, &[preimage]))
+}
+
+/// Empty blocks, so that the next one has this height.
+fn raise(alloc: Global, chain: &mut Chain, height: u64) -> Result<()> {
+    for _ in chain.height()..height.saturating_sub(1) {
+        chain.connect(Vec::new(alloc))?;
+    }
+    Ok(())
+}
+
+/// Connects a claim's transaction in a block of this height.
+pub fn connect(
+    alloc: Global,
+    height: u64,
+    claim: &Claim,
+    tx: Tx,
+    chain: &mut Chain,
+) -> Result<Outcome> {
+    raise(alloc, chain, height)?;
+    let mut block = Vec::new(alloc);
+    block.push(tx)?;
+    match chain.connect(block) {
+        Ok(_) => Ok(Outcome::Connected(claim.needs_age(), claim.needs_height())),
+        Err(error) => Ok(Outcome::NotConnected(error.refusal)),
+    }
+}
+
+/// What comes of a case, on a new chain.
+pub fn play(alloc: Global, parties: &Parties, case: &Case) -> Result<Outcome> {
+    let mut chain = Chain::new(alloc)?;
+    let claim = match claim_of(alloc, parties, case, &mut chain)? {
+        Ok(claim) => claim,
+        Err(refusal) => return Ok(Outcome::NotAccepted(refusal)),
+    };
+    let filled = match fill_of(alloc, parties, case, &claim)? {
+        Ok(filled) => filled,
+        Err(refusal) => return Ok(Outcome::NotFilled(refusal)),
+    };
+    let tx = spoil(alloc, case.slip, filled.into_tx())?;
+    connect(alloc, case.height, &claim, tx, &mut chain)
+}

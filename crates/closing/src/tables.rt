@@ -1,0 +1,110 @@
+// Each claim with nothing wrong, and then with one thing wrong.
+
+use crate::cases::{Case, Claimed, Slip};
+use crate::parties::Parties;
+use crate::playing::play;
+use anyhow::Result;
+
+/// What is claimed.
+const CLAIMED: [Claimed; 10] = [
+    Claimed::Penalty,
+    Claimed::Delayed,
+    Claimed::OfferedPenalty,
+    Claimed::ReceivedPenalty,
+    Claimed::DirectPreimage,
+    Claimed::DirectTimeout,
+    Claimed::KeyHash,
+    Claimed::HtlcTimeout,
+    Claimed::HtlcSuccess,
+    Claimed::Funding,
+];
+
+/// What is wrong with a claim in turn, and the height of the block that is to take it.
+const PENALTY: [(Slip, u64); 7] = [
+    (Slip::None, 1),
+    (Slip::OtherToken, 1),
+    (Slip::OtherSigner, 1),
+    (Slip::OtherPath, 1),
+    (Slip::OtherSlots, 1),
+    (Slip::OtherProgram, 1),
+    (Slip::OtherFlag, 1),
+];
+
+const DELAYED: [(Slip, u64); 3] = [
+    (Slip::None, 144),
+    (Slip::None, 143),
+    (Slip::OtherToken, 144),
+];
+
+const KEY_ALONE: [(Slip, u64); 2] = [(Slip::None, 1), (Slip::OtherToken, 1)];
+
+const PREIMAGE: [(Slip, u64); 4] = [
+    (Slip::None, 1),
+    (Slip::OtherPreimage, 1),
+    (Slip::OtherTop, 1),
+    (Slip::OtherToken, 1),
+];
+
+const TIMEOUT: [(Slip, u64); 3] = [
+    (Slip::None, 501),
+    (Slip::None, 500),
+    (Slip::OtherToken, 501),
+];
+
+const HTLC_TIMEOUT: [(Slip, u64); 4] = [
+    (Slip::None, 501),
+    (Slip::None, 500),
+    (Slip::OtherToken, 501),
+    (Slip::OtherRemoteToken, 501),
+];
+
+const HTLC_SUCCESS: [(Slip, u64); 5] = [
+    (Slip::None, 1),
+    (Slip::OtherPreimage, 1),
+    (Slip::OtherTop, 1),
+    (Slip::OtherToken, 1),
+    (Slip::OtherRemoteToken, 1),
+];
+
+const FUNDING: [(Slip, u64); 4] = [
+    (Slip::None, 1),
+    (Slip::OtherRemoteToken, 1),
+    (Slip::TimeLock, 1),
+    (Slip::GreaterOutputs, 1),
+];
+
+/// The tries of a claim.
+fn tries_of(claimed: Claimed) -> &'static [(Slip, u64)] {
+    match claimed {
+        Claimed::Penalty => &PENALTY,
+        Claimed::Delayed => &DELAYED,
+        Claimed::OfferedPenalty | Claimed::ReceivedPenalty | Claimed::KeyHash => &KEY_ALONE,
+        Claimed::DirectPreimage => &PREIMAGE,
+        Claimed::DirectTimeout => &TIMEOUT,
+        Claimed::HtlcTimeout => &HTLC_TIMEOUT,
+        Claimed::HtlcSuccess => &HTLC_SUCCESS,
+        Claimed::Funding => &FUNDING,
+    }
+}
+
+/// Prints what comes of each try of a claim.
+fn show<R: Print + AllocGlobal>(rt: &R, parties: &Parties, claimed: Claimed) -> Result<()> {
+    for (slip, height) in tries_of(claimed) {
+        let case = Case {
+            claimed,
+            slip: *slip,
+            height: *height,
+        };
+        let outcome = play(rt.alloc(), parties, &case)?;
+        println!(rt; "{case}: {outcome}")?;
+    }
+    Ok(())
+}
+
+/// Prints what comes of every claim.
+pub fn show_all<R: Print + AllocGlobal>(rt: &R, parties: &Parties) -> Result<()> {
+    for claimed in &CLAIMED {
+        show(rt, parties, *claimed)?;
+    }
+    Ok(())
+}

@@ -1,0 +1,154 @@
+// Several claims in one transaction, and the order of the refusals.
+
+use crate::cases::{Case, Claimed, Slip};
+use crate::outcomes::Outcome;
+use crate::parties::Parties;
+use crate::playing::{claim_of, connect, outputs};
+use anyhow::{Result, bail};
+use chain::Chain;
+use claim::Claim;
+use filling::{FillError, Filled, fill};
+use keys::Signer;
+use std::alloc::Global;
+use tx::{MAX_INPUTS, MAX_OUTPUTS};
+
+/// What is claimed together, each accepted by itself.
+const KINDS: [Claimed; 4] = [
+    Claimed::Penalty,
+    Claimed::DirectTimeout,
+    Claimed::DirectPreimage,
+    Claimed::HtlcSuccess,
+];
+
+/// A claim with nothing wrong, on a new output of the chain.
+fn accepted(
+    alloc: Global,
+    parties: &Parties,
+    claimed: Claimed,
+    chain: &mut Chain,
+) -> Result<Claim> {
+    let case = Case {
+        claimed,
+        slip: Slip::None,
+        height: 1,
+    };
+    Ok(claim_of(alloc, parties, &case, chain)??)
+}
+
+/// Claims with nothing wrong, on outputs of one chain.
+fn accept_all(
+    alloc: Global,
+    parties: &Parties,
+    kinds: &[Claimed],
+    chain: &mut Chain,
+) -> Result<Vec<Claim>> {
+    let mut claims = Vec::new(alloc);
+    for claimed in kinds {
+        claims.push(accepted(alloc, parties, *claimed, chain)?)?;
+    }
+    Ok(claims)
+}
+
+/// What `fill` answers, of one output of this value.
+fn answer(
+    alloc: Global,
+    claims: &[&Claim],
+    value: u64,
+    signer: &Signer,
+    preimages: &[[u8; 32]],
+) -> Result<Result<Filled, FillError>> {
+    let outputs = outputs(alloc, value)?;
+    if claims.is_empty() || claims.len() > MAX_INPUTS || outputs.len() > MAX_OUTPUTS {
+        bail!("a transaction can't have so many");
+    }
+    Ok(fill(alloc, claims, outputs, signer, preimages))
+}
+
+/// Prints why claims are not filled.
+fn show<R: Print + AllocGlobal>(
+    rt: &R,
+    what: &str,
+    claims: &[&Claim],
+    value: u64,
+    signer: &Signer,
+) -> Result<()> {
+    match answer(rt.alloc(), claims, value, signer, &[[6; 32]])? {
+        Ok(_) => println!(rt; "{what}: filled")?,
+        Err(refusal) => println!(rt; "{what}: {}", Outcome::NotFilled(refusal))?,
+    }
+    Ok(())
+}
+
+/// Prints the refusals in their order: what is wrong with a line is right in those that follow it.
+fn show_refusals<R: Print + AllocGlobal>(
+    rt: &R,
+    owner: &Signer,
+    penalty: &Claim,
+    preimage: &Claim,
+    fixed: &Claim,
+) -> Result<()> {
+    show(
+        rt,
+        "a fixed claim beside one on its outpoint",
+        &[fixed, fixed],
+        500_000,
+        owner,
+    )?;
+    show(
+        rt,
+        "one outpoint twice",
+        &[penalty, preimage, penalty],
+        500_000,
+        owner,
+    )?;
+    show(
+        rt,
+        "outputs of a satoshi more",
+        &[penalty, preimage],
+        200_001,
+        owner,
+    )?;
+    show(
+        rt,
+        "no right and then no preimage",
+        &[penalty, preimage],
+        200_000,
+        owner,
+    )?;
+    show(
+        rt,
+        "no preimage and then no right",
+        &[preimage, penalty],
+        200_000,
+        owner,
+    )
+}
+
+/// Prints what comes of three claims in one transaction.
+fn show_three<R: Print + AllocGlobal>(
+    rt: &R,
+    parties: &Parties,
+    claims: &[&Claim],
+    timeout: &Claim,
+    chain: &mut Chain,
+) -> Result<()> {
+    let preimages = [[6; 32], crate::funded::PREIMAGE];
+    let filled = answer(rt.alloc(), claims, 300_000, &parties.peer, &preimages)??;
+    let (inputs, lock_time) = (filled.tx().inputs().len(), filled.tx().lock_time());
+    println!(rt; "three claims: {inputs} inputs, lock time {lock_time}")?;
+    let outcome = connect(rt.alloc(), 501, timeout, filled.into_tx(), chain)?;
+    println!(rt; "three claims in block 501: {outcome}")?;
+    Ok(())
+}
+
+/// Prints what comes of several claims.
+pub fn show_all<R: Print + AllocGlobal>(rt: &R, parties: &Parties) -> Result<()> {
+    let mut chain = Chain::new(rt.alloc())?;
+    let claims = accept_all(rt.alloc(), parties, &KINDS, &mut chain)?;
+    let [penalty, timeout, preimage, fixed] = claims.as_slice() else {
+        bail!("each claim is accepted by itself");
+    };
+    show_refusals(rt, &parties.owner, penalty, preimage, fixed)?;
+    let three = [penalty, timeout, preimage];
+    show_three(rt, parties, &three, timeout, &mut chain)
+}
