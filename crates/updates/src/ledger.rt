@@ -9,7 +9,7 @@ use crate::pending::Pending;
 use crate::refusals::Refusal;
 use crate::shares::{rate_at, share_at, view_from};
 use crate::stages::{Part, Stage, UpdateList};
-use std::alloc::Global;
+use std::alloc::{AllocError, Global};
 use std::marker::Model;
 use terms::{Htlc, Side, Terms, View};
 
@@ -236,7 +236,7 @@ impl Ledger {
     }
 
     // The view of the first updates of this side, and of the first of its peer. The only error is that memory ran out.
-    fn view(&self, own: Part, theirs: Part) -> Result<View, Refusal>
+    fn view(&self, own: Part, theirs: Part) -> Result<View, AllocError>
         requires own { IsPartAt self.now.own own }
         requires theirs { IsPartAt self.now.theirs theirs }
         ensures { IfOk result (λ v. v ≡ view_in self.now (take own.count self.now.own.known) (take theirs.count self.now.theirs.known)) }
@@ -252,7 +252,7 @@ impl Ledger {
     }
 
     // The view of what has come to these stages.
-    fn view_at(&self, own: Stage, theirs: Stage) -> Result<View, Refusal>
+    fn view_at(&self, own: Stage, theirs: Stage) -> Result<View, AllocError>
         ensures value { IfOk result (λ v. v ≡ view_in self.now (part_of own self.now.own) (part_of theirs self.now.theirs)) }
         ensures sound { IsSoundIn self.now (part_of own self.now.own) (part_of theirs self.now.theirs) }
     {
@@ -260,7 +260,7 @@ impl Ledger {
     }
 
     /// The view of the peer's next commitment, which a signature of this side would be for. The only error is that memory ran out.
-    pub fn view_to_sign(&self) -> Result<View, Refusal>
+    pub fn view_to_sign(&self) -> Result<View, AllocError>
         ensures value { IfOk result (λ v. v ≡ view_in self.now self.now.own.known self.now.theirs.past_receiver) }
         ensures sound { IsSoundIn self.now self.now.own.known self.now.theirs.past_receiver }
     {
@@ -268,7 +268,7 @@ impl Ledger {
     }
 
     /// The view of this side's next commitment, which a signature of the peer has to be for. The only error is that memory ran out.
-    pub fn view_to_receive(&self) -> Result<View, Refusal>
+    pub fn view_to_receive(&self) -> Result<View, AllocError>
         ensures value { IfOk result (λ v. v ≡ view_in self.now self.now.own.past_receiver self.now.theirs.known) }
         ensures sound { IsSoundIn self.now self.now.own.past_receiver self.now.theirs.known }
     {
@@ -277,7 +277,7 @@ impl Ledger {
 
     /// The view of a side's newest commitment, the newest that this side signed where it is the peer's. The only error is that memory ran
     /// out.
-    pub fn view_of(&self, owner: Side) -> Result<View, Refusal>
+    pub fn view_of(&self, owner: Side) -> Result<View, AllocError>
         ensures value { IfOk result (λ v. v ≡ newest_view self.now owner) }
         ensures sound { IsNewestSound self.now owner }
     {

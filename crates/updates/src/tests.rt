@@ -1,7 +1,7 @@
 // Updates between two sides, with a hash from outside; memory that is there is found; printed names. Numbers alone are facts of the definitions.
 use crate::{Ledger, Refusal, Update};
 use keys::point;
-use std::alloc::Global;
+use std::alloc::{AllocError, Global};
 use std::process::Abort;
 use terms::{BaseKeys, Party, Side, Terms, View};
 use tx::OutPoint;
@@ -52,7 +52,7 @@ fn open(rt: &impl Abort, alloc: Global) -> Sides {
 }
 
 /// The balances of A and B, how many HTLCs of A stand, and the feerate.
-fn seen(rt: &impl Abort, answer: Result<View, Refusal>) -> (u64, u64, usize, u32) {
+fn seen(rt: &impl Abort, answer: Result<View, AllocError>) -> (u64, u64, usize, u32) {
     let view = answer.expect(rt, "a view");
     let htlcs = view.a.offered.len();
     (view.a.balance, view.b.balance, htlcs, view.feerate)
