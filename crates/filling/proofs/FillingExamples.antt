@@ -1,7 +1,6 @@
 -- Fillings of small claims, and why claims are not filled.
-use Rattle.std.proofs.Common.{◌≡◌, ℕ, Bool, true, false, List, [], ◌∷◌, ◌++◌, map, replicate, refl, lit≤, Some, None}
+use Rattle.std.proofs.Common.{◌≡◌, ℕ, true, false, List, [], ◌∷◌, ◌++◌, map, replicate, refl, lit≤, Some}
 use Rattle.std.specs.Prelude.{IsTrue}
-use Rattle.sha2.specs.Sha256.{sha256}
 use Rattle.script.specs.declared.opcode.Op.TheVariants.{CheckSig}
 use Rattle.script.specs.Token.{token_of, is_key}
 use Rattle.tx.specs.declared.input.TxIn.{TxIn}
@@ -9,7 +8,6 @@ use Rattle.tx.specs.Parts.{Output}
 use Rattle.tx.specs.Fields.{Transaction}
 use Rattle.tx.specs.Spelling.{outpoint, number}
 use Rattle.paths.specs.declared.state.Path.{Path}
-use Rattle.claim.specs.declared.parts.Slot.{Slot}
 use Rattle.claim.specs.declared.parts.Slot.TheVariants.{Sig, Exact}
 use Rattle.claim.specs.declared.parts.Shell.{Shell}
 use Rattle.claim.specs.declared.parts.Shell.TheVariants.{Open, Fixed}

@@ -1,5 +1,5 @@
 -- The filling of claims, and why it is refused.
-use Rattle.std.proofs.Common.{◌≡◌, inl, inr, ℕ, ◌<◌, ◌≤◌, false, List, [], ◌∷◌, length, map, sym, ap, subst, ◌∙◌, refl}
+use Rattle.std.proofs.Common.{◌≡◌, inl, inr, ℕ, List, [], ◌∷◌, map, sym, ap, subst, ◌∙◌}
 use Rattle.tx.specs.declared.input.TxIn.{TxIn}
 use Rattle.tx.specs.Parts.{Output}
 use Rattle.tx.specs.Fields.{Transaction}
@@ -10,7 +10,7 @@ use Rattle.claim.specs.declared.parts.Place.{Place}
 use Rattle.claim.specs.Claims.{ClaimParts}
 use Rattle.filling.specs.declared.errors.FillError.{FillError}
 use Rattle.filling.specs.declared.errors.FillError.TheVariants.{NoMemory, NoRight, NoPreimage, OutputsExceed, MixedShells, SameOutpoint}
-use Rattle.filling.specs.Filling.{filled_input, transaction_for, filling_of, signed_transaction}
+use Rattle.filling.specs.Filling.{filled_input, transaction_for, signed_transaction}
 use Rattle.filling.specs.Filled.{Filling, AllRunClean, AllFit, IsFillingOf}
 use Rattle.filling.specs.Refusals.{AreFillable, Lacks, LacksFirst, UnlessMemory, all_slots, ArePassed, IsFirstRefusal}
 use Rattle.filling.specs.Standing.{IsUnsigned, AllOpen}

@@ -1,14 +1,11 @@
 -- The inputs of a filling fit their claims.
-use Rattle.std.proofs.Common.{◌≡◌, ◌⊎◌, inl, inr, ℕ, zero, suc, ◌<◌, ◌≤◌, ◌+◌, Bool, true, false, ◌&&◌, List, [], ◌∷◌, ◌++◌, length, map, reverse, Option, Some, None, is_some, sym, ap, subst, ◌∙◌, refl, arith, nat_le, Contains, le-leb}
+use Rattle.std.proofs.Common.{◌≡◌, inl, inr, ℕ, zero, suc, ◌≤◌, Bool, true, false, List, [], ◌∷◌, ◌++◌, length, map, reverse, Option, Some, None, is_some, sym, ap, subst, ◌∙◌, refl, arith, Contains}
 use Rattle.std.specs.Prelude.{slice_get, option_map, unwrap_or, if◌then◌else◌}
-use Rattle.std.specs.List.{list_all}
-use Rattle.std.specs.Str.{bytes_eq}
-use Rattle.std.proofs.lemmas.Bool.{and_parts, and_from, eqb-true, false≢true}
+use Rattle.std.proofs.lemmas.Bool.{and_parts, eqb-true, false≢true}
 use Rattle.std.proofs.lemmas.Slice.Eq.{bytes_eq-Decides}
-use Rattle.std.proofs.lemmas.List.{reverse-reverse, length-reverse, length-map, length-append}
-use Rattle.sha2.specs.Sha256.{sha256}
+use Rattle.std.proofs.lemmas.List.{reverse-reverse, length-reverse}
 use Rattle.digest.specs.Hash.{sha256d}
-use Rattle.script.specs.Token.{token_of, is_key}
+use Rattle.script.specs.Token.{token_of}
 use Rattle.script.specs.declared.spending.Spend.{Spend}
 use Rattle.tx.specs.declared.input.TxIn.{TxIn}
 use Rattle.tx.specs.Fields.{Transaction, signed_input, unsigned_inputs, unsigned_transaction, inputs_with_witness}
@@ -19,16 +16,15 @@ use Rattle.keys.specs.Rights.{Rights}
 use Rattle.paths.specs.declared.state.Path.{Path}
 use Rattle.claim.specs.declared.parts.Slot.{Slot}
 use Rattle.claim.specs.declared.parts.Slot.TheVariants.{Sig, Preimage, Exact}
-use Rattle.claim.specs.declared.parts.Place.{Place}
 use Rattle.claim.specs.Evidence.{is_preimage}
 use Rattle.claim.specs.Judgement.{age_of}
-use Rattle.claim.specs.Fitting.{FillsSlot, FillsSlots, Fits, witness_for, output_at}
-use Rattle.claim.specs.Claims.{ClaimParts, path_of, sequence_of, FitsClaim}
+use Rattle.claim.specs.Fitting.{FillsSlot, FillsSlots, Fits, witness_for}
+use Rattle.claim.specs.Claims.{ClaimParts, path_of}
 use Rattle.filling.specs.Filling.{script_of, unsigned_input, preimage_of, first_some, digest_for, item_for, items_for, filled_input, signed_transaction}
 use Rattle.filling.specs.Refusals.{IsFillable, AreFillable, LacksFirst, all_slots}
 use Rattle.filling.specs.declared.errors.FillError.{FillError}
 use Rattle.filling.specs.Standing.{Stands, AllStand, IsUnsigned, IsOpen, AllOpen}
-use Rattle.filling.specs.Filled.{RunsClean, AllRunClean, AllFit}
+use Rattle.filling.specs.Filled.{AllRunClean, AllFit}
 use Rattle.filling.proofs.Lists.{contains-at, contains-first, contains-later}
 use Rattle.filling.proofs.Standing.{bare-of, stands-signed}
 

@@ -1,5 +1,5 @@
 -- What the transaction of claims has before it is signed.
-use Rattle.std.proofs.Common.{◌≡◌, ℕ, zero, suc, ◌<◌, ◌≤◌, max, Bool, true, false, ◌||◌, ◌&&◌, List, [], ◌∷◌, length, map, Option, Some, None, sym, ap, subst, ◌∙◌, refl, arith, nat_lt, get_or, Bor, Result, Ok, Err, IfOk}
+use Rattle.std.proofs.Common.{◌≡◌, ℕ, zero, suc, ◌<◌, ◌≤◌, Bool, true, false, ◌||◌, ◌&&◌, List, [], ◌∷◌, length, map, Some, sym, ap, subst, ◌∙◌, refl, arith, nat_lt, get_or, Bor, Result, Ok, Err, IfOk}
 use Rattle.std.specs.Prelude.{slice_get, option_map, unwrap_or}
 use Rattle.std.proofs.lemmas.Bool.{and_parts, eqb-true, lt-ltb, false≢true}
 use Rattle.std.proofs.lemmas.Slice.Eq.{bytes_eq-Decides}

@@ -1,4 +1,4 @@
-use Rattle.std.proofs.Common.{refl, ap, ◌∙◌}
+use Rattle.std.proofs.Common.{refl, ◌∙◌}
 use Rattle.filling.proofs.Outpoints.{spelt}
 use Rattle.filling.proofs.exclusions.outpoint_bytes.Goals as goal
 

@@ -1,5 +1,4 @@
-use Rattle.std.proofs.Common.{◌≡◌, List, ℕ, sym, ap, subst, ◌∙◌, refl, map}
-use Rattle.claim.specs.Claims.{ClaimParts}
+use Rattle.std.proofs.Common.{sym, ap, subst, ◌∙◌, map}
 use Rattle.filling.specs.Filling.{filled_input}
 use Rattle.filling.specs.Refusals.{AreFillable, LacksFirst, UnlessMemory, all_slots, do_exceed}
 use Rattle.filling.proofs.Finishing.{refused, clean, filling}

@@ -1,4 +1,4 @@
-use Rattle.std.proofs.Common.{[], sym, ap, ◌∙◌, nat_cmp, arith, refl}
+use Rattle.std.proofs.Common.{[], nat_cmp, arith, refl}
 use Rattle.std.specs.Cmp.Lexicographic.{slice_cmp}
 use Rattle.std.specs.BTreeMap.{get}
 use Rattle.filling.proofs.Indexing.{next}

@@ -1,4 +1,4 @@
-use Rattle.std.proofs.Common.{sym, ap, ◌∙◌, refl, arith, map}
+use Rattle.std.proofs.Common.{sym, ap, ◌∙◌, arith, map}
 use Rattle.std.proofs.lemmas.List.{length-map}
 use Rattle.tx.specs.Fields.{unsigned_transaction}
 use Rattle.filling.proofs.Standing.{open-result, one-open, one-fixed, open-of}

@@ -1,4 +1,4 @@
-use Rattle.std.proofs.Common.{ℕ, List, sym, ap, ◌∙◌, refl, length, reverse, map, nat_le}
+use Rattle.std.proofs.Common.{ℕ, List, ap, ◌∙◌, length, reverse, map, nat_le}
 use Rattle.std.specs.List.{list_all}
 use Rattle.filling.specs.Filling.{item_for}
 use Rattle.filling.proofs.Lists.{all-reverse}
