@@ -1,26 +1,14 @@
 -- What the calls of a pair do is its play.
-use Rattle.std.proofs.Common.{◌≡◌, ℕ, ◌+◌, ◌<◌, ◌≤◌, List, [], ◌∷◌, ◌++◌, drop, length, get_or, refl, sym, ap, ◌∙◌, subst, Option, Some, None, inl, inr, append_assoc, append-nil}
+use Rattle.std.proofs.Common.{◌≡◌, ℕ, ◌+◌, ◌<◌, ◌≤◌, List, [], ◌∷◌, ◌++◌, drop, length, get_or, refl, sym, ap, ◌∙◌, subst, inl, inr, append_assoc, append-nil}
 use Rattle.std.specs.Prelude.{Result, Ok, Err, cond, is_ok}
 use Rattle.std.proofs.lemmas.List.{drop_more, drop_all}
 use Rattle.terms.specs.declared.sides.Side.{Side}
-use Rattle.terms.specs.declared.sides.Side.TheVariants.{A, B}
-use Rattle.updates.specs.declared.changes.Update.{Update}
-use Rattle.updates.specs.declared.changes.Update.TheVariants.{Add}
-use Rattle.updates.specs.declared.refusals.Refusal.{Refusal}
-use Rattle.updates.specs.declared.refusals.Refusal.TheVariants.{NoMemory, AmountZero, BelowMinimum, ExpiryTooLarge, WrongId, TooManyHtlcs, OverBalance, UnknownHtlc, WrongPreimage, NoUpdates, BadSignature, WrongSecret, NotYourTurn, NotOpener}
-use Rattle.updates.specs.Refusals.{IsRefusal}
-use Rattle.updates.specs.Steady.{next_htlc}
-use Rattle.channel.specs.declared.messages.Message.{Message}
-use Rattle.channel.specs.declared.messages.Message.TheVariants.{Updated}
-use Rattle.channel.specs.declared.plays.Action.{Action}
-use Rattle.channel.specs.declared.plays.Action.TheVariants.{Offer, Sign, Deliver}
 use Rattle.channel.specs.declared.plays.PairStep.{PairStep}
 use Rattle.channel.specs.declared.plays.Outcome.{Outcome}
-use Rattle.channel.specs.declared.plays.Outcome.TheVariants.{Done, Refused, NoMessage}
-use Rattle.channel.specs.States.{Signing, State, update_refusal, sign_refusal, receive_refusal, after_update, after_sign, after, answers, signature_message}
+use Rattle.channel.specs.States.{Signing, State}
 use Rattle.channel.specs.Peers.{World, opened_both, AreOpened, Steps, at_opening, then}
-use Rattle.channel.specs.Playing.{unless, acted, updated_by, signed_by, delivered_to, played, IsPlayed, IsStep, placed, IsTurn, IsPlay, AreDelivered}
-use Rattle.channel.specs.Agreeing.{AgreesIn, IsPaired, AgreesThroughout}
+use Rattle.channel.specs.Playing.{IsStep, IsPlay, AreDelivered}
+use Rattle.channel.specs.Agreeing.{IsPaired, AgreesThroughout}
 use Rattle.channel.proofs.Agreement.{IsAgreed, agreed}
 use Rattle.channel.proofs.Theorem.{agrees_in}
 use Rattle.channel.proofs.Playing.{kept_step, kept_play, play_agrees}

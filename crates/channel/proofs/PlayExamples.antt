@@ -10,11 +10,12 @@ use Rattle.channel.specs.declared.commitments.CommitmentState.{CommitmentState}
 use Rattle.channel.specs.declared.plays.Action.{Action}
 use Rattle.channel.specs.declared.plays.Action.TheVariants.{Offer, Fulfil, Fail, SetFee, Sign, Deliver}
 use Rattle.channel.specs.declared.plays.PairStep.{PairStep}
+use Rattle.channel.specs.declared.plays.Outcome.{Outcome}
 use Rattle.channel.specs.declared.plays.Outcome.TheVariants.{Done, Refused, NoMessage}
 use Rattle.channel.specs.States.{Signing}
 use Rattle.channel.specs.Peers.{World, opened_both}
 use Rattle.channel.specs.Playing.{outcomes_of, world_after}
-use Rattle.channel.proofs.Trusting.{outcomes-trusting, world-trusting}
+use Rattle.channel.proofs.Trusting.{Played', by_trust, outcomes-trusting, world-trusting}
 
 abbrev by_a : Action → PairStep
 by_a action = record { side = A; action = action }
@@ -195,116 +196,131 @@ steps_5 =
     by_b Sign ∷ by_a Deliver ∷ by_b (Fulfil 2 preimage) ∷ by_a Deliver ∷ by_a Deliver ∷ by_a Sign ∷ by_b Deliver ∷
     by_a (Offer 2500001 hash 500) ∷ by_b Deliver ∷ by_a Deliver ∷ by_b (Fulfil 1 preimage) ∷ by_b (Fail 2) ∷ by_b Deliver ∷ []
 
+-- what a play of a new channel is told to give: the outcomes, and each side's newest commitment
+pub record Told : Type 0 where
+  pub outcomes : List Outcome
+  pub newest_of_a : List ℕ
+  pub newest_of_b : List ℕ
+
+abbrev told : Played' → Told
+told p = record { outcomes = p.outcomes; newest_of_a = newest p.world.a.mine; newest_of_b = newest p.world.b.mine }
+
+-- it computes without the tests of deliveries
+gives : (tokens_of : Signing) (terms : Terms) (seed_a seed_b : List ℕ) (steps : List PairStep) (t : Told) → told (by_trust tokens_of (opened_both terms seed_a seed_b) steps) ≡ t
+    → told (record { world = world_after tokens_of (opened_both terms seed_a seed_b) steps; outcomes = outcomes_of tokens_of (opened_both terms seed_a seed_b) steps }) ≡ t
+gives tokens_of terms seed_a seed_b steps t e =
+    let w = opened_both terms seed_a seed_b in
+    ap (λ v. told (record { world = v; outcomes = outcomes_of tokens_of w steps })) (world-trusting tokens_of terms seed_a seed_b steps)
+    ∙ ap (λ os. told (record { world = (by_trust tokens_of w steps).world; outcomes = os })) (outcomes-trusting tokens_of terms seed_a seed_b steps) ∙ e
+
 module _ (tokens_of : Signing) (funding : OutPoint) (bases : BaseKeys) (seed_a seed_b : List ℕ) where
-  outcomes_0 : outcomes_of tokens_of (opened_both (terms_0 funding bases) seed_a seed_b) steps_0 ≡
-      NoMessage ∷ NoMessage ∷ Refused NoUpdates ∷ NoMessage ∷ Done ∷ Refused UnknownHtlc ∷ Done ∷ Done ∷ Done ∷ Done ∷ Done ∷ Done ∷ Done ∷
-      Done ∷ Done ∷ Done ∷ Refused NotYourTurn ∷ Done ∷ Refused AmountZero ∷ Refused NotYourTurn ∷ Done ∷ Refused NotYourTurn ∷
-      Refused OverBalance ∷ Done ∷ Done ∷ Refused NotOpener ∷ Done ∷ Done ∷ Refused UnknownHtlc ∷ Done ∷ Refused NotYourTurn ∷ Done ∷ Done ∷
-      Done ∷ Done ∷ NoMessage ∷ Refused OverBalance ∷ NoMessage ∷ NoMessage ∷ Done ∷ Done ∷ Done ∷ Done ∷ Refused NotYourTurn ∷ Done ∷ Done ∷
-      Done ∷ Done ∷ Refused ExpiryTooLarge ∷ NoMessage ∷ Refused WrongPreimage ∷ Refused NoUpdates ∷ Refused UnknownHtlc ∷
-      Refused NoUpdates ∷ Refused WrongPreimage ∷ Done ∷ Done ∷ Done ∷ Done ∷ Refused UnknownHtlc ∷ Done ∷ NoMessage ∷ NoMessage ∷
-      Refused OverBalance ∷ Done ∷ NoMessage ∷ Done ∷ Done ∷ Done ∷ Refused WrongPreimage ∷ []
-  unfolding sha256 digest_bytes hash_after compress rounds schedule first_words
-  outcomes_0 = outcomes-trusting tokens_of (terms_0 funding bases) seed_a seed_b steps_0 ∙ refl
+  -- what the steps give from a new channel of these terms
+  abbrev gives_of : Terms → List PairStep → Told
+  gives_of terms steps = let w = opened_both terms seed_a seed_b in told (record { world = world_after tokens_of w steps; outcomes = outcomes_of tokens_of w steps })
 
-  newest_a_0 : newest (world_after tokens_of (opened_both (terms_0 funding bases) seed_a seed_b) steps_0).a.mine ≡ 4 ∷ 998002 ∷ 299999 ∷ 2 ∷ 3 ∷ 0 ∷ []
-  unfolding sha256 digest_bytes hash_after compress rounds schedule first_words
-  newest_a_0 = ap (λ (w : World). newest w.a.mine) (world-trusting tokens_of (terms_0 funding bases) seed_a seed_b steps_0) ∙ refl
+  abbrev told_0 : Told
+  told_0 = record {
+    outcomes =
+        NoMessage ∷ NoMessage ∷ Refused NoUpdates ∷ NoMessage ∷ Done ∷ Refused UnknownHtlc ∷ Done ∷ Done ∷ Done ∷ Done ∷ Done ∷ Done ∷ Done ∷
+        Done ∷ Done ∷ Done ∷ Refused NotYourTurn ∷ Done ∷ Refused AmountZero ∷ Refused NotYourTurn ∷ Done ∷ Refused NotYourTurn ∷
+        Refused OverBalance ∷ Done ∷ Done ∷ Refused NotOpener ∷ Done ∷ Done ∷ Refused UnknownHtlc ∷ Done ∷ Refused NotYourTurn ∷ Done ∷ Done ∷
+        Done ∷ Done ∷ NoMessage ∷ Refused OverBalance ∷ NoMessage ∷ NoMessage ∷ Done ∷ Done ∷ Done ∷ Done ∷ Refused NotYourTurn ∷ Done ∷ Done ∷
+        Done ∷ Done ∷ Refused ExpiryTooLarge ∷ NoMessage ∷ Refused WrongPreimage ∷ Refused NoUpdates ∷ Refused UnknownHtlc ∷
+        Refused NoUpdates ∷ Refused WrongPreimage ∷ Done ∷ Done ∷ Done ∷ Done ∷ Refused UnknownHtlc ∷ Done ∷ NoMessage ∷ NoMessage ∷
+        Refused OverBalance ∷ Done ∷ NoMessage ∷ Done ∷ Done ∷ Done ∷ Refused WrongPreimage ∷ [];
+    newest_of_a = 4 ∷ 998002 ∷ 299999 ∷ 2 ∷ 3 ∷ 0 ∷ [];
+    newest_of_b = 3 ∷ 998003 ∷ 299999 ∷ 2 ∷ 2 ∷ 0 ∷ [];
+  }
 
-  newest_b_0 : newest (world_after tokens_of (opened_both (terms_0 funding bases) seed_a seed_b) steps_0).b.mine ≡ 3 ∷ 998003 ∷ 299999 ∷ 2 ∷ 2 ∷ 0 ∷ []
+  play_0 : gives_of (terms_0 funding bases) steps_0 ≡ told_0
   unfolding sha256 digest_bytes hash_after compress rounds schedule first_words
-  newest_b_0 = ap (λ (w : World). newest w.b.mine) (world-trusting tokens_of (terms_0 funding bases) seed_a seed_b steps_0) ∙ refl
+  play_0 = gives tokens_of (terms_0 funding bases) seed_a seed_b steps_0 told_0 refl
 
-  outcomes_1 : outcomes_of tokens_of (opened_both (terms_1 funding bases) seed_a seed_b) steps_1 ≡
-      NoMessage ∷ Done ∷ Done ∷ NoMessage ∷ Done ∷ Done ∷ Refused NotYourTurn ∷ Done ∷ Done ∷ Done ∷ Done ∷ Done ∷ Refused ExpiryTooLarge ∷
-      NoMessage ∷ Refused NotOpener ∷ Refused NoUpdates ∷ Refused NoUpdates ∷ Refused NoUpdates ∷ Done ∷ Done ∷ Refused UnknownHtlc ∷
-      NoMessage ∷ Done ∷ Done ∷ Done ∷ Refused NoUpdates ∷ NoMessage ∷ Refused OverBalance ∷ NoMessage ∷ NoMessage ∷ NoMessage ∷
-      Refused OverBalance ∷ Refused UnknownHtlc ∷ Done ∷ Done ∷ Done ∷ Done ∷ Refused UnknownHtlc ∷ Done ∷ Done ∷ Refused BelowMinimum ∷
-      Done ∷ Done ∷ Done ∷ Refused UnknownHtlc ∷ Done ∷ Done ∷ Refused NoUpdates ∷ Refused AmountZero ∷ Done ∷ Done ∷ Done ∷ Done ∷ Done ∷
-      Done ∷ Refused OverBalance ∷ Done ∷ Done ∷ Done ∷ Done ∷ Refused NotYourTurn ∷ Refused WrongPreimage ∷ Refused OverBalance ∷ Done ∷
-      Done ∷ NoMessage ∷ Refused AmountZero ∷ Done ∷ Done ∷ Done ∷ []
-  unfolding sha256 digest_bytes hash_after compress rounds schedule first_words
-  outcomes_1 = outcomes-trusting tokens_of (terms_1 funding bases) seed_a seed_b steps_1 ∙ refl
+  abbrev told_1 : Told
+  told_1 = record {
+    outcomes =
+        NoMessage ∷ Done ∷ Done ∷ NoMessage ∷ Done ∷ Done ∷ Refused NotYourTurn ∷ Done ∷ Done ∷ Done ∷ Done ∷ Done ∷ Refused ExpiryTooLarge ∷
+        NoMessage ∷ Refused NotOpener ∷ Refused NoUpdates ∷ Refused NoUpdates ∷ Refused NoUpdates ∷ Done ∷ Done ∷ Refused UnknownHtlc ∷
+        NoMessage ∷ Done ∷ Done ∷ Done ∷ Refused NoUpdates ∷ NoMessage ∷ Refused OverBalance ∷ NoMessage ∷ NoMessage ∷ NoMessage ∷
+        Refused OverBalance ∷ Refused UnknownHtlc ∷ Done ∷ Done ∷ Done ∷ Done ∷ Refused UnknownHtlc ∷ Done ∷ Done ∷ Refused BelowMinimum ∷
+        Done ∷ Done ∷ Done ∷ Refused UnknownHtlc ∷ Done ∷ Done ∷ Refused NoUpdates ∷ Refused AmountZero ∷ Done ∷ Done ∷ Done ∷ Done ∷ Done ∷
+        Done ∷ Refused OverBalance ∷ Done ∷ Done ∷ Done ∷ Done ∷ Refused NotYourTurn ∷ Refused WrongPreimage ∷ Refused OverBalance ∷ Done ∷
+        Done ∷ NoMessage ∷ Refused AmountZero ∷ Done ∷ Done ∷ Done ∷ [];
+    newest_of_a = 3 ∷ 898999 ∷ 900000 ∷ 3 ∷ 0 ∷ 0 ∷ [];
+    newest_of_b = 4 ∷ 898999 ∷ 900000 ∷ 3 ∷ 0 ∷ 0 ∷ [];
+  }
 
-  newest_a_1 : newest (world_after tokens_of (opened_both (terms_1 funding bases) seed_a seed_b) steps_1).a.mine ≡ 3 ∷ 898999 ∷ 900000 ∷ 3 ∷ 0 ∷ 0 ∷ []
+  play_1 : gives_of (terms_1 funding bases) steps_1 ≡ told_1
   unfolding sha256 digest_bytes hash_after compress rounds schedule first_words
-  newest_a_1 = ap (λ (w : World). newest w.a.mine) (world-trusting tokens_of (terms_1 funding bases) seed_a seed_b steps_1) ∙ refl
+  play_1 = gives tokens_of (terms_1 funding bases) seed_a seed_b steps_1 told_1 refl
 
-  newest_b_1 : newest (world_after tokens_of (opened_both (terms_1 funding bases) seed_a seed_b) steps_1).b.mine ≡ 4 ∷ 898999 ∷ 900000 ∷ 3 ∷ 0 ∷ 0 ∷ []
-  unfolding sha256 digest_bytes hash_after compress rounds schedule first_words
-  newest_b_1 = ap (λ (w : World). newest w.b.mine) (world-trusting tokens_of (terms_1 funding bases) seed_a seed_b steps_1) ∙ refl
+  abbrev told_2 : Told
+  told_2 = record {
+    outcomes =
+        Done ∷ Done ∷ Refused NoUpdates ∷ Refused NoUpdates ∷ NoMessage ∷ Done ∷ Refused NoUpdates ∷ NoMessage ∷ Done ∷ Done ∷
+        Refused UnknownHtlc ∷ NoMessage ∷ Done ∷ Refused NotYourTurn ∷ Done ∷ Done ∷ Done ∷ Done ∷ Done ∷ Done ∷ Done ∷ Done ∷ Done ∷
+        Refused NotOpener ∷ Refused NotYourTurn ∷ Done ∷ Done ∷ Done ∷ Done ∷ Done ∷ Done ∷ Done ∷ Done ∷ Refused WrongPreimage ∷ NoMessage ∷
+        Done ∷ Done ∷ Done ∷ Done ∷ Done ∷ Done ∷ Done ∷ Refused OverBalance ∷ Done ∷ Done ∷ Refused NotYourTurn ∷ Refused NotYourTurn ∷ Done ∷
+        Done ∷ Done ∷ Refused NotYourTurn ∷ Done ∷ Done ∷ Done ∷ Done ∷ Refused NotYourTurn ∷ Done ∷ Done ∷ Refused NotYourTurn ∷ Done ∷ Done ∷
+        Done ∷ Done ∷ Done ∷ Refused UnknownHtlc ∷ Done ∷ Done ∷ Refused ExpiryTooLarge ∷ NoMessage ∷ NoMessage ∷ [];
+    newest_of_a = 4 ∷ 749998001 ∷ 249998999 ∷ 2 ∷ 2 ∷ 0 ∷ [];
+    newest_of_b = 6 ∷ 749998001 ∷ 249998999 ∷ 2 ∷ 2 ∷ 0 ∷ [];
+  }
 
-  outcomes_2 : outcomes_of tokens_of (opened_both (terms_2 funding bases) seed_a seed_b) steps_2 ≡
-      Done ∷ Done ∷ Refused NoUpdates ∷ Refused NoUpdates ∷ NoMessage ∷ Done ∷ Refused NoUpdates ∷ NoMessage ∷ Done ∷ Done ∷
-      Refused UnknownHtlc ∷ NoMessage ∷ Done ∷ Refused NotYourTurn ∷ Done ∷ Done ∷ Done ∷ Done ∷ Done ∷ Done ∷ Done ∷ Done ∷ Done ∷
-      Refused NotOpener ∷ Refused NotYourTurn ∷ Done ∷ Done ∷ Done ∷ Done ∷ Done ∷ Done ∷ Done ∷ Done ∷ Refused WrongPreimage ∷ NoMessage ∷
-      Done ∷ Done ∷ Done ∷ Done ∷ Done ∷ Done ∷ Done ∷ Refused OverBalance ∷ Done ∷ Done ∷ Refused NotYourTurn ∷ Refused NotYourTurn ∷ Done ∷
-      Done ∷ Done ∷ Refused NotYourTurn ∷ Done ∷ Done ∷ Done ∷ Done ∷ Refused NotYourTurn ∷ Done ∷ Done ∷ Refused NotYourTurn ∷ Done ∷ Done ∷
-      Done ∷ Done ∷ Done ∷ Refused UnknownHtlc ∷ Done ∷ Done ∷ Refused ExpiryTooLarge ∷ NoMessage ∷ NoMessage ∷ []
+  play_2 : gives_of (terms_2 funding bases) steps_2 ≡ told_2
   unfolding sha256 digest_bytes hash_after compress rounds schedule first_words
-  outcomes_2 = outcomes-trusting tokens_of (terms_2 funding bases) seed_a seed_b steps_2 ∙ refl
+  play_2 = gives tokens_of (terms_2 funding bases) seed_a seed_b steps_2 told_2 refl
 
-  newest_a_2 : newest (world_after tokens_of (opened_both (terms_2 funding bases) seed_a seed_b) steps_2).a.mine ≡ 4 ∷ 749998001 ∷ 249998999 ∷ 2 ∷ 2 ∷ 0 ∷ []
-  unfolding sha256 digest_bytes hash_after compress rounds schedule first_words
-  newest_a_2 = ap (λ (w : World). newest w.a.mine) (world-trusting tokens_of (terms_2 funding bases) seed_a seed_b steps_2) ∙ refl
+  abbrev told_3 : Told
+  told_3 = record {
+    outcomes =
+        Done ∷ Refused NoUpdates ∷ Done ∷ Done ∷ Done ∷ Done ∷ Done ∷ NoMessage ∷ NoMessage ∷ Done ∷ Done ∷ Done ∷ NoMessage ∷ NoMessage ∷
+        Done ∷ Refused NoUpdates ∷ Done ∷ Done ∷ Refused UnknownHtlc ∷ Refused NoUpdates ∷ Done ∷ Refused NoUpdates ∷ Done ∷ NoMessage ∷ Done ∷
+        Done ∷ Done ∷ NoMessage ∷ Refused WrongPreimage ∷ Done ∷ NoMessage ∷ Done ∷ Done ∷ Refused NotOpener ∷ Done ∷ Refused ExpiryTooLarge ∷
+        Refused OverBalance ∷ Done ∷ Done ∷ Done ∷ Done ∷ Done ∷ Refused UnknownHtlc ∷ Refused WrongPreimage ∷ Done ∷ Refused NotYourTurn ∷
+        Refused ExpiryTooLarge ∷ Refused AmountZero ∷ Done ∷ Refused NotYourTurn ∷ Done ∷ Done ∷ Refused NotYourTurn ∷ Refused OverBalance ∷
+        Refused UnknownHtlc ∷ Done ∷ Done ∷ Done ∷ Done ∷ Done ∷ Refused AmountZero ∷ Refused NotYourTurn ∷ Refused NotYourTurn ∷
+        Refused NotYourTurn ∷ Done ∷ Done ∷ Done ∷ Done ∷ Done ∷ Done ∷ [];
+    newest_of_a = 4 ∷ 200000 ∷ 1399999 ∷ 0 ∷ 3 ∷ 77 ∷ [];
+    newest_of_b = 4 ∷ 200000 ∷ 1399999 ∷ 0 ∷ 3 ∷ 77 ∷ [];
+  }
 
-  newest_b_2 : newest (world_after tokens_of (opened_both (terms_2 funding bases) seed_a seed_b) steps_2).b.mine ≡ 6 ∷ 749998001 ∷ 249998999 ∷ 2 ∷ 2 ∷ 0 ∷ []
+  play_3 : gives_of (terms_3 funding bases) steps_3 ≡ told_3
   unfolding sha256 digest_bytes hash_after compress rounds schedule first_words
-  newest_b_2 = ap (λ (w : World). newest w.b.mine) (world-trusting tokens_of (terms_2 funding bases) seed_a seed_b steps_2) ∙ refl
+  play_3 = gives tokens_of (terms_3 funding bases) seed_a seed_b steps_3 told_3 refl
 
-  outcomes_3 : outcomes_of tokens_of (opened_both (terms_3 funding bases) seed_a seed_b) steps_3 ≡
-      Done ∷ Refused NoUpdates ∷ Done ∷ Done ∷ Done ∷ Done ∷ Done ∷ NoMessage ∷ NoMessage ∷ Done ∷ Done ∷ Done ∷ NoMessage ∷ NoMessage ∷
-      Done ∷ Refused NoUpdates ∷ Done ∷ Done ∷ Refused UnknownHtlc ∷ Refused NoUpdates ∷ Done ∷ Refused NoUpdates ∷ Done ∷ NoMessage ∷ Done ∷
-      Done ∷ Done ∷ NoMessage ∷ Refused WrongPreimage ∷ Done ∷ NoMessage ∷ Done ∷ Done ∷ Refused NotOpener ∷ Done ∷ Refused ExpiryTooLarge ∷
-      Refused OverBalance ∷ Done ∷ Done ∷ Done ∷ Done ∷ Done ∷ Refused UnknownHtlc ∷ Refused WrongPreimage ∷ Done ∷ Refused NotYourTurn ∷
-      Refused ExpiryTooLarge ∷ Refused AmountZero ∷ Done ∷ Refused NotYourTurn ∷ Done ∷ Done ∷ Refused NotYourTurn ∷ Refused OverBalance ∷
-      Refused UnknownHtlc ∷ Done ∷ Done ∷ Done ∷ Done ∷ Done ∷ Refused AmountZero ∷ Refused NotYourTurn ∷ Refused NotYourTurn ∷
-      Refused NotYourTurn ∷ Done ∷ Done ∷ Done ∷ Done ∷ Done ∷ Done ∷ []
-  unfolding sha256 digest_bytes hash_after compress rounds schedule first_words
-  outcomes_3 = outcomes-trusting tokens_of (terms_3 funding bases) seed_a seed_b steps_3 ∙ refl
+  abbrev told_4 : Told
+  told_4 = record {
+    outcomes =
+        Done ∷ Done ∷ Done ∷ NoMessage ∷ Done ∷ Done ∷ Refused OverBalance ∷ Done ∷ Done ∷ NoMessage ∷ Done ∷ Refused NoUpdates ∷
+        Refused NoUpdates ∷ Refused UnknownHtlc ∷ Done ∷ Refused OverBalance ∷ Done ∷ NoMessage ∷ Done ∷ Done ∷ Refused WrongPreimage ∷
+        Refused ExpiryTooLarge ∷ Done ∷ Done ∷ Done ∷ Done ∷ Done ∷ Done ∷ Refused NoUpdates ∷ Refused UnknownHtlc ∷ Done ∷ NoMessage ∷ Done ∷
+        Done ∷ Refused NoUpdates ∷ Done ∷ Done ∷ Done ∷ Refused NoUpdates ∷ Refused OverBalance ∷ Done ∷ Refused UnknownHtlc ∷ Done ∷ Done ∷
+        Done ∷ Done ∷ NoMessage ∷ Done ∷ Done ∷ Done ∷ Done ∷ Refused UnknownHtlc ∷ Done ∷ Done ∷ Refused NotYourTurn ∷ Done ∷
+        Refused UnknownHtlc ∷ Done ∷ Refused NotOpener ∷ Refused UnknownHtlc ∷ Done ∷ Done ∷ Done ∷ Refused NotYourTurn ∷ Done ∷ Done ∷ Done ∷
+        Done ∷ Done ∷ Refused ExpiryTooLarge ∷ [];
+    newest_of_a = 5 ∷ 800000 ∷ 799999 ∷ 0 ∷ 3 ∷ 0 ∷ [];
+    newest_of_b = 4 ∷ 999999 ∷ 799999 ∷ 1 ∷ 2 ∷ 0 ∷ [];
+  }
 
-  newest_a_3 : newest (world_after tokens_of (opened_both (terms_3 funding bases) seed_a seed_b) steps_3).a.mine ≡ 4 ∷ 200000 ∷ 1399999 ∷ 0 ∷ 3 ∷ 77 ∷ []
+  play_4 : gives_of (terms_4 funding bases) steps_4 ≡ told_4
   unfolding sha256 digest_bytes hash_after compress rounds schedule first_words
-  newest_a_3 = ap (λ (w : World). newest w.a.mine) (world-trusting tokens_of (terms_3 funding bases) seed_a seed_b steps_3) ∙ refl
+  play_4 = gives tokens_of (terms_4 funding bases) seed_a seed_b steps_4 told_4 refl
 
-  newest_b_3 : newest (world_after tokens_of (opened_both (terms_3 funding bases) seed_a seed_b) steps_3).b.mine ≡ 4 ∷ 200000 ∷ 1399999 ∷ 0 ∷ 3 ∷ 77 ∷ []
-  unfolding sha256 digest_bytes hash_after compress rounds schedule first_words
-  newest_b_3 = ap (λ (w : World). newest w.b.mine) (world-trusting tokens_of (terms_3 funding bases) seed_a seed_b steps_3) ∙ refl
+  abbrev told_5 : Told
+  told_5 = record {
+    outcomes =
+        Refused NoUpdates ∷ Done ∷ Done ∷ NoMessage ∷ NoMessage ∷ Refused NoUpdates ∷ Refused UnknownHtlc ∷ NoMessage ∷ NoMessage ∷ NoMessage ∷
+        Refused AmountZero ∷ NoMessage ∷ NoMessage ∷ Done ∷ Done ∷ Done ∷ Done ∷ Done ∷ Refused NoUpdates ∷ NoMessage ∷ Done ∷ Done ∷ Done ∷
+        Done ∷ Refused NotYourTurn ∷ Refused ExpiryTooLarge ∷ Done ∷ Done ∷ Refused NotYourTurn ∷ Done ∷ Refused NotYourTurn ∷ Done ∷ Done ∷
+        Done ∷ Done ∷ Done ∷ Done ∷ Done ∷ Done ∷ Refused OverBalance ∷ Refused AmountZero ∷ Refused ExpiryTooLarge ∷ Done ∷ Done ∷
+        Refused NotYourTurn ∷ Done ∷ Done ∷ Refused NoUpdates ∷ Refused NotOpener ∷ Done ∷ Refused NoUpdates ∷ Refused WrongPreimage ∷ Done ∷
+        Done ∷ NoMessage ∷ Done ∷ Refused UnknownHtlc ∷ Done ∷ Done ∷ Done ∷ Done ∷ Done ∷ Done ∷ Done ∷ Refused OverBalance ∷ Done ∷ Done ∷
+        Refused UnknownHtlc ∷ Refused UnknownHtlc ∷ NoMessage ∷ [];
+    newest_of_a = 4 ∷ 2497001 ∷ 1251999 ∷ 1 ∷ 1 ∷ 1000 ∷ [];
+    newest_of_b = 3 ∷ 2497001 ∷ 1251999 ∷ 1 ∷ 1 ∷ 1000 ∷ [];
+  }
 
-  outcomes_4 : outcomes_of tokens_of (opened_both (terms_4 funding bases) seed_a seed_b) steps_4 ≡
-      Done ∷ Done ∷ Done ∷ NoMessage ∷ Done ∷ Done ∷ Refused OverBalance ∷ Done ∷ Done ∷ NoMessage ∷ Done ∷ Refused NoUpdates ∷
-      Refused NoUpdates ∷ Refused UnknownHtlc ∷ Done ∷ Refused OverBalance ∷ Done ∷ NoMessage ∷ Done ∷ Done ∷ Refused WrongPreimage ∷
-      Refused ExpiryTooLarge ∷ Done ∷ Done ∷ Done ∷ Done ∷ Done ∷ Done ∷ Refused NoUpdates ∷ Refused UnknownHtlc ∷ Done ∷ NoMessage ∷ Done ∷
-      Done ∷ Refused NoUpdates ∷ Done ∷ Done ∷ Done ∷ Refused NoUpdates ∷ Refused OverBalance ∷ Done ∷ Refused UnknownHtlc ∷ Done ∷ Done ∷
-      Done ∷ Done ∷ NoMessage ∷ Done ∷ Done ∷ Done ∷ Done ∷ Refused UnknownHtlc ∷ Done ∷ Done ∷ Refused NotYourTurn ∷ Done ∷
-      Refused UnknownHtlc ∷ Done ∷ Refused NotOpener ∷ Refused UnknownHtlc ∷ Done ∷ Done ∷ Done ∷ Refused NotYourTurn ∷ Done ∷ Done ∷ Done ∷
-      Done ∷ Done ∷ Refused ExpiryTooLarge ∷ []
+  play_5 : gives_of (terms_5 funding bases) steps_5 ≡ told_5
   unfolding sha256 digest_bytes hash_after compress rounds schedule first_words
-  outcomes_4 = outcomes-trusting tokens_of (terms_4 funding bases) seed_a seed_b steps_4 ∙ refl
-
-  newest_a_4 : newest (world_after tokens_of (opened_both (terms_4 funding bases) seed_a seed_b) steps_4).a.mine ≡ 5 ∷ 800000 ∷ 799999 ∷ 0 ∷ 3 ∷ 0 ∷ []
-  unfolding sha256 digest_bytes hash_after compress rounds schedule first_words
-  newest_a_4 = ap (λ (w : World). newest w.a.mine) (world-trusting tokens_of (terms_4 funding bases) seed_a seed_b steps_4) ∙ refl
-
-  newest_b_4 : newest (world_after tokens_of (opened_both (terms_4 funding bases) seed_a seed_b) steps_4).b.mine ≡ 4 ∷ 999999 ∷ 799999 ∷ 1 ∷ 2 ∷ 0 ∷ []
-  unfolding sha256 digest_bytes hash_after compress rounds schedule first_words
-  newest_b_4 = ap (λ (w : World). newest w.b.mine) (world-trusting tokens_of (terms_4 funding bases) seed_a seed_b steps_4) ∙ refl
-
-  outcomes_5 : outcomes_of tokens_of (opened_both (terms_5 funding bases) seed_a seed_b) steps_5 ≡
-      Refused NoUpdates ∷ Done ∷ Done ∷ NoMessage ∷ NoMessage ∷ Refused NoUpdates ∷ Refused UnknownHtlc ∷ NoMessage ∷ NoMessage ∷ NoMessage ∷
-      Refused AmountZero ∷ NoMessage ∷ NoMessage ∷ Done ∷ Done ∷ Done ∷ Done ∷ Done ∷ Refused NoUpdates ∷ NoMessage ∷ Done ∷ Done ∷ Done ∷
-      Done ∷ Refused NotYourTurn ∷ Refused ExpiryTooLarge ∷ Done ∷ Done ∷ Refused NotYourTurn ∷ Done ∷ Refused NotYourTurn ∷ Done ∷ Done ∷
-      Done ∷ Done ∷ Done ∷ Done ∷ Done ∷ Done ∷ Refused OverBalance ∷ Refused AmountZero ∷ Refused ExpiryTooLarge ∷ Done ∷ Done ∷
-      Refused NotYourTurn ∷ Done ∷ Done ∷ Refused NoUpdates ∷ Refused NotOpener ∷ Done ∷ Refused NoUpdates ∷ Refused WrongPreimage ∷ Done ∷
-      Done ∷ NoMessage ∷ Done ∷ Refused UnknownHtlc ∷ Done ∷ Done ∷ Done ∷ Done ∷ Done ∷ Done ∷ Done ∷ Refused OverBalance ∷ Done ∷ Done ∷
-      Refused UnknownHtlc ∷ Refused UnknownHtlc ∷ NoMessage ∷ []
-  unfolding sha256 digest_bytes hash_after compress rounds schedule first_words
-  outcomes_5 = outcomes-trusting tokens_of (terms_5 funding bases) seed_a seed_b steps_5 ∙ refl
-
-  newest_a_5 : newest (world_after tokens_of (opened_both (terms_5 funding bases) seed_a seed_b) steps_5).a.mine ≡ 4 ∷ 2497001 ∷ 1251999 ∷ 1 ∷ 1 ∷ 1000 ∷ []
-  unfolding sha256 digest_bytes hash_after compress rounds schedule first_words
-  newest_a_5 = ap (λ (w : World). newest w.a.mine) (world-trusting tokens_of (terms_5 funding bases) seed_a seed_b steps_5) ∙ refl
-
-  newest_b_5 : newest (world_after tokens_of (opened_both (terms_5 funding bases) seed_a seed_b) steps_5).b.mine ≡ 3 ∷ 2497001 ∷ 1251999 ∷ 1 ∷ 1 ∷ 1000 ∷ []
-  unfolding sha256 digest_bytes hash_after compress rounds schedule first_words
-  newest_b_5 = ap (λ (w : World). newest w.b.mine) (world-trusting tokens_of (terms_5 funding bases) seed_a seed_b steps_5) ∙ refl
+  play_5 = gives tokens_of (terms_5 funding bases) seed_a seed_b steps_5 told_5 refl

@@ -1,11 +1,11 @@
 -- Two peers agree in every world that their steps lead to.
-use Rattle.std.proofs.Common.{◌≡◌, List, ◌∷◌, ◌∙◌, None}
+use Rattle.std.proofs.Common.{◌≡◌, List, ◌∷◌, sym, ◌∙◌, None}
 use Rattle.channel.specs.declared.messages.Message.{Message}
 use Rattle.channel.specs.States.{Signing, State, receive_refusal}
 use Rattle.channel.specs.Peers.{World}
 use Rattle.channel.specs.Agreeing.{AgreesIn, PeersAgree}
 use Rattle.channel.proofs.Sides.{sound_in}
-use Rattle.channel.proofs.Queues.{Flows, mine_grows}
+use Rattle.channel.proofs.Queues.{Flows, drained_same, mine_grows}
 use Rattle.channel.proofs.Agreement.{IsAgreed, agreed}
 
 -- the first message of a queue that flows isn't refused
@@ -17,6 +17,7 @@ agrees_in tokens_of w g =
     let a = mine_grows w.to_a w.a in
     let b = mine_grows w.to_b w.b in
     record {
+      same_terms = sym g.ab.meets.terms ∙ (drained_same w.to_b w.b).terms;
       a_takes = λ m rest e. takes tokens_of w.to_a w.a m rest g.ba.flows e;
       b_takes = λ m rest e. takes tokens_of w.to_b w.b m rest g.ab.flows e;
       a_accepted = (a.0, a.1 ∙ g.ba.meets.mine);

@@ -22,8 +22,10 @@ pub record IsSoundState (s : State) : Type 0 where
 abbrev pub FirstOf : List CommitmentState → List CommitmentState → Type 0
 FirstOf accepted signed = (later : List CommitmentState) × (accepted ++ later ≡ signed)
 
--- the oldest message that is on its way to a side is not refused; each side accepted what the other signed, commitment for commitment
+-- the two have one value of the terms; the oldest message that is on its way to a side is not refused; each side accepted what the other signed,
+-- commitment for commitment
 pub record AgreesIn (tokens_of : Signing) (w : World) : Type 0 where
+  pub same_terms : w.a.held.terms ≡ w.b.held.terms
   pub a_takes : (m : Message) (rest : List Message) → w.to_a ≡ m ∷ rest → receive_refusal tokens_of w.a m ≡ None
   pub b_takes : (m : Message) (rest : List Message) → w.to_b ≡ m ∷ rest → receive_refusal tokens_of w.b m ≡ None
   pub a_accepted : FirstOf w.a.mine w.b.signed

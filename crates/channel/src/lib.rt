@@ -2,7 +2,8 @@
 //!
 //! A [`Channel`] is one side. The definitions say of each call and each message when it is refused, what it makes of the side's state, what is sent and what
 //! answers it; each call of a channel does exactly that, and a refusal leaves the channel as it was. [`laws::peers_agree`] proves of the definitions that two
-//! honest peers agree over every interleaving of their steps, and [`laws::sides_are_sound`] what one side can rely on whatever its peer sends.
+//! honest peers agree over every interleaving of their steps, and [`laws::sides_are_sound`] what one side can rely on whatever its peer sends. A [`Pair`] plays two
+//! channels with a queue each way, so that what it plays is such an interleaving.
 //!
 //! ```rust
 //! /// Offers an HTLC of `amount` millisatoshis, and signs the peer's commitment with it. Both messages are to be sent, the offer first.

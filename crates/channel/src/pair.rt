@@ -72,8 +72,8 @@ impl Pair {
         }
     }
 
-    /// Plays steps in turn, and gives the outcome of each; a refused step changes nothing, and the next one is played. No delivery is refused but for want of
-    /// memory, and the two agree at every moment. The only error is that no memory was there for the outcomes: then no step was played.
+    /// Plays steps in turn, and gives the outcome of each; a refused step changes nothing, and the next one is played. No delivery is refused unless memory ran
+    /// out, and the two agree at every moment. The only error is that no memory was there for the outcomes: then no step was played.
     pub fn play(&mut self, steps: &[PairStep]) -> Result<Vec<Outcome>, Refusal>
         ensures played { IfOk result (λ outcomes. IsPlay tokens_of self.old steps.now outcomes.items self.new) }
         ensures delivered { IfOk result (λ outcomes. AreDelivered steps.now outcomes.items) }

@@ -1,6 +1,3 @@
-use Rattle.std.proofs.Common.{sym, ap, subst, [], List}
-use Rattle.channel.specs.declared.messages.Message.{Message}
-use Rattle.channel.specs.Agreeing.{IsPaired}
 use Rattle.channel.specs.Tokens.{peer_tokens}
 use Rattle.channel.proofs.Pairing.{paired_opened}
 use Rattle.channel.proofs.pair.Pair.new.Goals as goal

@@ -1,5 +1,4 @@
 use Rattle.std.proofs.Common.{◌≡◌, ◌≤◌, drop, length, vec_len, vec_capacity}
-use Rattle.channel.specs.Agreeing.{IsPaired}
 use Rattle.channel.specs.Tokens.{peer_tokens}
 use Rattle.channel.proofs.Pairing.{IsLeft}
 use Rattle.channel.proofs.pair.Pair.play.Given as goal
