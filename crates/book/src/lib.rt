@@ -4,8 +4,13 @@
 //! test `first_claim` shows a claim filed under two seats.
 #![tactic(auto)]
 
+pub mod calls;
+pub mod errors;
 pub mod history;
+pub mod laws;
+mod limits;
 #[cfg(test)]
 mod tests;
 
 pub use history::{Book, Entry};
+pub use limits::MAX_CHANNELS;

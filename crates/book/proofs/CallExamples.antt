@@ -1,0 +1,221 @@
+-- What a book answers, call by call: the first scenario's calls, and each refusal before the next one in its order.
+use Rattle.std.proofs.Common.{◌≡◌, ℕ, ◌+◌, true, false, List, [], ◌∷◌, ◌++◌, length, replicate, map, Some, None, Ok, Err, refl, lit≤}
+use Rattle.std.specs.Prelude.{IsTrue, slice_get}
+use Rattle.sha2.specs.Sha256.{sha256, digest_bytes, hash_after, compress, rounds, schedule, first_words}
+use Rattle.script.specs.Token.{is_key}
+use Rattle.tx.specs.declared.input.OutPoint.{OutPoint}
+use Rattle.keys.specs.declared.compressed.Key.{Key}
+use Rattle.keys.specs.Derivation.{point_of}
+use Rattle.terms.specs.declared.htlcs.Htlc.{Htlc}
+use Rattle.terms.specs.declared.sides.Side.{Side}
+use Rattle.terms.specs.declared.sides.Side.TheVariants.{A, B}
+use Rattle.terms.specs.declared.agreement.BaseKeys.{BaseKeys}
+use Rattle.terms.specs.declared.agreement.Terms.{Terms}
+use Rattle.updates.specs.declared.changes.Update.TheVariants.{Add}
+use Rattle.updates.specs.declared.refusals.Refusal.TheVariants.{WrongSecret, NotYourTurn, AmountZero}
+use Rattle.claim.specs.Claims.{ClaimParts}
+use Rattle.channel.specs.declared.messages.Tokens.{Tokens}
+use Rattle.channel.specs.declared.messages.Message.TheVariants.{Updated as UpdateMessage, CommitmentSigned, RevokeAndAck}
+use Rattle.channel.specs.Points.{secret_at, point_at, is_foreign}
+use Rattle.channel.specs.States.{Signing, State, opened as opened_state, after_update, after_sign, after}
+use Rattle.texts.specs.declared.steps.OwnUpdate.TheVariants.{Offer}
+use Rattle.book.specs.declared.calls.Opening.{Opening}
+use Rattle.book.specs.declared.calls.Step.TheVariants.{Own, Updated, Signed}
+use Rattle.book.specs.declared.calls.Call.{Call}
+use Rattle.book.specs.declared.calls.Call.TheVariants.{Open, Step as Stepping, Sign, Revoke, Keep, Release}
+use Rattle.book.specs.declared.calls.Entry.{Entry}
+use Rattle.book.specs.declared.errors.OpenError.TheVariants.{SameFunding, BadSignature}
+use Rattle.book.specs.declared.errors.StepError.TheVariants.{Refused, NoSuchChannel as NoChannelToStep}
+use Rattle.book.specs.declared.errors.SignError.TheVariants.{PenaltiesMissing, AwaitingRevocation, NoUpdates, NoSuchChannel as NoChannelToSign}
+use Rattle.book.specs.declared.errors.KeepError.TheVariants.{NotRevoked, AlreadyKept, OtherState, NoSuchChannel as NoChannelToKeep}
+use Rattle.book.specs.declared.errors.ReleaseError.TheVariants.{NoSuchChannel as NoChannelToRelease}
+use Rattle.book.specs.declared.limits.TheConstants.{MAX_CHANNELS}
+use Rattle.book.specs.Penalties.{is_penalty_set}
+use Rattle.book.specs.Books.{ChannelBook, missing_from, first_missing, replay}
+use Rattle.book.specs.Replies.{Reply, opened, stepped, signed, revoked, kept, released, reply_of, sign_refusal, keep_refusal, history_after}
+use Rattle.book.specs.Guarding.{is_set_in, number_kept, is_guarded}
+
+limit : MAX_CHANNELS ≡ 65536
+limit = refl
+
+-- the least number that is missing, whatever the order in which the others came
+missing : (missing_from [] 0 0 ≡ None)
+    × (missing_from [] 0 2 ≡ Some 0)
+    × (missing_from (0 ∷ []) 0 2 ≡ Some 1)
+    × (missing_from (1 ∷ []) 0 2 ≡ Some 0)
+    × (missing_from (2 ∷ 0 ∷ []) 0 4 ≡ Some 1)
+    × (missing_from (2 ∷ 1 ∷ 0 ∷ []) 0 3 ≡ None)
+    × (missing_from (2 ∷ 1 ∷ 0 ∷ []) 0 4 ≡ Some 3)
+missing = (refl, refl, refl, refl, refl, refl, refl)
+
+key_form : (n : ℕ) → IsTrue (is_key (2 ∷ replicate 32 n))
+unfolding is_key
+key_form n = refl
+
+abbrev key : ℕ → Key
+key n = record { bytes = 2 ∷ replicate 32 n; form = key_form n }
+
+-- a secret, and its point (SHA-256 by Python's hashlib)
+abbrev secret : List ℕ
+secret = replicate 32 7
+
+abbrev point : List ℕ
+point = 2 ∷ 214 ∷ 139 ∷ 241 ∷ 59 ∷ 6 ∷ 78 ∷ 75 ∷ 13 ∷ 89 ∷ 80 ∷ 59 ∷ 132 ∷ 36 ∷ 89 ∷ 255 ∷ 4 ∷ 40 ∷ 23 ∷ 205 ∷ 69 ∷ 255 ∷ 234 ∷ 99 ∷ 71 ∷ 90 ∷ 60 ∷ 31 ∷ 96 ∷ 99 ∷ 70 ∷ 106 ∷ 53 ∷ []
+
+point_is : point_of secret ≡ point
+unfolding point_of sha256 digest_bytes hash_after compress rounds schedule first_words
+point_is = refl
+
+-- and those of another one
+other_point_is : point_of (replicate 32 8) ≡ 2 ∷ 140 ∷ 23 ∷ 151 ∷ 150 ∷ 69 ∷ 241 ∷ 102 ∷ 21 ∷ 235 ∷ 156 ∷ 17 ∷ 161 ∷ 79 ∷ 72 ∷ 30 ∷ 34 ∷ 79 ∷ 112 ∷ 11 ∷ 47 ∷ 85 ∷ 77 ∷ 189 ∷ 29 ∷ 29 ∷ 29 ∷ 157 ∷ 195 ∷ 50 ∷ 118 ∷ 87 ∷ 111 ∷ []
+unfolding point_of sha256 digest_bytes hash_after compress rounds schedule first_words
+other_point_is = refl
+
+point_form : IsTrue (is_key point)
+unfolding is_key
+point_form = refl
+
+abbrev point_key : Key
+point_key = record { bytes = point; form = point_form }
+
+-- tokens that name the number, and the amounts of A's HTLCs
+abbrev tokens_of : Signing
+tokens_of terms c = record { commitment = c.number ∷ []; htlcs = map (λ h. h.amount ∷ []) c.view.a.offered }
+
+abbrev tokens : ℕ → List ℕ → Tokens
+tokens number amounts = record { commitment = number ∷ []; htlcs = map (λ n. n ∷ []) amounts }
+
+abbrev hash : List ℕ
+hash = replicate 32 9
+
+abbrev htlc : ℕ → ℕ → ℕ → Htlc
+htlc id amount expiry = record { id = id; amount = amount; hash = hash; expiry = expiry }
+
+-- the answers to calls of seat 0, one after another, and the history then
+abbrev answers_from : List Entry → List Call → List Reply
+answers_from history [] = []
+answers_from history (call ∷ calls) = reply_of tokens_of history call ∷ answers_from (history_after tokens_of history 0 call) calls
+
+abbrev history_from : List Entry → List Call → List Entry
+history_from history [] = history
+history_from history (call ∷ calls) = history_from (history_after tokens_of history 0 call) calls
+
+module _ (bases : BaseKeys) (seed : List ℕ) where
+  abbrev terms_of : ℕ → Terms
+  terms_of index = record {
+    funding = record { txid = replicate 32 5; index = index };
+    capacity = 100000;
+    opener = A;
+    feerate = 1000;
+    a = record { dust = 546; delay = 144; minimum = 1000; start = 80000000; bases = bases };
+    b = record { dust = 546; delay = 144; minimum = 1000; start = 20000000; bases = bases };
+    limited = lit≤ tt;
+    whole = refl;
+  }
+
+  abbrev opening : Side → ℕ → List ℕ → Opening
+  opening side index token = record { terms = terms_of index; side = side; seed = seed; first_point = point_key; next_point = key 1; token = token }
+
+  -- the funding output is tested before the token
+  openings : answers_from [] (Open (opening A 0 (0 ∷ [])) ∷ Open (opening A 0 (1 ∷ [])) ∷ Open (opening A 1 (1 ∷ [])) ∷ Open (opening A 1 (0 ∷ [])) ∷ [])
+      ≡ opened (Ok 0) ∷ opened (Err SameFunding) ∷ opened (Err BadSignature) ∷ opened (Ok 1) ∷ []
+  openings = refl
+
+  -- the first scenario: A offers an HTLC, signs, receives the revocation, and offers another one
+  abbrev first_calls : List Call
+  first_calls =
+      Open (opening A 0 (0 ∷ [])) ∷ Stepping 0 (Own (Offer 1000000 hash 500)) ∷ Sign 0 ∷ Revoke 0 secret (key 2) ∷ Stepping 0 (Own (Offer 1000000 hash 501)) ∷ []
+
+  first_answers : answers_from [] first_calls
+      ≡ opened (Ok 0)
+      ∷ stepped (Ok (UpdateMessage (Add (htlc 0 1000000 500)) ∷ []))
+      ∷ signed (Ok (CommitmentSigned (tokens 1 (1000000 ∷ []))))
+      ∷ revoked (Ok 0)
+      ∷ stepped (Ok (UpdateMessage (Add (htlc 1 1000000 501)) ∷ []))
+      ∷ []
+  unfolding is_foreign
+  first_answers = rw point_is refl
+
+  abbrev entry : Call → Entry
+  entry call = record { seat = 0; call = call }
+
+  -- each is an entry of its history
+  abbrev first_history : List Entry
+  first_history =
+      entry (Open (opening A 0 (0 ∷ []))) ∷ entry (Stepping 0 (Own (Offer 1000000 hash 500))) ∷ entry (Sign 0) ∷ entry (Revoke 0 secret (key 2))
+      ∷ entry (Stepping 0 (Own (Offer 1000000 hash 501))) ∷ []
+
+  first_entries : history_from [] first_calls ≡ first_history
+  unfolding is_foreign
+  first_entries = rw point_is refl
+
+  -- A's state then
+  abbrev then : State
+  then =
+      after_update (Add (htlc 1 1000000 501)) (after (after_sign (after_update (Add (htlc 0 1000000 500)) (opened_state (terms_of 0) A seed point_key (key 1)))) (RevokeAndAck secret (key 2)))
+
+  -- it may not sign before it kept the penalties, keeps them once, and signs
+  module _ (claims : List ClaimParts) (is_set : is_penalty_set then 0 claims ≡ true) where
+    last_answers : answers_from first_history (Sign 0 ∷ Keep 0 0 claims ∷ Sign 0 ∷ Keep 0 0 claims ∷ [])
+        ≡ signed (Err (PenaltiesMissing 0)) ∷ kept (Ok tt) ∷ signed (Ok (CommitmentSigned (tokens 2 (1000000 ∷ 1000000 ∷ [])))) ∷ kept (Err AlreadyKept) ∷ []
+    last_answers = rw is_set refl
+
+    whole_history : length (history_from first_history (Sign 0 ∷ Keep 0 0 claims ∷ Sign 0 ∷ Keep 0 0 claims ∷ [])) ≡ 7
+    whole_history = rw is_set refl
+
+    -- the entries guard the signature where the penalties are kept between the two, in this channel and by this number
+    guarded : (is_guarded (first_history ++ entry (Keep 0 0 claims) ∷ entry (Sign 0) ∷ []) ≡ true)
+        × (is_guarded first_history ≡ true)
+        × (is_guarded (first_history ++ entry (Sign 0) ∷ []) ≡ false)
+        × (is_guarded (first_history ++ entry (Sign 0) ∷ entry (Keep 0 0 claims) ∷ []) ≡ false)
+        × (is_guarded (first_history ++ entry (Sign 1) ∷ []) ≡ true)
+        × (is_guarded (first_history ++ entry (Keep 1 0 claims) ∷ entry (Sign 0) ∷ []) ≡ false)
+    guarded = (rw (is_set, number_kept, is_set_in) refl, refl, refl, refl, refl, refl)
+
+  -- B's calls of the first scenario: it receives the offer and the signature, and revokes at once
+  others_answers : answers_from [] (Open (opening B 0 (0 ∷ [])) ∷ Stepping 0 (Updated (Add (htlc 0 1000000 500))) ∷ Stepping 0 (Signed (tokens 1 (1000000 ∷ []))) ∷ [])
+      ≡ opened (Ok 0) ∷ stepped (Ok []) ∷ stepped (Ok (RevokeAndAck (secret_at seed 0) (point_at seed 2) ∷ [])) ∷ []
+  others_answers = refl
+
+  others_history : length (history_from [] (Open (opening B 0 (0 ∷ [])) ∷ Stepping 0 (Updated (Add (htlc 0 1000000 500))) ∷ Stepping 0 (Signed (tokens 1 (1000000 ∷ []))) ∷ [])) ≡ 3
+  others_history = refl
+
+  abbrev signed_history : List Entry
+  signed_history = entry (Open (opening A 0 (0 ∷ []))) ∷ entry (Stepping 0 (Own (Offer 1000000 hash 500))) ∷ entry (Sign 0) ∷ []
+
+  -- another secret is refused, and leaves the history; so is a revocation that nobody awaits
+  wrong_secret : (reply_of tokens_of signed_history (Revoke 0 (replicate 32 8) (key 2)) ≡ revoked (Err (Refused WrongSecret)))
+      × (history_after tokens_of signed_history 0 (Revoke 0 (replicate 32 8) (key 2)) ≡ signed_history)
+      × (reply_of tokens_of first_history (Revoke 0 secret (key 3)) ≡ revoked (Err (Refused NotYourTurn)))
+  wrong_secret = (rw other_point_is refl, rw other_point_is refl, refl)
+
+  -- no call finds a channel that is not there
+  strangers : (reply_of tokens_of first_history (Stepping 1 (Own (Offer 0 hash 500))) ≡ stepped (Err NoChannelToStep))
+      × (reply_of tokens_of first_history (Sign 1) ≡ signed (Err NoChannelToSign))
+      × (reply_of tokens_of first_history (Revoke 1 secret (key 2)) ≡ revoked (Err NoChannelToStep))
+      × (reply_of tokens_of first_history (Keep 1 5 []) ≡ kept (Err NoChannelToKeep))
+      × (reply_of tokens_of first_history (Release 1 [] [] []) ≡ released (Err NoChannelToRelease))
+  strangers = (refl, refl, refl, refl, refl)
+
+  abbrev channel : State → List ℕ → ChannelBook
+  channel state kept_ones = record { state = state; kept = kept_ones }
+
+  -- a signature that is awaited comes before penalties that are missing, and these before a signature that covers nothing
+  orders : (sign_refusal (channel (record then { awaiting = true }) []) ≡ Some AwaitingRevocation)
+      × (sign_refusal (channel (record then { peer_number = 281474976710654 }) []) ≡ Some AwaitingRevocation)
+      × (sign_refusal (channel (record then { peer_number = 281474976710653 }) (0 ∷ [])) ≡ None)
+      × (sign_refusal (channel then []) ≡ Some (PenaltiesMissing 0))
+      × (sign_refusal (channel then (1 ∷ [])) ≡ Some (PenaltiesMissing 0))
+      × (sign_refusal (channel then (0 ∷ [])) ≡ None)
+      × (sign_refusal (channel (after_sign then) (0 ∷ [])) ≡ Some AwaitingRevocation)
+      × (sign_refusal (channel (opened_state (terms_of 0) A seed point_key (key 1)) []) ≡ Some NoUpdates)
+      × (sign_refusal (channel (record (opened_state (terms_of 0) A seed point_key (key 1)) { secrets = secret ∷ [] }) []) ≡ Some (PenaltiesMissing 0))
+  orders = (refl, refl, refl, refl, refl, refl, refl, refl, refl)
+
+  -- a number that is not revoked, one that is kept, and claims of another state
+  module _ (claims : List ClaimParts) (no_set : is_penalty_set then 0 claims ≡ false) where
+    keepings : (keep_refusal (channel then []) 1 claims ≡ Some NotRevoked)
+        × (keep_refusal (channel then (1 ∷ [])) 1 claims ≡ Some NotRevoked)
+        × (keep_refusal (channel then (0 ∷ [])) 0 claims ≡ Some AlreadyKept)
+        × (keep_refusal (channel then []) 0 claims ≡ Some OtherState)
+    keepings = (refl, refl, refl, rw no_set refl)

@@ -1,0 +1,5 @@
+use Rattle.book.proofs.Fillable.{kept_are_fillable}
+use Rattle.book.proofs.laws.kept_are_fillable.Goals as goal
+
+pub returns : goal.returns
+returns c = kept_are_fillable

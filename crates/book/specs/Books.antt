@@ -1,0 +1,84 @@
+-- What a book knows, by its history.
+use Rattle.std.specs.Prelude.{ℕ, zero, suc, ◌+◌, ◌==◌, Bool, if◌then◌else◌, List, [], ◌∷◌, ◌++◌, length, reverse, map, Option, Some, None}
+use Rattle.std.specs.List.{list_any}
+use Rattle.channel.specs.declared.messages.Message.TheVariants.{Updated as UpdateMessage, CommitmentSigned, RevokeAndAck}
+use Rattle.channel.specs.States.{State, opened, after_update, after_sign, after}
+use Rattle.updates.specs.declared.changes.Update.{Update}
+use Rattle.updates.specs.declared.changes.Update.TheVariants.{Add, Fulfil as Fulfilling, Fail as Failing, Fee}
+use Rattle.updates.specs.Steady.{next_htlc}
+use Rattle.texts.specs.declared.steps.OwnUpdate.{OwnUpdate}
+use Rattle.texts.specs.declared.steps.OwnUpdate.TheVariants.{Offer, Fulfil, Fail, SetFee}
+use Rattle.book.specs.declared.calls.Opening.{Opening}
+use Rattle.book.specs.declared.calls.Step.{Step}
+use Rattle.book.specs.declared.calls.Step.TheVariants.{Own, Updated, Signed}
+use Rattle.book.specs.declared.calls.Call.{Call}
+use Rattle.book.specs.declared.calls.Call.TheVariants.{Open, Step as Stepping, Sign, Revoke, Keep, Release}
+use Rattle.book.specs.declared.calls.Entry.{Entry}
+
+-- a channel of a book: its state, and the numbers of the peer's revoked commitments whose penalties are kept
+pub record ChannelBook : Type 0 where
+  pub state : State
+  pub kept : List ℕ
+
+-- the channels, in the order in which they were opened
+abbrev pub Channels : Type 0
+Channels = List ChannelBook
+
+-- the list with the value at an index changed
+abbrev pub at_index : {A : Type 0} → (A → A) → ℕ → List A → List A
+at_index f n [] = []
+at_index f zero (x ∷ xs) = f x ∷ xs
+at_index f (suc n) (x ∷ xs) = x ∷ at_index f n xs
+
+-- the update that a side in this state makes: an offer has the next id
+abbrev pub update_of : State → OwnUpdate → Update
+update_of s (Offer amount hash expiry) = Add (next_htlc s.held.own amount hash expiry)
+update_of s (Fulfil id preimage) = Fulfilling id preimage
+update_of s (Fail id) = Failing id
+update_of s (SetFee rate) = Fee rate
+
+abbrev pub stepped : Step → State → State
+stepped (Own u) s = after_update (update_of s u) s
+stepped (Updated u) s = after s (UpdateMessage u)
+stepped (Signed tokens) s = after s (CommitmentSigned tokens)
+
+abbrev pub opened_by : Opening → ChannelBook
+opened_by o = record { state = opened o.terms o.side o.seed o.first_point o.next_point; kept = [] }
+
+abbrev pub with_state : (State → State) → ChannelBook → ChannelBook
+with_state f ch = record { state = f ch.state; kept = ch.kept }
+
+abbrev pub with_kept : ℕ → ChannelBook → ChannelBook
+with_kept n ch = record { state = ch.state; kept = ch.kept ++ n ∷ [] }
+
+-- the channels after an accepted call
+abbrev pub channels_after : Call → Channels → Channels
+channels_after (Open o) chs = chs ++ opened_by o ∷ []
+channels_after (Stepping c step) chs = at_index (with_state (stepped step)) c chs
+channels_after (Sign c) chs = at_index (with_state after_sign) c chs
+channels_after (Revoke c secret next_point) chs = at_index (with_state (λ s. after s (RevokeAndAck secret next_point))) c chs
+channels_after (Keep c n claims) chs = at_index (with_kept n) c chs
+channels_after (Release c claims outputs preimages) chs = chs
+
+-- the channels after these accepted calls, the newest first
+abbrev pub replayed : List Entry → Channels
+replayed [] = []
+replayed (e ∷ es) = channels_after e.call (replayed es)
+
+-- the channels after a history, which has the oldest entry first
+abbrev pub replay : List Entry → Channels
+replay history = replayed (reverse history)
+
+-- ---- the peer's revoked commitments
+
+abbrev pub is_kept : List ℕ → ℕ → Bool
+is_kept kept n = list_any (λ m. m == n) kept
+
+-- the least number from n on, of this many, that is not kept
+abbrev pub missing_from : List ℕ → ℕ → ℕ → Option ℕ
+missing_from kept n zero = None
+missing_from kept n (suc count) = if is_kept kept n then missing_from kept (n + 1) count else Some n
+
+-- the least number of a revoked commitment whose penalties are not kept
+abbrev pub first_missing : ChannelBook → Option ℕ
+first_missing ch = missing_from ch.kept 0 (length ch.state.secrets)

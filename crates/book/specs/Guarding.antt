@@ -1,0 +1,96 @@
+-- That a book signs nothing after a revocation for which it keeps no penalties (BOLT 5, "Revoked Transaction Close Handling").
+use Rattle.std.specs.Prelude.{◌≡◌, ℕ, suc, ◌==◌, Bool, true, false, ◌&&◌, if◌then◌else◌, List, [], ◌∷◌, ◌++◌, reverse, Option, Some, None, slice_get}
+use Rattle.claim.specs.Claims.{ClaimParts}
+use Rattle.channel.specs.States.{Signing}
+use Rattle.book.specs.declared.calls.Call.{Call}
+use Rattle.book.specs.declared.calls.Call.TheVariants.{Open, Step, Sign, Revoke, Keep, Release}
+use Rattle.book.specs.declared.calls.Entry.{Entry}
+use Rattle.book.specs.Penalties.{is_penalty_set}
+use Rattle.book.specs.Books.{ChannelBook, Channels, is_kept, replayed}
+use Rattle.book.specs.Replies.{history_after}
+
+-- Lists of entries have the newest first here.
+
+-- whether a call is a revocation that came in a channel, and whether it signs in it
+abbrev pub is_revocation : ℕ → Call → Bool
+is_revocation c (Open o) = false
+is_revocation c (Step d step) = false
+is_revocation c (Sign d) = false
+is_revocation c (Revoke d secret next_point) = d == c
+is_revocation c (Keep d n claims) = false
+is_revocation c (Release d claims outputs preimages) = false
+
+-- how many revocations came in a channel; the next one is of the peer's commitment of this number
+abbrev pub revocations : ℕ → List Entry → ℕ
+revocations c [] = 0
+revocations c (e ∷ es) = if is_revocation c e.call then suc (revocations c es) else revocations c es
+
+abbrev pub is_set_in : Option ChannelBook → ℕ → List ClaimParts → Bool
+is_set_in None n claims = false
+is_set_in (Some ch) n claims = is_penalty_set ch.state n claims
+
+-- the number whose penalties a call keeps in a channel, by the channels before it: its claims are accepted ones, on all that the peer's commitment of
+-- this number lets this side claim
+abbrev pub number_kept : ℕ → Channels → Call → Option ℕ
+number_kept c chs (Open o) = None
+number_kept c chs (Step d step) = None
+number_kept c chs (Sign d) = None
+number_kept c chs (Revoke d secret next_point) = None
+number_kept c chs (Keep d n claims) = if d == c && is_set_in (slice_get chs c) n claims then Some n else None
+number_kept c chs (Release d claims outputs preimages) = None
+
+abbrev pub joined : Option ℕ → List ℕ → List ℕ
+joined None ns = ns
+joined (Some n) ns = n ∷ ns
+
+-- whether each revocation that came in a channel has its penalties kept after it, of which the numbers of some are kept later than these entries
+abbrev pub are_answered : ℕ → List ℕ → List Entry → Bool
+are_answered c later [] = true
+are_answered c later (e ∷ es) =
+    (if is_revocation c e.call then is_kept later (revocations c es) else true)
+    && are_answered c (joined (number_kept c (replayed es) e.call) later) es
+
+-- a signature stands where each revocation that came in its channel has its penalties kept between them
+abbrev pub is_allowed : Call → List Entry → Bool
+is_allowed (Open o) es = true
+is_allowed (Step d step) es = true
+is_allowed (Sign c) es = are_answered c [] es
+is_allowed (Revoke d secret next_point) es = true
+is_allowed (Keep d n claims) es = true
+is_allowed (Release d claims outputs preimages) es = true
+
+abbrev pub all_allowed : List Entry → Bool
+all_allowed [] = true
+all_allowed (e ∷ es) = is_allowed e.call es && all_allowed es
+
+-- a history, which has the oldest entry first, is guarded
+abbrev pub is_guarded : List Entry → Bool
+is_guarded history = all_allowed (reverse history)
+
+-- ---- the signing gate
+
+-- the histories that calls lead to
+pub data IsPlayed (tokens_of : Signing) : List Entry → Type 0 where
+  begins : IsPlayed tokens_of []
+  called : {history : List Entry} (seat : ℕ) (call : Call) → IsPlayed tokens_of history → IsPlayed tokens_of (history_after tokens_of history seat call)
+
+-- each of them is guarded, whatever the peers' messages say
+abbrev pub PlayedIsGuarded : Type 0
+PlayedIsGuarded = (tokens_of : Signing) (history : List Entry) → IsPlayed tokens_of history → is_guarded history ≡ true
+
+-- ---- the same, entry by entry
+
+-- among the entries between a revocation and a signature, the newest first, there is one that keeps the penalties of the commitment that was revoked
+pub record IsKeptBetween (c : ℕ) (between : List Entry) (revoking : Entry) (earlier : List Entry) : Type 0 where
+  pub front : List Entry
+  pub keeping : Entry
+  pub back : List Entry
+  pub split : between ≡ front ++ keeping ∷ back
+  pub kept : number_kept c (replayed (back ++ revoking ∷ earlier)) keeping.call ≡ Some (revocations c earlier)
+
+-- wherever a signature stands after a revocation in its channel
+abbrev pub GuardedMeans : Type 0
+GuardedMeans =
+    (history later between earlier : List Entry) (c : ℕ) (signing revoking : Entry) → is_guarded history ≡ true
+    → reverse history ≡ later ++ signing ∷ (between ++ revoking ∷ earlier) → signing.call ≡ Sign c → is_revocation c revoking.call ≡ true
+    → IsKeptBetween c between revoking earlier

@@ -1,0 +1,89 @@
+-- The penalty set of a revoked commitment, as a book knows it.
+use Rattle.std.specs.Prelude.{◌≡◌, ℕ, ◌==◌, Bool, true, false, ◌&&◌, not, is_ok, List, [], ◌∷◌, map, Option, Some, None, slice_get}
+use Rattle.std.specs.Str.{bytes_eq}
+use Rattle.script.specs.Spelling.{spelling}
+use Rattle.tx.specs.declared.input.OutPoint.{OutPoint}
+use Rattle.keys.specs.Derivation.{point_of}
+use Rattle.terms.specs.Sides.{other}
+use Rattle.claim.specs.declared.parts.Place.{Place}
+use Rattle.claim.specs.Judgement.{judgement_of}
+use Rattle.claim.specs.Claims.{ClaimParts}
+use Rattle.commit.specs.Commitments.{Contents, commitment_of}
+use Rattle.forms.specs.Fillings.{Filling, Signature, PreimageOf, Bytes}
+use Rattle.penalty.specs.declared.states.RevokedState.{RevokedState}
+use Rattle.penalty.specs.Claimable.{Claimable, claims_from, claimable_of}
+use Rattle.penalty.specs.Sets.{claimed_by, AreClaimsOn}
+use Rattle.penalty.specs.States.{HasParts}
+use Rattle.filling.specs.Refusals.{is_fixed}
+use Rattle.channel.specs.declared.commitments.CommitmentState.{CommitmentState}
+use Rattle.channel.specs.States.{State}
+
+-- what comes of a value that is there
+infixl 10 ◌>>=◌
+abbrev pub ◌>>=◌ : {A B : Type 0} → Option A → (A → Option B) → Option B
+(Some x) >>= f = f x
+None >>= f = None
+
+-- the peer's commitment of a number, with the point of the secret by which it was revoked
+abbrev pub revoked_contents : State → CommitmentState → List ℕ → Contents
+revoked_contents s c secret = commitment_of s.held.terms c.view (other s.held.side) c.number (point_of secret)
+
+-- what a commitment lets its owner's peer claim, once it is revoked
+unfoldable pub claimable_in : Contents → List Claimable
+claimable_in c = claims_from c 0 c.outputs
+
+-- what the peer's revoked commitment of a number lets this side claim, where it is revoked
+abbrev pub claimable_at : State → ℕ → Option (List Claimable)
+claimable_at s n = slice_get s.signed n >>= (λ c. slice_get s.secrets n >>= (λ secret. Some (claimable_in (revoked_contents s c secret))))
+
+-- ---- whether claims are on these outputs, one for each, in order
+
+abbrev pub same_outpoint : OutPoint → OutPoint → Bool
+same_outpoint a b = bytes_eq a.txid b.txid && a.index == b.index
+
+abbrev pub same_place : Place → Place → Bool
+same_place a b = same_outpoint a.outpoint b.outpoint && a.value == b.value && bytes_eq a.program b.program
+
+abbrev pub same_filling : Filling → Filling → Bool
+same_filling (Signature a) (Signature b) = bytes_eq a b
+same_filling (PreimageOf a) (PreimageOf b) = bytes_eq a b
+same_filling (Bytes a) (Bytes b) = bytes_eq a b
+same_filling a b = false
+
+-- lists of one length, whose elements match in order
+abbrev pub all_match : {A B : Type 0} → (A → B → Bool) → List A → List B → Bool
+all_match f [] [] = true
+all_match f (x ∷ xs) (y ∷ ys) = f x y && all_match f xs ys
+all_match f [] (y ∷ ys) = false
+all_match f (x ∷ xs) [] = false
+
+abbrev pub same_fillings : List Filling → List Filling → Bool
+same_fillings xs ys = all_match same_filling xs ys
+
+-- the scripts have the same bytes, and so the same paths
+abbrev pub same_claimable : Claimable → Claimable → Bool
+same_claimable a b = same_place a.place b.place && bytes_eq (spelling a.form.ops) (spelling b.form.ops) && a.path == b.path && same_fillings a.slots b.slots
+
+-- an accepted claim on the output, which any transaction may make
+abbrev pub is_claim_on : Claimable → ClaimParts → Bool
+is_claim_on o c = same_claimable (claimed_by c) o && is_ok (judgement_of c.ways c.index c.slots c.place c.shell) && not (is_fixed c.shell)
+
+unfoldable pub are_claims_on : List Claimable → List ClaimParts → Bool
+are_claims_on os claims = all_match is_claim_on os claims
+
+abbrev pub are_on : Option (List Claimable) → List ClaimParts → Bool
+are_on None claims = false
+are_on (Some os) claims = are_claims_on os claims
+
+-- whether the claims are the penalty set of the peer's commitment of this number
+unfoldable pub is_penalty_set : State → ℕ → List ClaimParts → Bool
+is_penalty_set s n claims = are_on (claimable_at s n) claims
+
+-- ---- sets of penalties
+
+-- accepted claims on exactly these outputs, in order, are found to be on them; and a revoked state lets claim what its commitment does
+pub record PenaltySetsAreTaken : Type 0 where
+  pub found : (os : List Claimable) (claims : List ClaimParts) → AreClaimsOn os claims → are_claims_on os claims ≡ true
+  pub same :
+      (s : State) (c : CommitmentState) (secret : List ℕ) (state : RevokedState) → HasParts s.held.terms c.view (other s.held.side) c.number secret state
+      → claimable_of state ≡ claimable_in (revoked_contents s c secret)

@@ -1,0 +1,42 @@
+-- The refusals of a book by their numbers: 0 is that memory ran out, 9 that no such channel is there.
+use Rattle.std.specs.Prelude.{ℕ}
+use Rattle.updates.specs.Refusals.{refusal_number}
+use Rattle.filling.specs.Refusals.{fill_error_number}
+use Rattle.book.specs.declared.errors.OpenError.{OpenError}
+use Rattle.book.specs.declared.errors.OpenError.TheVariants as opens
+use Rattle.book.specs.declared.errors.StepError.{StepError}
+use Rattle.book.specs.declared.errors.StepError.TheVariants as steps
+use Rattle.book.specs.declared.errors.SignError.{SignError}
+use Rattle.book.specs.declared.errors.SignError.TheVariants as signs
+use Rattle.book.specs.declared.errors.KeepError.{KeepError}
+use Rattle.book.specs.declared.errors.KeepError.TheVariants as keeps
+use Rattle.book.specs.declared.errors.ReleaseError.{ReleaseError}
+use Rattle.book.specs.declared.errors.ReleaseError.TheVariants as releases
+
+abbrev pub open_error_number : OpenError → ℕ
+open_error_number opens.NoMemory = 0
+open_error_number opens.BookFull = 1
+open_error_number opens.SameFunding = 2
+open_error_number opens.BadSignature = 3
+
+abbrev pub step_error_number : StepError → ℕ
+step_error_number (steps.Refused r) = refusal_number r
+step_error_number steps.NoSuchChannel = 9
+
+abbrev pub sign_error_number : SignError → ℕ
+sign_error_number signs.NoMemory = 0
+sign_error_number (signs.PenaltiesMissing n) = 1
+sign_error_number signs.AwaitingRevocation = 2
+sign_error_number signs.NoUpdates = 3
+sign_error_number signs.NoSuchChannel = 9
+
+abbrev pub keep_error_number : KeepError → ℕ
+keep_error_number keeps.NoMemory = 0
+keep_error_number keeps.NotRevoked = 1
+keep_error_number keeps.OtherState = 2
+keep_error_number keeps.AlreadyKept = 3
+keep_error_number keeps.NoSuchChannel = 9
+
+abbrev pub release_error_number : ReleaseError → ℕ
+release_error_number (releases.Unfilled r) = fill_error_number r
+release_error_number releases.NoSuchChannel = 9

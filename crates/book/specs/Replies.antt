@@ -1,0 +1,134 @@
+-- What a book answers to a call, and which history it has then.
+use Rattle.std.specs.Prelude.{ℕ, Bool, true, false, not, ◌||◌, ◌==◌, nat_lt, nat_le, if◌then◌else◌, List, [], ◌∷◌, ◌++◌, length, map, Option, Some, None, Result, Ok, Err, is_ok, slice_get}
+use Rattle.std.specs.List.{list_any}
+use Rattle.std.specs.Str.{bytes_eq}
+use Rattle.tx.specs.Parts.{Output}
+use Rattle.updates.specs.declared.refusals.Refusal.{Refusal}
+use Rattle.updates.specs.Refusals.{covers_nothing}
+use Rattle.claim.specs.Claims.{ClaimParts}
+use Rattle.filling.specs.Filling.{filling_of}
+use Rattle.filling.specs.Filled.{Filling}
+use Rattle.filling.specs.declared.errors.FillError.{FillError}
+use Rattle.channel.specs.declared.limits.TheConstants.{LAST_NUMBER}
+use Rattle.channel.specs.declared.messages.Message.{Message}
+use Rattle.channel.specs.declared.messages.Message.TheVariants.{Updated as UpdateMessage, CommitmentSigned, RevokeAndAck}
+use Rattle.channel.specs.Points.{point_at}
+use Rattle.channel.specs.States.{Signing, State, first_of, update_refusal, receive_refusal, answers, signature_message}
+use Rattle.book.specs.declared.limits.TheConstants.{MAX_CHANNELS}
+use Rattle.book.specs.declared.calls.Opening.{Opening}
+use Rattle.book.specs.declared.calls.Step.{Step}
+use Rattle.book.specs.declared.calls.Step.TheVariants.{Own, Updated, Signed}
+use Rattle.book.specs.declared.calls.Call.{Call}
+use Rattle.book.specs.declared.calls.Call.TheVariants.{Open, Step as Stepping, Sign, Revoke, Keep, Release}
+use Rattle.book.specs.declared.calls.Entry.{Entry}
+use Rattle.book.specs.declared.errors.OpenError.{OpenError}
+use Rattle.book.specs.declared.errors.OpenError.TheVariants.{BookFull, SameFunding, BadSignature}
+use Rattle.book.specs.declared.errors.StepError.{StepError}
+use Rattle.book.specs.declared.errors.StepError.TheVariants.{Refused, NoSuchChannel as NoChannelToStep}
+use Rattle.book.specs.declared.errors.SignError.{SignError}
+use Rattle.book.specs.declared.errors.SignError.TheVariants.{PenaltiesMissing, AwaitingRevocation, NoUpdates, NoSuchChannel as NoChannelToSign}
+use Rattle.book.specs.declared.errors.KeepError.{KeepError}
+use Rattle.book.specs.declared.errors.KeepError.TheVariants.{NotRevoked, AlreadyKept, OtherState, NoSuchChannel as NoChannelToKeep}
+use Rattle.book.specs.declared.errors.ReleaseError.{ReleaseError}
+use Rattle.book.specs.declared.errors.ReleaseError.TheVariants.{Unfilled, NoSuchChannel as NoChannelToRelease}
+use Rattle.book.specs.Penalties.{same_outpoint, is_penalty_set}
+use Rattle.book.specs.Books.{ChannelBook, Channels, update_of, is_kept, first_missing, replay}
+use Rattle.book.specs.Signers.{rights_of, fill_refusal}
+
+-- an answer to each of the six calls
+pub data Reply : Type 0 where
+  opened : Result ℕ OpenError → Reply  -- the channel's index
+  stepped : Result (List Message) StepError → Reply  -- the message to send, if there is one
+  signed : Result Message SignError → Reply  -- the message to send
+  revoked : Result ℕ StepError → Reply  -- the number of the revoked commitment
+  kept : Result (Unit {0}) KeepError → Reply
+  released : Result Filling ReleaseError → Reply
+
+abbrev pub is_accepted : Reply → Bool
+is_accepted (opened r) = is_ok r
+is_accepted (stepped r) = is_ok r
+is_accepted (signed r) = is_ok r
+is_accepted (revoked r) = is_ok r
+is_accepted (kept r) = is_ok r
+is_accepted (released r) = is_ok r
+
+-- an answer, unless there is a refusal
+abbrev pub unless : {R A E : Type 0} → (R → E) → Option R → A → Result A E
+unless wrap None x = Ok x
+unless wrap (Some r) x = Err (wrap r)
+
+-- the refusal of the first test that holds, else the later one
+abbrev pub if_so : {E : Type 0} → Bool → E → Option E → Option E
+if_so true e later = Some e
+if_so false e later = later
+
+-- what the channel of an index answers, where it is there
+abbrev pub asked : {A E : Type 0} → E → Option ChannelBook → (ChannelBook → Result A E) → Result A E
+asked none None answer = Err none
+asked none (Some ch) answer = answer ch
+
+-- BookFull, SameFunding, BadSignature
+abbrev pub open_refusal : Signing → Channels → Opening → Option OpenError
+open_refusal tokens_of chs o =
+    if_so (nat_le MAX_CHANNELS (length chs)) BookFull
+    (if_so (list_any (λ ch. same_outpoint ch.state.held.terms.funding o.terms.funding) chs) SameFunding
+    (if_so (not (bytes_eq o.token (tokens_of o.terms (first_of o.terms o.side (point_at o.seed 0))).commitment)) BadSignature None))
+
+-- the channel's refusal
+abbrev pub step_refusal : Signing → State → Step → Option Refusal
+step_refusal tokens_of s (Own u) = update_refusal s (update_of s u)
+step_refusal tokens_of s (Updated u) = receive_refusal tokens_of s (UpdateMessage u)
+step_refusal tokens_of s (Signed tokens) = receive_refusal tokens_of s (CommitmentSigned tokens)
+
+-- the message of an update of one's own, or the answer to a received message
+abbrev pub messages_of : State → Step → List Message
+messages_of s (Own u) = UpdateMessage (update_of s u) ∷ []
+messages_of s (Updated u) = answers s (UpdateMessage u)
+messages_of s (Signed tokens) = answers s (CommitmentSigned tokens)
+
+abbrev pub if_missing : Option ℕ → Option SignError → Option SignError
+if_missing (Some n) later = Some (PenaltiesMissing n)
+if_missing None later = later
+
+-- AwaitingRevocation, PenaltiesMissing with the least number, NoUpdates
+abbrev pub sign_refusal : ChannelBook → Option SignError
+sign_refusal ch =
+    if_so (ch.state.awaiting || nat_le LAST_NUMBER ch.state.peer_number) AwaitingRevocation
+    (if_missing (first_missing ch)
+    (if_so (covers_nothing ch.state.held.own ch.state.held.theirs) NoUpdates None))
+
+-- NotRevoked, AlreadyKept, OtherState
+abbrev pub keep_refusal : ChannelBook → ℕ → List ClaimParts → Option KeepError
+keep_refusal ch n claims =
+    if_so (not (nat_lt n (length ch.state.secrets))) NotRevoked
+    (if_so (is_kept ch.kept n) AlreadyKept
+    (if_so (not (is_penalty_set ch.state n claims)) OtherState None))
+
+abbrev pub fill_answer : State → List ClaimParts → List Output → List (List ℕ) → Result Filling ReleaseError
+fill_answer s claims outputs preimages =
+    unless Unfilled (fill_refusal claims outputs (rights_of s) preimages) (record { tx = filling_of claims outputs preimages; places = map (λ c. c.place) claims })
+
+-- the answer where these channels are there
+abbrev pub answer_of : Signing → Channels → Call → Reply
+answer_of tokens_of chs (Open o) = opened (unless (λ e. e) (open_refusal tokens_of chs o) (length chs))
+answer_of tokens_of chs (Stepping c step) =
+    stepped (asked NoChannelToStep (slice_get chs c) (λ ch. unless Refused (step_refusal tokens_of ch.state step) (messages_of ch.state step)))
+answer_of tokens_of chs (Sign c) =
+    signed (asked NoChannelToSign (slice_get chs c) (λ ch. unless (λ e. e) (sign_refusal ch) (signature_message tokens_of ch.state)))
+answer_of tokens_of chs (Revoke c secret next_point) =
+    revoked (asked NoChannelToStep (slice_get chs c) (λ ch. unless Refused (receive_refusal tokens_of ch.state (RevokeAndAck secret next_point)) (length ch.state.secrets)))
+answer_of tokens_of chs (Keep c n claims) = kept (asked NoChannelToKeep (slice_get chs c) (λ ch. unless (λ e. e) (keep_refusal ch n claims) tt))
+answer_of tokens_of chs (Release c claims outputs preimages) =
+    released (asked NoChannelToRelease (slice_get chs c) (λ ch. fill_answer ch.state claims outputs preimages))
+
+-- the answer to a call after a history
+abbrev pub reply_of : Signing → List Entry → Call → Reply
+reply_of tokens_of history call = answer_of tokens_of (replay history) call
+
+abbrev pub extended : Bool → List Entry → ℕ → Call → List Entry
+extended true history seat call = history ++ record { seat = seat; call = call } ∷ []
+extended false history seat call = history
+
+-- the history after a call of a seat: one entry more where it is accepted
+abbrev pub history_after : Signing → List Entry → ℕ → Call → List Entry
+history_after tokens_of history seat call = extended (is_accepted (reply_of tokens_of history call)) history seat call

@@ -1,0 +1,67 @@
+-- What the signer of a channel knows, and whether claims can be filled by it.
+use Rattle.std.specs.Prelude.{◌≡◌, ◌↔◌, Contains, ℕ, ◌+◌, Bool, true, ◌||◌, List, [], ◌∷◌, ◌++◌, map, Option, Some, None, is_some, if◌then◌else◌}
+use Rattle.tx.specs.Parts.{Output}
+use Rattle.keys.specs.Keys.{base_keys, learnt_keys, is_among}
+use Rattle.keys.specs.Rights.{Rights, MaySign}
+use Rattle.claim.specs.declared.parts.Slot.{Slot}
+use Rattle.claim.specs.declared.parts.Slot.TheVariants.{Sig, Preimage, Exact}
+use Rattle.claim.specs.Claims.{ClaimParts}
+use Rattle.filling.specs.declared.errors.FillError.{FillError}
+use Rattle.filling.specs.declared.errors.FillError.TheVariants.{NoRight, NoPreimage, OutputsExceed, MixedShells, SameOutpoint}
+use Rattle.filling.specs.Filling.{preimage_of}
+use Rattle.filling.specs.Refusals.{are_mixed, share_outpoint, do_exceed, all_slots}
+use Rattle.terms.specs.Agreement.{party}
+use Rattle.terms.specs.Sides.{other}
+use Rattle.penalty.specs.declared.states.RevokedState.{RevokedState}
+use Rattle.penalty.specs.Claimable.{claimable_of}
+use Rattle.penalty.specs.Rights.{AreBasesOf}
+use Rattle.channel.specs.Points.{point_at}
+use Rattle.channel.specs.States.{State}
+use Rattle.book.specs.Penalties.{are_claims_on}
+
+-- the signer of a side knows its own points up to that of its newest commitment's next, every point that came, and every secret that came
+abbrev pub rights_of : State → Rights
+rights_of s = record {
+  seed = s.seed;
+  points = (point_at s.seed (s.number + 1)).bytes ∷ s.next_point.bytes ∷ (map (λ c. c.point.bytes) s.mine ++ map (λ c. c.point.bytes) s.signed);
+  secrets = s.secrets;
+}
+
+-- whether a signer may sign for a key: one of its base keys, or of those that it got with what it learnt
+unfoldable pub may_sign : Rights → List ℕ → Bool
+may_sign r key = is_among key (base_keys r.seed) || is_among key (learnt_keys r.seed r.points r.secrets)
+
+-- what a slot lacks
+abbrev pub lack_of : Rights → List (List ℕ) → Slot → Option FillError
+lack_of r preimages (Sig k) = if may_sign r k.bytes then None else Some NoRight
+lack_of r preimages (Preimage h) = if is_some (preimage_of preimages h) then None else Some NoPreimage
+lack_of r preimages (Exact b) = None
+
+abbrev pub first_of : Option FillError → Option FillError → Option FillError
+first_of (Some e) later = Some e
+first_of None later = later
+
+-- what the first slot that cannot be filled lacks
+abbrev pub first_lack : Rights → List (List ℕ) → List Slot → Option FillError
+first_lack r preimages [] = None
+first_lack r preimages (slot ∷ slots) = first_of (lack_of r preimages slot) (first_lack r preimages slots)
+
+-- why claims are not filled, the first reason in the order of the tests
+unfoldable pub fill_refusal : List ClaimParts → List Output → Rights → List (List ℕ) → Option FillError
+fill_refusal claims outputs r preimages =
+    if are_mixed claims then Some MixedShells
+    else if share_outpoint claims then Some SameOutpoint
+    else if do_exceed claims outputs then Some OutputsExceed
+    else first_lack r preimages (all_slots claims)
+
+-- the test finds just the keys that a signer may sign for
+abbrev pub RightsAreTested : Type 0
+RightsAreTested = (r : Rights) (key : List ℕ) → may_sign r key ≡ true ↔ MaySign r key
+
+-- a signer whose payment and revocation base keys stand in the terms, and who has the secret of a revoked commitment, lacks nothing for claims on what that
+-- commitment lets it claim
+abbrev pub KeptAreFillable : Type 0
+KeptAreFillable =
+    (s : State) (state : RevokedState) (claims : List ClaimParts) (preimages : List (List ℕ))
+    → AreBasesOf (rights_of s) (party (other state.owner) state.terms).bases → Contains s.secrets state.secret
+    → are_claims_on (claimable_of state) claims ≡ true → first_lack (rights_of s) preimages (all_slots claims) ≡ None

@@ -1,0 +1,164 @@
+//! Why a book refuses a call.
+
+ghost use Rattle.std.specs.Prelude.{◌≡◌};
+
+use filling::FillError;
+use thiserror::Error;
+use updates::Refusal;
+
+/// Why a channel is not opened.
+#[derive(Clone, Copy, Debug, PartialEq, Eq, Drop, Error)]
+pub enum OpenError {
+    /// Memory ran out.
+    #[error("NoMemory")]
+    NoMemory,
+    /// The book has 65,536 channels.
+    #[error("BookFull")]
+    BookFull,
+    /// A channel of the book has the same funding output.
+    #[error("SameFunding")]
+    SameFunding,
+    /// The token is not the peer's on this side's commitment 0.
+    #[error("BadSignature")]
+    BadSignature,
+}
+
+/// Why a step, or a revocation, is not taken.
+#[derive(Clone, Copy, Debug, PartialEq, Eq, Drop, Error)]
+pub enum StepError {
+    /// The channel refuses it, or memory ran out.
+    #[error("{0}")]
+    Refused(Refusal),
+    /// The book has no channel of this index.
+    #[error("NoSuchChannel")]
+    NoSuchChannel,
+}
+
+/// Why the peer's next commitment is not signed.
+#[derive(Clone, Copy, Debug, PartialEq, Eq, Drop, Error)]
+pub enum SignError {
+    /// Memory ran out.
+    #[error("NoMemory")]
+    NoMemory,
+    /// The penalties for this revoked commitment of the peer, the first such one, are not kept.
+    #[error("PenaltiesMissing {0}")]
+    PenaltiesMissing(u64),
+    /// A signature awaits its revocation, or the last number is signed.
+    #[error("AwaitingRevocation")]
+    AwaitingRevocation,
+    /// The signature would cover no new update.
+    #[error("NoUpdates")]
+    NoUpdates,
+    /// The book has no channel of this index.
+    #[error("NoSuchChannel")]
+    NoSuchChannel,
+}
+
+/// Why penalties are not kept.
+#[derive(Clone, Copy, Debug, PartialEq, Eq, Drop, Error)]
+pub enum KeepError {
+    /// Memory ran out.
+    #[error("NoMemory")]
+    NoMemory,
+    /// The peer's commitment of this number is not revoked.
+    #[error("NotRevoked")]
+    NotRevoked,
+    /// The claims are not the penalty set of this commitment.
+    #[error("OtherState")]
+    OtherState,
+    /// Its penalties are kept.
+    #[error("AlreadyKept")]
+    AlreadyKept,
+    /// The book has no channel of this index.
+    #[error("NoSuchChannel")]
+    NoSuchChannel,
+}
+
+/// Why claims are not released.
+#[derive(Debug, Drop, Error)]
+pub enum ReleaseError {
+    /// The claims are not filled, or memory ran out.
+    #[error("{0}")]
+    Unfilled(FillError),
+    /// The book has no channel of this index.
+    #[error("NoSuchChannel")]
+    NoSuchChannel,
+}
+
+impl OpenError {
+    ghost use Rattle.book.specs.Refusals.{open_error_number};
+
+    /// The number of the refusal; 0 is out of memory.
+    pub fn number(&self) -> u8
+        ensures { result ≡ open_error_number self.now }
+    {
+        match self {
+            OpenError::NoMemory => 0,
+            OpenError::BookFull => 1,
+            OpenError::SameFunding => 2,
+            OpenError::BadSignature => 3,
+        }
+    }
+}
+
+impl StepError {
+    ghost use Rattle.book.specs.Refusals.{step_error_number};
+
+    /// The number of the refusal; 0 is out of memory.
+    pub fn number(&self) -> u8
+        ensures { result ≡ step_error_number self.now }
+    {
+        match self {
+            StepError::Refused(refusal) => refusal.number(),
+            StepError::NoSuchChannel => 9,
+        }
+    }
+}
+
+impl SignError {
+    ghost use Rattle.book.specs.Refusals.{sign_error_number};
+
+    /// The number of the refusal; 0 is out of memory.
+    pub fn number(&self) -> u8
+        ensures { result ≡ sign_error_number self.now }
+    {
+        match self {
+            SignError::NoMemory => 0,
+            SignError::PenaltiesMissing(_) => 1,
+            SignError::AwaitingRevocation => 2,
+            SignError::NoUpdates => 3,
+            SignError::NoSuchChannel => 9,
+        }
+    }
+}
+
+impl KeepError {
+    ghost use Rattle.book.specs.Refusals.{keep_error_number};
+
+    /// The number of the refusal; 0 is out of memory.
+    pub fn number(&self) -> u8
+        ensures { result ≡ keep_error_number self.now }
+    {
+        match self {
+            KeepError::NoMemory => 0,
+            KeepError::NotRevoked => 1,
+            KeepError::OtherState => 2,
+            KeepError::AlreadyKept => 3,
+            KeepError::NoSuchChannel => 9,
+        }
+    }
+}
+
+impl ReleaseError {
+    ghost use Rattle.book.specs.Refusals.{release_error_number};
+
+    /// The number of the refusal; 0 is out of memory.
+    pub fn number(&self) -> u8
+        ensures { result ≡ release_error_number self.now }
+    {
+        match self {
+            ReleaseError::Unfilled(refusal) => refusal.number(),
+            ReleaseError::NoSuchChannel => 9,
+        }
+    }
+}

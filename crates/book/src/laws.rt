@@ -1,0 +1,28 @@
+//! Laws over the definitions alone.
+
+ghost use Rattle.book.specs.Guarding.{PlayedIsGuarded, GuardedMeans};
+ghost use Rattle.book.specs.Signers.{RightsAreTested, KeptAreFillable};
+ghost use Rattle.book.specs.Penalties.{PenaltySetsAreTaken};
+
+/// The signing gate: whatever calls a book gets, and whatever its peers' messages say, each signature in its history stands where every revocation that came in its
+/// channel has the penalties of the revoked commitment kept between the two, by accepted claims on exactly what that commitment lets the side claim.
+pub fn signing_is_guarded()
+    ensures guarded { PlayedIsGuarded }
+    ensures between { GuardedMeans }
+{}
+
+/// A book's test of its signers' rights finds just the keys that they may sign for.
+pub fn rights_are_tested()
+    ensures { RightsAreTested }
+{}
+
+/// Accepted claims on exactly what a revoked commitment lets its owner's peer claim, in its order, are its penalty set.
+pub fn penalty_sets_are_taken()
+    ensures { PenaltySetsAreTaken }
+{}
+
+/// Of claims on what a revoked commitment lets a side claim, no slot lacks a right or a preimage, once the side has the commitment's secret: so a release of kept claims is never refused
+/// with NoRight.
+pub fn kept_are_fillable()
+    ensures { KeptAreFillable }
+{}
