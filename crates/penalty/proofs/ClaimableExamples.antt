@@ -115,3 +115,11 @@ module _ (funding : OutPoint) (of_a of_b : BaseKeys) (hash secret : List ℕ) wh
   mixed_claims : summary mixed ≡ (0, 1249) ∷ (0, 546) ∷ (1, 10000) ∷ (0, 9337) ∷ (2, 11000) ∷ (0, 10297) ∷ (3, 16542) ∷ (4, 58760) ∷ []
   unfolding claimable_of claims_by commitment_of outputs_of in_order output_cmp keys_of
   mixed_claims = refl
+
+  -- A's commitment 1 of the second scenario: an HTLC that A offered, and the fee of 896 off to_local
+  abbrev one_offer : RevokedState
+  one_offer = record { terms = terms; view = view 70000000 (htlc 0 10000000 5 ∷ []) 20000000 []; owner = A; number = 1; secret = secret; few = lit≤ tt; heights = refl; whole = refl }
+
+  one_offer_claims : summary one_offer ≡ (0, 10000) ∷ (0, 9337) ∷ (1, 20000) ∷ (2, 69104) ∷ []
+  unfolding claimable_of claims_by commitment_of outputs_of in_order output_cmp keys_of
+  one_offer_claims = refl

@@ -24,7 +24,6 @@ fixed_at (Fixed t) = t.lock_time
 abbrev spot : Claimable → ℕ × ℕ × ℕ × ℕ
 spot o = (o.place.outpoint.index, o.place.value, o.path, fixed_at o.shell)
 
-
 -- the owner offered an HTLC of 10,000 satoshis and received one of 11,000; 20,000 to the peer, and 58,000 to itself
 module _ (funding : OutPoint) (hidden : Obscured) (k : KeyBytes) (hash : List ℕ) (preimages : List (List ℕ)) where
   abbrev htlc : ℕ → ℕ → Htlc

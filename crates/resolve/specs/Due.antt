@@ -1,6 +1,6 @@
 -- What is due on the chain by the commitment that stands there (BOLT 5, "Unilateral Close Handling").
-use Rattle.std.specs.Prelude.{ℕ, Bool, ◌&&◌, not, ◌==◌, if◌then◌else◌, List, [], ◌∷◌, Option, Some, None}
-use Rattle.std.specs.List.{list_any, find}
+use Rattle.std.specs.Prelude.{ℕ, Bool, ◌&&◌, not, ◌==◌, if◌then◌else◌, List, [], ◌∷◌, Option, Some, None, slice_get}
+use Rattle.std.specs.List.{list_any}
 use Rattle.std.specs.Str.{bytes_eq}
 use Rattle.sha2.specs.Sha256.{sha256}
 use Rattle.digest.specs.Hash.{hash160}
@@ -123,9 +123,14 @@ abbrev pub penalties_if : Option RevokedCommitment → List Claimable
 penalties_if None = []
 penalties_if (Some r) = claimable_of r.state
 
--- the revoked commitment of a number
+-- a revoked commitment, where it has the number
+abbrev pub if_number : ℕ → Option RevokedCommitment → Option RevokedCommitment
+if_number n None = None
+if_number n (Some r) = if r.state.number == n then Some r else None
+
+-- the revoked commitment of a number: they stand by their numbers, from 0 on
 abbrev pub revoked_at : Known → ℕ → Option RevokedCommitment
-revoked_at known n = find (λ r. r.state.number == n) known.revoked
+revoked_at known n = if_number n (slice_get known.revoked n)
 
 -- what is due by a verdict, in the order of outputs
 unfoldable pub due_of : Known → Verdict → List Claimable

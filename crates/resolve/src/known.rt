@@ -157,7 +157,7 @@ pub struct Known {
     pub theirs: KnownCommitment,
     /// The one after it, where it is signed and the newest isn't revoked yet.
     pub next: Option<KnownCommitment>,
-    /// Those that the peer revoked, by their numbers.
+    /// Those that the peer revoked, by their numbers from 0 on.
     pub revoked: List<RevokedCommitment>,
     /// Preimages of HTLCs, 32 bytes each.
     pub preimages: List<[u8; 32]>,

@@ -36,8 +36,8 @@ pub fn preimage_in(tx: &Tx, index: usize) -> Option<[u8; 32]>
     Some(preimage)
 }
 
-/// Whether what stands in the block of a height is 100 blocks deep under this tip, so that nothing more is to be done about it (BOLT 5, "General
-/// Requirements": irrevocably resolved).
+/// Whether what stands in the block of a height is 100 blocks deep under this tip, so that nothing more is to be done about it: irrevocably resolved (BOLT 5,
+/// "General Nomenclature").
 pub fn is_final(height: u64, tip: u64) -> bool
     ensures { result ≡ is_deep height tip }
 {

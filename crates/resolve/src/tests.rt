@@ -88,7 +88,7 @@ fn signed(rt: &impl Abort, alloc: Global) -> SignedCommitment {
 }
 
 fn revoked(rt: &impl Abort, alloc: Global) -> List<RevokedCommitment> {
-    let state = RevokedState::new(terms(rt), view(rt, alloc), Side::B, 6, [6; 32]).expect(
+    let state = RevokedState::new(terms(rt), view(rt, alloc), Side::B, 0, [6; 32]).expect(
         rt, "a state",
     );
     let mut list = List::new(alloc);
@@ -121,7 +121,7 @@ fn counts(rt: &impl Abort, alloc: Global, known: &Known) -> [usize; 5] {
         Verdict::Ours,
         Verdict::Theirs,
         Verdict::TheirsNext,
-        Verdict::Revoked(6),
+        Verdict::Revoked(0),
         Verdict::Unknown,
     ];
     for (i, verdict) in verdicts.iter().enumerate() {
