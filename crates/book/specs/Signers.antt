@@ -1,5 +1,5 @@
 -- What the signer of a channel knows, and whether claims can be filled by it.
-use Rattle.std.specs.Prelude.{◌≡◌, ◌↔◌, Contains, ℕ, ◌+◌, Bool, true, ◌||◌, List, [], ◌∷◌, ◌++◌, map, Option, Some, None, is_some, if◌then◌else◌}
+use Rattle.std.specs.Prelude.{◌≡◌, ◌↔◌, ◌⊎◌, Contains, ℕ, ◌+◌, Bool, true, ◌||◌, List, [], ◌∷◌, ◌++◌, map, Option, Some, None, is_some, if◌then◌else◌}
 use Rattle.tx.specs.Parts.{Output}
 use Rattle.keys.specs.Keys.{base_keys, learnt_keys, is_among}
 use Rattle.keys.specs.Rights.{Rights, MaySign}
@@ -7,9 +7,9 @@ use Rattle.claim.specs.declared.parts.Slot.{Slot}
 use Rattle.claim.specs.declared.parts.Slot.TheVariants.{Sig, Preimage, Exact}
 use Rattle.claim.specs.Claims.{ClaimParts}
 use Rattle.filling.specs.declared.errors.FillError.{FillError}
-use Rattle.filling.specs.declared.errors.FillError.TheVariants.{NoRight, NoPreimage, OutputsExceed, MixedShells, SameOutpoint}
+use Rattle.filling.specs.declared.errors.FillError.TheVariants.{NoMemory, NoRight, NoPreimage, OutputsExceed, MixedShells, SameOutpoint}
 use Rattle.filling.specs.Filling.{preimage_of}
-use Rattle.filling.specs.Refusals.{are_mixed, share_outpoint, do_exceed, all_slots}
+use Rattle.filling.specs.Refusals.{are_mixed, share_outpoint, do_exceed, all_slots, ArePassed, AreFillable, IsFirstRefusal}
 use Rattle.terms.specs.Agreement.{party}
 use Rattle.terms.specs.Sides.{other}
 use Rattle.penalty.specs.declared.states.RevokedState.{RevokedState}
@@ -65,3 +65,12 @@ KeptAreFillable =
     (s : State) (state : RevokedState) (claims : List ClaimParts) (preimages : List (List ℕ))
     → AreBasesOf (rights_of s) (party (other state.owner) state.terms).bases → Contains s.secrets state.secret
     → are_claims_on (claimable_of state) claims ≡ true → first_lack (rights_of s) preimages (all_slots claims) ≡ None
+
+-- the first reason is the one that `fill` answers, memory aside
+pub record RefusalsAreFound : Type 0 where
+  pub refused :
+      (claims : List ClaimParts) (outputs : List Output) (r : Rights) (preimages : List (List ℕ)) (e : FillError) → IsFirstRefusal claims outputs r preimages e
+      → (e ≡ NoMemory) ⊎ (fill_refusal claims outputs r preimages ≡ Some e)
+  pub filled :
+      (claims : List ClaimParts) (outputs : List Output) (r : Rights) (preimages : List (List ℕ)) → ArePassed claims outputs → AreFillable r preimages (all_slots claims)
+      → fill_refusal claims outputs r preimages ≡ None

@@ -1,7 +1,7 @@
 //! Laws over the definitions alone.
 
 ghost use Rattle.book.specs.Guarding.{PlayedIsGuarded, GuardedMeans};
-ghost use Rattle.book.specs.Signers.{RightsAreTested, KeptAreFillable};
+ghost use Rattle.book.specs.Signers.{RightsAreTested, RefusalsAreFound, KeptAreFillable};
 ghost use Rattle.book.specs.Penalties.{PenaltySetsAreTaken};
 
 /// The signing gate: whatever calls a book gets, and whatever its peers' messages say, each signature in its history stands where every revocation that came in its
@@ -14,6 +14,11 @@ pub fn signing_is_guarded()
 /// A book's test of its signers' rights finds just the keys that they may sign for.
 pub fn rights_are_tested()
     ensures { RightsAreTested }
+{}
+
+/// The first reason why claims are not filled is the one that `fill` answers, memory aside.
+pub fn refusals_are_found()
+    ensures { RefusalsAreFound }
 {}
 
 /// Accepted claims on exactly what a revoked commitment lets its owner's peer claim, in its order, are its penalty set.

@@ -1,7 +1,10 @@
 //! A node's book: what it did, in order.
 //!
-//! [`Book::file`] adds exactly one entry to the history and answers how many claims were filed before; out of memory leaves the book as it was. The
-//! test `first_claim` shows a claim filed under two seats.
+//! The definitions say what a book answers to each of its six calls after a history, and which history it has then; [`laws::signing_is_guarded`] proves of them the signing gate: each signature
+//! in a history stands where every revocation that came in its channel has the penalties of the revoked commitment kept between the two. The calls themselves are not built yet.
+//!
+//! [`matching::is_set`] tells whether claims are a penalty set. What is built beside it is a book that files claims: [`Book::file`] adds exactly one entry to the history and answers how many claims
+//! were filed before; out of memory leaves the book as it was. The test `first_claim` shows a claim filed under two seats.
 #![tactic(auto)]
 
 pub mod calls;
@@ -9,6 +12,7 @@ pub mod errors;
 pub mod history;
 pub mod laws;
 mod limits;
+pub mod matching;
 #[cfg(test)]
 mod tests;
 
