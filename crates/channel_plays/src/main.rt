@@ -8,9 +8,9 @@ mod random;
 mod steps;
 
 use anyhow::Result;
-use channel::{Channel, Pair};
+use channel::{CommitmentState, Pair};
 use channel_sides::open_sides;
-use commit::build;
+use commit::{CommitmentOutput, build};
 use random::play_at_random;
 use std::alloc::Global;
 use steps::step_of;
@@ -31,11 +31,22 @@ fn open(alloc: Global) -> Result<Peers> {
     })
 }
 
-/// Prints the values of the outputs of the commitment that a side would sign next, where it may sign.
-fn print_next(rt: &impl Print, alloc: Global, terms: &Terms, channel: &Channel) -> Result<()> {
-    let Ok(next) = channel.ready() else {
-        return Ok(());
-    };
+/// Prints the values of outputs.
+fn print_values(rt: &impl Print, outputs: &[CommitmentOutput]) -> Result<()> {
+    for output in outputs {
+        print!(rt; " {}", output.value)?;
+    }
+    println!(rt; "")?;
+    Ok(())
+}
+
+/// Prints a commitment: its number, its owner and the values of its outputs.
+fn print_commitment(
+    rt: &impl Print,
+    alloc: Global,
+    terms: &Terms,
+    next: &CommitmentState,
+) -> Result<()> {
     let built = build(
         alloc,
         terms,
@@ -45,18 +56,22 @@ fn print_next(rt: &impl Print, alloc: Global, terms: &Terms, channel: &Channel) 
         &next.point,
     )?;
     print!(rt; "commitment {} of {:?}:", next.number, next.owner)?;
-    for output in built.outputs() {
-        print!(rt; " {}", output.value)?;
+    print_values(rt, built.outputs())
+}
+
+/// Prints the commitment that a side would sign next, where it may sign.
+fn print_next(rt: &impl Print, alloc: Global, peers: &Peers, side: Side) -> Result<()> {
+    match peers.pair.channel(side).ready() {
+        Ok(next) => print_commitment(rt, alloc, &peers.terms, &next),
+        Err(_) => Ok(()),
     }
-    println!(rt; "")?;
-    Ok(())
 }
 
 /// Plays the step of a line, and prints its outcome.
-fn play(rt: &impl Print, alloc: Global, peers: &mut Peers, line: &str) -> Result<()> {
+fn play_line(rt: &impl Print, alloc: Global, peers: &mut Peers, line: &str) -> Result<()> {
     let step = step_of(line)?;
     if line.ends_with("sign") {
-        print_next(rt, alloc, &peers.terms, peers.pair.channel(step.side))?;
+        print_next(rt, alloc, peers, step.side)?;
     }
     for outcome in peers.pair.play(&[step])? {
         println!(rt; "{line}: {outcome:?}")?;
@@ -64,20 +79,30 @@ fn play(rt: &impl Print, alloc: Global, peers: &mut Peers, line: &str) -> Result
     Ok(())
 }
 
+/// Plays so many steps at random, and prints what either side would sign then.
+fn play_many(rt: &impl Print, alloc: Global, peers: &mut Peers, steps: u64) -> Result<()> {
+    play_at_random(rt, alloc, &mut peers.pair, steps)?;
+    print_next(rt, alloc, peers, Side::A)?;
+    print_next(rt, alloc, peers, Side::B)
+}
+
+/// Does what a line says.
+fn follow(rt: &impl Print, alloc: Global, peers: &mut Peers, line: &str) -> Result<()> {
+    match line.split_once(' ') {
+        None => {
+            *peers = open(alloc)?;
+            Ok(())
+        }
+        Some(("random", steps)) => play_many(rt, alloc, peers, steps.parse()?),
+        Some(_) => play_line(rt, alloc, peers, line),
+    }
+}
+
 fn main(rt: HostRuntime) -> Result<()> {
     let alloc = rt.alloc();
     let mut peers = open(alloc)?;
     for line in rt.lines(alloc) {
-        let line = line?;
-        match line.as_str().split_once(' ') {
-            None => peers = open(alloc)?,
-            Some(("random", steps)) => {
-                play_at_random(&rt, alloc, &mut peers.pair, steps.parse()?)?;
-                print_next(&rt, alloc, &peers.terms, peers.pair.channel(Side::A))?;
-                print_next(&rt, alloc, &peers.terms, peers.pair.channel(Side::B))?;
-            }
-            Some(_) => play(&rt, alloc, &mut peers, line.as_str())?,
-        }
+        follow(&rt, alloc, &mut peers, line?.as_str())?;
     }
     Ok(())
 }
