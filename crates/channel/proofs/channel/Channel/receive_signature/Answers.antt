@@ -15,8 +15,8 @@ invariant_of-self-2 c =
     let below = subst (λ (s : State). s.number < LAST_NUMBER) (sym c.self.view_is) c.in-Ok.ensures.below in
     let seed = ap (λ (r : Rights). r.seed) c.in-Ok-learn_point.ensures.ok in
     let mine =
-        pushed c.push.result c.unwrap.result c.push.new.self.items (c.reserve.new.self.items ++ next ∷ []) c.reserve.new.self.items c.unwrap.ensures c.push.ensures.items
-        ∙ ap (λ cs. cs ++ next ∷ []) c.in-Ok-reserve.ensures.items
+    pushed c.push.result c.unwrap.result c.push.new.self.items (c.reserve.new.self.items ++ next ∷ []) c.reserve.new.self.items c.unwrap.ensures c.push.ensures.items
+    ∙ ap (λ cs. cs ++ next ∷ []) c.in-Ok-reserve.ensures.items
     in
     let point = ap (λ (k : CommitmentState). k.point) c.in-Ok.ensures.ok ∙ sym (ap (λ (s : State). point_at s.seed (s.number + 1)) c.self.view_is) in
     let learnt = c.in-Ok-learn_point.ensures.ok ∙ ap (λ (k : Key). with_point c.self.inside.signer k.bytes) c.own_point-next_point.ensures in
