@@ -1,48 +1,123 @@
--- What stays true of a channel as it opens, and after a revocation; the other calls change nothing that it speaks of.
-use Rattle.std.proofs.Common.{◌≡◌, ℕ, ◌+◌, true, false, List, [], ◌∷◌, ◌++◌, length, sym, ap, ◌∙◌, subst, arith, length-append}
+-- What stays true of a channel as it opens, as it signs, and as a signature or a revocation comes; updates change nothing that it speaks of.
+use Rattle.std.proofs.Common.{◌≡◌, ℕ, ◌<◌, ◌≤◌, ◌+◌, Bool, true, false, List, [], ◌∷◌, ◌++◌, length, map, sym, ap, ◌∙◌, subst, refl, arith, length-append}
 use Rattle.std.specs.Prelude.{Contains}
 use Rattle.std.proofs.lemmas.List.Elements.{Contains-push}
+use Rattle.std.proofs.lemmas.List.{map-append}
+use Rattle.keys.specs.declared.compressed.Key.{Key}
 use Rattle.keys.specs.Rights.{Rights}
 use Rattle.terms.specs.declared.sides.Side.{Side}
 use Rattle.terms.specs.declared.agreement.Terms.{Terms}
-use Rattle.updates.specs.Steady.{Held, holding_none, holding_revocation}
-use Rattle.channel.specs.States.{State}
-use Rattle.channel.specs.Keeping.{HasBases, IsChannel, one_if}
+use Rattle.updates.specs.Steady.{Held, holding_signed, holding_signature, holding_revocation}
+use Rattle.channel.specs.declared.limits.TheConstants.{LAST_NUMBER}
+use Rattle.channel.specs.declared.commitments.CommitmentState.{CommitmentState}
+use Rattle.channel.specs.Points.{point_at}
+use Rattle.channel.specs.States.{State, opened}
+use Rattle.channel.specs.Rights.{rights_of}
+use Rattle.channel.specs.Keeping.{HasBases, CanOpen, HaveSame, IsSignedIf, IsChannel, one_if}
+use Rattle.channel.proofs.Learning.{one_signed, one_mine, one_next, first_four}
 
 -- the signer with one point more
-abbrev with_point : Rights → List ℕ → Rights
+abbrev pub with_point : Rights → List ℕ → Rights
 with_point r point = record { seed = r.seed; points = r.points ++ point ∷ []; secrets = r.secrets }
 
-seed_kept : (r r' : Rights) (point : List ℕ) → r' ≡ with_point r point → r'.seed ≡ r.seed
-seed_kept r r' point e = ap (λ (x : Rights). x.seed) e
+abbrev points_of : List CommitmentState → List (List ℕ)
+points_of cs = map (λ c. c.point.bytes) cs
 
-learnt_last : (r r' : Rights) (point : List ℕ) → r' ≡ with_point r point → Contains r'.points point
-learnt_last r r' point e = subst (λ (x : Rights). Contains x.points point) (sym e) (Contains-push r.points point)
+points_push : (cs ds : List CommitmentState) (c : CommitmentState) (point : Key) → ds ≡ cs ++ c ∷ [] → c.point ≡ point → points_of ds ≡ points_of cs ++ point.bytes ∷ []
+points_push cs ds c point e p = ap points_of e ∙ map-append (λ (d : CommitmentState). d.point.bytes) cs (c ∷ []) ∙ ap (λ (k : Key). points_of cs ++ k.bytes ∷ []) p
 
-pub kept_opened : (s : State) (terms : Terms) (side : Side) (r r1 r2 : Rights) (first : List ℕ) → s.held ≡ holding_none terms side → s.seed ≡ r2.seed → s.awaiting ≡ false → s.number ≡ 0 → s.peer_number ≡ 0
-    → s.secrets ≡ [] → r1 ≡ with_point r first → r2 ≡ with_point r1 s.next_point.bytes → HasBases terms side r.seed → IsChannel s r2
-kept_opened s terms side r r1 r2 first held seed awaiting number peer_number secrets e1 e2 b =
-    let same = seed ∙ seed_kept r1 r2 s.next_point.bytes e2 ∙ seed_kept r r1 first e1 in
-    let none : one_if s.awaiting ≡ 0 = ap one_if awaiting in
+points_same : (s t : State) (own : List ℕ) (next : Key) (mine signed : List (List ℕ)) → (point_at t.seed (t.number + 1)).bytes ≡ own → t.next_point ≡ next → points_of t.mine ≡ mine → points_of t.signed ≡ signed
+    → own ∷ next.bytes ∷ (mine ++ signed) ≡ (rights_of t).points
+points_same s t own next mine signed o n m g = λ i. sym o i ∷ (sym n i).bytes ∷ (sym m i ++ sym g i)
+
+bases_same : (terms terms' : Terms) (side side' : Side) (seed seed' : List ℕ) → terms' ≡ terms → side' ≡ side → seed' ≡ seed → HasBases terms side seed → HasBases terms' side' seed'
+bases_same terms terms' side side' seed seed' t s d b = subst (λ x. HasBases x side' seed') (sym t) (subst (λ x. HasBases terms x seed') (sym s) (subst (λ x. HasBases terms side x) (sym d) b))
+
+signed_same : (b b' : Bool) (p p' : List ℕ) (l l' : List CommitmentState) → b' ≡ b → p' ≡ p → l' ≡ l → IsSignedIf b p l → IsSignedIf b' p' l'
+signed_same b b' p p' l l' e f g h = subst (λ x. IsSignedIf x p' l') (sym e) (subst (λ x. IsSignedIf b x l') (sym f) (subst (λ x. IsSignedIf b p x) (sym g) h))
+
+pub kept_opened : (s : State) (terms : Terms) (side : Side) (signer r : Rights) (first next : Key) → s ≡ opened terms side signer.seed first next → r.seed ≡ signer.seed
+    → r.points ≡ first.bytes ∷ next.bytes ∷ (point_at signer.seed 0).bytes ∷ (point_at signer.seed 1).bytes ∷ [] → r.secrets ≡ signer.secrets → CanOpen terms side signer → IsChannel s r
+kept_opened s terms side signer r first next e seed points secrets can =
+    subst (λ (t : State). IsChannel t r) (sym e)
+    (record {
+      bases = can.bases;
+      points =
+          subst (λ l. HaveSame l (rights_of (opened terms side signer.seed first next)).points) (sym points)
+          (first_four first.bytes next.bytes (point_at signer.seed 0).bytes (point_at signer.seed 1).bytes);
+      count = ap length points;
+      no_secrets = secrets ∙ can.no_secrets;
+      awaited = tt;
+      number = omega arith;
+      peer_number = omega arith;
+      secrets = refl;
+    })
+
+pub kept_signed : (s t : State) (r : Rights) (c : CommitmentState) → IsChannel s r → s.peer_number < LAST_NUMBER → t.held ≡ holding_signed s.held → t.seed ≡ s.seed → t.awaiting ≡ true → t.number ≡ s.number
+    → t.peer_number ≡ s.peer_number → t.next_point ≡ s.next_point → t.secrets ≡ s.secrets → t.mine ≡ s.mine → t.signed ≡ s.signed ++ c ∷ [] → c.point ≡ s.next_point → IsChannel t r
+kept_signed s t r c i below held seed awaiting number peer_number next secrets mine signed point =
+    let own = (point_at s.seed (s.number + 1)).bytes in
+    let pushed = points_push s.signed t.signed c s.next_point signed point in
+    let same = points_same s t own s.next_point (points_of s.mine) (points_of s.signed ++ s.next_point.bytes ∷ []) (λ j. (point_at (seed j) (number j + 1)).bytes) next (ap points_of mine) pushed in
+    let one : one_if t.awaiting ≡ 1 = ap one_if awaiting in
+    let bound = i.number in
     record {
-      bases = subst (λ (h : Held). HasBases h.terms h.side s.seed) (sym held) (subst (λ d. HasBases terms side d) (sym same) b);
-      learnt = learnt_last r1 r2 s.next_point.bytes e2;
-      number = omega (arith, number);
-      peer_number = omega (arith, peer_number, none);
-      secrets = ap length secrets ∙ sym peer_number;
+      bases = bases_same s.held.terms t.held.terms s.held.side t.held.side s.seed t.seed (ap (λ (h : Held). h.terms) held) (ap (λ (h : Held). h.side) held) seed i.bases;
+      points = subst (λ l. HaveSame r.points l) same (one_signed r.points own s.next_point.bytes (points_of s.mine) (points_of s.signed) i.points);
+      count = i.count ∙ (λ j. sym number j + sym peer_number j + 4);
+      no_secrets = i.no_secrets;
+      awaited =
+          subst (λ b. IsSignedIf b t.next_point.bytes t.signed) (sym awaiting)
+          (subst (λ l. Contains l t.next_point.bytes) (sym pushed) (subst (λ (k : Key). Contains (points_of s.signed ++ s.next_point.bytes ∷ []) k.bytes) (sym next) (Contains-push (points_of s.signed) s.next_point.bytes)));
+      number = omega (arith, number, bound);
+      peer_number = omega (arith, peer_number, one, below);
+      secrets = ap length secrets ∙ i.secrets ∙ sym peer_number;
     }
 
-pub kept_revocation : (s t : State) (r r' : Rights) (secret : List ℕ) → IsChannel s r → s.awaiting ≡ true → t.held ≡ holding_revocation s.held → s.seed ≡ r.seed → t.seed ≡ r'.seed → t.awaiting ≡ false
-    → t.number ≡ s.number → t.peer_number ≡ s.peer_number + 1 → t.secrets ≡ s.secrets ++ secret ∷ [] → r' ≡ with_point r t.next_point.bytes → IsChannel t r'
-kept_revocation s t r r' secret i awaited held seed_s seed_t awaiting number peer_number secrets e =
-    let same = seed_t ∙ seed_kept r r' t.next_point.bytes e ∙ sym seed_s in
+pub kept_signature : (s t : State) (r r' : Rights) (c : CommitmentState) → IsChannel s r → s.number < LAST_NUMBER → t.held ≡ holding_signature s.held → t.seed ≡ s.seed → t.awaiting ≡ s.awaiting
+    → t.number ≡ s.number + 1 → t.peer_number ≡ s.peer_number → t.next_point ≡ s.next_point → t.secrets ≡ s.secrets → t.mine ≡ s.mine ++ c ∷ [] → t.signed ≡ s.signed
+    → c.point ≡ point_at s.seed (s.number + 1) → r' ≡ with_point r (point_at s.seed (s.number + 2)).bytes → IsChannel t r'
+kept_signature s t r r' c i below held seed awaiting number peer_number next secrets mine signed point e =
+    let own = (point_at s.seed (s.number + 1)).bytes in
+    let later = (point_at s.seed (s.number + 2)).bytes in
+    let step : t.number + 1 ≡ s.number + 2 = omega (arith, number) in
+    let pushed = points_push s.mine t.mine c (point_at s.seed (s.number + 1)) mine point in
+    let same = points_same s t later s.next_point (points_of s.mine ++ own ∷ []) (points_of s.signed) (λ j. (point_at (seed j) (step j)).bytes) next pushed (ap points_of signed) in
+    let learnt = one_mine r.points own s.next_point.bytes later (points_of s.mine) (points_of s.signed) i.points in
+    let longer : length r'.points ≡ length r.points + 1 = ap (λ (x : Rights). length x.points) e ∙ length-append r.points (later ∷ []) in
+    let count = i.count in
+    let bound = i.peer_number in
+    let wait : one_if t.awaiting ≡ one_if s.awaiting = ap one_if awaiting in
+    record {
+      bases = bases_same s.held.terms t.held.terms s.held.side t.held.side s.seed t.seed (ap (λ (h : Held). h.terms) held) (ap (λ (h : Held). h.side) held) seed i.bases;
+      points = subst (λ l. HaveSame r'.points l) same (subst (λ (x : Rights). HaveSame x.points (later ∷ s.next_point.bytes ∷ ((points_of s.mine ++ own ∷ []) ++ points_of s.signed))) (sym e) learnt);
+      count = omega (arith, longer, count, number, peer_number);
+      no_secrets = ap (λ (x : Rights). x.secrets) e ∙ i.no_secrets;
+      awaited = signed_same s.awaiting t.awaiting s.next_point.bytes t.next_point.bytes s.signed t.signed awaiting (ap (λ (k : Key). k.bytes) next) signed i.awaited;
+      number = omega (arith, number, below);
+      peer_number = omega (arith, peer_number, wait, bound);
+      secrets = ap length secrets ∙ i.secrets ∙ sym peer_number;
+    }
+
+pub kept_revocation : (s t : State) (r r' : Rights) (secret : List ℕ) → IsChannel s r → s.awaiting ≡ true → t.held ≡ holding_revocation s.held → t.seed ≡ s.seed → t.awaiting ≡ false → t.number ≡ s.number
+    → t.peer_number ≡ s.peer_number + 1 → t.secrets ≡ s.secrets ++ secret ∷ [] → t.mine ≡ s.mine → t.signed ≡ s.signed → r' ≡ with_point r t.next_point.bytes → IsChannel t r'
+kept_revocation s t r r' secret i awaited held seed awaiting number peer_number secrets mine signed e =
+    let own = (point_at s.seed (s.number + 1)).bytes in
+    let same = points_same s t own t.next_point (points_of s.mine) (points_of s.signed) (λ j. (point_at (seed j) (number j + 1)).bytes) refl (ap points_of mine) (ap points_of signed) in
+    let given = subst (λ b. IsSignedIf b s.next_point.bytes s.signed) awaited i.awaited in
+    let learnt = one_next r.points own s.next_point.bytes t.next_point.bytes (points_of s.mine) (points_of s.signed) given i.points in
+    let longer : length r'.points ≡ length r.points + 1 = ap (λ (x : Rights). length x.points) e ∙ length-append r.points (t.next_point.bytes ∷ []) in
+    let count = i.count in
     let one : one_if s.awaiting ≡ 1 = ap one_if awaited in
     let none : one_if t.awaiting ≡ 0 = ap one_if awaiting in
     let bound = i.peer_number in
     let below = i.number in
     record {
-      bases = subst (λ (h : Held). HasBases h.terms h.side t.seed) (sym held) (subst (λ d. HasBases s.held.terms s.held.side d) (sym same) i.bases);
-      learnt = learnt_last r r' t.next_point.bytes e;
+      bases = bases_same s.held.terms t.held.terms s.held.side t.held.side s.seed t.seed (ap (λ (h : Held). h.terms) held) (ap (λ (h : Held). h.side) held) seed i.bases;
+      points = subst (λ l. HaveSame r'.points l) same (subst (λ (x : Rights). HaveSame x.points (own ∷ t.next_point.bytes ∷ (points_of s.mine ++ points_of s.signed))) (sym e) learnt);
+      count = omega (arith, longer, count, number, peer_number);
+      no_secrets = ap (λ (x : Rights). x.secrets) e ∙ i.no_secrets;
+      awaited = subst (λ b. IsSignedIf b t.next_point.bytes t.signed) (sym awaiting) tt;
       number = omega (arith, number, below);
       peer_number = omega (arith, peer_number, none, one, bound);
       secrets = ap length secrets ∙ length-append s.secrets (secret ∷ []) ∙ ap (λ n. n + 1) i.secrets ∙ sym peer_number;

@@ -2,6 +2,7 @@ mod Secrets
 mod Sides
 mod TokenLists
 mod Foreign
+mod Learning
 mod Kept
 mod SameKeys
 mod Built

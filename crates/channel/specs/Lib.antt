@@ -1,6 +1,7 @@
 pub mod Points
 pub mod States
 pub mod Tokens
+pub mod Rights
 pub mod Keeping
 pub mod Peers
 pub mod Playing

@@ -3,7 +3,7 @@
 use crate::commitments::CommitmentState;
 use crate::limits::LAST_NUMBER;
 use crate::messages::{Message, Tokens};
-use crate::opening::{FIRST_INDEX, first_commitment, own_point, own_secret};
+use crate::opening::{FIRST_INDEX, first_commitment, own_point, own_secret, with_opening_points};
 use crate::tokens::{peer_tokens, same_tokens, sign_tokens};
 use keys::{Key, Signer, point};
 use secrets::Store;
@@ -15,6 +15,10 @@ use updates::{Ledger, Refusal, Update};
 
 /// One side of a channel: its updates, the numbers of both sides' commitments, the peer's points and secrets, and every commitment that was signed. A
 /// contract sees it as its `State`.
+///
+/// It keeps every update, some 64 bytes each. A signature, given or received, costs some 120 bytes and 56 for each HTLC that stands in its commitment; a
+/// signature received and a revocation received cost the signer some 300 bytes each, and at most some 520. The time of a call depends on the HTLCs that
+/// stand, and on no number but the logarithm of how many revocations there were.
 #[derive(Drop)]
 pub struct Channel {
     ledger: Ledger,
@@ -63,7 +67,7 @@ impl Model for Channel {
 }
 
 impl Channel {
-    ghost use Rattle.std.specs.Prelude.{◌≡◌, ◌+◌, ◌^◌, ◌<◌, ◌≤◌, [], ◌∷◌, ◌++◌, false, true, None, IfOk, IfErr, IfSome, IfNone, OnErr, MatchResult};
+    ghost use Rattle.std.specs.Prelude.{◌≡◌, ◌↔◌, ℕ, List, ◌+◌, ◌^◌, ◌<◌, ◌≤◌, [], ◌∷◌, ◌++◌, false, true, None, IfOk, IfErr, IfSome, IfNone, OnErr, MatchResult};
     ghost use Rattle.std.specs.List.{cons_option};
     ghost use Rattle.updates.specs.declared.changes.Update.TheVariants.{Add, Fulfil, Fail, Fee};
     ghost use Rattle.updates.specs.declared.refusals.Refusal.TheVariants.{NoMemory};
@@ -72,12 +76,15 @@ impl Channel {
     ghost use Rattle.channel.specs.declared.messages.Message.TheVariants.{Updated, CommitmentSigned, RevokeAndAck};
     ghost use Rattle.channel.specs.declared.limits.TheConstants.{LAST_NUMBER as last_number};
     ghost use Rattle.channel.specs.Points.{is_foreign};
-    ghost use Rattle.channel.specs.Keeping.{HasBases};
+    ghost use Rattle.channel.specs.Keeping.{CanOpen};
+    ghost use Rattle.channel.specs.Rights.{rights_of};
+    ghost use Rattle.keys.specs.Rights.{MaySign};
+    ghost use Rattle.updates.specs.Shares.{IsSoundIn};
     ghost use Rattle.channel.specs.Tokens.{IsBuilt, opening_tests, peer_tokens as tokens_of};
     ghost use Rattle.channel.specs.States.{opened, peers_next, own_next, update_refusal, sign_refusal, receive_refusal, receive_tests, after_update, after_sign, after, answers, signature_message};
 
     /// A side of a new channel, with the peer's points for 0 and 1, and the peer's token on this side's commitment 0: BadSignature where it is
-    /// another. The signer's funding and HTLC base keys stand in the terms.
+    /// another. The signer learnt nothing yet, and its funding and HTLC base keys stand in the terms.
     pub fn new(
         alloc: Global,
         terms: Terms,
@@ -87,7 +94,7 @@ impl Channel {
         next_point: Key,
         token: &Token,
     ) -> Result<Channel, Refusal>
-        requires { HasBases terms side signer.seed }
+        requires { CanOpen terms side signer }
         ensures ok { IfOk result (λ c. c ≡ opened terms side signer.seed first_point next_point) }
         ensures tested { let first = first_refusal (opening_tests terms side signer.seed token.now)
             in MatchResult result (λ _. first ≡ None) (IsRefusal first) }
@@ -108,9 +115,7 @@ impl Channel {
             Ok(peers) => peers,
             Err(_) => return Err(Refusal::NoMemory),
         };
-        let mut signer = signer;
-        signer.learn_point(&first_point)?;
-        signer.learn_point(&next_point)?;
+        let signer = with_opening_points(signer, &first_point, &next_point)?;
         let mut mine = Vec::new(alloc);
         mine.push(first)?;
         let mut signed = Vec::new(alloc);
@@ -127,6 +132,14 @@ impl Channel {
             mine,
             signed,
         })
+    }
+
+    /// The side's signer. It knows its own points up to that of its newest commitment's next, and each point of the peer that came.
+    pub fn signer(&self) -> &Signer
+        ensures seed { result.now.seed ≡ self.now.seed }
+        ensures rights { (key : List ℕ) → MaySign result.now key ↔ MaySign (rights_of self.now) key }
+    {
+        &self.signer
     }
 
     /// Offers an HTLC of `amount` millisatoshis, and gives the message. It is tested for AmountZero, BelowMinimum, ExpiryTooLarge, TooManyHtlcs and
@@ -210,6 +223,7 @@ impl Channel {
         requires { self.now.peer_number < last_number }
         ensures ok { IfOk result (λ c. c ≡ peers_next self.now) }
         ensures built { IfOk result (λ c. IsBuilt self.now.held.terms c) }
+        ensures sound { IfOk result (λ _. IsSoundIn self.now.held self.now.held.own.known self.now.held.theirs.past_receiver) }
         ensures err { IfErr result (λ e. e ≡ NoMemory) }
     {
         let view = match self.ledger.view_to_sign() {
@@ -243,6 +257,8 @@ impl Channel {
     /// number, else NoUpdates where it would cover no new update.
     pub fn ready(&self) -> Result<CommitmentState, Refusal>
         ensures ok { IfOk result (λ c. c ≡ peers_next self.now) }
+        ensures built { IfOk result (λ c. IsBuilt self.now.held.terms c) }
+        ensures sound { IfOk result (λ _. IsSoundIn self.now.held self.now.held.own.known self.now.held.theirs.past_receiver) }
         ensures tested { MatchResult result (λ _. sign_refusal self.now ≡ None) (IsRefusal (sign_refusal self.now)) }
     {
         match self.check_sign() {
@@ -294,13 +310,12 @@ impl Channel {
         }
     }
 
-    // A signature came. It is answered at once.
-    fn receive_signature(&mut self, tokens: &Tokens) -> Result<Message, Refusal>
-        ensures answer { IfOk result (λ m. m ∷ [] ≡ answers self.old (CommitmentSigned tokens.now)) }
-        ensures ok { IfOk result (λ _. self.new ≡ after self.old (CommitmentSigned tokens.now)) }
-        ensures tested { let first = receive_refusal tokens_of self.old (CommitmentSigned tokens.now)
+    // This side's next commitment, where the peer's tokens are for it.
+    fn check_signature(&self, tokens: &Tokens) -> Result<CommitmentState, Refusal>
+        ensures ok { IfOk result (λ c. c ≡ own_next self.now) }
+        ensures tested { let first = receive_refusal tokens_of self.now (CommitmentSigned tokens.now)
             in MatchResult result (λ _. first ≡ None) (IsRefusal first) }
-        ensures err { OnErr result (self.new ≡ self.old) }
+        ensures below { IfOk result (λ _. self.now.number < last_number) }
     {
         if self.number >= LAST_NUMBER {
             return Err(Refusal::NotYourTurn);
@@ -320,12 +335,32 @@ impl Channel {
         if !same_tokens(tokens, &expected) {
             return Err(Refusal::BadSignature);
         }
-        match self.mine.push(next) {
+        Ok(next)
+    }
+
+    // A signature came. It is answered at once.
+    fn receive_signature(&mut self, tokens: &Tokens) -> Result<Message, Refusal>
+        ensures answer { IfOk result (λ m. m ∷ [] ≡ answers self.old (CommitmentSigned tokens.now)) }
+        ensures ok { IfOk result (λ _. self.new ≡ after self.old (CommitmentSigned tokens.now)) }
+        ensures tested { let first = receive_refusal tokens_of self.old (CommitmentSigned tokens.now)
+            in MatchResult result (λ _. first ≡ None) (IsRefusal first) }
+        ensures err { OnErr result (self.new ≡ self.old) }
+    {
+        let next = match self.check_signature(tokens) {
+            Ok(next) => next,
+            Err(refusal) => return Err(refusal),
+        };
+        match self.mine.reserve(1) {
             Ok(()) => {}
             Err(_) => return Err(Refusal::NoMemory),
         }
         let secret = own_secret(&self.signer, self.number);
         let next_point = own_point(&self.signer, self.number + 2);
+        match self.signer.learn_point(&next_point) {
+            Ok(()) => {}
+            Err(_) => return Err(Refusal::NoMemory),
+        }
+        self.mine.push(next).unwrap();
         self.ledger.receive_signature();
         self.number += 1;
         Ok(Message::RevokeAndAck { secret, next_point })

@@ -1,19 +1,21 @@
 //! What a side hands to its peer as a channel opens.
 
-ghost use Rattle.std.specs.Prelude.{◌≡◌, ◌^◌, ◌<◌, IfOk, IfErr};
+ghost use Rattle.std.specs.Prelude.{◌≡◌, ◌^◌, ◌<◌, [], ◌∷◌, IfOk, IfErr};
 ghost use Rattle.updates.specs.declared.refusals.Refusal.TheVariants.{NoMemory};
 ghost use Rattle.terms.specs.Sides.{other};
 ghost use Rattle.channel.specs.Points.{secret_at, point_at};
 ghost use Rattle.channel.specs.States.{first_of};
 ghost use Rattle.channel.specs.Tokens.{peer_tokens, IsBuilt};
-ghost use Rattle.channel.specs.Keeping.{HasBases};
+ghost use Rattle.terms.specs.Agreement.{party};
+ghost use Rattle.keys.specs.declared.bases.Base.TheVariants.{Funding};
+ghost use Rattle.keys.specs.Derivation.{base_key};
 
 use crate::commitments::CommitmentState;
 use crate::tokens::sign_commitment;
 use keys::{Key, Signer, point};
 use secrets::from_seed;
 use sighash::Token;
-use std::alloc::Global;
+use std::alloc::{AllocError, Global};
 use terms::{Side, Terms};
 use updates::{Ledger, Refusal};
 
@@ -40,8 +42,28 @@ pub fn opening_points(signer: &Signer) -> OpeningPoints
     }
 }
 
+/// A new signer with the points that it knows as a channel opens: the peer's two, and its own.
+pub(crate) fn with_opening_points(
+    signer: Signer,
+    first: &Key,
+    next: &Key,
+) -> Result<Signer, AllocError>
+    requires { signer.points ≡ [] }
+    ensures seed { IfOk result (λ s. s.seed ≡ signer.seed) }
+    ensures points { IfOk result (λ s. s.points ≡ first.now.bytes ∷ next.now.bytes ∷ (point_at signer.seed 0).bytes ∷ (point_at signer.seed 1).bytes ∷ []) }
+    ensures secrets { IfOk result (λ s. s.secrets ≡ signer.secrets) }
+{
+    let own = opening_points(&signer);
+    let mut signer = signer;
+    signer.learn_point(first)?;
+    signer.learn_point(next)?;
+    signer.learn_point(&own.first)?;
+    signer.learn_point(&own.second)?;
+    Ok(signer)
+}
+
 /// The token of a side on commitment 0 of its peer, whose point for it is `point` (BOLT 2, `funding_created` and `funding_signed`). The signer's funding
-/// and HTLC base keys stand in the terms. The only error is that memory ran out.
+/// base key stands in the terms. The only error is that memory ran out.
 pub fn opening_token(
     alloc: Global,
     terms: &Terms,
@@ -49,7 +71,7 @@ pub fn opening_token(
     signer: &Signer,
     point: &Key,
 ) -> Result<Token, Refusal>
-    requires { HasBases terms.now side signer.now.seed }
+    requires { (party side terms.now).bases.funding.bytes ≡ base_key signer.now.seed Funding }
     ensures ok { IfOk result (λ t. t ≡ (peer_tokens terms.now (first_of terms.now (other side) point.now)).commitment) }
     ensures err { IfErr result (λ e. e ≡ NoMemory) }
 {

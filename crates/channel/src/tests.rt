@@ -3,7 +3,7 @@ ghost use Rattle.std.specs.Prelude.{◌≡◌};
 ghost use Rattle.keys.specs.declared.bases.Base.TheVariants.{Funding as FundingBase, Htlc as HtlcBase};
 ghost use Rattle.keys.specs.Derivation.{base_key};
 ghost use Rattle.terms.specs.Sides.{other};
-ghost use Rattle.channel.specs.Keeping.{HasBases};
+ghost use Rattle.channel.specs.Keeping.{HasBases, CanOpen};
 
 use crate::{Channel, Message, opening_points, opening_token};
 use keys::{Base, Signer};
@@ -64,7 +64,7 @@ fn open_with(
     peer: &Signer,
     number: u64,
 ) -> Result<Channel, Refusal>
-    requires own { HasBases terms side signer.seed }
+    requires own { CanOpen terms side signer }
     requires peers { HasBases terms (other side) peer.now.seed }
 {
     let own = opening_points(&signer);

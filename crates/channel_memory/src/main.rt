@@ -1,7 +1,7 @@
-//! Plays a channel of two sides, and prints what each side sends and could sign.
+//! Plays a channel of two sides, and prints what each side sends, and the number and the balances of each commitment that is signed.
 //!
 //! Where memory runs out in `receive`, it makes the call once more. So with each allocation refused in turn, each run that comes to its end prints the same
-//! text: a refused message left the channel as it was.
+//! text, and each signature fits what its receiver builds: a refused message left the channel as it was.
 #![tactic(auto)]
 
 use anyhow::Result;
@@ -9,7 +9,7 @@ use channel::{Channel, Message};
 use channel_sides::{Sides, open_sides};
 use digest::sha256;
 use std::alloc::Global;
-use updates::Refusal;
+use updates::{Refusal, Update};
 
 /// Receives a message, once more where memory runs out.
 fn receive(channel: &mut Channel, message: &Message) -> Result<Option<Message>> {
@@ -20,10 +20,23 @@ fn receive(channel: &mut Channel, message: &Message) -> Result<Option<Message>> 
     }
 }
 
-/// Prints a message as the hash of its text.
+/// What an update says.
+fn update_text(alloc: Global, update: &Update) -> Result<String> {
+    Ok(match update {
+        Update::Add(htlc) => format!(in alloc; "add {} {}", htlc.id, htlc.amount)?,
+        Update::Fulfil { id, .. } => format!(in alloc; "fulfil {id}")?,
+        Update::Fail { id } => format!(in alloc; "fail {id}")?,
+        Update::Fee { rate } => format!(in alloc; "fee {rate}")?,
+    })
+}
+
+/// Prints what a message says; of a signature how many HTLC transactions it is for.
 fn print(rt: &impl Print, alloc: Global, message: &Message) -> Result<()> {
-    let text = format!(in alloc; "{message:?}")?;
-    println!(rt; "{}", hex::encode(alloc, sha256(text.as_bytes()))?)?;
+    match message {
+        Message::Updated(update) => println!(rt; "{}", update_text(alloc, update)?)?,
+        Message::CommitmentSigned(tokens) => println!(rt; "signed {}", tokens.htlcs.len())?,
+        Message::RevokeAndAck { .. } => println!(rt; "revoke")?,
+    }
     Ok(())
 }
 
@@ -43,8 +56,13 @@ fn deliver(
     Ok(())
 }
 
-/// A side signs, and its peer revokes.
+/// A side signs, and its peer revokes. What the signed commitment pays is printed first.
 fn sign(rt: &impl Print, alloc: Global, from: &mut Channel, to: &mut Channel) -> Result<()> {
+    let next = from.ready()?;
+    println!(rt;
+        "{} {} {}",
+        next.number, next.view.a.balance, next.view.b.balance
+    )?;
     let message = from.signed()?;
     deliver(rt, alloc, from, to, &message)
 }

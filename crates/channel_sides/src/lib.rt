@@ -17,7 +17,7 @@ ghost use Rattle.keys.specs.Derivation.{base_key};
 ghost use Rattle.terms.specs.Sides.{other};
 ghost use Rattle.channel.specs.Points.{point_at};
 ghost use Rattle.channel.specs.States.{opened};
-ghost use Rattle.channel.specs.Keeping.{HasBases};
+ghost use Rattle.channel.specs.Keeping.{HasBases, CanOpen};
 ghost use Rattle.channel.specs.Peers.{AreOpened};
 
 use anyhow::Result;
@@ -81,7 +81,7 @@ fn open_side(
     signer: Signer,
     peer: &Signer,
 ) -> Result<Channel>
-    requires own { HasBases terms side signer.seed }
+    requires own { CanOpen terms side signer }
     requires peers { HasBases terms (other side) peer.now.seed }
     ensures { IfOk result (λ c. c ≡ opened terms side signer.seed (point_at peer.now.seed 0) (point_at peer.now.seed 1)) }
 {

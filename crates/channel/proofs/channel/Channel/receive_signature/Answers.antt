@@ -1,0 +1,23 @@
+use Rattle.std.proofs.Common.{◌<◌, ◌+◌, ◌++◌, [], ◌∷◌, ap, sym, subst, refl, ◌∙◌}
+use Rattle.keys.specs.Rights.{Rights}
+use Rattle.keys.specs.declared.compressed.Key.{Key}
+use Rattle.channel.specs.declared.limits.TheConstants.{LAST_NUMBER}
+use Rattle.channel.specs.declared.commitments.CommitmentState.{CommitmentState}
+use Rattle.channel.specs.Points.{point_at}
+use Rattle.channel.specs.States.{State}
+use Rattle.channel.proofs.Pairing.{pushed}
+use Rattle.channel.proofs.Kept.{with_point, kept_signature}
+use Rattle.channel.proofs.channel.Channel.receive_signature.Goals as goal
+
+pub invariant_of-self-2 : goal.invariant_of-self-2
+invariant_of-self-2 c =
+    let next = c.in-Ok.next in
+    let below = subst (λ (s : State). s.number < LAST_NUMBER) (sym c.self.view_is) c.in-Ok.ensures.below in
+    let seed = ap (λ (r : Rights). r.seed) c.in-Ok-learn_point.ensures.ok in
+    let mine =
+    pushed c.push.result c.unwrap.result c.push.new.self.items (c.reserve.new.self.items ++ next ∷ []) c.reserve.new.self.items c.unwrap.ensures c.push.ensures.items
+    ∙ ap (λ cs. cs ++ next ∷ []) c.in-Ok-reserve.ensures.items
+    in
+    let point = ap (λ (k : CommitmentState). k.point) c.in-Ok.ensures.ok ∙ sym (ap (λ (s : State). point_at s.seed (s.number + 1)) c.self.view_is) in
+    let learnt = c.in-Ok-learn_point.ensures.ok ∙ ap (λ (k : Key). with_point c.self.inside.signer k.bytes) c.own_point-next_point.ensures in
+    kept_signature _ _ c.self.inside.signer c.learn_point.new.self next c.self.invariant below c.receive_signature.ensures seed refl refl refl refl refl mine refl point learnt
