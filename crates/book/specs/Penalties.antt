@@ -81,9 +81,9 @@ is_penalty_set s n claims = are_on (claimable_at s n) claims
 
 -- ---- sets of penalties
 
--- accepted claims on exactly these outputs, in order, are found to be on them; and a revoked state lets claim what its commitment does
+-- accepted claims on exactly what a commitment lets claim, in order, are found to be so; and a revoked state lets claim what its commitment does
 pub record PenaltySetsAreTaken : Type 0 where
-  pub found : (os : List Claimable) (claims : List ClaimParts) → AreClaimsOn os claims → are_claims_on os claims ≡ true
+  pub found : (c : Contents) (claims : List ClaimParts) → AreClaimsOn (claimable_in c) claims → are_claims_on (claimable_in c) claims ≡ true
   pub same :
       (s : State) (c : CommitmentState) (secret : List ℕ) (state : RevokedState) → HasParts s.held.terms c.view (other s.held.side) c.number secret state
       → claimable_of state ≡ claimable_in (revoked_contents s c secret)
