@@ -1,1 +1,5 @@
 mod Numbers
+mod Walks
+mod Giving
+mod Standings
+mod WatchExamples

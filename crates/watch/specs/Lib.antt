@@ -1,1 +1,5 @@
 pub mod Verdicts
+pub mod Watching
+pub mod Learning
+pub mod Sights
+pub mod Standing

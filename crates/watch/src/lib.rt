@@ -1,16 +1,33 @@
-//! What a watcher finds in blocks.
+//! What a watcher finds in blocks: which commitment closed a channel, what is due by it, and the preimages that spends of its HTLCs show.
 //!
-//! [`verdict`] names the known commitment that a transaction is, by its id.
+//! [`verdict`] names the known commitment that a transaction is, by its id. A [`Watch`] serves one channel: [`Watch::look`] reads a block and gives a
+//! [`Sight`], the claims that are due and that it hasn't given yet, and what it learnt; [`Watch::back`] forgets blocks that were taken off.
 //!
 //! ```rust
-//! /// Whether a transaction closes the channel with a commitment that was revoked.
-//! fn is_cheat(known: &Known, tx: &Tx) -> bool {
-//!     matches!(verdict(known, tx), Verdict::Revoked(_))
+//! /// Reads the block at a height, and tells how many claims are to be filled after it.
+//! fn count(
+//!     alloc: Global,
+//!     watch: &mut Watch,
+//!     height: u64,
+//!     block: &Block,
+//!     known: &Known,
+//! ) -> Result<usize, AllocError> {
+//!     Ok(watch.look(alloc, height, block, known)?.claims.len())
 //! }
 //! ```
 #![tactic(auto)]
 
+pub mod laws;
+mod learning;
+mod spends;
+#[cfg(test)]
+mod tests;
+mod unclaimed;
 mod verdicts;
+mod watching;
 
 pub use resolve::Verdict;
+pub use spends::Spend;
+pub use unclaimed::Given;
 pub use verdicts::verdict;
+pub use watching::{Sight, Watch};

@@ -1,4 +1,4 @@
-use Rattle.std.proofs.Common.{rules, subst, ◌<◌, ◌^◌}
+use Rattle.std.proofs.Common.{subst, ◌<◌, ◌^◌}
 use Rattle.watch.proofs.Numbers.{same_number}
 use Rattle.watch.proofs.verdicts.number_in.Goals as goal
 

@@ -1,0 +1,67 @@
+//! The transactions of a block that spend an output.
+
+ghost use Rattle.std.specs.Prelude.{◌≡◌, ◌++◌, ◌∷◌, [], OnOk, OnErr};
+ghost use Rattle.std.specs.List.{list_any};
+ghost use Rattle.chain.specs.Blocks.{same_outpoint, names};
+ghost use Rattle.watch.specs.Watching.{Extends, spends_in};
+
+use chain::Confirmed;
+use std::alloc::AllocError;
+use tx::{OutPoint, Tx, TxIn};
+
+/// A transaction that spends a channel's funding output.
+#[derive(Debug, Drop)]
+pub struct Spend {
+    /// The height of its block.
+    pub height: u64,
+    pub tx: Tx,
+}
+
+/// Whether two outpoints are one.
+pub(crate) fn same_outpoint(o: &OutPoint, p: &OutPoint) -> bool
+    ensures { result ≡ same_outpoint o.now p.now }
+{
+    o.txid == p.txid && o.index == p.index
+}
+
+// Whether an input names the outpoint.
+fn some_input_names(inputs: &[TxIn], outpoint: &OutPoint) -> bool
+    ensures { result ≡ list_any (λ i. same_outpoint i.outpoint outpoint.now) inputs.now }
+{
+    inputs
+        .iter()
+        .any(|input| same_outpoint(&input.outpoint, outpoint))
+}
+
+// A transaction that spends an output goes to the end.
+fn push_spend(
+    funding: &OutPoint,
+    height: u64,
+    tx: &Tx,
+    spends: &mut Vec<Spend>,
+) -> Result<(), AllocError>
+    ensures ok { OnOk result (spends.new.items ≡ spends.old.items ++ spends_in funding.now height (tx.now ∷ [])) }
+    ensures err { OnErr result (spends.new.items ≡ spends.old.items) }
+{
+    if some_input_names(tx.inputs(), funding) {
+        let tx = tx.copy()?;
+        spends.push(Spend { height, tx })?;
+    }
+    Ok(())
+}
+
+/// The transactions that spend an output go to the end. The only error is that memory ran out; some of them may stand at the end then.
+pub(crate) fn push_spends(
+    funding: &OutPoint,
+    height: u64,
+    txs: &[Confirmed],
+    spends: &mut Vec<Spend>,
+) -> Result<(), AllocError>
+    ensures ok { OnOk result (spends.new.items ≡ spends.old.items ++ spends_in funding.now height txs.now) }
+    ensures err { OnErr result (Extends spends.old.items spends.new.items) }
+{
+    for confirmed in txs {
+        push_spend(funding, height, confirmed.tx(), spends)?;
+    }
+    Ok(())
+}
