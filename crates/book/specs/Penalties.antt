@@ -10,10 +10,8 @@ use Rattle.claim.specs.Judgement.{judgement_of}
 use Rattle.claim.specs.Claims.{ClaimParts}
 use Rattle.commit.specs.Commitments.{Contents, commitment_of}
 use Rattle.forms.specs.Fillings.{Filling, Signature, PreimageOf, Bytes}
-use Rattle.penalty.specs.declared.states.RevokedState.{RevokedState}
-use Rattle.penalty.specs.Claimable.{Claimable, claims_from, claimable_of}
-use Rattle.penalty.specs.Sets.{claimed_by, AreClaimsOn}
-use Rattle.penalty.specs.States.{HasParts}
+use Rattle.penalty.specs.Claimable.{Claimable, claims_from}
+use Rattle.penalty.specs.Sets.{claimed_by}
 use Rattle.filling.specs.Refusals.{is_fixed}
 use Rattle.channel.specs.declared.commitments.CommitmentState.{CommitmentState}
 use Rattle.channel.specs.States.{State}
@@ -78,12 +76,3 @@ are_on (Some os) claims = are_claims_on os claims
 -- whether the claims are the penalty set of the peer's commitment of this number
 unfoldable pub is_penalty_set : State → ℕ → List ClaimParts → Bool
 is_penalty_set s n claims = are_on (claimable_at s n) claims
-
--- ---- sets of penalties
-
--- accepted claims on exactly what a commitment lets claim, in order, are found to be so; and a revoked state lets claim what its commitment does
-pub record PenaltySetsAreTaken : Type 0 where
-  pub found : (c : Contents) (claims : List ClaimParts) → AreClaimsOn (claimable_in c) claims → are_claims_on (claimable_in c) claims ≡ true
-  pub same :
-      (s : State) (c : CommitmentState) (secret : List ℕ) (state : RevokedState) → HasParts s.held.terms c.view (other s.held.side) c.number secret state
-      → claimable_of state ≡ claimable_in (revoked_contents s c secret)

@@ -2,7 +2,6 @@
 
 ghost use Rattle.book.specs.Guarding.{PlayedIsGuarded, GuardedMeans};
 ghost use Rattle.book.specs.Signers.{RightsAreTested, RefusalsAreFound, KeptAreFillable};
-ghost use Rattle.book.specs.Penalties.{PenaltySetsAreTaken};
 
 /// The signing gate: whatever calls a book gets, and whatever its peers' messages say, each signature in its history stands where every revocation that came in its
 /// channel has the penalties of the revoked commitment kept between the two, by accepted claims on exactly what that commitment lets the side claim.
@@ -19,11 +18,6 @@ pub fn rights_are_tested()
 /// The first reason why claims are not filled is the one that `fill` answers, memory aside.
 pub fn refusals_are_found()
     ensures { RefusalsAreFound }
-{}
-
-/// Accepted claims on exactly what a revoked commitment lets its owner's peer claim, in its order, are its penalty set.
-pub fn penalty_sets_are_taken()
-    ensures { PenaltySetsAreTaken }
 {}
 
 /// Of claims on what a revoked commitment lets a side claim, no slot lacks a right or a preimage, once the side has the commitment's secret: so a release of kept claims is never refused
