@@ -1,6 +1,6 @@
 -- Numbers of commitments and the list of revoked ones, by BOLT 3's 48 bits: the greatest number is 281,474,976,710,655.
-use Rattle.std.proofs.Common.{◌≡◌, ℕ, zero, suc, Bool, true, false, ◌&&◌, ◌==◌, map, List, [], ◌∷◌, length, Option, Some, refl, sym, ap, ◌∙◌, arith}
-use Rattle.std.specs.Prelude.{slice_get, option_map}
+use Rattle.std.proofs.Common.{◌≡◌, zero, suc, Bool, true, false, ◌&&◌, ◌==◌, map, List, [], ◌∷◌, length, Some, refl, sym, ap, ◌∙◌, arith}
+use Rattle.std.specs.Prelude.{option_map}
 use Rattle.script.specs.Token.{token_of}
 use Rattle.terms.specs.declared.sides.Side.TheVariants.{A, B}
 use Rattle.terms.specs.declared.agreement.Terms.{Terms}
@@ -41,7 +41,7 @@ and_true : (t : Bool) → (t && true) ≡ t
 and_true true = refl
 and_true false = refl
 
--- 2^48 is no number behind any list, and 2^48 - 1 is one behind a list of that length
+-- 2^48 is the next number of no list, and 2^48 - 1 that of a list of this length
 last : (rs : List RevokedCommitment) → (is_next rs 281474976710656 ≡ false) × (is_next rs 281474976710655 ≡ (281474976710655 == length rs))
 last rs = (and_false (281474976710656 == length rs), and_true (281474976710655 == length rs))
 
