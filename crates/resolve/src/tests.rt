@@ -135,7 +135,9 @@ fn signed_by(rt: &impl Abort, alloc: Global, side: Side) -> Result<SignedCommitm
 #[test]
 fn numbers_have_48_bits(rt: HostRuntime) {
     let last = numbered(&rt, rt.alloc(), Side::A, MAX_NUMBER).expect(&rt, "a commitment");
-    assert_eq!(rt; last.commitment().outputs().len(), 3);
+    let copy = last.copy().expect(&rt, "memory");
+    assert_eq!(rt; copy.commitment().outputs().len(), 3);
+    assert_eq!(rt; copy.commitment().id(), last.commitment().id());
     let none = numbered(&rt, rt.alloc(), Side::A, 1 << 48);
     assert_eq!(rt; none.err(), Some(KnownError::NumberTooLarge));
 }
@@ -199,6 +201,13 @@ fn copies_revoked_commitments(rt: HostRuntime) {
     let copy = list.copy().expect(&rt, "memory");
     assert_eq!(rt; copy.len(), 2);
     assert_eq!(rt; is_kept(&copy, 1), Some(true));
+}
+
+#[test]
+fn copies_a_revoked_commitment(rt: HostRuntime) {
+    let one = revoked(&rt, rt.alloc(), 1);
+    let copy = one.copy().expect(&rt, "memory");
+    assert_eq!(rt; (copy.id, copy.state.number), (one.id, 1));
 }
 
 // What A knows, with two revoked commitments of B.
