@@ -1,5 +1,5 @@
 -- What histories hold, counted.
-use Rattle.std.proofs.Common.{◌≡◌, ℕ, suc, ◌+◌, List, [], ◌∷◌, length, refl, arith}
+use Rattle.std.proofs.Common.{◌≡◌, List, [], ◌∷◌, length, refl, arith}
 use Rattle.book.specs.declared.history.Entry.{Entry}
 use Rattle.book.specs.declared.history.Entry.TheVariants.{Filed}
 use Rattle.book.specs.History.{filed_count}

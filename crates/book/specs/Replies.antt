@@ -1,5 +1,5 @@
 -- What a book answers to a call, and which history it has then.
-use Rattle.std.specs.Prelude.{ℕ, Bool, true, false, not, ◌||◌, ◌==◌, nat_lt, nat_le, if◌then◌else◌, List, [], ◌∷◌, ◌++◌, length, map, Option, Some, None, Result, Ok, Err, is_ok, slice_get}
+use Rattle.std.specs.Prelude.{ℕ, Bool, true, false, not, ◌||◌, nat_lt, nat_le, List, [], ◌∷◌, ◌++◌, length, map, Option, Some, None, Result, Ok, Err, is_ok, slice_get}
 use Rattle.std.specs.List.{list_any}
 use Rattle.std.specs.Str.{bytes_eq}
 use Rattle.tx.specs.Parts.{Output}
@@ -8,7 +8,6 @@ use Rattle.updates.specs.Refusals.{covers_nothing}
 use Rattle.claim.specs.Claims.{ClaimParts}
 use Rattle.filling.specs.Filling.{filling_of}
 use Rattle.filling.specs.Filled.{Filling}
-use Rattle.filling.specs.declared.errors.FillError.{FillError}
 use Rattle.channel.specs.declared.limits.TheConstants.{LAST_NUMBER}
 use Rattle.channel.specs.declared.messages.Message.{Message}
 use Rattle.channel.specs.declared.messages.Message.TheVariants.{Updated as UpdateMessage, CommitmentSigned, RevokeAndAck}
@@ -118,8 +117,7 @@ answer_of tokens_of chs (Sign c) =
 answer_of tokens_of chs (Revoke c secret next_point) =
     revoked (asked NoChannelToStep (slice_get chs c) (λ ch. unless Refused (receive_refusal tokens_of ch.state (RevokeAndAck secret next_point)) (length ch.state.secrets)))
 answer_of tokens_of chs (Keep c n claims) = kept (asked NoChannelToKeep (slice_get chs c) (λ ch. unless (λ e. e) (keep_refusal ch n claims) tt))
-answer_of tokens_of chs (Release c claims outputs preimages) =
-    released (asked NoChannelToRelease (slice_get chs c) (λ ch. fill_answer ch.state claims outputs preimages))
+answer_of tokens_of chs (Release c batch) = released (asked NoChannelToRelease (slice_get chs c) (λ ch. fill_answer ch.state batch.claims batch.outputs batch.preimages))
 
 -- the answer to a call after a history
 abbrev pub reply_of : Signing → List Entry → Call → Reply
