@@ -9,10 +9,12 @@
 
 pub mod calls;
 pub mod errors;
+mod flags;
 pub mod history;
 pub mod laws;
 mod limits;
 pub mod matching;
+mod open_channel;
 #[cfg(test)]
 mod tests;
 
