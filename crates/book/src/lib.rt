@@ -17,8 +17,7 @@ pub mod laws;
 mod limits;
 pub mod matching;
 mod open_channel;
-#[cfg(test)]
-mod tests;
 
-pub use history::{Book, Entry};
+pub use calls::{Batch, Call, Entry, Opening, Step};
+pub use history::Book;
 pub use limits::MAX_CHANNELS;
