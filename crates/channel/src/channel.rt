@@ -17,8 +17,8 @@ use updates::{Ledger, Refusal, Update};
 /// contract sees it as its `State`.
 ///
 /// It keeps every update, some 64 bytes each. A signature, given or received, costs some 120 bytes and 56 for each HTLC that stands in its commitment; a
-/// signature received and a revocation received cost the signer some 300 bytes each, and at most some 520. The time of a call depends on the HTLCs that
-/// stand, and on no number but the logarithm of how many revocations there were.
+/// signature received costs the signer some 300 bytes, and at most some 520, and a revocation received twice as much. The time of a call depends on the
+/// HTLCs that stand, and on no number but the logarithm of how many revocations there were.
 #[derive(Drop)]
 pub struct Channel {
     ledger: Ledger,
@@ -134,7 +134,8 @@ impl Channel {
         })
     }
 
-    /// The side's signer. It knows its own points up to that of its newest commitment's next, and each point of the peer that came.
+    /// The side's signer. It knows its own points up to that of its newest commitment's next, and each point and each secret of the peer that came, so that
+    /// it may sign for what the peer's revoked commitments pay.
     pub fn signer(&self) -> &Signer
         ensures seed { result.now.seed ≡ self.now.seed }
         ensures rights { (key : List ℕ) → MaySign result.now key ↔ MaySign (rights_of self.now) key }
@@ -382,7 +383,7 @@ impl Channel {
         let Some(secrets) = self.with_secret(secret) else {
             return Err(Refusal::WrongSecret);
         };
-        match self.signer.learn_point(next_point) {
+        match self.signer.learn_revocation(secret, next_point) {
             Ok(()) => {}
             Err(_) => return Err(Refusal::NoMemory),
         }
