@@ -67,7 +67,7 @@ impl Model for Channel {
 }
 
 impl Channel {
-    ghost use Rattle.std.specs.Prelude.{◌≡◌, ◌↔◌, ℕ, List, ◌+◌, ◌^◌, ◌<◌, ◌≤◌, [], ◌∷◌, ◌++◌, false, true, None, IfOk, IfErr, IfSome, IfNone, OnErr, MatchResult};
+    ghost use Rattle.std.specs.Prelude.{◌≡◌, ◌↔◌, ℕ, List, ◌+◌, ◌^◌, ◌<◌, ◌≤◌, ◌||◌, nat_le, [], ◌∷◌, ◌++◌, false, true, None, slice_get, option_map, IfOk, IfErr, IfSome, IfNone, OnErr, MatchResult};
     ghost use Rattle.std.specs.List.{cons_option};
     ghost use Rattle.updates.specs.declared.changes.Update.TheVariants.{Add, Fulfil, Fail, Fee};
     ghost use Rattle.updates.specs.declared.refusals.Refusal.TheVariants.{NoMemory};
@@ -132,6 +132,44 @@ impl Channel {
             mine,
             signed,
         })
+    }
+
+    /// The terms of the channel.
+    pub fn terms(&self) -> &Terms
+        ensures { result.now ≡ self.now.held.terms }
+    {
+        self.ledger.terms()
+    }
+
+    /// Which side of the channel this is.
+    pub fn side(&self) -> Side
+        ensures { result ≡ self.now.held.side }
+    {
+        self.ledger.side()
+    }
+
+    /// Whether this side may not sign now, whatever there is to sign: a signature given out awaits its revocation, or the last number is signed.
+    pub fn waits_to_sign(&self) -> bool
+        ensures { result ≡ (self.now.awaiting || nat_le last_number self.now.peer_number) }
+    {
+        self.awaiting || self.peer_number >= LAST_NUMBER
+    }
+
+    /// The peer's commitment of a number, where it was signed.
+    pub fn peers_commitment(&self, number: u64) -> Option<&CommitmentState>
+        ensures { option_map (λ c. c.now) result ≡ slice_get self.now.signed number }
+    {
+        self.signed.get(number as usize)
+    }
+
+    /// The secret of the peer's commitment of a number, where it is revoked. It takes at most 48 hashes.
+    pub fn peers_secret(&self, number: u64) -> Option<[u8; 32]>
+        ensures { result ≡ slice_get self.now.secrets number }
+    {
+        if number >= self.peer_number {
+            return None;
+        }
+        self.secrets.get(FIRST_INDEX - number)
     }
 
     /// The side's signer. It knows its own points up to that of its newest commitment's next, and each point and each secret of the peer that came, so that
