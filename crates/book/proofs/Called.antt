@@ -1,8 +1,16 @@
 -- What a call makes of a history, and of what a book keeps beside it.
-use Rattle.std.proofs.Common.{◌≡◌, ℕ, zero, suc, ◌<◌, ◌||◌, ◌&&◌, if◌then◌else◌, Bool, true, false, true≢false, List, [], ◌∷◌, ◌++◌, length, reverse, set, cond, Option, Some, None, Result, Ok, Err, refl, sym, ap, ◌∙◌, subst, inr}
-use Rattle.std.specs.Prelude.{slice_get, is_ok}
+use Rattle.std.proofs.Common.{◌≡◌, ℕ, zero, suc, ◌<◌, ◌||◌, ◌&&◌, if◌then◌else◌, Bool, true, false, true≢false, List, [], ◌∷◌, ◌++◌, length, reverse, set, cond, Option, Some, None, Result, Ok, Err, refl, sym, ap, ◌∙◌, subst, arith, inl, inr}
+use Rattle.std.specs.Prelude.{slice_get, is_ok, nat_le}
+use Rattle.std.specs.Ordering.{is_eq}
+use Rattle.book.specs.declared.limits.TheConstants.{MAX_CHANNELS}
+use Rattle.filling.specs.Filled.{Filling}
+use Rattle.book.specs.Signers.{rights_of, fill_refusal}
+use Rattle.book.specs.declared.calls.Batch.{Batch}
+use Rattle.book.specs.declared.calls.Opening.{Opening}
+use Rattle.book.proofs.Fundings.{funded}
 use Rattle.std.specs.List.{cons_option, list_any}
 use Rattle.std.proofs.lemmas.Bool.{and_from}
+use Rattle.std.proofs.lemmas.Bool.Decides.{nat_tests}
 use Rattle.std.proofs.lemmas.List.{reverse-append}
 use Rattle.std.proofs.lemmas.Option.{none-some, same_Some}
 use Rattle.tx.specs.declared.input.OutPoint.{OutPoint}
@@ -14,14 +22,16 @@ use Rattle.channel.specs.States.{after, after_sign, receive_refusal, signature_m
 use Rattle.book.specs.declared.calls.Step.{Step}
 use Rattle.book.specs.declared.calls.Step.TheVariants.{Own, Updated, Signed}
 use Rattle.book.specs.declared.calls.Call.{Call}
-use Rattle.book.specs.declared.calls.Call.TheVariants.{Step as Stepping, Sign, Revoke}
+use Rattle.book.specs.declared.calls.Call.TheVariants.{Open, Step as Stepping, Sign, Revoke, Release}
 use Rattle.book.specs.declared.calls.Entry.{Entry}
+use Rattle.book.specs.declared.errors.OpenError.{OpenError}
+use Rattle.book.specs.declared.errors.OpenError.TheVariants.{NoMemory as out_of_memory, BookFull, SameFunding, BadSignature}
 use Rattle.book.specs.Penalties.{same_outpoint}
-use Rattle.book.specs.Books.{ChannelBook, Channels, at_index, stepped as state_stepped, with_state, channels_after, replayed, replay}
-use Rattle.book.specs.Replies.{Reply, stepped, signed, revoked, is_accepted, answer_of, reply_of, extended, step_refusal, messages_of, sign_refusal}
+use Rattle.book.specs.Books.{ChannelBook, Channels, at_index, stepped as state_stepped, with_state, opened_by, channels_after, replayed, replay}
+use Rattle.book.specs.Replies.{Reply, opened, stepped, signed, revoked, released, is_accepted, answer_of, reply_of, extended, step_refusal, messages_of, sign_refusal}
 use Rattle.book.specs.Accepted.{all_accepted}
-use Rattle.book.specs.Kept.{is_funding, IsKeeping}
-use Rattle.book.specs.Calling.{IsCall}
+use Rattle.book.specs.Kept.{outpoint_cmp, is_funding, IsKeeping}
+use Rattle.book.specs.Calling.{IsCall, IsOpenRefusal, token_refusal, filling_by}
 use Rattle.book.proofs.Accepted.{one_more}
 
 abbrev pub entry : ℕ → Call → Entry
@@ -91,8 +101,8 @@ revoke_answer chs c ch secret next_point n found none e = rw (found, none) (ap (
 
 -- ---- accepted calls in whole: what they answer, and what is kept then
 
--- the entry that was pushed
-pub grown : {T E : Type 0} (r : Result T E) (x : T) (items before history : List Entry) (e f : Entry) → r ≡ Ok x → items ≡ cond (is_ok r) (before ++ e ∷ []) before → before ≡ history → e ≡ f
+-- what was pushed
+pub grown : {A T E : Type 0} (r : Result T E) (x : T) (items before history : List A) (e f : A) → r ≡ Ok x → items ≡ cond (is_ok r) (before ++ e ∷ []) before → before ≡ history → e ≡ f
     → items ≡ history ++ f ∷ []
 grown (Ok y) x items before history e f ok is same named = is ∙ ap (λ es. es ++ e ∷ []) same ∙ ap (λ g. history ++ g ∷ []) named
 grown (Err y) x items before history e f ok is same named = absurd cc
@@ -129,4 +139,60 @@ sign_done history new chs funds seat c x y m no_memory k found none message writ
     record {
       called = taken history new chs seat (Sign c) (signed (Ok m)) no_memory k.left answer refl is;
       kept = keeping_at (with_state after_sign) (λ ch. refl) history new chs funds seat (Sign c) (signed (Ok m)) c x y refl k answer refl is found written_as;
+    }
+
+pub open_done : (history new : List Entry) (chs chs' : Channels) (funds funds' : OutPoint → Bool) (seat n : ℕ) (o : Opening) (no_memory : Reply) → IsKeeping history chs funds
+    → nat_le MAX_CHANNELS (length chs) ≡ false → funds o.terms.funding ≡ false → token_refusal o ≡ None → n ≡ length chs → chs' ≡ chs ++ opened_by o ∷ []
+    → ((q : OutPoint) → funds' q ≡ cond (is_eq (outpoint_cmp o.terms.funding q)) true (funds q)) → new ≡ history ++ entry seat (Open o) ∷ []
+    → IsDone no_memory (opened (Ok n)) history new chs' funds' seat (Open o)
+open_done history new chs chs' funds funds' seat n o no_memory k room new_funding token index is_more more is =
+    let other : is_funding chs o.terms.funding ≡ false = sym (k.fundings o.terms.funding) ∙ new_funding in
+    let answer : answer_of peer_tokens chs (Open o) ≡ opened (Ok n) = rw (room, other, token) (ap (λ m. opened (Ok m)) (sym index)) in
+    record {
+      called = taken history new chs seat (Open o) (opened (Ok n)) no_memory k.left answer refl is;
+      kept = keeping history new chs chs' funds funds' seat (Open o) (opened (Ok n)) k answer refl is is_more (funded chs chs' (opened_by o) funds funds' k.fundings is_more more);
+    }
+
+-- ---- refused calls
+
+pub refused : (history : List Entry) (chs : Channels) (seat : ℕ) (call : Call) (reply no_memory : Reply) → chs ≡ replay history → answer_of peer_tokens chs call ≡ reply → is_accepted reply ≡ false
+    → IsCall no_memory reply history history seat call
+refused history chs seat call reply no_memory left answer rejected = inr (sym same, ap (λ b. extended b history seat call) (sym (ap is_accepted same ∙ rejected)))
+  where
+    same : reply_of peer_tokens history call ≡ reply
+    same = ap (λ cs. answer_of peer_tokens cs call) (sym left) ∙ answer
+
+pub no_room : (m n : ℕ) → n < m → nat_le m n ≡ false
+no_room m n less = grind (arith, nat_tests)
+
+pub same_funding : (history : List Entry) (chs : Channels) (funds : OutPoint → Bool) (seat : ℕ) (o : Opening) (no_memory : Reply) → IsKeeping history chs funds
+    → nat_le MAX_CHANNELS (length chs) ≡ false → funds o.terms.funding ≡ true → IsCall no_memory (opened (Err SameFunding)) history history seat (Open o)
+same_funding history chs funds seat o no_memory k room found =
+    let there : is_funding chs o.terms.funding ≡ true = sym (k.fundings o.terms.funding) ∙ found in
+    refused history chs seat (Open o) (opened (Err SameFunding)) no_memory k.left (rw (room, there) refl) refl
+
+pub no_token : (history : List Entry) (chs : Channels) (funds : OutPoint → Bool) (seat : ℕ) (o : Opening) (e : OpenError) → IsKeeping history chs funds
+    → nat_le MAX_CHANNELS (length chs) ≡ false → funds o.terms.funding ≡ false → IsOpenRefusal (token_refusal o) e → IsCall (opened (Err out_of_memory)) (opened (Err e)) history history seat (Open o)
+no_token history chs funds seat o e k room new h = by e h
+  where
+    other : is_funding chs o.terms.funding ≡ false
+    other = sym (k.fundings o.terms.funding) ∙ new
+
+    first : (r : OpenError) → token_refusal o ≡ Some r → IsCall (opened (Err out_of_memory)) (opened (Err r)) history history seat (Open o)
+    first r is = refused history chs seat (Open o) (opened (Err r)) (opened (Err out_of_memory)) k.left (rw (room, other, is) refl) refl
+
+    by : (r : OpenError) → IsOpenRefusal (token_refusal o) r → IsCall (opened (Err out_of_memory)) (opened (Err r)) history history seat (Open o)
+    by out_of_memory is = inl (refl, refl)
+    by BookFull is = first BookFull is
+    by SameFunding is = first SameFunding is
+    by BadSignature is = first BadSignature is
+
+pub release_done : (history new : List Entry) (chs : Channels) (funds : OutPoint → Bool) (seat c : ℕ) (x : ChannelBook) (b : Batch) (f : Filling) (no_memory : Reply) → IsKeeping history chs funds
+    → slice_get chs c ≡ Some x → fill_refusal b.claims b.outputs (rights_of x.state) b.preimages ≡ None → f ≡ filling_by b
+    → new ≡ history ++ entry seat (Release c b) ∷ [] → IsDone no_memory (released (Ok f)) history new chs funds seat (Release c b)
+release_done history new chs funds seat c x b f no_memory k found none filled is =
+    let answer : answer_of peer_tokens chs (Release c b) ≡ released (Ok f) = rw (found, none) (ap (λ g. released (Ok g)) (sym filled)) in
+    record {
+      called = taken history new chs seat (Release c b) (released (Ok f)) no_memory k.left answer refl is;
+      kept = keeping history new chs chs funds funds seat (Release c b) (released (Ok f)) k answer refl is refl k.fundings;
     }

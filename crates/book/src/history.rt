@@ -1,13 +1,12 @@
 //! A node's book: its channels, and the history of the calls that it accepted.
 
 use crate::calls::{Batch, Call, Entry, Opening, Step};
-use crate::errors::{KeepError, OpenError, ReleaseError, SignError, StepError};
+use crate::errors::{OpenError, ReleaseError, SignError, StepError};
 use crate::limits::MAX_CHANNELS;
 use crate::open_channel::{OpenChannel, Taken};
-use channel::{Channel, Message};
-use claim::Claim;
-use keys::{Key, Signer};
-use lists::List;
+use channel::Message;
+use filling::{FillError, Filled};
+use keys::Key;
 use std::alloc::Global;
 use std::collections::BTreeSet;
 use std::marker::Model;
@@ -42,6 +41,7 @@ impl Book {
     ghost use Rattle.std.specs.Prelude.{◌≡◌, [], true, Err};
     ghost use Rattle.channel.specs.Tokens.{peer_tokens};
     ghost use Rattle.updates.specs.declared.refusals.Refusal.TheVariants.{NoMemory as refusal_memory};
+    ghost use Rattle.filling.specs.declared.errors.FillError.TheVariants.{NoMemory as fill_memory};
     ghost use Rattle.book.specs.Accepted.{all_accepted};
     ghost use Rattle.book.specs.Guarding.{is_guarded};
     ghost use Rattle.book.specs.Replies.{opened, stepped, signed, revoked, kept, released};
@@ -67,6 +67,40 @@ impl Book {
         ensures guarded { is_guarded self.now ≡ true }
     {
         &self.entries
+    }
+
+    /// Opens a channel, and gives its index: BookFull where there are 65,536, SameFunding where one has the same funding output, BadSignature where the token is not
+    /// the peer's on this side's commitment 0. A refusal leaves the book as it was.
+    pub fn open(&mut self, seat: u32, opening: Opening) -> Result<u64, OpenError>
+        ensures { IsCall (opened (Err OpenError.NoMemory)) (opened result) self.old self.new seat (Call.Open opening) }
+    {
+        if self.channels.len() >= MAX_CHANNELS {
+            return Err(OpenError::BookFull);
+        }
+        if self.fundings.contains(&opening.terms.funding) {
+            return Err(OpenError::SameFunding);
+        }
+        let open = match OpenChannel::open(self.alloc, &opening) {
+            Ok(open) => open,
+            Err(error) => return Err(error),
+        };
+        match self.entries.reserve(1) {
+            Ok(()) => {}
+            Err(_) => return Err(OpenError::NoMemory),
+        }
+        match self.channels.reserve(1) {
+            Ok(()) => {}
+            Err(_) => return Err(OpenError::NoMemory),
+        }
+        match self.fundings.insert(opening.terms.funding) {
+            Ok(_) => {}
+            Err(_) => return Err(OpenError::NoMemory),
+        }
+        let index = self.channels.len() as u64;
+        self.channels.push(open).unwrap();
+        let call = Call::Open(opening);
+        self.entries.push(Entry { seat, call }).unwrap();
+        Ok(index)
     }
 
     /// Takes a step of a channel, and gives the message that it sends or that answers it: NoSuchChannel, else the channel's refusal. A refusal leaves the book as
@@ -128,5 +162,50 @@ impl Book {
         };
         self.entries.push(Entry { seat, call }).unwrap();
         Ok(number)
+    }
+
+    /// Signs the peer's next commitment, and gives the message: NoSuchChannel, AwaitingRevocation, PenaltiesMissing with the least number of a revoked commitment whose
+    /// penalties are not kept, NoUpdates. A refusal leaves the book as it was.
+    pub fn sign(&mut self, seat: u32, channel: u64) -> Result<Message, SignError>
+        ensures { IsCall (signed (Err SignError.NoMemory)) (signed result) self.old self.new seat (Call.Sign channel) }
+    {
+        let index = channel as usize;
+        if index >= self.channels.len() {
+            return Err(SignError::NoSuchChannel);
+        }
+        match self.entries.reserve(1) {
+            Ok(()) => {}
+            Err(_) => return Err(SignError::NoMemory),
+        }
+        let open = &mut self.channels[index];
+        let message = match open.sign() {
+            Ok(message) => message,
+            Err(error) => return Err(error),
+        };
+        let call = Call::Sign { channel };
+        self.entries.push(Entry { seat, call }).unwrap();
+        Ok(message)
+    }
+
+    /// Fills the claims of a batch by the channel's signer: NoSuchChannel, else the refusal of `fill`. A refusal leaves the book as it was.
+    pub fn release(&mut self, seat: u32, channel: u64, batch: Batch) -> Result<Filled, ReleaseError>
+        ensures { IsCall (released (Err (ReleaseError.Unfilled fill_memory))) (released result) self.old self.new seat (Call.Release channel batch) }
+    {
+        let index = channel as usize;
+        if index >= self.channels.len() {
+            return Err(ReleaseError::NoSuchChannel);
+        }
+        match self.entries.reserve(1) {
+            Ok(()) => {}
+            Err(_) => return Err(ReleaseError::Unfilled(FillError::NoMemory)),
+        }
+        let open = &self.channels[index];
+        let filled = match open.release(self.alloc, &batch) {
+            Ok(filled) => filled,
+            Err(error) => return Err(ReleaseError::Unfilled(error)),
+        };
+        let call = Call::Release { channel, batch };
+        self.entries.push(Entry { seat, call }).unwrap();
+        Ok(filled)
     }
 }

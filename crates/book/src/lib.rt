@@ -13,10 +13,12 @@ pub mod calls;
 pub mod errors;
 mod flags;
 pub mod history;
+mod judging;
 pub mod laws;
 mod limits;
 pub mod matching;
 mod open_channel;
+mod releasing;
 
 pub use calls::{Batch, Call, Entry, Opening, Step};
 pub use history::Book;

@@ -8,11 +8,12 @@ ghost use Rattle.channel.specs.States.{after_update};
 ghost use Rattle.book.specs.Books.{update_of, stepped};
 ghost use Rattle.book.specs.Replies.{step_refusal, messages_of};
 
-use crate::calls::Step;
-use crate::errors::SignError;
-use crate::flags::first_unset;
+use crate::calls::{Batch, Opening, Step};
+use crate::errors::{OpenError, SignError};
+use crate::releasing::filled;
 use channel::{Channel, Message, Tokens};
-use keys::Key;
+use filling::{FillError, Filled};
+use keys::{Key, Signer};
 use std::alloc::Global;
 use std::marker::Model;
 use texts::OwnUpdate;
@@ -120,9 +121,10 @@ impl OpenChannel {
     ghost use Rattle.std.specs.Prelude.{length};
     ghost use Rattle.channel.specs.declared.messages.Message.TheVariants.{RevokeAndAck};
     ghost use Rattle.channel.specs.States.{after, after_sign, receive_refusal, signature_message};
-    ghost use Rattle.book.specs.Books.{with_state};
+    ghost use Rattle.book.specs.Books.{with_state, opened_by};
     ghost use Rattle.book.specs.Replies.{sign_refusal};
-    ghost use Rattle.book.specs.Calling.{IsSignRefusal, early_sign_refusal};
+    ghost use Rattle.book.specs.Calling.{IsOpenRefusal, IsSignRefusal, IsFillRefusal, token_refusal, early_sign_refusal, filling_by};
+    ghost use Rattle.book.specs.Signers.{rights_of, fill_refusal};
 
     /// The channel, of which no commitment is revoked.
     pub(crate) fn new(alloc: Global, channel: Channel) -> OpenChannel
@@ -134,6 +136,29 @@ impl OpenChannel {
             kept: Vec::new(alloc),
             flags: Vec::new(alloc),
             below: 0,
+        }
+    }
+
+    /// The channel of an opening: BadSignature where its token is not the peer's on this side's commitment 0.
+    pub(crate) fn open(alloc: Global, opening: &Opening) -> Result<OpenChannel, OpenError>
+        ensures ok { IfOk result (λ ch. ch ≡ opened_by opening.now) }
+        ensures tested { let first = token_refusal opening.now in MatchResult result (λ _. first ≡ None) (IsOpenRefusal first) }
+    {
+        let signer = Signer::new(alloc, &opening.seed);
+        match Channel::new(
+            alloc,
+            opening.terms,
+            opening.side,
+            signer,
+            opening.first_point,
+            opening.next_point,
+            &opening.token,
+        ) {
+            Ok(channel) => Ok(OpenChannel::new(alloc, channel)),
+            Err(refusal) => match refusal {
+                Refusal::NoMemory => Err(OpenError::NoMemory),
+                _ => Err(OpenError::BadSignature),
+            },
         }
     }
 
@@ -169,5 +194,46 @@ impl OpenChannel {
         }
         self.flags.push(false).unwrap();
         Ok(number)
+    }
+
+    // Whether a signature awaits its revocation, or penalties are missing.
+    fn check_sign(&self) -> Result<(), SignError>
+        ensures { let first = early_sign_refusal self.now in MatchResult result (λ _. first ≡ None) (λ e. first ≡ Some e) }
+    {
+        if self.channel.waits_to_sign() {
+            return Err(SignError::AwaitingRevocation);
+        }
+        if self.below < self.flags.len() {
+            return Err(SignError::PenaltiesMissing(self.below as u64));
+        }
+        Ok(())
+    }
+
+    /// Signs the peer's next commitment, and gives the message. A refusal leaves all as it was.
+    pub(crate) fn sign(&mut self) -> Result<Message, SignError>
+        ensures message { IfOk result (λ m. m ≡ signature_message tokens_of self.old.state) }
+        ensures ok { IfOk result (λ _. self.new ≡ with_state after_sign self.old) }
+        ensures tested { let first = sign_refusal self.old in MatchResult result (λ _. first ≡ None) (IsSignRefusal first) }
+        ensures err { OnErr result (self.new ≡ self.old) }
+    {
+        match self.check_sign() {
+            Ok(()) => {}
+            Err(error) => return Err(error),
+        }
+        match self.channel.signed() {
+            Ok(message) => Ok(message),
+            Err(refusal) => match refusal {
+                Refusal::NoMemory => Err(SignError::NoMemory),
+                _ => Err(SignError::NoUpdates),
+            },
+        }
+    }
+
+    /// Fills the claims of a batch by the channel's signer.
+    pub(crate) fn release(&self, alloc: Global, batch: &Batch) -> Result<Filled, FillError>
+        ensures ok { IfOk result (λ f. f ≡ filling_by batch.now) }
+        ensures tested { let first = fill_refusal batch.now.claims batch.now.outputs (rights_of self.now.state) batch.now.preimages in MatchResult result (λ _. first ≡ None) (IsFillRefusal first) }
+    {
+        filled(alloc, batch, self.channel.signer())
     }
 }
