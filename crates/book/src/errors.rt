@@ -162,3 +162,17 @@ impl ReleaseError {
         }
     }
 }
+
+/// Why an entry of a dump stands for no call.
+#[derive(Clone, Copy, Debug, PartialEq, Eq, Drop, Error)]
+pub enum EntryError {
+    /// Memory ran out.
+    #[error("NoMemory")]
+    NoMemory,
+    /// The terms of an opening are none that two sides can agree on, or a release has no claim, or more than 4,000 claims or outputs.
+    #[error("BadShape")]
+    BadShape,
+    /// A claim is not accepted, or its script is refused by `parse` or `check`.
+    #[error("BadClaim")]
+    BadClaim,
+}

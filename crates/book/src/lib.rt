@@ -11,6 +11,7 @@ pub mod calls;
 pub mod errors;
 pub mod history;
 pub mod laws;
+pub mod loading;
 mod limits;
 pub mod matching;
 #[cfg(test)]
