@@ -19,7 +19,9 @@ use Rattle.channel.specs.declared.messages.Message.TheVariants.{Updated as Updat
 use Rattle.channel.specs.Points.{secret_at, point_at, is_foreign}
 use Rattle.channel.specs.States.{Signing, State, opened as opened_state, after_update, after_sign, after}
 use Rattle.texts.specs.declared.steps.OwnUpdate.TheVariants.{Offer}
+use Rattle.terms.specs.Agreement.{party}
 use Rattle.book.specs.declared.calls.Opening.{Opening}
+use Rattle.book.specs.declared.calls.Batch.{Batch}
 use Rattle.book.specs.declared.calls.Step.TheVariants.{Own, Updated, Signed}
 use Rattle.book.specs.declared.calls.Call.{Call}
 use Rattle.book.specs.declared.calls.Call.TheVariants.{Open, Step as Stepping, Sign, Revoke, Keep, Release}
@@ -30,9 +32,11 @@ use Rattle.book.specs.declared.errors.SignError.TheVariants.{PenaltiesMissing, A
 use Rattle.book.specs.declared.errors.KeepError.TheVariants.{NotRevoked, AlreadyKept, OtherState, NoSuchChannel as NoChannelToKeep}
 use Rattle.book.specs.declared.errors.ReleaseError.TheVariants.{NoSuchChannel as NoChannelToRelease}
 use Rattle.book.specs.declared.limits.TheConstants.{MAX_CHANNELS}
+use Rattle.book.specs.Bounds.{IsSeedOf}
 use Rattle.book.specs.Penalties.{is_penalty_set}
 use Rattle.book.specs.Books.{ChannelBook, missing_from, first_missing, replay}
 use Rattle.book.specs.Replies.{Reply, opened, stepped, signed, revoked, kept, released, reply_of, sign_refusal, keep_refusal, history_after}
+use Rattle.book.specs.Accepted.{all_accepted, first_refused}
 use Rattle.book.specs.Guarding.{is_set_in, number_kept, is_guarded}
 
 limit : MAX_CHANNELS ≡ 65536
@@ -100,7 +104,7 @@ abbrev history_from : List Entry → List Call → List Entry
 history_from history [] = history
 history_from history (call ∷ calls) = history_from (history_after tokens_of history 0 call) calls
 
-module _ (bases : BaseKeys) (seed : List ℕ) where
+module _ (bases : BaseKeys) (seed : List ℕ) (own : IsSeedOf seed bases) where
   abbrev terms_of : ℕ → Terms
   terms_of index = record {
     funding = record { txid = replicate 32 5; index = index };
@@ -113,8 +117,13 @@ module _ (bases : BaseKeys) (seed : List ℕ) where
     whole = refl;
   }
 
+  -- the two sides have the same base keys
+  owned : (side : Side) (index : ℕ) → IsSeedOf seed (party side (terms_of index)).bases
+  owned A index = own
+  owned B index = own
+
   abbrev opening : Side → ℕ → List ℕ → Opening
-  opening side index token = record { terms = terms_of index; side = side; seed = seed; first_point = point_key; next_point = key 1; token = token }
+  opening side index token = record { terms = terms_of index; side = side; seed = seed; first_point = point_key; next_point = key 1; token = token; own = owned side index }
 
   -- the funding output is tested before the token
   openings : answers_from [] (Open (opening A 0 (0 ∷ [])) ∷ Open (opening A 0 (1 ∷ [])) ∷ Open (opening A 1 (1 ∷ [])) ∷ Open (opening A 1 (0 ∷ [])) ∷ [])
@@ -148,6 +157,17 @@ module _ (bases : BaseKeys) (seed : List ℕ) where
   first_entries : history_from [] first_calls ≡ first_history
   unfolding is_foreign
   first_entries = rw point_is refl
+
+  -- each of them is accepted after those before it, and not where one more is in front or another comes next
+  accepted : (all_accepted tokens_of [] ≡ true)
+      × (all_accepted tokens_of first_history ≡ true)
+      × (all_accepted tokens_of (first_history ++ entry (Sign 0) ∷ []) ≡ false)
+      × (all_accepted tokens_of (entry (Sign 0) ∷ first_history) ≡ false)
+      × (first_refused tokens_of first_history ≡ None)
+      × (first_refused tokens_of (first_history ++ entry (Sign 0) ∷ entry (Sign 0) ∷ []) ≡ Some 5)
+      × (first_refused tokens_of (entry (Sign 0) ∷ first_history) ≡ Some 0)
+  unfolding is_foreign
+  accepted = (refl, rw point_is refl, refl, rw point_is refl, rw point_is refl, rw point_is refl, refl)
 
   -- A's state then
   abbrev then : State
@@ -190,12 +210,13 @@ module _ (bases : BaseKeys) (seed : List ℕ) where
   wrong_secret = (rw other_point_is refl, rw other_point_is refl, refl)
 
   -- no call finds a channel that is not there
-  strangers : (reply_of tokens_of first_history (Stepping 1 (Own (Offer 0 hash 500))) ≡ stepped (Err NoChannelToStep))
+  strangers : (batch : Batch) →
+      (reply_of tokens_of first_history (Stepping 1 (Own (Offer 0 hash 500))) ≡ stepped (Err NoChannelToStep))
       × (reply_of tokens_of first_history (Sign 1) ≡ signed (Err NoChannelToSign))
       × (reply_of tokens_of first_history (Revoke 1 secret (key 2)) ≡ revoked (Err NoChannelToStep))
       × (reply_of tokens_of first_history (Keep 1 5 []) ≡ kept (Err NoChannelToKeep))
-      × (reply_of tokens_of first_history (Release 1 [] [] []) ≡ released (Err NoChannelToRelease))
-  strangers = (refl, refl, refl, refl, refl)
+      × (reply_of tokens_of first_history (Release 1 batch) ≡ released (Err NoChannelToRelease))
+  strangers batch = (refl, refl, refl, refl, refl)
 
   abbrev channel : State → List ℕ → ChannelBook
   channel state kept_ones = record { state = state; kept = kept_ones }

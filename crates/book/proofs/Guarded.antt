@@ -1,8 +1,7 @@
 -- A book that keeps the penalties of each revocation before it signs again: every history that calls lead to is guarded.
 use Rattle.std.proofs.Common.{◌≡◌, ℕ, zero, suc, ◌+◌, ◌<◌, ◌≤◌, ◌==◌, ◌&&◌, ◌||◌, if◌then◌else◌, Bool, true, false, true≢false, List, [], ◌∷◌, ◌++◌, length, length-append, reverse, Option, Some, None, refl, sym, ap, ◌∙◌, subst, arith, ⊎_elim, inl, inr, ◌⊎◌, cond}
 use Rattle.std.specs.Prelude.{is_ok, slice_get, option_map, unwrap_or}
-use Rattle.std.proofs.lemmas.Bool.{eqb-true, eqb-false, eq-eqb, cases_Bool, or_cases, or_left, and_from}
-use Rattle.std.proofs.lemmas.List.{reverse-append}
+use Rattle.std.proofs.lemmas.Bool.{eqb-true, eqb-false, eq-eqb, or_cases, and_from, and_parts}
 use Rattle.keys.specs.declared.compressed.Key.{Key}
 use Rattle.claim.specs.Claims.{ClaimParts}
 use Rattle.channel.specs.States.{Signing, State}
@@ -14,8 +13,9 @@ use Rattle.book.specs.declared.calls.Call.TheVariants.{Open, Step as Stepping, S
 use Rattle.book.specs.declared.calls.Entry.{Entry}
 use Rattle.book.specs.Penalties.{is_penalty_set}
 use Rattle.book.specs.Books.{ChannelBook, Channels, at_index, stepped, opened_by, with_state, with_kept, channels_after, replayed, is_kept, first_missing}
-use Rattle.book.specs.Replies.{Reply, is_accepted, answer_of, sign_refusal, keep_refusal, extended, history_after}
-use Rattle.book.specs.Guarding.{is_revocation, revocations, is_set_in, number_kept, joined, are_answered, is_allowed, all_allowed, IsPlayed, begins, called, PlayedIsGuarded}
+use Rattle.book.specs.Replies.{Reply, is_accepted, answer_of, sign_refusal, keep_refusal}
+use Rattle.book.specs.Accepted.{is_taken, are_accepted}
+use Rattle.book.specs.Guarding.{is_revocation, revocations, is_set_in, number_kept, joined, are_answered, is_allowed, all_allowed, AcceptedIsGuarded}
 use Rattle.book.proofs.Lists.{at_here, at_other, unseen, as_before}
 use Rattle.book.proofs.Accepting.{asked_ok, unless_ok, some_none, keeps, none_missing}
 use Rattle.book.proofs.Missing.{all_kept, kept_or_new}
@@ -34,7 +34,11 @@ at c es = slice_get (replayed es) c
 -- each call was accepted
 abbrev AreAccepted : Signing → List Entry → Type 0
 AreAccepted tokens_of [] = Unit {0}
-AreAccepted tokens_of (e ∷ es) = (is_accepted (answer_of tokens_of (replayed es) e.call) ≡ true) × AreAccepted tokens_of es
+AreAccepted tokens_of (e ∷ es) = (is_taken tokens_of es e ≡ true) × AreAccepted tokens_of es
+
+each_is : (tokens_of : Signing) (es : List Entry) → are_accepted tokens_of es ≡ true → AreAccepted tokens_of es
+each_is tokens_of [] ok = tt
+each_is tokens_of (e ∷ es) ok = let h = and_parts (is_taken tokens_of es e) (are_accepted tokens_of es) ok in (h.0, each_is tokens_of es h.1)
 
 -- a step leaves the secrets
 step_leaves : (step : Step) (s : State) → length (stepped step s).secrets ≡ length s.secrets
@@ -58,7 +62,7 @@ counted_once c (Stepping d step) tokens_of chs ok = ap (λ o. unwrap_or o 0) (un
 counted_once c (Sign d) tokens_of chs ok = ap (λ o. unwrap_or o 0) (unseen (λ (ch : ChannelBook). length ch.state.secrets) _ (λ ch. refl) d c chs)
 counted_once c (Revoke d secret next_point) tokens_of chs ok = let found = asked_ok _ (slice_get chs d) _ ok in revoked_once c d secret next_point chs found.0 found.1 (d == c) refl
 counted_once c (Keep d n claims) tokens_of chs ok = ap (λ o. unwrap_or o 0) (unseen (λ (ch : ChannelBook). length ch.state.secrets) (with_kept n) (λ ch. refl) d c chs)
-counted_once c (Release d claims outputs preimages) tokens_of chs ok = refl
+counted_once c (Release d batch) tokens_of chs ok = refl
 
 counted : (c : ℕ) (tokens_of : Signing) (es : List Entry) → AreAccepted tokens_of es → count_of (at c es) ≡ revocations c es
 counted c tokens_of [] ok = refl
@@ -103,7 +107,7 @@ kept_once c n (Keep d m claims) tokens_of chs ok =
     let found = asked_ok _ (slice_get chs d) _ ok in
     let keeping = keeps found.0 m claims (unless_ok _ _ _ found.2) in
     keep_once c n d m claims chs found.0 found.1 keeping.0 keeping.2 (d == c) refl
-kept_once c n (Release d claims outputs preimages) tokens_of chs ok = inl
+kept_once c n (Release d batch) tokens_of chs ok = inl
 
 -- only numbers of revoked commitments are kept
 kept_below : (c n : ℕ) (tokens_of : Signing) (es : List Entry) → AreAccepted tokens_of es → is_kept (kept_of (at c es)) n ≡ true → n < revocations c es
@@ -133,7 +137,7 @@ revokes_alone c n chs (Stepping d step) e kept = true≢false (sym e)
 revokes_alone c n chs (Sign d) e kept = true≢false (sym e)
 revokes_alone c n chs (Revoke d secret next_point) e kept = some_none n (sym kept)
 revokes_alone c n chs (Keep d m claims) e kept = true≢false (sym e)
-revokes_alone c n chs (Release d claims outputs preimages) e kept = true≢false (sym e)
+revokes_alone c n chs (Release d batch) e kept = true≢false (sym e)
 
 joins_old : (o : Option ℕ) (later : List ℕ) (n : ℕ) → is_kept later n ≡ true → is_kept (joined o later) n ≡ true
 joins_old None later n h = h
@@ -199,21 +203,11 @@ allowed tokens_of (Sign c) es before ok =
     allowed_to_sign tokens_of c es before found.0 found.1 (none_missing found.0 (unless_ok _ _ _ found.2))
 allowed tokens_of (Revoke d secret next_point) es before ok = refl
 allowed tokens_of (Keep d n claims) es before ok = refl
-allowed tokens_of (Release d claims outputs preimages) es before ok = refl
+allowed tokens_of (Release d batch) es before ok = refl
 
 all_are : (tokens_of : Signing) (es : List Entry) → AreAccepted tokens_of es → all_allowed es ≡ true
 all_are tokens_of [] ok = refl
 all_are tokens_of (e ∷ es) ok = and_from _ _ (allowed tokens_of e.call es ok.1 ok.0) (all_are tokens_of es ok.1)
 
--- ---- histories of accepted calls
-
-accepted : (tokens_of : Signing) (history : List Entry) → IsPlayed tokens_of history → AreAccepted tokens_of (reverse history)
-accepted tokens_of _ begins = tt
-accepted tokens_of _ (called {history} seat call before) = by (is_accepted (answer_of tokens_of (replayed (reverse history)) call)) refl (accepted tokens_of history before)
-  where
-    by : (t : Bool) → is_accepted (answer_of tokens_of (replayed (reverse history)) call) ≡ t → AreAccepted tokens_of (reverse history) → AreAccepted tokens_of (reverse (extended t history seat call))
-    by true e old = subst (AreAccepted tokens_of) (sym (reverse-append history (record { seat = seat; call = call } ∷ []))) (e, old)
-    by false e old = old
-
-pub played_is_guarded : PlayedIsGuarded
-played_is_guarded tokens_of history played = all_are tokens_of (reverse history) (accepted tokens_of history played)
+pub accepted_is_guarded : AcceptedIsGuarded
+accepted_is_guarded tokens_of history ok = all_are tokens_of (reverse history) (each_is tokens_of (reverse history) ok)

@@ -58,7 +58,7 @@ channels_after (Stepping c step) chs = at_index (with_state (stepped step)) c ch
 channels_after (Sign c) chs = at_index (with_state after_sign) c chs
 channels_after (Revoke c secret next_point) chs = at_index (with_state (λ s. after s (RevokeAndAck secret next_point))) c chs
 channels_after (Keep c n claims) chs = at_index (with_kept n) c chs
-channels_after (Release c claims outputs preimages) chs = chs
+channels_after (Release c batch) chs = chs
 
 -- the channels after these accepted calls, the newest first
 abbrev pub replayed : List Entry → Channels

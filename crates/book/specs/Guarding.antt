@@ -7,7 +7,7 @@ use Rattle.book.specs.declared.calls.Call.TheVariants.{Open, Step, Sign, Revoke,
 use Rattle.book.specs.declared.calls.Entry.{Entry}
 use Rattle.book.specs.Penalties.{is_penalty_set}
 use Rattle.book.specs.Books.{ChannelBook, Channels, is_kept, replayed}
-use Rattle.book.specs.Replies.{history_after}
+use Rattle.book.specs.Accepted.{all_accepted}
 
 -- Lists of entries have the newest first here.
 
@@ -18,7 +18,7 @@ is_revocation c (Step d step) = false
 is_revocation c (Sign d) = false
 is_revocation c (Revoke d secret next_point) = d == c
 is_revocation c (Keep d n claims) = false
-is_revocation c (Release d claims outputs preimages) = false
+is_revocation c (Release d batch) = false
 
 -- how many revocations came in a channel; the next one is of the peer's commitment of this number
 abbrev pub revocations : ℕ → List Entry → ℕ
@@ -37,7 +37,7 @@ number_kept c chs (Step d step) = None
 number_kept c chs (Sign d) = None
 number_kept c chs (Revoke d secret next_point) = None
 number_kept c chs (Keep d n claims) = if d == c && is_set_in (slice_get chs c) n claims then Some n else None
-number_kept c chs (Release d claims outputs preimages) = None
+number_kept c chs (Release d batch) = None
 
 abbrev pub joined : Option ℕ → List ℕ → List ℕ
 joined None ns = ns
@@ -57,7 +57,7 @@ is_allowed (Step d step) es = true
 is_allowed (Sign c) es = are_answered c [] es
 is_allowed (Revoke d secret next_point) es = true
 is_allowed (Keep d n claims) es = true
-is_allowed (Release d claims outputs preimages) es = true
+is_allowed (Release d batch) es = true
 
 abbrev pub all_allowed : List Entry → Bool
 all_allowed [] = true
@@ -69,14 +69,9 @@ is_guarded history = all_allowed (reverse history)
 
 -- ---- the signing gate
 
--- the histories that calls lead to
-pub data IsPlayed (tokens_of : Signing) : List Entry → Type 0 where
-  begins : IsPlayed tokens_of []
-  called : {history : List Entry} (seat : ℕ) (call : Call) → IsPlayed tokens_of history → IsPlayed tokens_of (history_after tokens_of history seat call)
-
--- each of them is guarded, whatever the peers' messages say
-abbrev pub PlayedIsGuarded : Type 0
-PlayedIsGuarded = (tokens_of : Signing) (history : List Entry) → IsPlayed tokens_of history → is_guarded history ≡ true
+-- a history of accepted calls is guarded, whatever the peers' messages say
+abbrev pub AcceptedIsGuarded : Type 0
+AcceptedIsGuarded = (tokens_of : Signing) (history : List Entry) → all_accepted tokens_of history ≡ true → is_guarded history ≡ true
 
 -- ---- the same, entry by entry
 

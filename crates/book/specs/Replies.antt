@@ -118,8 +118,7 @@ answer_of tokens_of chs (Sign c) =
 answer_of tokens_of chs (Revoke c secret next_point) =
     revoked (asked NoChannelToStep (slice_get chs c) (λ ch. unless Refused (receive_refusal tokens_of ch.state (RevokeAndAck secret next_point)) (length ch.state.secrets)))
 answer_of tokens_of chs (Keep c n claims) = kept (asked NoChannelToKeep (slice_get chs c) (λ ch. unless (λ e. e) (keep_refusal ch n claims) tt))
-answer_of tokens_of chs (Release c claims outputs preimages) =
-    released (asked NoChannelToRelease (slice_get chs c) (λ ch. fill_answer ch.state claims outputs preimages))
+answer_of tokens_of chs (Release c batch) = released (asked NoChannelToRelease (slice_get chs c) (λ ch. fill_answer ch.state batch.claims batch.outputs batch.preimages))
 
 -- the answer to a call after a history
 abbrev pub reply_of : Signing → List Entry → Call → Reply

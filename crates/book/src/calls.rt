@@ -1,13 +1,19 @@
 //! The calls of a book, as its history has them.
 
+ghost use Rattle.std.specs.Prelude.{◌≤◌, ◌↔◌, length, IsTrue};
+ghost use Rattle.tx.specs.Limits.{max_inputs, max_outputs};
+ghost use Rattle.terms.specs.Agreement.{party};
+ghost use Rattle.book.specs.Bounds.{IsSeedOf};
+
 use channel::Tokens;
 use claim::Claim;
-use keys::Key;
+use keys::{Base, Key, Signer};
 use lists::List;
 use sighash::Token;
-use terms::{Side, Terms};
+use std::alloc::Global;
+use terms::{BaseKeys, Side, Terms};
 use texts::OwnUpdate;
-use tx::TxOut;
+use tx::{MAX_INPUTS, MAX_OUTPUTS, TxOut};
 use updates::Update;
 
 /// How a side opens a channel: the terms, in which its own base keys are those of the seed, and what its peer sent before the channel is there.
@@ -24,6 +30,89 @@ pub struct Opening {
     pub next_point: Key,
     /// The peer's token on this side's commitment 0.
     pub token: Token,
+    pub ghost own: { IsSeedOf seed (party side terms).bases },
+}
+
+// Whether the base keys are those of a seed.
+fn is_seed_of(alloc: Global, seed: &[u8; 32], bases: &BaseKeys) -> bool
+    ensures { IsTrue result ↔ IsSeedOf seed.now bases.now }
+{
+    let signer = Signer::new(alloc, seed);
+    bases.funding.bytes == signer.base(Base::Funding).bytes
+        && bases.payment.bytes == signer.base(Base::Payment).bytes
+        && bases.delayed.bytes == signer.base(Base::Delayed).bytes
+        && bases.htlc.bytes == signer.base(Base::Htlc).bytes
+        && bases.revocation.bytes == signer.base(Base::Revocation).bytes
+}
+
+impl Opening {
+    ghost use Rattle.std.specs.Prelude.{◌↔◌, ◌≤◌, length, IsSome, IfSome};
+    ghost use Rattle.book.specs.Calls.{IsOpenedBy};
+
+    /// How a side opens a channel of these terms; `None` where one of its five base keys in them is not the seed's. It takes no memory.
+    pub fn new(
+        alloc: Global,
+        terms: Terms,
+        side: Side,
+        seed: [u8; 32],
+        first_point: Key,
+        next_point: Key,
+        token: Token,
+    ) -> Option<Opening>
+        ensures some { IsSome result ↔ IsSeedOf seed (party side terms).bases }
+        ensures parts { IfSome result (IsOpenedBy terms side seed first_point next_point token) }
+    {
+        if !is_seed_of(alloc, &seed, &terms.party(side).bases) {
+            return None;
+        }
+        Some(Opening {
+            terms,
+            side,
+            seed,
+            first_point,
+            next_point,
+            token,
+        })
+    }
+}
+
+/// Claims that one transaction takes, with what it gives.
+#[derive(Drop)]
+pub struct Batch {
+    /// 1 to 4,000 claims.
+    pub claims: List<Claim>,
+    /// At most 4,000 outputs; they are not read where a claim has a fixed transaction.
+    pub outputs: List<TxOut>,
+    /// The preimages that the claims want.
+    pub preimages: List<[u8; 32]>,
+    pub ghost some: { 1 ≤ length claims },
+    pub ghost inputs: { length claims ≤ max_inputs },
+    pub ghost given: { length outputs ≤ max_outputs },
+}
+
+impl Batch {
+    ghost use Rattle.std.specs.Prelude.{◌↔◌, ◌≤◌, length, IsSome, IfSome};
+    ghost use Rattle.book.specs.Bounds.{CanRelease};
+    ghost use Rattle.book.specs.Calls.{IsBatchOf};
+
+    /// Claims with the outputs of their transaction and the preimages; `None` where there is no claim, or more than 4,000 claims or outputs. It takes no memory.
+    pub fn new(
+        claims: List<Claim>,
+        outputs: List<TxOut>,
+        preimages: List<[u8; 32]>,
+    ) -> Option<Batch>
+        ensures some { IsSome result ↔ CanRelease claims outputs }
+        ensures parts { IfSome result (IsBatchOf claims outputs preimages) }
+    {
+        if claims.is_empty() || claims.len() > MAX_INPUTS || outputs.len() > MAX_OUTPUTS {
+            return None;
+        }
+        Some(Batch {
+            claims,
+            outputs,
+            preimages,
+        })
+    }
 }
 
 /// A step of a channel: an update of one's own, or a received message that is no revocation.
@@ -65,9 +154,7 @@ pub enum Call {
     /// Fills claims, by the signer of the channel and the preimages.
     Release {
         channel: u64,
-        claims: List<Claim>,
-        outputs: List<TxOut>,
-        preimages: List<[u8; 32]>,
+        batch: Batch,
     },
 }
 

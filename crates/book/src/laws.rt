@@ -1,12 +1,19 @@
 //! Laws over the definitions alone.
 
-ghost use Rattle.book.specs.Guarding.{PlayedIsGuarded, GuardedMeans};
+ghost use Rattle.book.specs.Accepted.{AcceptedMeans};
+ghost use Rattle.book.specs.Guarding.{AcceptedIsGuarded, GuardedMeans};
 ghost use Rattle.book.specs.Signers.{RightsAreTested, RefusalsAreFound, KeptAreFillable};
+
+/// The histories that a book's calls lead to are those of which each entry is accepted after those before it. Where that is not so, there is a first entry that is refused: what
+/// stands before it is accepted, and with it nothing is.
+pub fn accepted_is_called()
+    ensures { AcceptedMeans }
+{}
 
 /// The signing gate: whatever calls a book gets, and whatever its peers' messages say, each signature in its history stands where every revocation that came in its
 /// channel has the penalties of the revoked commitment kept between the two, by accepted claims on exactly what that commitment lets the side claim.
 pub fn signing_is_guarded()
-    ensures guarded { PlayedIsGuarded }
+    ensures guarded { AcceptedIsGuarded }
     ensures between { GuardedMeans }
 {}
 

@@ -7,6 +7,8 @@
 //! were filed before; out of memory leaves the book as it was. The test `first_claim` shows a claim filed under two seats.
 #![tactic(auto)]
 
+#[cfg(test)]
+mod call_tests;
 pub mod calls;
 pub mod errors;
 pub mod history;
