@@ -1,5 +1,5 @@
 -- What `parse`, `check` and `accept` answer, and what the definition of a claim says.
-use Rattle.std.proofs.Common.{◌≡◌, ℕ, ◌≤◌, List, length, Bool, true, false, Option, Some, None, Result, Ok, Err, refl, sym, ap, ◌∙◌, subst}
+use Rattle.std.proofs.Common.{◌≡◌, ℕ, ◌≤◌, List, [], ◌∷◌, ◌++◌, length, Bool, true, false, Option, Some, None, Result, Ok, Err, refl, sym, ap, ◌∙◌, subst, append_assoc, append-nil}
 use Rattle.std.specs.Prelude.{is_ok, IsTrue}
 use Rattle.script.specs.declared.opcode.Op.{Op}
 use Rattle.script.specs.declared.parse.ParseError.{ParseError}
@@ -20,7 +20,10 @@ use Rattle.texts.specs.declared.claims.PlainClaim.{PlainClaim}
 use Rattle.book.specs.Opcodes.{ops_of}
 use Rattle.book.specs.declared.errors.EntryError.{EntryError}
 use Rattle.book.specs.declared.errors.EntryError.TheVariants as entries
-use Rattle.book.specs.Loading.{Takes, checked_of, claim_of}
+use Rattle.texts.specs.Values.{◌>>=◌}
+use Rattle.book.specs.declared.calls.Call.{Call}
+use Rattle.book.specs.declared.calls.Entry.{Entry}
+use Rattle.book.specs.Loading.{Answers, Takes, checked_of, claim_of, claims_of, with_claims, with_seat}
 use Rattle.book.proofs.OpcodesRead.{is_read}
 
 -- bytes with a fault spell no script
@@ -83,3 +86,52 @@ pub script_refused : (p : PlainClaim) (e : EntryError) → Takes {A = CheckedScr
 script_refused p entries.NoMemory h = tt
 script_refused p entries.BadShape h = absurd h
 script_refused p entries.BadClaim h = none_checked p h
+
+-- ---- lists of claims
+
+abbrev onto : List ClaimParts → Option (List ClaimParts) → Option (List ClaimParts)
+onto done (Some claims) = Some (done ++ claims)
+onto done None = None
+
+-- these claims were taken, and those plain ones are left
+abbrev pub SoFar : List PlainClaim → List ClaimParts → List PlainClaim → Type 0
+SoFar whole done left = claims_of whole ≡ onto done (claims_of left)
+
+pub none_taken : (whole : List PlainClaim) → SoFar whole [] whole
+none_taken whole = go (claims_of whole)
+  where
+    go : (o : Option (List ClaimParts)) → o ≡ onto [] o
+    go (Some claims) = refl
+    go None = refl
+
+pub one_taken : (whole left : List PlainClaim) (done : List ClaimParts) (p : PlainClaim) (c : ClaimParts) → SoFar whole done (p ∷ left) → claim_of p ≡ Some c → SoFar whole (done ++ c ∷ []) left
+unfolding claims_of
+one_taken whole left done p c so_far taken = so_far ∙ rw taken (go (claims_of left))
+  where
+    go : (o : Option (List ClaimParts)) → onto done (o >>= (λ cs. Some (c ∷ cs))) ≡ onto (done ++ c ∷ []) o
+    go (Some cs) = ap Some (sym (append_assoc done (c ∷ []) cs))
+    go None = refl
+
+pub one_refused : (whole left : List PlainClaim) (done : List ClaimParts) (p : PlainClaim) (e : EntryError) → SoFar whole done (p ∷ left)
+    → Takes {A = ClaimParts} (Err e) (claim_of p) → Takes {A = List ClaimParts} (Err e) (claims_of whole)
+unfolding claims_of
+one_refused whole left done p entries.NoMemory so_far h = tt
+one_refused whole left done p entries.BadShape so_far h = absurd h
+one_refused whole left done p entries.BadClaim so_far h = so_far ∙ rw h refl
+
+pub all_taken : (whole : List PlainClaim) (done : List ClaimParts) → SoFar whole done [] → claims_of whole ≡ Some done
+unfolding claims_of
+all_taken whole done so_far = so_far ∙ ap Some (append-nil done)
+
+-- ---- refusals that are handed on
+
+pub claims_refused : (claims : Option (List ClaimParts)) (call : List ClaimParts → Result Call EntryError) (e : EntryError) → Takes {A = List ClaimParts} (Err e) claims
+    → Answers {A = Call} (Err e) (with_claims claims call)
+claims_refused claims call entries.NoMemory h = tt
+claims_refused claims call entries.BadShape h = absurd h
+claims_refused claims call entries.BadClaim h = rw h refl
+
+pub call_refused : (seat : ℕ) (call : Result Call EntryError) (e : EntryError) → Answers {A = Call} (Err e) call → Answers {A = Entry} (Err e) (with_seat seat call)
+call_refused seat call entries.NoMemory h = tt
+call_refused seat call entries.BadShape h = rw h refl
+call_refused seat call entries.BadClaim h = rw h refl

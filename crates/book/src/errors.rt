@@ -1,8 +1,10 @@
 //! Why a book refuses a call.
 
 ghost use Rattle.std.specs.Prelude.{◌≡◌};
+ghost use Rattle.book.specs.declared.errors.EntryError.TheVariants.{NoMemory};
 
 use filling::FillError;
+use std::alloc::{AllocError, AllocFailed};
 use thiserror::Error;
 use updates::Refusal;
 
@@ -175,4 +177,20 @@ pub enum EntryError {
     /// A claim is not accepted, or its script is refused by `parse` or `check`.
     #[error("BadClaim")]
     BadClaim,
+}
+
+impl From<AllocError> for EntryError {
+    ghost from_gives = { λ _ e. e ≡ NoMemory };
+
+    fn from(_error: AllocError) -> EntryError {
+        EntryError::NoMemory
+    }
+}
+
+impl<T: Drop> From<AllocFailed<T>> for EntryError {
+    ghost from_gives = { λ _ e. e ≡ NoMemory };
+
+    fn from(_error: AllocFailed<T>) -> EntryError {
+        EntryError::NoMemory
+    }
 }

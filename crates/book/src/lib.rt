@@ -10,11 +10,13 @@
 #[cfg(test)]
 mod call_tests;
 pub mod calls;
+pub mod dumping;
 pub mod errors;
 pub mod history;
 pub mod laws;
 pub mod loading;
 mod limits;
+mod openings;
 pub mod matching;
 #[cfg(test)]
 mod tests;
