@@ -1,6 +1,7 @@
 //! The dump of a history: a text of JSON (RFC 8259) from which the same history is loaded.
 
-ghost use Rattle.std.specs.Prelude.{◌≡◌, map, IfOk, IsUtf8};
+ghost use Rattle.std.specs.Prelude.{◌≡◌, map, Some, IfOk, string_bytes};
+ghost use Rattle.serde_json.specs.Read.{read};
 ghost use Rattle.serde_json.specs.View.{view};
 ghost use Rattle.texts.specs.CallWriting.{signature_data};
 ghost use Rattle.book.specs.Dumping.{plain_party, plain_terms, plain_opening, plain_tokens, step_data, call_data, history_entry_data, history_data, dump_of};
@@ -130,10 +131,13 @@ fn history_value(alloc: Global, history: &[Entry]) -> Result<Value, AllocError>
 
 /// The dump of a history, the oldest entry first: JSON of version 2 with no space, the members of each object in the order of their names. The only
 /// error is that memory ran out.
-pub fn dump(alloc: Global, history: &[Entry]) -> Result<Vec<u8>, AllocError>
-    ensures text { IfOk result (λ bytes. bytes.items ≡ dump_of history.now) }
-    ensures utf8 { IfOk result (λ bytes. IsUtf8 bytes.items) }
+#[tactic(auto, unfolding(crate::specs::Dumping::dump_of))]
+pub fn dump(alloc: Global, history: &[Entry]) -> Result<String, AllocError>
+    ensures text { IfOk result (λ text. string_bytes text ≡ dump_of history.now) }
+
+    // What the text is read as.
+    ensures reads { IfOk result (λ text. read (string_bytes text) ≡ Some (history_data history.now)) }
 {
     let value = history_value(alloc, history)?;
-    value.to_vec(alloc)
+    value.to_string(alloc)
 }

@@ -194,3 +194,40 @@ impl<T: Drop> From<AllocFailed<T>> for EntryError {
         EntryError::NoMemory
     }
 }
+
+/// Why a text is not loaded. Entries are counted from 0, the oldest first.
+#[derive(Clone, Copy, Debug, PartialEq, Eq, Drop, Error)]
+pub enum LoadError {
+    /// Memory ran out.
+    #[error("NoMemory")]
+    NoMemory,
+    /// The text is no JSON.
+    #[error("NotJson")]
+    NotJson,
+    /// The value is no dump.
+    #[error("BadShape")]
+    BadShape,
+    /// A claim of this entry is not accepted, or its script is refused by `parse` or `check`.
+    #[error("BadClaim {0}")]
+    BadClaim(usize),
+    /// The call of this entry is refused after those before it.
+    #[error("BadHistory {0}")]
+    BadHistory(usize),
+}
+
+impl LoadError {
+    ghost use Rattle.book.specs.Refusals.{load_error_number};
+
+    /// The number of the refusal; 0 is out of memory.
+    pub fn number(&self) -> u8
+        ensures { result ≡ load_error_number self.now }
+    {
+        match self {
+            LoadError::NoMemory => 0,
+            LoadError::NotJson => 1,
+            LoadError::BadShape => 2,
+            LoadError::BadClaim(_) => 3,
+            LoadError::BadHistory(_) => 4,
+        }
+    }
+}

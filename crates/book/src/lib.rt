@@ -17,6 +17,7 @@ pub mod laws;
 pub mod loading;
 mod limits;
 mod openings;
+mod reading;
 pub mod matching;
 #[cfg(test)]
 mod tests;
