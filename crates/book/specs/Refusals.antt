@@ -12,6 +12,8 @@ use Rattle.book.specs.declared.errors.KeepError.{KeepError}
 use Rattle.book.specs.declared.errors.KeepError.TheVariants as keeps
 use Rattle.book.specs.declared.errors.ReleaseError.{ReleaseError}
 use Rattle.book.specs.declared.errors.ReleaseError.TheVariants as releases
+use Rattle.book.specs.declared.errors.LoadError.{LoadError}
+use Rattle.book.specs.declared.errors.LoadError.TheVariants as loads
 
 abbrev pub open_error_number : OpenError → ℕ
 open_error_number opens.NoMemory = 0
@@ -40,3 +42,10 @@ keep_error_number keeps.NoSuchChannel = 9
 abbrev pub release_error_number : ReleaseError → ℕ
 release_error_number (releases.Unfilled r) = fill_error_number r
 release_error_number releases.NoSuchChannel = 9
+
+abbrev pub load_error_number : LoadError → ℕ
+load_error_number loads.NoMemory = 0
+load_error_number loads.NotJson = 1
+load_error_number loads.BadShape = 2
+load_error_number (loads.BadClaim i) = 3
+load_error_number (loads.BadHistory i) = 4

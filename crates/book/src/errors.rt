@@ -1,8 +1,10 @@
 //! Why a book refuses a call.
 
 ghost use Rattle.std.specs.Prelude.{◌≡◌};
+ghost use Rattle.book.specs.declared.errors.EntryError.TheVariants.{NoMemory};
 
 use filling::FillError;
+use std::alloc::{AllocError, AllocFailed};
 use thiserror::Error;
 use updates::Refusal;
 
@@ -159,6 +161,73 @@ impl ReleaseError {
         match self {
             ReleaseError::Unfilled(refusal) => refusal.number(),
             ReleaseError::NoSuchChannel => 9,
+        }
+    }
+}
+
+/// Why an entry of a dump stands for no call.
+#[derive(Clone, Copy, Debug, PartialEq, Eq, Drop, Error)]
+pub enum EntryError {
+    /// Memory ran out.
+    #[error("NoMemory")]
+    NoMemory,
+    /// The terms of an opening are none that two sides can agree on, or a release has no claim, or more than 4,000 claims or outputs.
+    #[error("BadShape")]
+    BadShape,
+    /// A claim is not accepted, or its script is refused by `parse` or `check`.
+    #[error("BadClaim")]
+    BadClaim,
+}
+
+impl From<AllocError> for EntryError {
+    ghost from_gives = { λ _ e. e ≡ NoMemory };
+
+    fn from(_error: AllocError) -> EntryError {
+        EntryError::NoMemory
+    }
+}
+
+impl<T: Drop> From<AllocFailed<T>> for EntryError {
+    ghost from_gives = { λ _ e. e ≡ NoMemory };
+
+    fn from(_error: AllocFailed<T>) -> EntryError {
+        EntryError::NoMemory
+    }
+}
+
+/// Why a text is not loaded. Entries are counted from 0, the oldest first.
+#[derive(Clone, Copy, Debug, PartialEq, Eq, Drop, Error)]
+pub enum LoadError {
+    /// Memory ran out.
+    #[error("NoMemory")]
+    NoMemory,
+    /// The text is no JSON.
+    #[error("NotJson")]
+    NotJson,
+    /// The value is no dump.
+    #[error("BadShape")]
+    BadShape,
+    /// A claim of this entry is not accepted, or its script is refused by `parse` or `check`.
+    #[error("BadClaim {0}")]
+    BadClaim(usize),
+    /// The call of this entry is refused after those before it.
+    #[error("BadHistory {0}")]
+    BadHistory(usize),
+}
+
+impl LoadError {
+    ghost use Rattle.book.specs.Refusals.{load_error_number};
+
+    /// The number of the refusal; 0 is out of memory.
+    pub fn number(&self) -> u8
+        ensures { result ≡ load_error_number self.now }
+    {
+        match self {
+            LoadError::NoMemory => 0,
+            LoadError::NotJson => 1,
+            LoadError::BadShape => 2,
+            LoadError::BadClaim(_) => 3,
+            LoadError::BadHistory(_) => 4,
         }
     }
 }

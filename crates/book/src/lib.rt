@@ -10,12 +10,16 @@
 #[cfg(test)]
 mod call_tests;
 pub mod calls;
+pub mod dumping;
 pub mod errors;
 mod flags;
 pub mod history;
 mod judging;
 pub mod laws;
+pub mod loading;
 mod limits;
+mod openings;
+mod reading;
 pub mod matching;
 mod open_channel;
 mod releasing;

@@ -1,0 +1,184 @@
+-- Keys, terms, openings and batches are what their parts are: what their types keep beside has one proof.
+use Rattle.std.proofs.Common.{◌≡◌, ◌≤◌, ℕ, ◌+◌, ◌*◌, Bool, true, false, true≢false, List, length, Option, Some, None, Result, Ok, Err, refl, sym, ap, ◌∙◌, arith, subst}
+use Rattle.std.specs.Prelude.{◌↔◌, ◌==◌, ◌&&◌, nat_le, nat_lt, IsTrue, IsOk, IfOk, IsSome, IfSome}
+use Rattle.std.specs.Result.{result_ok}
+use Rattle.std.proofs.lemmas.Bool.{and_from, and_parts, le-leb, leb-true, lt-ltb, ltb-true, eq-eqb, eqb-true}
+use Rattle.std.proofs.Math.Bridge.{le_prop}
+use Rattle.std.proofs.Math.Nat.{ℕ_set}
+use mathlib.Core.HLevel.{is_prop→PathP}
+use mathlib.Core.Bool.{Bool-set}
+use mathlib.Core.List.{is_set as list_set}
+use Rattle.script.specs.Token.{is_key}
+use Rattle.tx.specs.Limits.{max_value, max_inputs, max_outputs}
+use Rattle.tx.specs.Parts.{Output}
+use Rattle.tx.specs.declared.input.OutPoint.{OutPoint}
+use Rattle.keys.specs.declared.compressed.Key.{Key}
+use Rattle.terms.specs.declared.amounts.TheConstants.{MSAT_PER_SAT}
+use Rattle.terms.specs.declared.sides.Side.{Side}
+use Rattle.terms.specs.declared.sides.Side.TheVariants.{A, B}
+use Rattle.texts.specs.declared.agreement.PlainParty.{PlainParty}
+use Rattle.terms.specs.declared.agreement.BaseKeys.{BaseKeys}
+use Rattle.terms.specs.declared.agreement.Party.{Party}
+use Rattle.terms.specs.declared.agreement.Terms.{Terms}
+use Rattle.terms.specs.declared.errors.TermsError.{TermsError}
+use Rattle.terms.specs.Agreement.{CanAgree, HasFields, party}
+use Rattle.claim.specs.Claims.{ClaimParts}
+use Rattle.texts.specs.declared.calls.PlainOpening.{PlainOpening}
+use Rattle.texts.specs.declared.agreement.PlainTerms.{PlainTerms}
+use Rattle.texts.specs.Calls.{can_agree, are_within}
+use Rattle.book.specs.Bounds.{IsSeedOf, CanRelease}
+use Rattle.book.specs.Calls.{IsOpenedBy, IsBatchOf}
+use Rattle.book.specs.Openings.{bases_of, own_or_others, party_of, terms_with, terms_if, terms_of, owns, opening_if, opening_of, batch_if, batch_of}
+use Rattle.book.specs.declared.calls.Opening.{Opening}
+use Rattle.book.specs.declared.calls.Batch.{Batch}
+
+pub same_key : (a b : Key) → a.bytes ≡ b.bytes → a ≡ b
+same_key a b q = λ i. record { bytes = q i; form = is_prop→PathP (λ j. IsTrue (is_key (q j))) (λ j. Bool-set _ _) a.form b.form i }
+
+-- the base keys of a seed are these
+pub same_bases : (seed : List ℕ) (b : BaseKeys) → IsSeedOf seed b → b ≡ bases_of seed
+same_bases seed b h =
+    λ i. record {
+      funding = same_key b.funding (bases_of seed).funding h.funding i;
+      payment = same_key b.payment (bases_of seed).payment h.payment i;
+      delayed = same_key b.delayed (bases_of seed).delayed h.delayed i;
+      htlc = same_key b.htlc (bases_of seed).htlc h.htlc i;
+      revocation = same_key b.revocation (bases_of seed).revocation h.revocation i;
+    }
+
+pub same_terms : (t u : Terms) → HasFields t u.funding u.capacity u.opener u.feerate u.a u.b → t ≡ u
+same_terms t u h =
+    λ i. record {
+      funding = h.funding_is i;
+      capacity = h.capacity_is i;
+      opener = h.opener_is i;
+      feerate = h.feerate_is i;
+      a = h.a_is i;
+      b = h.b_is i;
+      limited = is_prop→PathP (λ j. h.capacity_is j ≤ max_value) (λ j. le_prop) t.limited u.limited i;
+      whole = is_prop→PathP (λ j. (h.a_is j).start + (h.b_is j).start ≡ MSAT_PER_SAT * h.capacity_is j) (λ j. ℕ_set _ _) t.whole u.whole i;
+    }
+
+seed_prop : (seed : List ℕ) (bases : BaseKeys) → IsProp (IsSeedOf seed bases)
+seed_prop seed bases = hlevel (list_set ℕ_set)
+
+pub same_opening : (o u : Opening) → IsOpenedBy u.terms u.side u.seed u.first_point u.next_point u.token o → o ≡ u
+same_opening o u h =
+    λ i. record {
+      terms = h.terms_is i;
+      side = h.side_is i;
+      seed = h.seed_is i;
+      first_point = h.first_point_is i;
+      next_point = h.next_point_is i;
+      token = h.token_is i;
+      own = is_prop→PathP (λ j. IsSeedOf (h.seed_is j) (party (h.side_is j) (h.terms_is j)).bases) (λ j. seed_prop _ _) o.own u.own i;
+    }
+
+pub same_batch : (b c : Batch) → IsBatchOf c.claims c.outputs c.preimages b → b ≡ c
+same_batch b c h =
+    λ i. record {
+      claims = h.claims_is i;
+      outputs = h.outputs_is i;
+      preimages = h.preimages_is i;
+      some = is_prop→PathP (λ j. 1 ≤ length (h.claims_is j)) (λ j. le_prop) b.some c.some i;
+      inputs = is_prop→PathP (λ j. length (h.claims_is j) ≤ max_inputs) (λ j. le_prop) b.inputs c.inputs i;
+      given = is_prop→PathP (λ j. length (h.outputs_is j) ≤ max_outputs) (λ j. le_prop) b.given c.given i;
+    }
+
+-- ---- what the constructors answer
+
+agrees : (t : PlainTerms) → CanAgree t.capacity t.a.start t.b.start → can_agree t ≡ true
+agrees t h = and_from (nat_le t.capacity max_value) _ (le-leb t.capacity max_value h.limited) (eq-eqb (t.a.start + t.b.start) (MSAT_PER_SAT * t.capacity) h.whole)
+
+agreed : (t : PlainTerms) → can_agree t ≡ true → CanAgree t.capacity t.a.start t.b.start
+agreed t h =
+    let parts = and_parts (nat_le t.capacity max_value) (t.a.start + t.b.start == MSAT_PER_SAT * t.capacity) h in
+    record { limited = leb-true t.capacity max_value parts.0; whole = eqb-true (t.a.start + t.b.start) (MSAT_PER_SAT * t.capacity) parts.1 }
+
+pub terms_are : (o : PlainOpening) (t : Terms) → CanAgree o.terms.capacity o.terms.a.start o.terms.b.start
+    → HasFields t o.funding o.terms.capacity o.terms.opener o.terms.feerate (party_of o.terms.a (own_or_others o.side A (bases_of o.seed) o.bases)) (party_of o.terms.b (own_or_others o.side B (bases_of o.seed) o.bases))
+    → terms_of o ≡ Some t
+unfolding terms_of
+terms_are o t can fields = go (can_agree o.terms) refl
+  where
+    go : (b : Bool) (h : can_agree o.terms ≡ b) → terms_if o b h ≡ Some t
+    go true h = ap Some (sym (same_terms t (terms_with o.side o h) fields))
+    go false h = absurd (true≢false (sym (agrees o.terms can) ∙ h))
+
+pub no_terms : (o : PlainOpening) → (CanAgree o.terms.capacity o.terms.a.start o.terms.b.start → ⊥) → terms_of o ≡ None
+unfolding terms_of
+no_terms o cannot = go (can_agree o.terms) refl
+  where
+    go : (b : Bool) (h : can_agree o.terms ≡ b) → terms_if o b h ≡ None
+    go true h = absurd (cannot (agreed o.terms h))
+    go false h = refl
+
+-- of these parties
+abbrev IsParty : PlainOpening → Side → PlainParty → Party → Type 0
+IsParty o side p party = party ≡ party_of p (own_or_others o.side side (bases_of o.seed) o.bases)
+
+pub is_party : (o : PlainOpening) (side : Side) (p : PlainParty) (own bases : BaseKeys) (party : Party) → own ≡ bases_of o.seed → bases ≡ own_or_others o.side side own o.bases → party ≡ party_of p bases
+    → IsParty o side p party
+is_party o side p own bases party e f g = g ∙ ap (party_of p) (f ∙ ap (λ b. own_or_others o.side side b o.bases) e)
+
+pub terms_ok : (o : PlainOpening) (t : Terms) (a b : Party) → IsParty o A o.terms.a a → IsParty o B o.terms.b b → CanAgree o.terms.capacity a.start b.start
+    → HasFields t o.funding o.terms.capacity o.terms.opener o.terms.feerate a b → Some t ≡ terms_of o
+terms_ok o t a b ea eb can fields =
+    sym
+    (terms_are o t (subst (λ (p : Party). CanAgree o.terms.capacity p.start o.terms.b.start) ea (subst (λ (p : Party). CanAgree o.terms.capacity a.start p.start) eb can))
+    (subst (λ (p : Party). HasFields t o.funding o.terms.capacity o.terms.opener o.terms.feerate p (party_of o.terms.b (own_or_others o.side B (bases_of o.seed) o.bases))) ea
+    (subst (λ (p : Party). HasFields t o.funding o.terms.capacity o.terms.opener o.terms.feerate a p) eb fields)))
+
+pub terms_err : (o : PlainOpening) (a b : Party) → IsParty o A o.terms.a a → IsParty o B o.terms.b b → (CanAgree o.terms.capacity a.start b.start → ⊥) → None ≡ terms_of o
+terms_err o a b ea eb cannot =
+    sym
+    (no_terms o
+    (λ can. cannot (subst (λ (p : Party). CanAgree o.terms.capacity p.start b.start) (sym ea) (subst (λ (p : Party). CanAgree o.terms.capacity o.terms.a.start p.start) (sym eb) can))))
+
+pub no_opening : (o : PlainOpening) → terms_of o ≡ None → None ≡ opening_of o
+unfolding terms_of opening_of
+no_opening o none = go (can_agree o.terms) refl none
+  where
+    go : (b : Bool) (h : can_agree o.terms ≡ b) → terms_if o b h ≡ None → None ≡ opening_if o b h
+    go true h e = absurd (cc)
+    go false h e = refl
+
+pub opening_is : (o : PlainOpening) (t : Terms) (r : Option Opening) → terms_of o ≡ Some t → IsSome r ↔ IsSeedOf o.seed (party o.side t).bases
+    → IfSome r (IsOpenedBy t o.side o.seed o.first_point o.next_point o.token) → r ≡ opening_of o
+unfolding terms_of opening_of
+opening_is o t r terms some parts = go (can_agree o.terms) refl terms r some parts
+  where
+    made : (h : can_agree o.terms ≡ true) (u : Terms) → terms_with o.side o h ≡ u → (r : Option Opening) → IsSome r ↔ IsSeedOf o.seed (party o.side u).bases
+        → IfSome r (IsOpenedBy u o.side o.seed o.first_point o.next_point o.token) → r ≡ opening_if o true h
+    made h u same None some parts = absurd (true≢false (sym (some.1 (subst (λ (v : Terms). IsSeedOf o.seed (party o.side v).bases) same (owns o.side o h)))))
+    made h u same (Some x) some parts =
+        ap Some
+        (same_opening x (record { terms = terms_with o.side o h; side = o.side; seed = o.seed; first_point = o.first_point; next_point = o.next_point; token = o.token; own = owns o.side o h })
+        (subst (λ (v : Terms). IsOpenedBy v o.side o.seed o.first_point o.next_point o.token x) (sym same) parts))
+
+    go : (b : Bool) (h : can_agree o.terms ≡ b) → terms_if o b h ≡ Some t → (r : Option Opening) → IsSome r ↔ IsSeedOf o.seed (party o.side t).bases
+        → IfSome r (IsOpenedBy t o.side o.seed o.first_point o.next_point o.token) → r ≡ opening_if o b h
+    go true h e r some parts = let same : terms_with o.side o h ≡ t = cc in made h t same r some parts
+    go false h e r some parts = absurd (cc)
+
+pub batch_is : (claims : List ClaimParts) (outputs : List Output) (preimages : List (List ℕ)) (r : Option Batch) → IsSome r ↔ CanRelease claims outputs
+    → IfSome r (IsBatchOf claims outputs preimages) → r ≡ batch_of claims outputs preimages
+unfolding batch_of
+batch_is claims outputs preimages r some parts = go (are_within (length claims) (length outputs)) refl r some parts
+  where
+    can : are_within (length claims) (length outputs) ≡ true → CanRelease claims outputs
+    can h =
+        let all = and_parts (nat_lt 0 (length claims) && nat_le (length claims) max_inputs) (nat_le (length outputs) max_outputs) h in
+        let ends = and_parts (nat_lt 0 (length claims)) (nat_le (length claims) max_inputs) all.0 in
+        record { some = ltb-true 0 (length claims) ends.0; inputs = leb-true (length claims) max_inputs ends.1; given = leb-true (length outputs) max_outputs all.1 }
+
+    within : CanRelease claims outputs → are_within (length claims) (length outputs) ≡ true
+    within h =
+        and_from _ _ (and_from _ _ (lt-ltb 0 (length claims) h.some) (le-leb (length claims) max_inputs h.inputs)) (le-leb (length outputs) max_outputs h.given)
+
+    go : (b : Bool) (h : are_within (length claims) (length outputs) ≡ b) (r : Option Batch) → IsSome r ↔ CanRelease claims outputs → IfSome r (IsBatchOf claims outputs preimages)
+        → r ≡ batch_if claims outputs preimages b h
+    go true h None some parts = absurd (true≢false (sym (some.1 (can h))))
+    go true h (Some x) some parts = ap Some (same_batch x _ parts)
+    go false h None some parts = refl
+    go false h (Some x) some parts = absurd (true≢false (sym (within (some.0 refl)) ∙ h))

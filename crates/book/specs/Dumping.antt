@@ -1,0 +1,73 @@
+-- The dump of a history: its calls in plain forms, and the text that has them.
+use Rattle.std.specs.Prelude.{ℕ, List, [], ◌∷◌, map}
+use Rattle.serde_json.specs.Data.{Data}
+use Rattle.serde_json.specs.Written.{compact_text}
+use Rattle.keys.specs.declared.compressed.Key.{Key}
+use Rattle.terms.specs.declared.agreement.Party.{Party}
+use Rattle.terms.specs.declared.agreement.Terms.{Terms}
+use Rattle.terms.specs.Agreement.{party}
+use Rattle.terms.specs.Sides.{other}
+use Rattle.channel.specs.declared.messages.Tokens.{Tokens}
+use Rattle.texts.specs.declared.agreement.PlainParty.{PlainParty}
+use Rattle.texts.specs.declared.agreement.PlainTerms.{PlainTerms}
+use Rattle.texts.specs.declared.steps.PlainSignature.{PlainSignature}
+use Rattle.texts.specs.declared.steps.PlainRevocation.{PlainRevocation}
+use Rattle.texts.specs.declared.calls.PlainOpening.{PlainOpening}
+use Rattle.texts.specs.Writing.{update_data}
+use Rattle.texts.specs.CallWriting.{signature_data, open_data, own_data, receive_data, sign_data, revoke_data, keep_data, release_data, entry_data, dump_data}
+use Rattle.book.specs.declared.calls.Opening.{Opening}
+use Rattle.book.specs.declared.calls.Step.{Step}
+use Rattle.book.specs.declared.calls.Step.TheVariants.{Own, Updated, Signed}
+use Rattle.book.specs.declared.calls.Call.{Call}
+use Rattle.book.specs.declared.calls.Call.TheVariants.{Open, Step as Stepping, Sign, Revoke, Keep, Release}
+use Rattle.book.specs.declared.calls.Entry.{Entry}
+
+abbrev pub plain_party : Party → PlainParty
+plain_party p = record { dust = p.dust; delay = p.delay; minimum = p.minimum; start = p.start }
+
+abbrev pub plain_terms : Terms → PlainTerms
+plain_terms t = record { capacity = t.capacity; opener = t.opener; feerate = t.feerate; a = plain_party t.a; b = plain_party t.b }
+
+-- an opening without its own base keys, which its seed gives
+abbrev pub plain_opening : Opening → PlainOpening
+plain_opening o = record {
+  terms = plain_terms o.terms;
+  funding = o.terms.funding;
+  side = o.side;
+  seed = o.seed;
+  bases = (party (other o.side) o.terms).bases;
+  first_point = o.first_point;
+  next_point = o.next_point;
+  token = o.token;
+}
+
+abbrev pub plain_tokens : Tokens → PlainSignature
+plain_tokens t = record { commitment = t.commitment; htlcs = t.htlcs }
+
+abbrev pub plain_revocation : List ℕ → Key → PlainRevocation
+plain_revocation secret next_point = record { secret = secret; next_point = next_point }
+
+abbrev pub step_data : ℕ → Step → Data
+step_data channel (Own u) = own_data channel u
+step_data channel (Updated u) = receive_data channel (update_data u)
+step_data channel (Signed tokens) = receive_data channel (signature_data (plain_tokens tokens))
+
+-- a call
+abbrev pub call_data : Call → Data
+call_data (Open o) = open_data (plain_opening o)
+call_data (Stepping channel step) = step_data channel step
+call_data (Sign channel) = sign_data channel
+call_data (Revoke channel secret next_point) = revoke_data channel (plain_revocation secret next_point)
+call_data (Keep channel number claims) = keep_data channel number claims
+call_data (Release channel batch) = release_data channel batch.claims batch.outputs batch.preimages
+
+abbrev pub history_entry_data : Entry → Data
+history_entry_data e = entry_data (call_data e.call) e.seat
+
+-- a history, of version 2
+abbrev pub history_data : List Entry → Data
+history_data history = dump_data (map history_entry_data history)
+
+-- its text, with no space and with the members of each object in the order of their names
+unfoldable pub dump_of : List Entry → List ℕ
+dump_of history = compact_text (history_data history)

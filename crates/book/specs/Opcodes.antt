@@ -1,0 +1,38 @@
+-- The opcodes that bytes spell, read from the left (BIP 141's witness scripts).
+use Rattle.std.specs.Prelude.{ℕ, zero, suc, ◌-◌, ◌==◌, ◌&&◌, nat_le, nat_lt, if◌then◌else◌, List, [], ◌∷◌, length, take, drop, Option, Some, None}
+use Rattle.script.specs.declared.opcode.Op.{Op}
+use Rattle.script.specs.declared.opcode.Op.TheVariants.{Push, Number, If, NotIf, Else, EndIf, Drop, Dup, Swap, Size, Equal, EqualVerify, Hash160, CheckSig, CheckMultiSig, CheckLockTimeVerify, CheckSequenceVerify}
+use Rattle.script.specs.Limits.{max_script_size}
+use Rattle.script.specs.Spelling.{code_of, payload_of}
+use Rattle.texts.specs.Values.{◌>>=◌}
+
+-- the opcodes without a number or bytes of their own
+abbrev pub bare_ops : List Op
+bare_ops =
+    If ∷ NotIf ∷ Else ∷ EndIf ∷ Drop ∷ Dup ∷ Swap ∷ Size ∷ Equal ∷ EqualVerify ∷ Hash160 ∷ CheckSig ∷ CheckMultiSig ∷ CheckLockTimeVerify ∷ CheckSequenceVerify ∷ []
+
+-- the one of this byte
+abbrev pub with_code : ℕ → List Op → Option Op
+with_code b [] = None
+with_code b (op ∷ ops) = if code_of op == b then Some op else with_code b ops
+
+-- the opcode that a byte begins, before these bytes
+abbrev pub op_at : ℕ → List ℕ → Option Op
+op_at b rest =
+    if nat_le b 75 then (if nat_le b (length rest) then Some (Push (take b rest)) else None)
+    else if nat_lt 0x50 b && nat_le b 0x60 then Some (Number (b - 0x50))
+    else with_code b bare_ops
+
+-- the opcodes of bytes, at most this many
+unfoldable pub ops_in : ℕ → List ℕ → Option (List Op)
+ops_in zero [] = Some []
+ops_in zero (b ∷ rest) = None
+ops_in (suc n) [] = Some []
+ops_in (suc n) (b ∷ rest) = do
+  op ← op_at b rest
+  ops ← ops_in n (drop (length (payload_of op)) rest)
+  Some (op ∷ ops)
+
+-- the opcodes of a script, which has at most 10,000 bytes
+unfoldable pub ops_of : List ℕ → Option (List Op)
+ops_of bytes = if nat_le (length bytes) max_script_size then ops_in (length bytes) bytes else None

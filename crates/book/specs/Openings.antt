@@ -1,0 +1,97 @@
+-- The openings and batches that plain forms stand for: one's own base keys are those of the seed.
+use Rattle.std.specs.Prelude.{◌≡◌, ℕ, ◌+◌, ◌*◌, ◌==◌, ◌&&◌, nat_le, nat_lt, Bool, true, false, refl, List, length, Option, Some, None}
+use Rattle.std.proofs.lemmas.Bool.{and_parts, leb-true, ltb-true, eqb-true}
+use Rattle.tx.specs.Limits.{max_value, max_inputs, max_outputs}
+use Rattle.tx.specs.Parts.{Output}
+use Rattle.keys.specs.declared.compressed.Key.{Key}
+use Rattle.keys.specs.declared.bases.Base.{Base}
+use Rattle.keys.specs.declared.bases.Base.TheVariants.{Funding, Payment, Delayed, Htlc, Revocation}
+use Rattle.keys.specs.Derivation.{seed_secret, number_of}
+use Rattle.channel.specs.Points.{point_key}
+use Rattle.terms.specs.declared.amounts.TheConstants.{MSAT_PER_SAT}
+use Rattle.terms.specs.declared.sides.Side.{Side}
+use Rattle.terms.specs.declared.sides.Side.TheVariants.{A, B}
+use Rattle.terms.specs.declared.agreement.BaseKeys.{BaseKeys}
+use Rattle.terms.specs.declared.agreement.Party.{Party}
+use Rattle.terms.specs.declared.agreement.Terms.{Terms}
+use Rattle.terms.specs.Agreement.{party}
+use Rattle.claim.specs.Claims.{ClaimParts}
+use Rattle.texts.specs.declared.agreement.PlainParty.{PlainParty}
+use Rattle.texts.specs.declared.calls.PlainOpening.{PlainOpening}
+use Rattle.texts.specs.Calls.{can_agree, are_within}
+use Rattle.book.specs.Bounds.{IsSeedOf}
+use Rattle.book.specs.declared.calls.Opening.{Opening}
+use Rattle.book.specs.declared.calls.Batch.{Batch}
+
+-- the base key of a seed, and all five
+abbrev pub key_of : List ℕ → Base → Key
+key_of seed b = point_key (seed_secret seed (number_of b))
+
+abbrev pub bases_of : List ℕ → BaseKeys
+bases_of seed = record { funding = key_of seed Funding; payment = key_of seed Payment; delayed = key_of seed Delayed; htlc = key_of seed Htlc; revocation = key_of seed Revocation }
+
+-- what a side is, by whose opening it is: its own, or its peer's
+abbrev pub own_or_others : {X : Type 0} → Side → Side → X → X → X
+own_or_others A A own others = own
+own_or_others A B own others = others
+own_or_others B A own others = others
+own_or_others B B own others = own
+
+abbrev pub party_of : PlainParty → BaseKeys → Party
+party_of p bases = record { dust = p.dust; delay = p.delay; minimum = p.minimum; start = p.start; bases = bases }
+
+-- the terms with both sides' base keys, where the sides can agree on them
+abbrev pub terms_with : Side → (o : PlainOpening) → can_agree o.terms ≡ true → Terms
+terms_with side o h = record {
+  funding = o.funding;
+  capacity = o.terms.capacity;
+  opener = o.terms.opener;
+  feerate = o.terms.feerate;
+  a = party_of o.terms.a (own_or_others side A (bases_of o.seed) o.bases);
+  b = party_of o.terms.b (own_or_others side B (bases_of o.seed) o.bases);
+  limited = leb-true o.terms.capacity max_value (and_parts (nat_le o.terms.capacity max_value) (o.terms.a.start + o.terms.b.start == MSAT_PER_SAT * o.terms.capacity) h).0;
+  whole = eqb-true (o.terms.a.start + o.terms.b.start) (MSAT_PER_SAT * o.terms.capacity) (and_parts (nat_le o.terms.capacity max_value) (o.terms.a.start + o.terms.b.start == MSAT_PER_SAT * o.terms.capacity) h).1;
+}
+
+abbrev pub terms_if : (o : PlainOpening) (agreed : Bool) → can_agree o.terms ≡ agreed → Option Terms
+terms_if o true h = Some (terms_with o.side o h)
+terms_if o false h = None
+
+unfoldable pub terms_of : PlainOpening → Option Terms
+terms_of o = terms_if o (can_agree o.terms) refl
+
+pub are_seeds : (seed : List ℕ) → IsSeedOf seed (bases_of seed)
+are_seeds seed = record { funding = refl; payment = refl; delayed = refl; htlc = refl; revocation = refl }
+
+pub owns : (side : Side) (o : PlainOpening) (h : can_agree o.terms ≡ true) → IsSeedOf o.seed (party side (terms_with side o h)).bases
+owns A o h = are_seeds o.seed
+owns B o h = are_seeds o.seed
+
+abbrev pub opening_if : (o : PlainOpening) (agreed : Bool) → can_agree o.terms ≡ agreed → Option Opening
+opening_if o true h =
+    Some (record { terms = terms_with o.side o h; side = o.side; seed = o.seed; first_point = o.first_point; next_point = o.next_point; token = o.token; own = owns o.side o h })
+opening_if o false h = None
+
+-- the opening, where the sides can agree on its terms
+unfoldable pub opening_of : PlainOpening → Option Opening
+opening_of o = opening_if o (can_agree o.terms) refl
+
+-- ---- batches
+
+abbrev pub batch_if : (claims : List ClaimParts) (outputs : List Output) (preimages : List (List ℕ)) (within : Bool) → are_within (length claims) (length outputs) ≡ within → Option Batch
+batch_if claims outputs preimages true h =
+    let all = and_parts (nat_lt 0 (length claims) && nat_le (length claims) max_inputs) (nat_le (length outputs) max_outputs) h in
+    let ends = and_parts (nat_lt 0 (length claims)) (nat_le (length claims) max_inputs) all.0 in
+    Some (record {
+      claims = claims;
+      outputs = outputs;
+      preimages = preimages;
+      some = ltb-true 0 (length claims) ends.0;
+      inputs = leb-true (length claims) max_inputs ends.1;
+      given = leb-true (length outputs) max_outputs all.1;
+    })
+batch_if claims outputs preimages false h = None
+
+-- the batch, where one transaction takes as many claims and outputs
+unfoldable pub batch_of : List ClaimParts → List Output → List (List ℕ) → Option Batch
+batch_of claims outputs preimages = batch_if claims outputs preimages (are_within (length claims) (length outputs)) refl

@@ -1,0 +1,143 @@
+//! The dump of a history: a text of JSON (RFC 8259) from which the same history is loaded.
+
+ghost use Rattle.std.specs.Prelude.{◌≡◌, map, Some, IfOk, string_bytes};
+ghost use Rattle.serde_json.specs.Read.{read};
+ghost use Rattle.serde_json.specs.View.{view};
+ghost use Rattle.texts.specs.CallWriting.{signature_data};
+ghost use Rattle.book.specs.Dumping.{plain_party, plain_terms, plain_opening, plain_tokens, step_data, call_data, history_entry_data, history_data, dump_of};
+
+use crate::calls::{Call, Entry, Opening, Step};
+use channel::Tokens;
+use serde_json::{Value, json};
+use std::alloc::{AllocError, Global};
+use terms::{Party, Terms};
+use texts::{
+    PlainOpening, PlainParty, PlainRevocation, PlainTerms, WriteValue, write_dump, write_each,
+    write_entry, write_keep, write_own, write_receive, write_release, write_revoke, write_sign,
+};
+
+fn plain_party(party: &Party) -> PlainParty
+    ensures { result ≡ plain_party party.now }
+{
+    PlainParty {
+        dust: party.dust,
+        delay: party.delay,
+        minimum: party.minimum,
+        start: party.start,
+    }
+}
+
+fn plain_terms(terms: &Terms) -> PlainTerms
+    ensures { result ≡ plain_terms terms.now }
+{
+    PlainTerms {
+        capacity: terms.capacity,
+        opener: terms.opener,
+        feerate: terms.feerate,
+        a: plain_party(&terms.a),
+        b: plain_party(&terms.b),
+    }
+}
+
+// The opening without its own base keys, which its seed gives.
+fn plain_opening(opening: &Opening) -> PlainOpening
+    ensures { result ≡ plain_opening opening.now }
+{
+    let peer = opening.terms.party(opening.side.other());
+    PlainOpening {
+        terms: plain_terms(&opening.terms),
+        funding: opening.terms.funding,
+        side: opening.side,
+        seed: opening.seed,
+        bases: peer.bases,
+        first_point: opening.first_point,
+        next_point: opening.next_point,
+        token: opening.token,
+    }
+}
+
+// The message that has the tokens.
+#[tactic(auto, unfolding(texts::specs::CallWriting::signature_data))]
+fn tokens_value(alloc: Global, tokens: &Tokens) -> Result<Value, AllocError>
+    ensures { IfOk result (λ v. view v ≡ signature_data (plain_tokens tokens.now)) }
+{
+    let commitment = tokens.commitment.write_value(alloc)?;
+    let htlcs = write_each(alloc, tokens.htlcs.values())?;
+    json!(in alloc; ["signed", commitment, htlcs])
+}
+
+fn step_value(alloc: Global, channel: u64, step: &Step) -> Result<Value, AllocError>
+    ensures { IfOk result (λ v. view v ≡ step_data channel step.now) }
+{
+    match step {
+        Step::Own(update) => write_own(alloc, channel, update),
+        Step::Updated(update) => write_receive(alloc, channel, update.write_value(alloc)?),
+        Step::Signed(tokens) => write_receive(alloc, channel, tokens_value(alloc, tokens)?),
+    }
+}
+
+// The call in its form.
+fn call_value(alloc: Global, call: &Call) -> Result<Value, AllocError>
+    ensures { IfOk result (λ v. view v ≡ call_data call.now) }
+{
+    match call {
+        Call::Open(opening) => plain_opening(opening).write_value(alloc),
+        Call::Step { channel, step } => step_value(alloc, *channel, step),
+        Call::Sign { channel } => write_sign(alloc, *channel),
+        Call::Revoke {
+            channel,
+            secret,
+            next_point,
+        } => {
+            let revocation = PlainRevocation {
+                secret: *secret,
+                next_point: *next_point,
+            };
+            write_revoke(alloc, *channel, &revocation)
+        }
+        Call::Keep {
+            channel,
+            number,
+            claims,
+        } => write_keep(alloc, *channel, *number, claims.values()),
+        Call::Release { channel, batch } => write_release(
+            alloc,
+            *channel,
+            batch.claims.values(),
+            batch.outputs.values(),
+            batch.preimages.values(),
+        ),
+    }
+}
+
+// The entry in its form.
+fn entry_value(alloc: Global, entry: &Entry) -> Result<Value, AllocError>
+    ensures { IfOk result (λ v. view v ≡ history_entry_data entry.now) }
+{
+    let call = call_value(alloc, &entry.call)?;
+    write_entry(alloc, call, entry.seat)
+}
+
+// The history in its form.
+fn history_value(alloc: Global, history: &[Entry]) -> Result<Value, AllocError>
+    ensures { IfOk result (λ v. view v ≡ history_data history.now) }
+{
+    let mut entries = Vec::new(alloc);
+    for entry in history {
+        entries.push(entry_value(alloc, entry)?)?;
+    }
+    write_dump(alloc, entries)
+}
+
+/// The dump of a history, the oldest entry first: JSON of version 2 with no space, the members of each object in the order of their names. The only
+/// error is that memory ran out.
+#[tactic(auto, unfolding(crate::specs::Dumping::dump_of))]
+pub fn dump(alloc: Global, history: &[Entry]) -> Result<String, AllocError>
+    ensures text { IfOk result (λ text. string_bytes text ≡ dump_of history.now) }
+
+    // What the text is read as.
+    ensures reads { IfOk result (λ text. read (string_bytes text) ≡ Some (history_data history.now)) }
+{
+    let value = history_value(alloc, history)?;
+    value.to_string(alloc)
+}

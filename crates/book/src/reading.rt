@@ -1,0 +1,43 @@
+// The dump that a text has.
+
+ghost use Rattle.std.specs.Prelude.{◌≡◌};
+ghost use Rattle.serde_json.specs.Read.{read};
+ghost use Rattle.book.specs.Loaded.{IsValue, Loads, dump_in};
+
+use crate::errors::LoadError;
+use serde_json::Value;
+use std::alloc::Global;
+use texts::{PlainDump, ReadValue, ShapeError};
+
+// The value that a text is.
+fn value_in(alloc: Global, text: &str) -> Result<Value, LoadError>
+    ensures { IsValue result (read text.now) }
+{
+    match Value::from_str(alloc, text) {
+        Ok(value) => Ok(value),
+        Err(error) => {
+            if error.is_memory() {
+                Err(LoadError::NoMemory)
+            } else {
+                Err(LoadError::NotJson)
+            }
+        }
+    }
+}
+
+/// The dump that a text has: `NotJson`, or `BadShape` where the value has not the form.
+pub(crate) fn dump_in(alloc: Global, text: &str) -> Result<PlainDump, LoadError>
+    ensures { Loads result (dump_in text.now) }
+{
+    let value = match value_in(alloc, text) {
+        Ok(value) => value,
+        Err(error) => return Err(error),
+    };
+    match PlainDump::read_value(alloc, &value) {
+        Ok(dump) => Ok(dump),
+        Err(error) => match error {
+            ShapeError::NoMemory => Err(LoadError::NoMemory),
+            ShapeError::BadShape => Err(LoadError::BadShape),
+        },
+    }
+}
