@@ -207,7 +207,8 @@ fn copies_revoked_commitments(rt: HostRuntime) {
 fn copies_a_revoked_commitment(rt: HostRuntime) {
     let one = revoked(&rt, rt.alloc(), 1);
     let copy = one.copy().expect(&rt, "memory");
-    assert_eq!(rt; (copy.id, copy.state.number), (one.id, 1));
+    assert_eq!(rt; &copy.id, &one.id);
+    assert_eq!(rt; copy.state.number, 1);
 }
 
 // What A knows, with two revoked commitments of B.
