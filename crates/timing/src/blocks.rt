@@ -61,14 +61,20 @@ fn spend(alloc: Global, outpoints: &[OutPoint]) -> Result<Tx> {
     Ok(Tx::new(2, inputs, outputs, 0)?)
 }
 
-/// A chain of so many outputs, at least 100, and a block of 100 transactions that spend one each, far from one another.
+/// A block of 100 transactions that spend one output each, far from one another.
+fn far_spends(alloc: Global, outpoints: &[OutPoint]) -> Result<Vec<Tx>> {
+    let mut block = Vec::new(alloc);
+    for outpoint in outpoints.iter().step_by((outpoints.len() / 100).max(1)) {
+        block.push(spend(alloc, &[*outpoint])?)?;
+    }
+    Ok(block)
+}
+
+/// A chain of so many outputs, at least 100, and such a block.
 pub fn blocks_on(alloc: Global, count: usize) -> Result<Connecting> {
     let mut chain = Chain::new(alloc)?;
     let outpoints = granted(alloc, &mut chain, count)?;
-    let mut block = Vec::new(alloc);
-    for outpoint in outpoints.iter().step_by((count / 100).max(1)) {
-        block.push(spend(alloc, &[*outpoint])?)?;
-    }
+    let block = far_spends(alloc, &outpoints)?;
     Ok(Connecting {
         alloc,
         chain,

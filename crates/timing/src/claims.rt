@@ -47,21 +47,26 @@ fn place(alloc: Global, code: &[u8], index: u32) -> Result<Place> {
     })
 }
 
-/// The claim on such an output.
-fn claim(alloc: Global, preimage: &[u8; 32], key: &Key, index: u32) -> Result<Claim> {
-    let code = code(alloc, preimage, key)?;
+/// A preimage and, below it, a signature.
+fn slots(alloc: Global, preimage: &[u8; 32], key: &Key) -> Result<Vec<Slot>> {
     let mut slots = Vec::new(alloc);
     slots.push(Slot::Preimage(sha256(preimage)))?;
     slots.push(Slot::Sig(*key))?;
-    let checked = check(alloc, Script::parse(alloc, &code)?)?;
-    Ok(accept(
-        alloc,
-        checked,
-        0,
-        slots,
-        place(alloc, &code, index)?,
-        Shell::Open,
-    )?)
+    Ok(slots)
+}
+
+/// The claim on the output to a script's hash.
+fn claim_on(alloc: Global, code: &[u8], slots: Vec<Slot>, index: u32) -> Result<Claim> {
+    let place = place(alloc, code, index)?;
+    let checked = check(alloc, Script::parse(alloc, code)?)?;
+    Ok(accept(alloc, checked, 0, slots, place, Shell::Open)?)
+}
+
+/// The claim of a preimage and a key.
+fn claim(alloc: Global, preimage: &[u8; 32], key: &Key, index: u32) -> Result<Claim> {
+    let code = code(alloc, preimage, key)?;
+    let slots = slots(alloc, preimage, key)?;
+    claim_on(alloc, &code, slots, index)
 }
 
 /// So many claims.
@@ -99,6 +104,20 @@ fn lent(alloc: Global, claims: &[Claim]) -> Result<Vec<&Claim>> {
     Ok(lent)
 }
 
+/// The filling of claims.
+fn filled(
+    alloc: Global,
+    claims: &[&Claim],
+    outputs: Vec<TxOut>,
+    signer: &Signer,
+    preimages: &[[u8; 32]],
+) -> Result<Filled> {
+    if claims.is_empty() || claims.len() > MAX_INPUTS || outputs.len() > MAX_OUTPUTS {
+        bail!("a transaction can't have so many");
+    }
+    Ok(fill(alloc, claims, outputs, signer, preimages)?)
+}
+
 impl Work for Filling {
     fn pieces(&self) -> u64 {
         self.claims.len() as u64
@@ -107,13 +126,8 @@ impl Work for Filling {
     fn time<R: Clock + AllocGlobal>(&mut self, rt: &R) -> Result<Duration> {
         let claims = lent(self.alloc, self.claims.as_slice())?;
         let outputs = outputs(self.alloc)?;
-        if claims.is_empty() || claims.len() > MAX_INPUTS || outputs.len() > MAX_OUTPUTS {
-            bail!("a transaction can't have so many");
-        }
         let start = Instant::now(rt)?;
-        let filled = fill(self.alloc, &claims, outputs, &self.signer, &self.preimages)?;
-        let time = start.elapsed(rt)?;
-        let _filled: Filled = filled;
-        Ok(time)
+        let _filled = filled(self.alloc, &claims, outputs, &self.signer, &self.preimages)?;
+        Ok(start.elapsed(rt)?)
     }
 }
