@@ -11,17 +11,18 @@ use Rattle.tx.specs.Parts.{Output, IsOutput}
 use Rattle.updates.specs.declared.changes.Update.{Update}
 use Rattle.updates.specs.declared.changes.Update.TheVariants.{Add, Fulfil, Fail, Fee}
 use Rattle.texts.specs.declared.agreement.PlainTerms.{PlainTerms}
-use Rattle.texts.specs.Values.{◌>>=◌, below, bytes_of, bytes_of_len, side_of}
+use Rattle.terms.specs.declared.htlcs.Htlc.{Htlc}
+use Rattle.texts.specs.Values.{◌>>=◌, below, u16_of, u32_of, bytes_of, bytes_of_len, side_of}
 use Rattle.texts.specs.Terms.{terms_of}
 use Rattle.texts.specs.Outputs.{output_of}
 use Rattle.texts.specs.Messages.{add_of, fulfil_of, fail_of, fee_of, update_named, update_of}
-use Rattle.texts.specs.Writing.{bytes_data, side_data, terms_data, output_data, add_data, update_data, HasWidths, Is32Bytes, IsUpdate, TermsComeBack, OutputsComeBack, UpdatesComeBack}
+use Rattle.texts.specs.Writing.{number_data, bytes_data, side_data, terms_data, output_data, add_data, update_data, HasWidths, Is32Bytes, IsUpdate, TermsComeBack, OutputsComeBack, UpdatesComeBack}
 
 pub side_back : (s : Side) → side_of (side_data s) ≡ Some s
 side_back A = refl
 side_back B = refl
 
-below_back : (end n : ℕ) → n < end → below end n ≡ Some n
+pub below_back : (end n : ℕ) → n < end → below end n ≡ Some n
 below_back end n lt = rw (lt-ltb n end lt) refl
 
 pub hash_back : (bytes : List ℕ) → Is32Bytes bytes → bytes_of_len 32 (bytes_data bytes) ≡ Some bytes
@@ -30,17 +31,47 @@ hash_back bytes (len, each) = ap result_ok (decode_sized-encode_lower bytes 32 l
 pub bytes_back : (bytes : List ℕ) → IsBytes bytes → bytes_of (bytes_data bytes) ≡ Some bytes
 bytes_back bytes each = ap result_ok (decode_of-encode_lower bytes each)
 
-pub terms_come_back : TermsComeBack
+-- ---- a form comes back where its parts do
+
+pub sized_back : (bytes : List ℕ) → IsBytes bytes → bytes_of_len (length bytes) (bytes_data bytes) ≡ Some bytes
+sized_back bytes each = ap result_ok (decode_sized-encode_lower bytes (length bytes) refl each)
+
+pub terms_again : (t : PlainTerms) → (u16_of (number_data t.a.delay) ≡ Some t.a.delay) × (u16_of (number_data t.b.delay) ≡ Some t.b.delay)
+    → u32_of (number_data t.feerate) ≡ Some t.feerate → side_of (side_data t.opener) ≡ Some t.opener → terms_of (terms_data t) ≡ Some t
 unfolding terms_of terms_data
-terms_come_back t h = rw (lt-ltb _ _ h.delay_a, lt-ltb _ _ h.delay_b, side_back t.opener, lt-ltb _ _ h.feerate) refl
+terms_again t delay feerate opener = rw (delay.0, delay.1, opener, feerate) refl
+
+pub output_again : (o : Output) → o.value ≤ max_value → length o.script ≤ max_bytes → bytes_of (bytes_data o.script) ≡ Some o.script → output_of (output_data o) ≡ Some o
+unfolding output_of output_data
+output_again o value len script = rw (script, le-ltb _ _ value, le-ltb _ _ len) refl
+
+pub add_again : (h : Htlc) → bytes_of_len 32 (bytes_data h.hash) ≡ Some h.hash → u32_of (number_data h.expiry) ≡ Some h.expiry → update_of (add_data h) ≡ Some (Add h)
+unfolding add_of update_named update_of add_data
+add_again h hash expiry = rw (hash, expiry) refl
+
+pub fulfil_again : (id : ℕ) (preimage : List ℕ) → bytes_of_len 32 (bytes_data preimage) ≡ Some preimage → update_of (update_data (Fulfil id preimage)) ≡ Some (Fulfil id preimage)
+unfolding fulfil_of update_named update_of update_data
+fulfil_again id preimage hash = rw (hash) refl
+
+pub fail_again : (id : ℕ) → update_of (update_data (Fail id)) ≡ Some (Fail id)
+unfolding fail_of update_named update_of update_data
+fail_again id = refl
+
+pub fee_again : (rate : ℕ) → u32_of (number_data rate) ≡ Some rate → update_of (update_data (Fee rate)) ≡ Some (Fee rate)
+unfolding fee_of update_named update_of update_data
+fee_again rate small = rw (small) refl
+
+-- ---- and so it does for all values of its type
+
+pub terms_come_back : TermsComeBack
+terms_come_back t h = terms_again t (below_back _ _ h.delay_a, below_back _ _ h.delay_b) (below_back _ _ h.feerate) (side_back t.opener)
 
 pub outputs_come_back : OutputsComeBack
-unfolding output_of output_data
-outputs_come_back o h each = rw (bytes_back o.script each, le-ltb _ _ h.value, le-ltb _ _ h.script) refl
+outputs_come_back o h each = output_again o h.value h.script (bytes_back o.script each)
 
 pub updates_come_back : UpdatesComeBack
-unfolding add_of fulfil_of fail_of fee_of update_named update_of add_data update_data
-updates_come_back (Add htlc) (hash, expiry) = rw (hash_back htlc.hash hash, lt-ltb _ _ expiry) refl
-updates_come_back (Fulfil id preimage) hash = rw (hash_back preimage hash) refl
-updates_come_back (Fail id) h = refl
-updates_come_back (Fee rate) lt = rw (lt-ltb _ _ lt) refl
+unfolding update_data
+updates_come_back (Add htlc) (hash, expiry) = add_again htlc (hash_back htlc.hash hash) (below_back _ _ expiry)
+updates_come_back (Fulfil id preimage) hash = fulfil_again id preimage (hash_back preimage hash)
+updates_come_back (Fail id) h = fail_again id
+updates_come_back (Fee rate) lt = fee_again rate (below_back _ _ lt)

@@ -25,6 +25,8 @@ use Rattle.texts.specs.declared.calls.PlainEntry.{PlainEntry}
 use Rattle.texts.specs.Values.{each_of}
 use Rattle.texts.specs.Writing.{number_data, bytes_data, side_data, pair_data, terms_data, output_data, update_data, HasWidths, Is32Bytes, IsUpdate}
 use Rattle.texts.specs.ClaimWriting.{outpoint_data, claim_data, plain_claim, IsOutPoint, IsClaim}
+use Rattle.texts.specs.Messages.{update_of}
+use Rattle.texts.specs.Steps.{received_of}
 use Rattle.texts.specs.Calls.{can_agree, are_within, call_of, entry_of, dump_of}
 
 abbrev pub key_data : Key → Data
@@ -131,11 +133,23 @@ IsRevocation r = Is32Bytes r.secret × IsKey r.next_point
 abbrev pub AreOutputTexts : List Output → Type 0
 AreOutputTexts outputs = AllByRecursion (λ o. IsOutput o × IsBytes o.script) outputs
 
+-- the tokens of a signature
+abbrev pub AreTokens : PlainSignature → Type 0
+AreTokens s = IsTrue (is_token s.commitment) × AllByRecursion (λ t. IsTrue (is_token t)) s.htlcs
+
+-- what a reader asks of an opening beside its form
+abbrev pub CanOpen : PlainOpening → Type 0
+CanOpen o = (can_agree o.terms ≡ true) × IsTrue (is_token o.token)
+
 abbrev pub OpeningsComeBack : Type 0
 OpeningsComeBack = (o : PlainOpening) → IsOpening o → call_of (open_data o) ≡ Some (Open o)
 
 abbrev pub OwnStepsComeBack : Type 0
 OwnStepsComeBack = (channel : ℕ) (u : OwnUpdate) → IsOwnUpdate u → call_of (own_data channel u) ≡ Some (Step channel (Own u))
+
+-- an update that comes back does so as a message, too
+abbrev pub UpdatesAreReceived : Type 0
+UpdatesAreReceived = (u : Update) → update_of (update_data u) ≡ Some u → received_of (update_data u) ≡ Some (Updated u)
 
 abbrev pub ReceivedStepsComeBack : Type 0
 ReceivedStepsComeBack = (channel : ℕ) (m : PlainReceived) → IsReceived m → call_of (receive_data channel (received_data m)) ≡ Some (Step channel (Receive m))

@@ -1,10 +1,20 @@
 //! Writers of a book's calls and of the dump of its history.
 
-ghost use Rattle.std.specs.Prelude.{◌≡◌, [], ◌∷◌, ◌++◌, map, codes, IfOk};
+ghost use Rattle.std.specs.Prelude.{◌≡◌, true, List, [], ◌∷◌, ◌++◌, map, length, codes, Some, IfOk};
 ghost use Rattle.serde_json.specs.Data.{string};
-ghost use Rattle.serde_json.specs.View.{view};
+ghost use Rattle.serde_json.specs.View.{view, items_view};
+ghost use Rattle.texts.specs.declared.steps.PlainReceived.{PlainReceived};
+ghost use Rattle.texts.specs.declared.steps.PlainReceived.TheVariants.{Signed};
+ghost use Rattle.texts.specs.declared.steps.PlainStep.TheVariants.{Own, Receive};
+ghost use Rattle.texts.specs.declared.calls.PlainCall.{PlainCall};
+ghost use Rattle.texts.specs.declared.calls.PlainCall.TheVariants.{Step, Sign, Revoke, Keep, Release};
+ghost use Rattle.texts.specs.declared.calls.PlainEntry.{PlainEntry};
+ghost use Rattle.texts.specs.Values.{each_of};
+ghost use Rattle.texts.specs.Steps.{received_of};
+ghost use Rattle.texts.specs.Calls.{are_within, call_of, entry_of, dump_of};
+ghost use Rattle.texts.specs.ClaimWriting.{plain_claim};
 ghost use Rattle.texts.specs.Compound.{items_in};
-ghost use Rattle.texts.specs.CallWriting.{base_keys_data, call_front, open_data, own_data, receive_data, sign_data, revoke_data, keep_data, release_data, entry_data, dump_data};
+ghost use Rattle.texts.specs.CallWriting.{AreTokens, base_keys_data, call_front, signature_data, open_data, own_data, receive_data, sign_data, revoke_data, keep_data, release_data, entry_data, dump_data};
 
 use crate::calls::PlainOpening;
 use crate::compound::{ArrayWriter, ObjectWriter};
@@ -20,10 +30,15 @@ use tx::TxOut;
 
 /// The bytes in hexadecimal.
 impl WriteValue for Key {
+    ghost use Rattle.std.specs.Prelude.{◌≡◌, Some};
+    ghost use Rattle.texts.specs.Keys.{key_of};
     ghost use Rattle.texts.specs.CallWriting.{key_data};
 
     ghost writes = { key_data };
 
+    ghost comes_back = { λ k. key_of (key_data k) ≡ Some k };
+
+    #[tactic(auto, using(crate::proofs::ClaimReturning::key_again))]
     fn write_value(&self, alloc: Global) -> Result<Value, AllocError> {
         write_bytes(alloc, &self.bytes)
     }
@@ -31,48 +46,65 @@ impl WriteValue for Key {
 
 /// The bytes in hexadecimal.
 impl WriteValue for Token {
+    ghost use Rattle.std.specs.Prelude.{◌≡◌, Some, IsTrue};
+    ghost use Rattle.script.specs.Token.{is_token};
+    ghost use Rattle.texts.specs.Keys.{token_bytes_of};
     ghost use Rattle.texts.specs.Writing.{bytes_data};
 
     ghost writes = { bytes_data };
 
+    ghost comes_back = { λ t. IsTrue (is_token t) → token_bytes_of (bytes_data t) ≡ Some t };
+
+    #[tactic(auto, using(crate::proofs::CallReturning::token_again))]
     fn write_value(&self, alloc: Global) -> Result<Value, AllocError> {
         write_bytes(alloc, self.bytes())
     }
 }
 
-/// The bytes in hexadecimal.
-impl WriteValue for [u8; 32] {
-    ghost use Rattle.texts.specs.Writing.{bytes_data};
-
-    ghost writes = { bytes_data };
-
-    fn write_value(&self, alloc: Global) -> Result<Value, AllocError> {
-        write_bytes(alloc, self)
-    }
+/// The message that signs: an array of `signed`, the token on the commitment and the array of those on its HTLC transactions.
+#[tactic(auto, unfolding(crate::specs::CallWriting::signature_data))]
+pub fn write_signature(
+    alloc: Global,
+    commitment: &Token,
+    htlcs: &[Token],
+) -> Result<Value, AllocError>
+    ensures form { IfOk result (λ v. view v ≡ signature_data (record { commitment = commitment.now; htlcs = htlcs.now })) }
+    ensures back { IfOk result (λ _. AreTokens (record { commitment = commitment.now; htlcs = htlcs.now })
+        → received_of (signature_data (record { commitment = commitment.now; htlcs = htlcs.now })) ≡ Some (Signed (record { commitment = commitment.now; htlcs = htlcs.now }))) }
+{
+    let message = ArrayWriter::named(alloc, "signed")?
+        .item(commitment)?
+        .each(htlcs)?;
+    Ok(message.finish())
 }
 
 /// An array of `signed`, the token on the commitment and the array of those on its HTLC transactions.
 impl WriteValue for PlainSignature {
-    ghost use Rattle.texts.specs.CallWriting.{signature_data};
+    ghost use Rattle.std.specs.Prelude.{◌≡◌, Some};
+    ghost use Rattle.texts.specs.declared.steps.PlainReceived.TheVariants.{Signed};
+    ghost use Rattle.texts.specs.Steps.{received_of};
+    ghost use Rattle.texts.specs.CallWriting.{signature_data, AreTokens};
 
     ghost writes = { signature_data };
 
-    #[tactic(auto, unfolding(crate::specs::CallWriting::signature_data))]
+    ghost comes_back = { λ s. AreTokens s → received_of (signature_data s) ≡ Some (Signed s) };
+
     fn write_value(&self, alloc: Global) -> Result<Value, AllocError> {
-        let message = ArrayWriter::named(alloc, "signed")?
-            .item(&self.commitment)?
-            .each(self.htlcs.values())?;
-        Ok(message.finish())
+        write_signature(alloc, &self.commitment, self.htlcs.values())
     }
 }
 
 /// An array of `revoke`, the secret and the point.
 impl WriteValue for PlainRevocation {
+    ghost use Rattle.std.specs.Prelude.{◌≡◌, Some};
+    ghost use Rattle.texts.specs.Steps.{revocation_of};
     ghost use Rattle.texts.specs.CallWriting.{revocation_data};
 
     ghost writes = { revocation_data };
 
-    #[tactic(auto, unfolding(crate::specs::CallWriting::revocation_data))]
+    ghost comes_back = { λ r. revocation_of (revocation_data r) ≡ Some r };
+
+    #[tactic(auto, unfolding(crate::specs::CallWriting::revocation_data), using(crate::proofs::CallReturning::revocation_again))]
     fn write_value(&self, alloc: Global) -> Result<Value, AllocError> {
         let message = ArrayWriter::named(alloc, "revoke")?
             .item(&self.secret)?
@@ -83,10 +115,15 @@ impl WriteValue for PlainRevocation {
 
 /// An array of the five keys.
 impl WriteValue for BaseKeys {
+    ghost use Rattle.std.specs.Prelude.{◌≡◌, Some};
+    ghost use Rattle.texts.specs.Keys.{base_keys_of};
     ghost use Rattle.texts.specs.CallWriting.{base_keys_data};
 
     ghost writes = { base_keys_data };
 
+    ghost comes_back = { λ b. base_keys_of (base_keys_data b) ≡ Some b };
+
+    #[tactic(auto, using(crate::proofs::CallReturning::bases_again))]
     fn write_value(&self, alloc: Global) -> Result<Value, AllocError> {
         let keys = ArrayWriter::new(alloc)
             .item(&self.funding)?
@@ -100,9 +137,14 @@ impl WriteValue for BaseKeys {
 
 /// The call that opens a channel.
 impl WriteValue for PlainOpening {
-    ghost use Rattle.texts.specs.CallWriting.{open_data};
+    ghost use Rattle.std.specs.Prelude.{◌≡◌, Some};
+    ghost use Rattle.texts.specs.declared.calls.PlainCall.TheVariants.{Open};
+    ghost use Rattle.texts.specs.Calls.{call_of};
+    ghost use Rattle.texts.specs.CallWriting.{open_data, CanOpen};
 
     ghost writes = { open_data };
+
+    ghost comes_back = { λ o. CanOpen o → call_of (open_data o) ≡ Some (Open o) };
 
     #[tactic(auto, unfolding(crate::specs::CallWriting::open_data))]
     fn write_value(&self, alloc: Global) -> Result<Value, AllocError> {
@@ -134,74 +176,82 @@ fn step(alloc: Global, channel: u64, name: &str) -> Result<ArrayWriter, AllocErr
 }
 
 /// The step that makes an update.
-#[tactic(auto, unfolding(crate::specs::CallWriting::own_data))]
+#[tactic(auto, unfolding(crate::specs::CallWriting::own_data), using(crate::proofs::CallReturning::offer_again, crate::proofs::CallReturning::own_fulfil_again, crate::proofs::CallReturning::own_fail_again, crate::proofs::CallReturning::own_fee_again))]
 pub fn write_own(alloc: Global, channel: u64, update: &OwnUpdate) -> Result<Value, AllocError>
-    ensures { IfOk result (λ v. view v ≡ own_data channel update.now) }
+    ensures form { IfOk result (λ v. view v ≡ own_data channel update.now) }
+    ensures back { IfOk result (λ _. call_of (own_data channel update.now) ≡ Some (Step channel (Own update.now))) }
 {
-    let call = match update {
+    match update {
         OwnUpdate::Offer {
             amount,
             hash,
             expiry,
-        } => step(alloc, channel, "offer")?
-            .item(amount)?
-            .item(hash)?
-            .item(expiry),
-        OwnUpdate::Fulfil { id, preimage } => {
-            step(alloc, channel, "fulfil")?.item(id)?.item(preimage)
+        } => {
+            let call = step(alloc, channel, "offer")?
+                .item(amount)?
+                .item(hash)?
+                .item(expiry)?;
+            Ok(call.finish())
         }
-        OwnUpdate::Fail { id } => step(alloc, channel, "fail")?.item(id),
-        OwnUpdate::SetFee { rate } => step(alloc, channel, "fee")?.item(rate),
-    };
-    Ok(call?.finish())
+        OwnUpdate::Fulfil { id, preimage } => {
+            let call = step(alloc, channel, "fulfil")?.item(id)?.item(preimage)?;
+            Ok(call.finish())
+        }
+        OwnUpdate::Fail { id } => Ok(step(alloc, channel, "fail")?.item(id)?.finish()),
+        OwnUpdate::SetFee { rate } => Ok(step(alloc, channel, "fee")?.item(rate)?.finish()),
+    }
 }
 
 /// The step that receives a message, of the message as it is written.
-#[tactic(auto, unfolding(crate::specs::CallWriting::receive_data))]
+#[tactic(auto, unfolding(crate::specs::CallWriting::receive_data), using(crate::proofs::CallReturning::receive_again))]
 pub fn write_receive(alloc: Global, channel: u64, message: Value) -> Result<Value, AllocError>
-    ensures { IfOk result (λ v. view v ≡ receive_data channel (view message)) }
+    ensures form { IfOk result (λ v. view v ≡ receive_data channel (view message)) }
+    ensures back { IfOk result (λ _. (m : PlainReceived) → received_of (view message) ≡ Some m → call_of (receive_data channel (view message)) ≡ Some (Step channel (Receive m))) }
 {
     let call = step(alloc, channel, "receive")?.value(message)?;
     Ok(call.finish())
 }
 
 /// The call that signs.
-#[tactic(auto, unfolding(crate::specs::CallWriting::sign_data))]
+#[tactic(auto, unfolding(crate::specs::CallWriting::sign_data), using(crate::proofs::CallReturning::sign_again))]
 pub fn write_sign(alloc: Global, channel: u64) -> Result<Value, AllocError>
-    ensures { IfOk result (λ v. view v ≡ sign_data channel) }
+    ensures form { IfOk result (λ v. view v ≡ sign_data channel) }
+    ensures back { IfOk result (λ _. call_of (sign_data channel) ≡ Some (Sign channel)) }
 {
     Ok(call(alloc, "sign", channel)?.finish())
 }
 
 /// The call that receives a revocation.
-#[tactic(auto, unfolding(crate::specs::CallWriting::revoke_data))]
+#[tactic(auto, unfolding(crate::specs::CallWriting::revoke_data), using(crate::proofs::CallReturning::revoke_again))]
 pub fn write_revoke(
     alloc: Global,
     channel: u64,
     revocation: &PlainRevocation,
 ) -> Result<Value, AllocError>
-    ensures { IfOk result (λ v. view v ≡ revoke_data channel revocation.now) }
+    ensures form { IfOk result (λ v. view v ≡ revoke_data channel revocation.now) }
+    ensures back { IfOk result (λ _. call_of (revoke_data channel revocation.now) ≡ Some (Revoke channel revocation.now)) }
 {
     let call = call(alloc, "revoke", channel)?.item(revocation)?;
     Ok(call.finish())
 }
 
 /// The call that keeps the penalties of a revoked commitment.
-#[tactic(auto, unfolding(crate::specs::CallWriting::keep_data))]
+#[tactic(auto, unfolding(crate::specs::CallWriting::keep_data), using(crate::proofs::CallReturning::keep_again))]
 pub fn write_keep(
     alloc: Global,
     channel: u64,
     number: u64,
     claims: &[Claim],
 ) -> Result<Value, AllocError>
-    ensures { IfOk result (λ v. view v ≡ keep_data channel number claims.now) }
+    ensures form { IfOk result (λ v. view v ≡ keep_data channel number claims.now) }
+    ensures back { IfOk result (λ _. call_of (keep_data channel number claims.now) ≡ Some (Keep channel number (map plain_claim claims.now))) }
 {
     let call = call(alloc, "keep", channel)?.item(&number)?.each(claims)?;
     Ok(call.finish())
 }
 
 /// The call that releases claims.
-#[tactic(auto, unfolding(crate::specs::CallWriting::release_data))]
+#[tactic(auto, unfolding(crate::specs::CallWriting::release_data), using(crate::proofs::CallReturning::release_again))]
 pub fn write_release(
     alloc: Global,
     channel: u64,
@@ -209,7 +259,9 @@ pub fn write_release(
     outputs: &[TxOut],
     preimages: &[[u8; 32]],
 ) -> Result<Value, AllocError>
-    ensures { IfOk result (λ v. view v ≡ release_data channel claims.now outputs.now preimages.now) }
+    ensures form { IfOk result (λ v. view v ≡ release_data channel claims.now outputs.now preimages.now) }
+    ensures back { IfOk result (λ _. are_within (length claims.now) (length outputs.now) ≡ true
+        → call_of (release_data channel claims.now outputs.now preimages.now) ≡ Some (Release channel (map plain_claim claims.now) outputs.now preimages.now)) }
 {
     let call = call(alloc, "release", channel)?
         .each(claims)?
@@ -219,9 +271,10 @@ pub fn write_release(
 }
 
 /// An entry of a history, of its call as it is written.
-#[tactic(auto, unfolding(crate::specs::CallWriting::entry_data))]
+#[tactic(auto, unfolding(crate::specs::CallWriting::entry_data), using(crate::proofs::CallReturning::entry_again))]
 pub fn write_entry(alloc: Global, call: Value, seat: u32) -> Result<Value, AllocError>
-    ensures { IfOk result (λ v. view v ≡ entry_data (view call) seat) }
+    ensures form { IfOk result (λ v. view v ≡ entry_data (view call) seat) }
+    ensures back { IfOk result (λ _. (c : PlainCall) → call_of (view call) ≡ Some c → entry_of (entry_data (view call) seat) ≡ Some (record { call = c; seat = seat })) }
 {
     let entry = ObjectWriter::new(alloc)
         .value("call", call)?
@@ -230,9 +283,10 @@ pub fn write_entry(alloc: Global, call: Value, seat: u32) -> Result<Value, Alloc
 }
 
 /// A dump of version 2, of the entries as they are written, the oldest first.
-#[tactic(auto, unfolding(crate::specs::CallWriting::dump_data))]
+#[tactic(auto, unfolding(crate::specs::CallWriting::dump_data), using(crate::proofs::CallReturning::dumps_come_back))]
 pub fn write_dump(alloc: Global, entries: Vec<Value>) -> Result<Value, AllocError>
-    ensures { IfOk result (λ v. view v ≡ dump_data (map view entries.items)) }
+    ensures form { IfOk result (λ v. view v ≡ dump_data (map view entries.items)) }
+    ensures back { IfOk result (λ _. (history : List PlainEntry) → each_of entry_of (items_view entries.items) ≡ Some history → dump_of (dump_data (map view entries.items)) ≡ Some (record { history = history })) }
 {
     let dump = ObjectWriter::new(alloc)
         .value("history", Value::Array(entries))?

@@ -1,8 +1,10 @@
 //! Arrays and objects, written one part after another.
 
-ghost use Rattle.std.specs.Prelude.{◌≡◌, [], ◌∷◌, ◌++◌, map, IfOk};
+ghost use Rattle.std.specs.Prelude.{◌≡◌, Some, [], ◌∷◌, ◌++◌, map, IfOk};
+ghost use Rattle.std.specs.List.{AllByRecursion};
 ghost use Rattle.serde_json.specs.Data.{no_members, string, array, object, put};
 ghost use Rattle.serde_json.specs.View.{view, items_of};
+ghost use Rattle.texts.specs.Values.{bytes_of};
 ghost use Rattle.texts.specs.Writing.{bytes_data};
 ghost use Rattle.texts.specs.Compound.{items_in, members_in};
 
@@ -46,23 +48,17 @@ impl ArrayWriter {
 
     /// With the form of this at its end.
     pub(crate) fn item<T: WriteValue>(self, item: &T) -> Result<Self, AllocError>
-        ensures { IfOk result (λ w. items_in w ≡ items_in self ++ T.writes item.now ∷ []) }
+        ensures form { IfOk result (λ w. items_in w ≡ items_in self ++ T.writes item.now ∷ []) }
+        ensures back { IfOk result (λ _. T.comes_back item.now) }
     {
         let value = item.write_value(self.alloc)?;
         self.value(value)
     }
 
-    /// With these bytes at its end.
-    pub(crate) fn bytes(self, bytes: &[u8]) -> Result<Self, AllocError>
-        ensures { IfOk result (λ w. items_in w ≡ items_in self ++ bytes_data bytes.now ∷ []) }
-    {
-        let value = write_bytes(self.alloc, bytes)?;
-        self.value(value)
-    }
-
     /// With an array of these at its end.
     pub(crate) fn each<T: WriteValue>(self, items: &[T]) -> Result<Self, AllocError>
-        ensures { IfOk result (λ w. items_in w ≡ items_in self ++ array (items_of (map T.writes items.now)) ∷ []) }
+        ensures form { IfOk result (λ w. items_in w ≡ items_in self ++ array (items_of (map T.writes items.now)) ∷ []) }
+        ensures back { IfOk result (λ _. AllByRecursion T.comes_back items.now) }
     {
         let value = write_each(self.alloc, items)?;
         self.value(value)
@@ -104,7 +100,8 @@ impl ObjectWriter {
 
     /// With the form of this under a name.
     pub(crate) fn member<T: WriteValue>(self, name: &str, member: &T) -> Result<Self, AllocError>
-        ensures { IfOk result (λ w. members_in w ≡ put name.now (T.writes member.now) (members_in self)) }
+        ensures form { IfOk result (λ w. members_in w ≡ put name.now (T.writes member.now) (members_in self)) }
+        ensures back { IfOk result (λ _. T.comes_back member.now) }
     {
         let value = member.write_value(self.alloc)?;
         self.value(name, value)
@@ -112,7 +109,8 @@ impl ObjectWriter {
 
     /// With these bytes under a name.
     pub(crate) fn bytes(self, name: &str, bytes: &[u8]) -> Result<Self, AllocError>
-        ensures { IfOk result (λ w. members_in w ≡ put name.now (bytes_data bytes.now) (members_in self)) }
+        ensures form { IfOk result (λ w. members_in w ≡ put name.now (bytes_data bytes.now) (members_in self)) }
+        ensures back { IfOk result (λ _. bytes_of (bytes_data bytes.now) ≡ Some bytes.now) }
     {
         let value = write_bytes(self.alloc, bytes)?;
         self.value(name, value)
@@ -120,7 +118,8 @@ impl ObjectWriter {
 
     /// With an array of these under a name.
     pub(crate) fn each<T: WriteValue>(self, name: &str, items: &[T]) -> Result<Self, AllocError>
-        ensures { IfOk result (λ w. members_in w ≡ put name.now (array (items_of (map T.writes items.now))) (members_in self)) }
+        ensures form { IfOk result (λ w. members_in w ≡ put name.now (array (items_of (map T.writes items.now))) (members_in self)) }
+        ensures back { IfOk result (λ _. AllByRecursion T.comes_back items.now) }
     {
         let value = write_each(self.alloc, items)?;
         self.value(name, value)

@@ -2,7 +2,7 @@
 
 ghost use Rattle.texts.specs.Names.{NamesAreAll};
 ghost use Rattle.texts.specs.Writing.{TermsComeBack, OutputsComeBack, UpdatesComeBack};
-ghost use Rattle.texts.specs.CallWriting.{OpeningsComeBack, OwnStepsComeBack, ReceivedStepsComeBack, SignsComeBack, RevokesComeBack, KeepsComeBack, ReleasesComeBack, EntriesComeBack, DumpsComeBack};
+ghost use Rattle.texts.specs.CallWriting.{OpeningsComeBack, OwnStepsComeBack, UpdatesAreReceived, ReceivedStepsComeBack, SignsComeBack, RevokesComeBack, KeepsComeBack, ReleasesComeBack, EntriesComeBack, DumpsComeBack};
 ghost use Rattle.texts.specs.ClaimWriting.{OutpointsComeBack, SlotsComeBack, ShellsComeBack, ClaimsComeBack};
 
 /// Where an object has as many members as there are names, no two of them equal, and has each of these names, it has no member beside them:
@@ -26,6 +26,7 @@ pub fn what_is_written_comes_back()
 pub fn what_is_dumped_comes_back()
     ensures openings { OpeningsComeBack }
     ensures own_steps { OwnStepsComeBack }
+    ensures received_updates { UpdatesAreReceived }
     ensures received_steps { ReceivedStepsComeBack }
     ensures signs { SignsComeBack }
     ensures revokes { RevokesComeBack }

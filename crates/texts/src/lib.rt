@@ -37,7 +37,7 @@ pub use agreement::{PlainParty, PlainTerms};
 pub use allocating::{ReadValue, bytes_of, list_of, read_item, read_member};
 pub use call_writing::{
     write_dump, write_entry, write_keep, write_own, write_receive, write_release, write_revoke,
-    write_sign,
+    write_sign, write_signature,
 };
 pub use calls::{PlainCall, PlainDump, PlainEntry, PlainOpening};
 pub use claims::PlainClaim;

@@ -1,4 +1,4 @@
-use Rattle.texts.proofs.CallReturning.{openings_come_back, own_steps_come_back, received_steps_come_back, signs_come_back, revokes_come_back, keeps_come_back, releases_come_back, entries_come_back, dumps_come_back}
+use Rattle.texts.proofs.CallReturning.{openings_come_back, own_steps_come_back, updated_again, received_steps_come_back, signs_come_back, revokes_come_back, keeps_come_back, releases_come_back, entries_come_back, dumps_come_back}
 use Rattle.texts.proofs.laws.what_is_dumped_comes_back.Goals as goal
 
 pub returns-clause-openings : goal.returns-clause-openings
@@ -6,6 +6,9 @@ returns-clause-openings c = openings_come_back
 
 pub returns-clause-own_steps : goal.returns-clause-own_steps
 returns-clause-own_steps c = own_steps_come_back
+
+pub returns-clause-received_updates : goal.returns-clause-received_updates
+returns-clause-received_updates c = updated_again
 
 pub returns-clause-received_steps : goal.returns-clause-received_steps
 returns-clause-received_steps c = received_steps_come_back

@@ -1,6 +1,9 @@
-use Rattle.std.proofs.Common.{◌≡◌, map, take}
+use Rattle.std.proofs.Common.{◌≡◌, map, take, drop}
+use Rattle.std.specs.List.{AllByRecursion}
 use Rattle.serde_json.specs.View.{view}
 use Rattle.texts.proofs.writing.write_each.Given as goal
 
 abbrev pub invariant-loop-value : goal.invariant-loop-value
-invariant-loop-value g l = map view l.list.items ≡ map g.T.WriteValue.writes (take l.value-index l.values)
+invariant-loop-value g l =
+    (map view l.list.items ≡ map g.T.WriteValue.writes (take l.value-index l.values))
+    × (AllByRecursion g.T.WriteValue.comes_back (drop l.value-index l.values) → AllByRecursion g.T.WriteValue.comes_back l.values)
