@@ -7,7 +7,7 @@ use commit::signing_digests;
 use keys::Key;
 use lists::List;
 use penalty::RevokedState;
-use resolve::{Known, KnownCommitment, RevokedCommitment, SignedCommitment};
+use resolve::{Known, KnownCommitment, RevokedCommitment, RevokedCommitments, SignedCommitment};
 use sighash::Token;
 use std::alloc::{AllocError, Global};
 use terms::{Side, Terms};
@@ -59,7 +59,14 @@ fn tokens_on(
 fn signed(alloc: Global, setting: &Setting, owner: Side, number: u64) -> Result<SignedCommitment> {
     let own = commitment(alloc, setting, owner, number)?;
     let tokens = tokens_on(alloc, &setting.terms, owner, &own)?;
-    Ok(SignedCommitment::new(alloc, &setting.terms, own, tokens.commitment, tokens.htlcs)?)
+    Ok(SignedCommitment::new(
+        alloc,
+        &setting.terms,
+        owner,
+        own,
+        tokens.commitment,
+        tokens.htlcs,
+    )?)
 }
 
 /// The revoked commitment of a number.
@@ -81,8 +88,8 @@ fn all_revoked(
     setting: &Setting,
     owner: Side,
     count: u64,
-) -> Result<List<RevokedCommitment>> {
-    let mut list = List::new(alloc);
+) -> Result<RevokedCommitments> {
+    let mut list = RevokedCommitments::new(alloc);
     for number in 0..count {
         list.push(revoked(alloc, setting, owner, number)?)?;
     }
@@ -94,7 +101,7 @@ fn all_revoked(
 struct PeersCommitments {
     newest: KnownCommitment,
     next: KnownCommitment,
-    revoked: List<RevokedCommitment>,
+    revoked: RevokedCommitments,
 }
 
 /// The newest commitment of a side, the next, and those that it revoked.
