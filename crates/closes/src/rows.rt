@@ -191,25 +191,48 @@ fn close<R: Print + AllocGlobal>(rt: &R, setting: &Setting, chain: &mut Chain) -
     show_height(rt, "A's commitment 1", height)
 }
 
-/// Claims an output twice, and three together, with a satoshi more and with what they are worth.
-fn show_three<R: Print + AllocGlobal>(
+/// Claims the first output twice.
+fn show_twice<R: Print + AllocGlobal>(
     rt: &R,
-    claims: [&Claim; 3],
+    claims: &[Claim],
     known: &Known,
 ) -> Result<Option<Tx>> {
-    show_answer(rt, "one twice", &[claims[0], claims[0]], 10_000, known)?;
-    show_answer(rt, "a satoshi more", &claims, 99_105, known)?;
-    show_answer(rt, "three penalties", &claims, 99_104, known)
+    match claims {
+        [htlc, ..] => show_answer(rt, "one twice", &[htlc, htlc], 10_000, known),
+        _ => bail!("a revoked commitment has a claim"),
+    }
 }
 
-/// What claims the outputs of A's revoked commitment 1 together, before any HTLC transaction.
+/// Claims the commitment's three outputs together, before any HTLC transaction.
+fn show_three<R: Print + AllocGlobal>(
+    rt: &R,
+    what: &str,
+    claims: &[Claim],
+    value: u64,
+    known: &Known,
+) -> Result<Option<Tx>> {
+    match claims {
+        [htlc, _, remote, local] => show_answer(rt, what, &[htlc, remote, local], value, known),
+        _ => bail!("a revoked commitment with an HTLC has four claims"),
+    }
+}
+
+/// Claims an output twice, and three together, with a satoshi more and with what they are worth.
+fn show_penalties<R: Print + AllocGlobal>(
+    rt: &R,
+    claims: &[Claim],
+    known: &Known,
+) -> Result<Option<Tx>> {
+    show_twice(rt, claims, known)?;
+    show_three(rt, "a satoshi more", claims, 99_105, known)?;
+    show_three(rt, "three penalties", claims, 99_104, known)
+}
+
+/// What claims the outputs of A's revoked commitment 1 together.
 fn show_revoked<R: Print + AllocGlobal>(rt: &R, setting: &Setting) -> Result<Option<Tx>> {
     let known = known(rt.alloc(), setting, Side::B, 2, &[])?;
     let claims = due_claims(rt.alloc(), &known, Verdict::Revoked(1))?;
-    match claims.as_slice() {
-        [htlc, _, remote, local] => show_three(rt, [htlc, remote, local], &known),
-        _ => bail!("a revoked commitment with an HTLC has four claims"),
-    }
+    show_penalties(rt, claims.as_slice(), &known)
 }
 
 /// The second scenario: A's revoked commitment 1.
