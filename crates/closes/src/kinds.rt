@@ -22,7 +22,7 @@ const KEY_HASH_BYTES: usize = 25;
 /// How many the shortest script of an HTLC has; those of to_local have at most 78.
 const HTLC_BYTES: usize = 133;
 
-/// The kind of a claim on the first path of a script of so many bytes.
+/// The kind of a claim on the first path of a script with this number of bytes.
 fn first_kind(bytes: usize) -> Kind {
     if bytes >= HTLC_BYTES {
         return Kind::HtlcPenalty;

@@ -110,17 +110,12 @@ pub fn answer(
     ))
 }
 
-/// The transaction of claims, of one output of this value.
-pub fn joint_tx(alloc: Global, claims: &[&Claim], value: u64, known: &Known) -> Result<Tx> {
-    match answer(alloc, claims, value, known)? {
+/// The transaction of a claim, of one output of its whole value.
+pub fn claiming_tx(alloc: Global, claim: &Claim, known: &Known) -> Result<Tx> {
+    match answer(alloc, &[claim], claim.place().value, known)? {
         Ok(filled) => Ok(filled.into_tx()),
         Err(refusal) => Err(refusal.into()),
     }
-}
-
-/// The transaction of a claim, of one output of its whole value.
-pub fn claiming_tx(alloc: Global, claim: &Claim, known: &Known) -> Result<Tx> {
-    joint_tx(alloc, &[claim], claim.place().value, known)
 }
 
 /// Prints the id of a transaction, in the hash's own byte order.

@@ -1,7 +1,7 @@
 // What is due by each verdict, and claims in one transaction.
 
 use crate::known::known;
-use crate::publishing::{answer, closing_tx, joint_tx, show_id};
+use crate::publishing::{answer, closing_tx, show_id};
 use crate::settings::{Offer, PREIMAGE, Setting, open_channel};
 use anyhow::{Result, bail};
 use chain::{Chain, Coins};
@@ -134,25 +134,28 @@ fn show_tx<R: Print + AllocGlobal>(rt: &R, what: &str, tx: &Tx) -> Result<()> {
     show_id(rt, tx)
 }
 
-/// Prints what comes of claims in one transaction.
+/// Prints what comes of claims in one transaction, and gives the transaction, where there is one.
 fn show_answer<R: Print + AllocGlobal>(
     rt: &R,
     what: &str,
     claims: &[&Claim],
     value: u64,
     known: &Known,
-) -> Result<()> {
+) -> Result<Option<Tx>> {
     match answer(rt.alloc(), claims, value, known)? {
-        Ok(filled) => show_tx(rt, what, filled.tx()),
+        Ok(filled) => {
+            show_tx(rt, what, filled.tx())?;
+            Ok(Some(filled.into_tx()))
+        }
         Err(refusal) => {
             println!(rt; "{what}: {refusal}")?;
-            Ok(())
+            Ok(None)
         }
     }
 }
 
 /// The first two claims by a verdict in one transaction, where there are three HTLCs of A.
-fn show_two<R: Print + AllocGlobal>(rt: &R, what: &str, verdict: Verdict) -> Result<()> {
+fn show_two<R: Print + AllocGlobal>(rt: &R, what: &str, verdict: Verdict) -> Result<Option<Tx>> {
     let known = known_of_three(rt.alloc())?;
     let claims = due_claims(rt.alloc(), &known, verdict)?;
     match claims.as_slice() {
@@ -188,22 +191,48 @@ fn close<R: Print + AllocGlobal>(rt: &R, setting: &Setting, chain: &mut Chain) -
     show_height(rt, "A's commitment 1", height)
 }
 
-/// Claims three outputs together, with a satoshi more, and the first one twice, and gives the first transaction.
-fn show_three<R: Print + AllocGlobal>(rt: &R, claims: [&Claim; 3], known: &Known) -> Result<Tx> {
-    show_answer(rt, "three penalties", &claims, 99_104, known)?;
-    show_answer(rt, "a satoshi more", &claims, 99_105, known)?;
-    show_answer(rt, "one twice", &[claims[0], claims[0]], 10_000, known)?;
-    joint_tx(rt.alloc(), &claims, 99_104, known)
+/// Claims the first output twice.
+fn show_twice<R: Print + AllocGlobal>(
+    rt: &R,
+    claims: &[Claim],
+    known: &Known,
+) -> Result<Option<Tx>> {
+    match claims {
+        [htlc, ..] => show_answer(rt, "one twice", &[htlc, htlc], 10_000, known),
+        _ => bail!("a revoked commitment has a claim"),
+    }
 }
 
-/// What claims the outputs of A's revoked commitment 1 together, before any HTLC transaction.
-fn show_revoked<R: Print + AllocGlobal>(rt: &R, setting: &Setting) -> Result<Tx> {
-    let known = known(rt.alloc(), setting, Side::B, 2, &[])?;
-    let claims = due_claims(rt.alloc(), &known, Verdict::Revoked(1))?;
-    match claims.as_slice() {
-        [htlc, _, remote, local] => show_three(rt, [htlc, remote, local], &known),
+/// Claims the commitment's three outputs together, before any HTLC transaction.
+fn show_three<R: Print + AllocGlobal>(
+    rt: &R,
+    what: &str,
+    claims: &[Claim],
+    value: u64,
+    known: &Known,
+) -> Result<Option<Tx>> {
+    match claims {
+        [htlc, _, remote, local] => show_answer(rt, what, &[htlc, remote, local], value, known),
         _ => bail!("a revoked commitment with an HTLC has four claims"),
     }
+}
+
+/// Claims an output twice, and three together, with a satoshi more and with what they are worth.
+fn show_penalties<R: Print + AllocGlobal>(
+    rt: &R,
+    claims: &[Claim],
+    known: &Known,
+) -> Result<Option<Tx>> {
+    show_twice(rt, claims, known)?;
+    show_three(rt, "a satoshi more", claims, 99_105, known)?;
+    show_three(rt, "three penalties", claims, 99_104, known)
+}
+
+/// What claims the outputs of A's revoked commitment 1 together.
+fn show_revoked<R: Print + AllocGlobal>(rt: &R, setting: &Setting) -> Result<Option<Tx>> {
+    let known = known(rt.alloc(), setting, Side::B, 2, &[])?;
+    let claims = due_claims(rt.alloc(), &known, Verdict::Revoked(1))?;
+    show_penalties(rt, claims.as_slice(), &known)
 }
 
 /// The second scenario: A's revoked commitment 1.
@@ -211,9 +240,10 @@ fn show_scenario<R: Print + AllocGlobal>(rt: &R) -> Result<()> {
     let mut chain = Chain::new(rt.alloc())?;
     let setting = open_channel(rt.alloc(), DELAYS, &SCENARIO, &[], &mut chain)?;
     close(rt, &setting, &mut chain)?;
-    let tx = show_revoked(rt, &setting)?;
-    let height = connect(rt.alloc(), tx, &mut chain)?;
-    show_height(rt, "three penalties", height)
+    match show_revoked(rt, &setting)? {
+        Some(tx) => show_height(rt, "three penalties", connect(rt.alloc(), tx, &mut chain)?),
+        None => bail!("the penalties are filled"),
+    }
 }
 
 /// Prints all of this.
