@@ -141,8 +141,8 @@ fn remote_key(parties: &Parties, claimed: Claimed) -> Key {
     }
 }
 
-/// The slots, the top first, and the path that they are for.
-fn slots_of(
+/// The slots of what is claimed, the top first, and the path that they are for.
+fn wanted_slots(
     alloc: Global,
     parties: &Parties,
     case: &Case,
@@ -151,10 +151,21 @@ fn slots_of(
 ) -> Result<(Vec<Slot>, usize)> {
     let key = remote_key(parties, case.claimed);
     let token = remote_token(&key, script, shell, case.slip)?;
-    let (mut slots, mut path) = match kind_of(parties, case.claimed, token) {
-        Some(kind) => (accepted_slots(alloc, &kind)?, kind.path()),
-        None => (funding_slots(alloc, parties, &token)?, 0),
-    };
+    match kind_of(parties, case.claimed, token) {
+        Some(kind) => Ok((accepted_slots(alloc, &kind)?, kind.path())),
+        None => Ok((funding_slots(alloc, parties, &token)?, 0)),
+    }
+}
+
+/// Those slots and that path, with what is wrong in them.
+fn slots_of(
+    alloc: Global,
+    parties: &Parties,
+    case: &Case,
+    script: &[u8],
+    shell: &Shell,
+) -> Result<(Vec<Slot>, usize)> {
+    let (mut slots, mut path) = wanted_slots(alloc, parties, case, script, shell)?;
     match (case.slip, slots.first_mut()) {
         (Slip::OtherFlag, Some(top)) => *top = exact(alloc, &[])?,
         (Slip::OtherSlots, _) => {

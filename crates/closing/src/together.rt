@@ -173,14 +173,24 @@ fn show_three<R: Print + AllocGlobal>(
     show_connected(rt, timeout, tx, chain)
 }
 
-/// Prints what comes of several claims.
-pub fn show_all<R: Print + AllocGlobal>(rt: &R, parties: &Parties) -> Result<()> {
-    let mut chain = Chain::new(rt.alloc())?;
-    let claims = accept_all(rt.alloc(), parties, &KINDS, &mut chain)?;
-    let [penalty, timeout, preimage, fixed] = claims.as_slice() else {
+/// Prints what comes of a claim of each of those kinds, on outputs of a chain.
+fn show_claims<R: Print + AllocGlobal>(
+    rt: &R,
+    parties: &Parties,
+    claims: &[Claim],
+    chain: &mut Chain,
+) -> Result<()> {
+    let [penalty, timeout, preimage, fixed] = claims else {
         bail!("each claim is accepted by itself");
     };
     show_refusals(rt, &parties.owner, penalty, preimage, fixed)?;
     let three = [penalty, timeout, preimage];
-    show_three(rt, parties, &three, timeout, &mut chain)
+    show_three(rt, parties, &three, timeout, chain)
+}
+
+/// Prints what comes of several claims.
+pub fn show_all<R: Print + AllocGlobal>(rt: &R, parties: &Parties) -> Result<()> {
+    let mut chain = Chain::new(rt.alloc())?;
+    let claims = accept_all(rt.alloc(), parties, &KINDS, &mut chain)?;
+    show_claims(rt, parties, claims.as_slice(), &mut chain)
 }
