@@ -21,7 +21,7 @@ hash = replicate 20 9
 abbrev place : ℕ → ℕ → List ℕ → Place
 place index value hash = record { outpoint = record { txid = replicate 32 7; index = index }; value = value; program = 0 ∷ 20 ∷ hash }
 
--- a path of so many slots, on which nothing else is asked
+-- a path of `arity` slots, on which nothing else is asked
 abbrev path : ℕ → Path
 path arity = record { arity = arity; facts = []; ops = 3; height = 2; lock = None; age = None }
 

@@ -27,6 +27,7 @@ use Rattle.filling.specs.Refusals.{is_fixed}
 use Rattle.filling.proofs.Lists.{split}
 use Rattle.book.specs.Penalties.{same_outpoint, same_place, same_filling, same_fillings, same_claimable, is_claim_on, are_claims_on, claimable_in, IsChecked, PenaltySetsAreExact}
 use Rattle.book.proofs.Alike.{nothing_in}
+use Rattle.book.proofs.CheckedForms.{forms_are_checked}
 
 -- ---- what is the same is found to be so
 
@@ -225,5 +226,6 @@ unfolding claimable_of claimable_in
 penalty_sets_are_exact = record {
   found = λ c claims h. claims_found (claims_from c 0 c.outputs) claims (open_from c 0 c.outputs) h;
   only = λ c claims h k e. claims_are (claims_from c 0 c.outputs) claims (open_from c 0 c.outputs) h k e;
+  forms = forms_are_checked;
   same = λ s c secret state h. rw (h.terms_is, h.view_is, h.owner_is, h.number_is, h.secret_is) refl;
 }

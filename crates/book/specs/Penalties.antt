@@ -1,10 +1,14 @@
 -- The penalty set of a revoked commitment, as a book knows it.
-use Rattle.std.specs.Prelude.{◌≡◌, ℕ, ◌==◌, Bool, true, false, ◌&&◌, not, Ok, is_ok, All, List, [], ◌∷◌, Option, Some, None, slice_get}
+use Rattle.std.specs.Prelude.{◌≡◌, ℕ, ◌<◌, ◌^◌, ◌==◌, Bool, true, false, ◌&&◌, not, Ok, is_ok, All, List, [], ◌∷◌, Option, Some, None, slice_get}
 use Rattle.std.specs.List.{AllByRecursion}
 use Rattle.std.specs.Str.{bytes_eq}
 use Rattle.script.specs.Spelling.{spelling, IsOp}
 use Rattle.tx.specs.declared.input.OutPoint.{OutPoint}
 use Rattle.keys.specs.Derivation.{point_of}
+use Rattle.terms.specs.declared.sides.Side.{Side}
+use Rattle.terms.specs.declared.agreement.Terms.{Terms}
+use Rattle.terms.specs.declared.views.View.{View}
+use Rattle.terms.specs.Agreement.{party}
 use Rattle.terms.specs.Sides.{other}
 use Rattle.paths.specs.Listing.{CheckedScript, listing}
 use Rattle.claim.specs.declared.parts.Place.{Place}
@@ -16,6 +20,7 @@ use Rattle.penalty.specs.declared.states.RevokedState.{RevokedState}
 use Rattle.penalty.specs.Claimable.{Claimable, claims_from, claimable_of}
 use Rattle.penalty.specs.Sets.{claimed_by, AreClaimsOn}
 use Rattle.penalty.specs.States.{HasParts}
+use Rattle.penalty.specs.Paying.{CanPay}
 use Rattle.filling.specs.Refusals.{is_fixed}
 use Rattle.channel.specs.declared.commitments.CommitmentState.{CommitmentState}
 use Rattle.channel.specs.States.{State}
@@ -88,13 +93,16 @@ pub record IsChecked (c : CheckedScript) : Type 0 where
   pub each : All IsOp c.ops
   pub listed : listing c.ops ≡ Ok c.paths
 
--- the claims that are found to be on what a commitment lets claim are the accepted claims on exactly that, in order, where the scripts are checked ones; and a revoked state lets claim what its
--- commitment does
+-- the claims that are found to be on what a commitment lets claim are the accepted claims on exactly that, in order, where the scripts are checked ones, as the forms of a commitment are that can pay its
+-- view; and a revoked state lets claim what its commitment does
 pub record PenaltySetsAreExact : Type 0 where
   pub found : (c : Contents) (claims : List ClaimParts) → AreClaimsOn (claimable_in c) claims → are_claims_on (claimable_in c) claims ≡ true
   pub only :
       (c : Contents) (claims : List ClaimParts) → AllByRecursion (λ o. IsChecked o.form) (claimable_in c) → AllByRecursion (λ x. IsChecked x.ways) claims
       → are_claims_on (claimable_in c) claims ≡ true → AreClaimsOn (claimable_in c) claims
+  pub forms :
+      (terms : Terms) (view : View) (owner : Side) (number : ℕ) (point : List ℕ) → CanPay terms view → (party owner terms).delay < 2 ^ 16
+      → AllByRecursion (λ o. IsChecked o.form) (claimable_in (commitment_of terms view owner number point))
   pub same :
       (s : State) (c : CommitmentState) (secret : List ℕ) (state : RevokedState) → HasParts s.held.terms c.view (other s.held.side) c.number secret state
       → claimable_of state ≡ claimable_in (revoked_contents s c secret)
