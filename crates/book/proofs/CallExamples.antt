@@ -36,7 +36,6 @@ use Rattle.book.specs.Penalties.{is_penalty_set}
 use Rattle.book.specs.Books.{ChannelBook, missing_from}
 use Rattle.book.specs.Replies.{Reply, opened, stepped, signed, revoked, kept, released, reply_of, sign_refusal, keep_refusal, history_after}
 use Rattle.book.specs.Accepted.{all_accepted, first_refused}
-use Rattle.book.specs.Knowing.{known_of, known_after}
 use Rattle.book.specs.Guarding.{is_set_in, number_kept, is_guarded}
 
 limit : MAX_CHANNELS ≡ 65536
@@ -240,32 +239,3 @@ module _ (bases : BaseKeys) (seed : List ℕ) (own : IsSeedOf seed bases) where
         × (keep_refusal (channel then (0 ∷ [])) 0 claims ≡ Some AlreadyKept)
         × (keep_refusal (channel then []) 0 claims ≡ Some OtherState)
     keepings = (refl, refl, refl, rw no_set refl)
-
-  -- B's state once it took the signature
-  abbrev signed_to : State
-  signed_to = after (after (opened_state (terms_of 0) B seed point_key (key 1)) (UpdateMessage (Add (htlc 0 1000000 500)))) (CommitmentSigned (tokens 1 (1000000 ∷ [])))
-
-  -- the newest commitments and those before them, by number, with their tokens
-  newest : (option_map (λ o. o.commitment.number) (known_of tokens_of (channel then [])).own ≡ Some 0)
-      × (option_map (λ o. o.tokens) (known_of tokens_of (channel then [])).own ≡ Some (tokens 0 []))
-      × ((known_of tokens_of (channel then [])).older ≡ [])
-      × (option_map (λ o. o.commitment.number) (known_of tokens_of (channel signed_to [])).own ≡ Some 1)
-      × (option_map (λ o. o.tokens) (known_of tokens_of (channel signed_to [])).own ≡ Some (tokens 1 (1000000 ∷ [])))
-      × (map (λ o. o.commitment.number) (known_of tokens_of (channel signed_to [])).older ≡ 0 ∷ [])
-      × (option_map (λ c. c.number) (known_of tokens_of (channel then [])).theirs ≡ Some 1)
-      × (option_map (λ c. c.number) (known_of tokens_of (channel then [])).next ≡ None)
-      × (option_map (λ c. c.number) (known_of tokens_of (channel (after_sign then) [])).next ≡ Some 2)
-  newest = (refl, refl, refl, refl, refl, refl, refl, refl, refl)
-
-  -- what the peer revoked, and what fulfils showed
-  learnt : (map (λ r. r.commitment.number) (known_of tokens_of (channel then [])).revoked ≡ 0 ∷ [])
-      × (map (λ r. r.secret) (known_of tokens_of (channel then [])).revoked ≡ secret ∷ [])
-      × (map (λ r. r.has_penalties) (known_of tokens_of (channel then [])).revoked ≡ false ∷ [])
-      × (map (λ r. r.has_penalties) (known_of tokens_of (channel then (0 ∷ []))).revoked ≡ true ∷ [])
-      × ((known_of tokens_of (channel then [])).preimages ≡ [])
-      × ((known_of tokens_of (channel (after (after_update (Fulfil 0 secret) then) (UpdateMessage (Fulfil 0 hash))) [])).preimages ≡ secret ∷ hash ∷ [])
-      × ((known_of tokens_of (channel (after then (UpdateMessage (Fail 0))) [])).preimages ≡ [])
-  learnt = (refl, refl, refl, refl, refl, refl, refl)
-
-  unknown : known_after tokens_of first_history 1 ≡ None
-  unknown = refl
