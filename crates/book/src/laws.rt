@@ -2,6 +2,7 @@
 
 ghost use Rattle.book.specs.Accepted.{AcceptedMeans};
 ghost use Rattle.book.specs.Guarding.{AcceptedIsGuarded, GuardedMeans};
+ghost use Rattle.book.specs.Again.{ClaimsComeBack, OpeningsComeBack, EntriesComeBack, DumpsComeBack};
 ghost use Rattle.book.specs.Signers.{RightsAreTested, RefusalsAreFound, KeptAreFillable};
 
 /// The histories that a book's calls lead to are those of which each entry is accepted after those before it. Where that is not so, there is a first entry that is refused: what
@@ -31,4 +32,13 @@ pub fn refusals_are_found()
 /// with NoRight.
 pub fn kept_are_fillable()
     ensures { KeptAreFillable }
+{}
+
+/// An accepted claim, an opening and an entry are taken again from their plain forms as the same; and a text that is read as the form of a history of accepted entries is loaded as that
+/// history.
+pub fn what_is_dumped_is_loaded()
+    ensures claims { ClaimsComeBack }
+    ensures openings { OpeningsComeBack }
+    ensures entries { EntriesComeBack }
+    ensures dumps { DumpsComeBack }
 {}
