@@ -1,60 +1,211 @@
-// The book and its history.
+//! A node's book: its channels, and the history of the calls that it accepted.
 
-use claim::Claim;
-use lists::List;
-use std::alloc::{AllocError, Global};
+use crate::calls::{Batch, Call, Entry, Opening, Step};
+use crate::errors::{OpenError, ReleaseError, SignError, StepError};
+use crate::limits::MAX_CHANNELS;
+use crate::open_channel::{OpenChannel, Taken};
+use channel::Message;
+use filling::{FillError, Filled};
+use keys::Key;
+use std::alloc::Global;
+use std::collections::BTreeSet;
 use std::marker::Model;
-
-/// What an accepted call of the book left in its history.
-#[derive(Drop)]
-pub enum Entry {
-    /// The seat of this number filed the claim.
-    Filed(u32, Claim),
-}
+use tx::OutPoint;
+use updates::Refusal;
 
 /// A node's book. A contract sees it as its history, the oldest entry first.
 #[derive(Drop)]
 pub struct Book {
-    entries: List<Entry>,
+    alloc: Global,
+    entries: Vec<Entry>,
+    // what the calls of the history leave
+    channels: Vec<OpenChannel>,
+    // the funding outputs of the channels
+    fundings: BTreeSet<OutPoint>,
 }
 
 impl Model for Book {
     ghost use Rattle.std.specs.Prelude.{List as Values};
-    ghost use Rattle.book.specs.declared.history.Entry.{Entry as HistoryEntry};
+    ghost use Rattle.std.specs.BTreeSet.{contains};
+    ghost use Rattle.book.specs.declared.calls.Entry.{Entry as HistoryEntry};
+    ghost use Rattle.book.specs.Kept.{outpoint_cmp, IsKeeping};
 
     ghost Value = { Values HistoryEntry };
 
-    ghost view = { λ b. b.entries };
+    ghost view = { λ b. b.entries.items };
+
+    ghost invariant = { λ b. IsKeeping b.entries.items b.channels.items (contains outpoint_cmp b.fundings) };
 }
 
 impl Book {
-    ghost use Rattle.std.specs.Prelude.{◌≡◌, [], ◌∷◌, ◌++◌, IfOk, OnErr};
-    ghost use Rattle.book.specs.History.{filed_count};
+    ghost use Rattle.std.specs.Prelude.{◌≡◌, [], true, Err};
+    ghost use Rattle.channel.specs.Tokens.{peer_tokens};
+    ghost use Rattle.updates.specs.declared.refusals.Refusal.TheVariants.{NoMemory as refusal_memory};
+    ghost use Rattle.filling.specs.declared.errors.FillError.TheVariants.{NoMemory as fill_memory};
+    ghost use Rattle.book.specs.Accepted.{all_accepted};
+    ghost use Rattle.book.specs.Guarding.{is_guarded};
+    ghost use Rattle.book.specs.Replies.{opened, stepped, signed, revoked, kept, released};
+    ghost use Rattle.book.specs.Calling.{IsCall, step_reply};
 
     /// An empty book, which takes no memory.
-    pub fn new(alloc: Global) -> Self
+    pub fn new(alloc: Global) -> Book
         ensures { result ≡ [] }
     {
         Book {
-            entries: List::new(alloc),
+            alloc,
+            entries: Vec::new(alloc),
+            channels: Vec::new(alloc),
+            fundings: BTreeSet::new(alloc),
         }
     }
 
-    /// The history, the oldest entry first.
+    /// The history, the oldest entry first. Each entry is of a call that was accepted after those before it, and each signature stands where every revocation that came
+    /// in its channel has its penalties kept between the two.
     pub fn entries(&self) -> &[Entry]
-        ensures { result.now ≡ self.now }
+        ensures value { result.now ≡ self.now }
+        ensures accepted { all_accepted peer_tokens self.now ≡ true }
+        ensures guarded { is_guarded self.now ≡ true }
     {
-        self.entries.values()
+        &self.entries
     }
 
-    /// Files a claim for a seat, and answers how many claims were filed before. The only error is that memory ran out, which leaves the book as it
-    /// was and drops the claim.
-    pub fn file(&mut self, seat: u32, claim: Claim) -> Result<u64, AllocError>
-        ensures filed { IfOk result (λ n. (n ≡ filed_count self.old) × (self.new ≡ self.old ++ Entry.Filed seat claim ∷ [])) }
-        ensures err { OnErr result (self.new ≡ self.old) }
+    /// Opens a channel, and gives its index: BookFull where there are 65,536, SameFunding where one has the same funding output, BadSignature where the token is not
+    /// the peer's on this side's commitment 0. A refusal leaves the book as it was.
+    pub fn open(&mut self, seat: u32, opening: Opening) -> Result<u64, OpenError>
+        ensures { IsCall (opened (Err OpenError.NoMemory)) (opened result) self.old self.new seat (Call.Open opening) }
     {
-        let before = self.entries.len() as u64;
-        self.entries.push(Entry::Filed(seat, claim))?;
-        Ok(before)
+        if self.channels.len() >= MAX_CHANNELS {
+            return Err(OpenError::BookFull);
+        }
+        if self.fundings.contains(&opening.terms.funding) {
+            return Err(OpenError::SameFunding);
+        }
+        let open = match OpenChannel::open(self.alloc, &opening) {
+            Ok(open) => open,
+            Err(error) => return Err(error),
+        };
+        match self.entries.reserve(1) {
+            Ok(()) => {}
+            Err(_) => return Err(OpenError::NoMemory),
+        }
+        match self.channels.reserve(1) {
+            Ok(()) => {}
+            Err(_) => return Err(OpenError::NoMemory),
+        }
+        match self.fundings.insert(opening.terms.funding) {
+            Ok(_) => {}
+            Err(_) => return Err(OpenError::NoMemory),
+        }
+        let index = self.channels.len() as u64;
+        self.channels.push(open).unwrap();
+        let call = Call::Open(opening);
+        self.entries.push(Entry { seat, call }).unwrap();
+        Ok(index)
+    }
+
+    /// Takes a step of a channel, and gives the message that it sends or that answers it: NoSuchChannel, else the channel's refusal. A refusal leaves the book as
+    /// it was.
+    pub fn step(
+        &mut self,
+        seat: u32,
+        channel: u64,
+        step: Step,
+    ) -> Result<Option<Message>, StepError>
+        ensures { IsCall (stepped (Err (StepError.Refused refusal_memory))) (step_reply result) self.old self.new seat (Call.Step channel step) }
+    {
+        let index = channel as usize;
+        if index >= self.channels.len() {
+            return Err(StepError::NoSuchChannel);
+        }
+        match self.entries.reserve(1) {
+            Ok(()) => {}
+            Err(_) => return Err(StepError::Refused(Refusal::NoMemory)),
+        }
+        let open = &mut self.channels[index];
+        let taken = match open.step(step) {
+            Ok(taken) => taken,
+            Err(refusal) => return Err(StepError::Refused(refusal)),
+        };
+        let Taken { step, message } = taken;
+        let call = Call::Step { channel, step };
+        self.entries.push(Entry { seat, call }).unwrap();
+        Ok(message)
+    }
+
+    /// Receives a `revoke_and_ack`, and gives the number of the revoked commitment: NoSuchChannel, else the channel's refusal. A refusal leaves the book as it was.
+    pub fn revoke(
+        &mut self,
+        seat: u32,
+        channel: u64,
+        secret: [u8; 32],
+        next_point: Key,
+    ) -> Result<u64, StepError>
+        ensures { IsCall (revoked (Err (StepError.Refused refusal_memory))) (revoked result) self.old self.new seat (Call.Revoke channel secret next_point) }
+    {
+        let index = channel as usize;
+        if index >= self.channels.len() {
+            return Err(StepError::NoSuchChannel);
+        }
+        match self.entries.reserve(1) {
+            Ok(()) => {}
+            Err(_) => return Err(StepError::Refused(Refusal::NoMemory)),
+        }
+        let open = &mut self.channels[index];
+        let number = match open.revoke(secret, next_point) {
+            Ok(number) => number,
+            Err(refusal) => return Err(StepError::Refused(refusal)),
+        };
+        let call = Call::Revoke {
+            channel,
+            secret,
+            next_point,
+        };
+        self.entries.push(Entry { seat, call }).unwrap();
+        Ok(number)
+    }
+
+    /// Signs the peer's next commitment, and gives the message: NoSuchChannel, AwaitingRevocation, PenaltiesMissing with the least number of a revoked commitment whose
+    /// penalties are not kept, NoUpdates. A refusal leaves the book as it was.
+    pub fn sign(&mut self, seat: u32, channel: u64) -> Result<Message, SignError>
+        ensures { IsCall (signed (Err SignError.NoMemory)) (signed result) self.old self.new seat (Call.Sign channel) }
+    {
+        let index = channel as usize;
+        if index >= self.channels.len() {
+            return Err(SignError::NoSuchChannel);
+        }
+        match self.entries.reserve(1) {
+            Ok(()) => {}
+            Err(_) => return Err(SignError::NoMemory),
+        }
+        let open = &mut self.channels[index];
+        let message = match open.sign() {
+            Ok(message) => message,
+            Err(error) => return Err(error),
+        };
+        let call = Call::Sign { channel };
+        self.entries.push(Entry { seat, call }).unwrap();
+        Ok(message)
+    }
+
+    /// Fills the claims of a batch by the channel's signer: NoSuchChannel, else the refusal of `fill`. A refusal leaves the book as it was.
+    pub fn release(&mut self, seat: u32, channel: u64, batch: Batch) -> Result<Filled, ReleaseError>
+        ensures { IsCall (released (Err (ReleaseError.Unfilled fill_memory))) (released result) self.old self.new seat (Call.Release channel batch) }
+    {
+        let index = channel as usize;
+        if index >= self.channels.len() {
+            return Err(ReleaseError::NoSuchChannel);
+        }
+        match self.entries.reserve(1) {
+            Ok(()) => {}
+            Err(_) => return Err(ReleaseError::Unfilled(FillError::NoMemory)),
+        }
+        let open = &self.channels[index];
+        let filled = match open.release(self.alloc, &batch) {
+            Ok(filled) => filled,
+            Err(error) => return Err(ReleaseError::Unfilled(error)),
+        };
+        let call = Call::Release { channel, batch };
+        self.entries.push(Entry { seat, call }).unwrap();
+        Ok(filled)
     }
 }

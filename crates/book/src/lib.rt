@@ -12,15 +12,18 @@ mod call_tests;
 pub mod calls;
 pub mod dumping;
 pub mod errors;
+mod flags;
 pub mod history;
+mod judging;
 pub mod laws;
 pub mod loading;
 mod limits;
 mod openings;
 mod reading;
 pub mod matching;
-#[cfg(test)]
-mod tests;
+mod open_channel;
+mod releasing;
 
-pub use history::{Book, Entry};
+pub use calls::{Batch, Call, Entry, Opening, Step};
+pub use history::Book;
 pub use limits::MAX_CHANNELS;

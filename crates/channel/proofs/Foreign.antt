@@ -54,6 +54,12 @@ inserted_at-within : (secrets : List (List ℕ)) (j : ℕ) → j < 2 ^ 48 → in
 unfolding inserted_at
 inserted_at-within secrets j less = cond-true (nat_lt j (2 ^ 48)) (slice_get secrets (2 ^ 48 - 1 - j)) None (lt-ltb j (2 ^ 48) less)
 
+-- the secret that was inserted at the index of a number stands at the number
+pub numbered_at : (secrets : List (List ℕ)) (n : ℕ) → n < 2 ^ 48 → inserted_at secrets (2 ^ 48 - 1 - n) ≡ slice_get secrets n
+numbered_at secrets n less =
+    let e : 2 ^ 48 - 1 - (2 ^ 48 - 1 - n) ≡ n = omega (arith, less) in
+    inserted_at-within secrets (2 ^ 48 - 1 - n) (omega arith) ∙ ap (slice_get secrets) e
+
 -- what stands at a position was inserted at its index
 stored_at : (secrets : List (List ℕ)) (k : ℕ) (t : List ℕ) → length secrets < 2 ^ 48 → slice_get secrets k ≡ Some t → inserted_at secrets (2 ^ 48 - 1 - k) ≡ Some t
 stored_at secrets k t l g =

@@ -20,6 +20,10 @@ use Rattle.channel.proofs.Learning.{one_signed, one_mine, one_next, first_four}
 abbrev pub with_point : Rights → List ℕ → Rights
 with_point r point = record { seed = r.seed; points = r.points ++ point ∷ []; secrets = r.secrets }
 
+-- the signer with one point and one secret more
+abbrev pub with_revocation : Rights → List ℕ → List ℕ → Rights
+with_revocation r secret point = record { seed = r.seed; points = r.points ++ point ∷ []; secrets = r.secrets ++ secret ∷ [] }
+
 abbrev points_of : List CommitmentState → List (List ℕ)
 points_of cs = map (λ c. c.point.bytes) cs
 
@@ -46,7 +50,7 @@ kept_opened s terms side signer r first next e seed points secrets can =
           subst (λ l. HaveSame l (rights_of (opened terms side signer.seed first next)).points) (sym points)
           (first_four first.bytes next.bytes (point_at signer.seed 0).bytes (point_at signer.seed 1).bytes);
       count = ap length points;
-      no_secrets = secrets ∙ can.no_secrets;
+      learnt = secrets ∙ can.no_secrets;
       awaited = tt;
       number = omega arith;
       peer_number = omega arith;
@@ -65,7 +69,7 @@ kept_signed s t r c i below held seed awaiting number peer_number next secrets m
       bases = bases_same s.held.terms t.held.terms s.held.side t.held.side s.seed t.seed (ap (λ (h : Held). h.terms) held) (ap (λ (h : Held). h.side) held) seed i.bases;
       points = subst (λ l. HaveSame r.points l) same (one_signed r.points own s.next_point.bytes (points_of s.mine) (points_of s.signed) i.points);
       count = i.count ∙ (λ j. sym number j + sym peer_number j + 4);
-      no_secrets = i.no_secrets;
+      learnt = i.learnt ∙ sym secrets;
       awaited =
           subst (λ b. IsSignedIf b t.next_point.bytes t.signed) (sym awaiting)
           (subst (λ l. Contains l t.next_point.bytes) (sym pushed) (subst (λ (k : Key). Contains (points_of s.signed ++ s.next_point.bytes ∷ []) k.bytes) (sym next) (Contains-push (points_of s.signed) s.next_point.bytes)));
@@ -92,7 +96,7 @@ kept_signature s t r r' c i below held seed awaiting number peer_number next sec
       bases = bases_same s.held.terms t.held.terms s.held.side t.held.side s.seed t.seed (ap (λ (h : Held). h.terms) held) (ap (λ (h : Held). h.side) held) seed i.bases;
       points = subst (λ l. HaveSame r'.points l) same (subst (λ (x : Rights). HaveSame x.points (later ∷ s.next_point.bytes ∷ ((points_of s.mine ++ own ∷ []) ++ points_of s.signed))) (sym e) learnt);
       count = omega (arith, longer, count, number, peer_number);
-      no_secrets = ap (λ (x : Rights). x.secrets) e ∙ i.no_secrets;
+      learnt = ap (λ (x : Rights). x.secrets) e ∙ i.learnt ∙ sym secrets;
       awaited = signed_same s.awaiting t.awaiting s.next_point.bytes t.next_point.bytes s.signed t.signed awaiting (ap (λ (k : Key). k.bytes) next) signed i.awaited;
       number = omega (arith, number, below);
       peer_number = omega (arith, peer_number, wait, bound);
@@ -100,7 +104,7 @@ kept_signature s t r r' c i below held seed awaiting number peer_number next sec
     }
 
 pub kept_revocation : (s t : State) (r r' : Rights) (secret : List ℕ) → IsChannel s r → s.awaiting ≡ true → t.held ≡ holding_revocation s.held → t.seed ≡ s.seed → t.awaiting ≡ false → t.number ≡ s.number
-    → t.peer_number ≡ s.peer_number + 1 → t.secrets ≡ s.secrets ++ secret ∷ [] → t.mine ≡ s.mine → t.signed ≡ s.signed → r' ≡ with_point r t.next_point.bytes → IsChannel t r'
+    → t.peer_number ≡ s.peer_number + 1 → t.secrets ≡ s.secrets ++ secret ∷ [] → t.mine ≡ s.mine → t.signed ≡ s.signed → r' ≡ with_revocation r secret t.next_point.bytes → IsChannel t r'
 kept_revocation s t r r' secret i awaited held seed awaiting number peer_number secrets mine signed e =
     let own = (point_at s.seed (s.number + 1)).bytes in
     let same = points_same s t own t.next_point (points_of s.mine) (points_of s.signed) (λ j. (point_at (seed j) (number j + 1)).bytes) refl (ap points_of mine) (ap points_of signed) in
@@ -116,7 +120,7 @@ kept_revocation s t r r' secret i awaited held seed awaiting number peer_number 
       bases = bases_same s.held.terms t.held.terms s.held.side t.held.side s.seed t.seed (ap (λ (h : Held). h.terms) held) (ap (λ (h : Held). h.side) held) seed i.bases;
       points = subst (λ l. HaveSame r'.points l) same (subst (λ (x : Rights). HaveSame x.points (own ∷ t.next_point.bytes ∷ (points_of s.mine ++ points_of s.signed))) (sym e) learnt);
       count = omega (arith, longer, count, number, peer_number);
-      no_secrets = ap (λ (x : Rights). x.secrets) e ∙ i.no_secrets;
+      learnt = ap (λ (x : Rights). x.secrets) e ∙ ap (λ l. l ++ secret ∷ []) i.learnt ∙ sym secrets;
       awaited = subst (λ b. IsSignedIf b t.next_point.bytes t.signed) (sym awaiting) tt;
       number = omega (arith, number, below);
       peer_number = omega (arith, peer_number, none, one, bound);

@@ -42,7 +42,7 @@ pub record IsChannel (s : State) (r : Rights) : Type 0 where
   pub bases : HasBases s.held.terms s.held.side s.seed
   pub points : HaveSame r.points (rights_of s).points
   pub count : length r.points ≡ s.number + s.peer_number + 4
-  pub no_secrets : r.secrets ≡ []
+  pub learnt : r.secrets ≡ s.secrets
   pub awaited : IsSignedIf s.awaiting s.next_point.bytes s.signed
   pub number : s.number ≤ LAST_NUMBER
   pub peer_number : s.peer_number + one_if s.awaiting ≤ LAST_NUMBER

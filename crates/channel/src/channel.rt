@@ -17,8 +17,8 @@ use updates::{Ledger, Refusal, Update};
 /// contract sees it as its `State`.
 ///
 /// It keeps every update, some 64 bytes each. A signature, given or received, costs some 120 bytes and 56 for each HTLC that stands in its commitment; a
-/// signature received and a revocation received cost the signer some 300 bytes each, and at most some 520. The time of a call depends on the HTLCs that
-/// stand, and on no number but the logarithm of how many revocations there were.
+/// signature received costs the signer some 300 bytes, and at most some 520, and a revocation received twice as much. The time of a call depends on the
+/// HTLCs that stand, and on no number but the logarithm of how many revocations there were.
 #[derive(Drop)]
 pub struct Channel {
     ledger: Ledger,
@@ -67,7 +67,7 @@ impl Model for Channel {
 }
 
 impl Channel {
-    ghost use Rattle.std.specs.Prelude.{◌≡◌, ◌↔◌, ℕ, List, ◌+◌, ◌^◌, ◌<◌, ◌≤◌, [], ◌∷◌, ◌++◌, false, true, None, IfOk, IfErr, IfSome, IfNone, OnErr, MatchResult};
+    ghost use Rattle.std.specs.Prelude.{◌≡◌, ◌↔◌, ℕ, List, ◌+◌, ◌^◌, ◌<◌, ◌≤◌, ◌||◌, nat_le, [], ◌∷◌, ◌++◌, false, true, None, slice_get, option_map, IfOk, IfErr, IfSome, IfNone, OnErr, MatchResult};
     ghost use Rattle.std.specs.List.{cons_option};
     ghost use Rattle.updates.specs.declared.changes.Update.TheVariants.{Add, Fulfil, Fail, Fee};
     ghost use Rattle.updates.specs.declared.refusals.Refusal.TheVariants.{NoMemory};
@@ -134,7 +134,46 @@ impl Channel {
         })
     }
 
-    /// The side's signer. It knows its own points up to that of its newest commitment's next, and each point of the peer that came.
+    /// The terms of the channel.
+    pub fn terms(&self) -> &Terms
+        ensures { result.now ≡ self.now.held.terms }
+    {
+        self.ledger.terms()
+    }
+
+    /// Which side of the channel this is.
+    pub fn side(&self) -> Side
+        ensures { result ≡ self.now.held.side }
+    {
+        self.ledger.side()
+    }
+
+    /// Whether this side may not sign now, whatever there is to sign: a signature given out awaits its revocation, or the last number is signed.
+    pub fn waits_to_sign(&self) -> bool
+        ensures { result ≡ (self.now.awaiting || nat_le last_number self.now.peer_number) }
+    {
+        self.awaiting || self.peer_number >= LAST_NUMBER
+    }
+
+    /// The peer's commitment of a number, where it was signed.
+    pub fn peers_commitment(&self, number: u64) -> Option<&CommitmentState>
+        ensures { option_map (λ c. c.now) result ≡ slice_get self.now.signed number }
+    {
+        self.signed.get(number as usize)
+    }
+
+    /// The secret of the peer's commitment of a number, where it is revoked. It takes at most 48 hashes.
+    pub fn peers_secret(&self, number: u64) -> Option<[u8; 32]>
+        ensures { result ≡ slice_get self.now.secrets number }
+    {
+        if number >= self.peer_number {
+            return None;
+        }
+        self.secrets.get(FIRST_INDEX - number)
+    }
+
+    /// The side's signer. It knows its own points up to that of its newest commitment's next, and each point and each secret of the peer that came, so that
+    /// it may sign for what the peer's revoked commitments pay.
     pub fn signer(&self) -> &Signer
         ensures seed { result.now.seed ≡ self.now.seed }
         ensures rights { (key : List ℕ) → MaySign result.now key ↔ MaySign (rights_of self.now) key }
@@ -382,7 +421,7 @@ impl Channel {
         let Some(secrets) = self.with_secret(secret) else {
             return Err(Refusal::WrongSecret);
         };
-        match self.signer.learn_point(next_point) {
+        match self.signer.learn_revocation(secret, next_point) {
             Ok(()) => {}
             Err(_) => return Err(Refusal::NoMemory),
         }

@@ -6,7 +6,7 @@ ghost use Rattle.terms.specs.Sides.{other};
 ghost use Rattle.channel.specs.Keeping.{HasBases, CanOpen};
 
 use crate::{Channel, Message, opening_points, opening_token};
-use keys::{Base, Signer};
+use keys::{Base, Signer, revocation};
 use std::alloc::Global;
 use std::process::Abort;
 use terms::{BaseKeys, Party, Side, Terms};
@@ -159,4 +159,20 @@ fn two_sides_agree(rt: HostRuntime) {
     let next = b.ready().expect(&rt, "a commitment");
     assert_eq!(rt; (next.number, next.view.a.balance), (2, 80_000_000));
     assert!(rt; b.signed().is_ok());
+}
+
+// Once B revoked its commitment 0, A may sign for what the commitment would pay B.
+#[test]
+fn learns_the_secret_of_a_revocation(rt: HostRuntime) {
+    let alloc = rt.alloc();
+    let mut a = open(&rt, alloc, Side::A, 0).expect(&rt, "a channel");
+    let mut b = open(&rt, alloc, Side::B, 0).expect(&rt, "a channel");
+    let point = opening_points(&Signer::new(alloc, &[2; 32])).first;
+    let key = revocation(&a.signer().base(Base::Revocation), &point);
+    let before = a.signer().can_sign(&key);
+    let rate = a.set_fee(2000).expect(&rt, "a feerate");
+    let tokens = a.signed().expect(&rt, "tokens");
+    deliver(&rt, &mut a, &mut b, rate);
+    deliver(&rt, &mut a, &mut b, tokens);
+    assert_eq!(rt; (before, a.signer().can_sign(&key)), (false, true));
 }

@@ -1,4 +1,4 @@
-use Rattle.std.proofs.Common.{ap, sym, subst}
+use Rattle.std.proofs.Common.{ap, sym, subst, ◌∙◌}
 use Rattle.channel.specs.States.{State}
 use Rattle.channel.specs.Rights.{rights_of}
 use Rattle.channel.specs.Keeping.{HaveSame}
@@ -13,4 +13,5 @@ returns-clause-rights c key =
     let t = rights_of c.args.self.now in
     let points = subst (λ (s : State). HaveSame r.points (rights_of s).points) c.self.view_is i.points in
     let seed = ap (λ (s : State). s.seed) c.self.view_is in
-    (same_rights r t seed points i.no_secrets key, same_rights t r (sym seed) (turned_round r.points t.points points) (sym i.no_secrets) key)
+    let secrets = i.learnt ∙ ap (λ (s : State). s.secrets) c.self.view_is in
+    (same_rights r t seed points secrets key, same_rights t r (sym seed) (turned_round r.points t.points points) (sym secrets) key)

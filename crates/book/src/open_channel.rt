@@ -1,0 +1,239 @@
+// A channel of a book, with the numbers of the revoked commitments whose penalties are kept.
+
+ghost use Rattle.std.specs.Prelude.{◌≡◌, [], IfOk, OnErr, MatchResult, Some, None};
+ghost use Rattle.std.specs.List.{cons_option};
+ghost use Rattle.updates.specs.Refusals.{IsRefusal};
+ghost use Rattle.channel.specs.Tokens.{peer_tokens as tokens_of};
+ghost use Rattle.channel.specs.States.{after_update};
+ghost use Rattle.book.specs.Books.{update_of, stepped};
+ghost use Rattle.book.specs.Replies.{step_refusal, messages_of};
+
+use crate::calls::{Batch, Opening, Step};
+use crate::errors::{OpenError, SignError};
+use crate::releasing::filled;
+use channel::{Channel, Message, Tokens};
+use filling::{FillError, Filled};
+use keys::{Key, Signer};
+use std::alloc::Global;
+use std::marker::Model;
+use texts::OwnUpdate;
+use updates::Refusal;
+
+/// A channel, and which of the peer's revoked commitments have their penalties kept. A contract sees it as its `ChannelBook`.
+#[derive(Drop)]
+pub(crate) struct OpenChannel {
+    channel: Channel,
+    // in the order in which they were kept
+    kept: Vec<u64>,
+    // by number, whether its penalties are kept
+    flags: Vec<bool>,
+    // the least number whose flag is not set
+    below: usize,
+}
+
+impl Model for OpenChannel {
+    ghost use Rattle.book.specs.Books.{ChannelBook};
+    ghost use Rattle.book.specs.Kept.{IsBeside};
+
+    ghost Value = { ChannelBook };
+
+    ghost view = { λ o. record { state = o.channel; kept = o.kept.items } };
+
+    ghost invariant = { λ o. IsBeside (record { state = o.channel; kept = o.kept.items }) o.flags.items o.below };
+}
+
+// A step that a channel took, with the message that it sends or that answers it.
+#[derive(Drop)]
+pub(crate) struct Taken {
+    pub(crate) step: Step,
+    pub(crate) message: Option<Message>,
+}
+
+// The channel makes an update, and gives the message.
+fn make(channel: &mut Channel, update: &OwnUpdate) -> Result<Message, Refusal>
+    ensures message { IfOk result (λ m. m ≡ Message.Updated (update_of channel.old update.now)) }
+    ensures ok { IfOk result (λ _. channel.new ≡ after_update (update_of channel.old update.now) channel.old) }
+    ensures tested { let first = step_refusal tokens_of channel.old (Step.Own update.now) in MatchResult result (λ _. first ≡ None) (IsRefusal first) }
+    ensures err { OnErr result (channel.new ≡ channel.old) }
+{
+    match update {
+        OwnUpdate::Offer {
+            amount,
+            hash,
+            expiry,
+        } => channel.offer(*amount, *hash, *expiry),
+        OwnUpdate::Fulfil { id, preimage } => channel.fulfil(*id, *preimage),
+        OwnUpdate::Fail { id } => channel.fail(*id),
+        OwnUpdate::SetFee { rate } => channel.set_fee(*rate),
+    }
+}
+
+// The channel receives tokens. Gives them back, with the message that answers them.
+fn receive_tokens(channel: &mut Channel, tokens: Tokens) -> Result<Taken, Refusal>
+    ensures step { IfOk result (λ t. t.step ≡ Step.Signed tokens) }
+    ensures message { IfOk result (λ t. cons_option t.message [] ≡ messages_of channel.old (Step.Signed tokens)) }
+    ensures ok { IfOk result (λ _. channel.new ≡ stepped (Step.Signed tokens) channel.old) }
+    ensures tested { let first = step_refusal tokens_of channel.old (Step.Signed tokens) in MatchResult result (λ _. first ≡ None) (IsRefusal first) }
+    ensures err { OnErr result (channel.new ≡ channel.old) }
+{
+    let received = Message::CommitmentSigned(tokens);
+    let message = match channel.receive(&received) {
+        Ok(message) => message,
+        Err(refusal) => return Err(refusal),
+    };
+    match received {
+        Message::CommitmentSigned(tokens) => Ok(Taken {
+            step: Step::Signed(tokens),
+            message,
+        }),
+        _ => unreachable!(),
+    }
+}
+
+// The channel takes a step. Gives it back, with the message that it sends or that answers it.
+fn take(channel: &mut Channel, step: Step) -> Result<Taken, Refusal>
+    ensures step { IfOk result (λ t. t.step ≡ step) }
+    ensures message { IfOk result (λ t. cons_option t.message [] ≡ messages_of channel.old step) }
+    ensures ok { IfOk result (λ _. channel.new ≡ stepped step channel.old) }
+    ensures tested { let first = step_refusal tokens_of channel.old step in MatchResult result (λ _. first ≡ None) (IsRefusal first) }
+    ensures err { OnErr result (channel.new ≡ channel.old) }
+{
+    match step {
+        Step::Own(update) => match make(channel, &update) {
+            Ok(message) => Ok(Taken {
+                step: Step::Own(update),
+                message: Some(message),
+            }),
+            Err(refusal) => Err(refusal),
+        },
+        Step::Updated(update) => match channel.receive(&Message::Updated(update)) {
+            Ok(message) => Ok(Taken {
+                step: Step::Updated(update),
+                message,
+            }),
+            Err(refusal) => Err(refusal),
+        },
+        Step::Signed(tokens) => receive_tokens(channel, tokens),
+    }
+}
+
+impl OpenChannel {
+    ghost use Rattle.std.specs.Prelude.{length};
+    ghost use Rattle.channel.specs.declared.messages.Message.TheVariants.{RevokeAndAck};
+    ghost use Rattle.channel.specs.States.{after, after_sign, receive_refusal, signature_message};
+    ghost use Rattle.book.specs.Books.{with_state, opened_by};
+    ghost use Rattle.book.specs.Replies.{sign_refusal};
+    ghost use Rattle.book.specs.Calling.{IsOpenRefusal, IsSignRefusal, IsFillRefusal, token_refusal, early_sign_refusal, filling_by};
+    ghost use Rattle.book.specs.Signers.{rights_of, fill_refusal};
+
+    /// The channel, of which no commitment is revoked.
+    pub(crate) fn new(alloc: Global, channel: Channel) -> OpenChannel
+        requires { channel.secrets ≡ [] }
+        ensures { result ≡ record { state = channel; kept = [] } }
+    {
+        OpenChannel {
+            channel,
+            kept: Vec::new(alloc),
+            flags: Vec::new(alloc),
+            below: 0,
+        }
+    }
+
+    /// The channel of an opening: BadSignature where its token is not the peer's on this side's commitment 0.
+    pub(crate) fn open(alloc: Global, opening: &Opening) -> Result<OpenChannel, OpenError>
+        ensures ok { IfOk result (λ ch. ch ≡ opened_by opening.now) }
+        ensures tested { let first = token_refusal opening.now in MatchResult result (λ _. first ≡ None) (IsOpenRefusal first) }
+    {
+        let signer = Signer::new(alloc, &opening.seed);
+        match Channel::new(
+            alloc,
+            opening.terms,
+            opening.side,
+            signer,
+            opening.first_point,
+            opening.next_point,
+            &opening.token,
+        ) {
+            Ok(channel) => Ok(OpenChannel::new(alloc, channel)),
+            Err(refusal) => match refusal {
+                Refusal::NoMemory => Err(OpenError::NoMemory),
+                _ => Err(OpenError::BadSignature),
+            },
+        }
+    }
+
+    /// Takes a step. A refusal leaves all as it was.
+    pub(crate) fn step(&mut self, step: Step) -> Result<Taken, Refusal>
+        ensures step { IfOk result (λ t. t.step ≡ step) }
+        ensures message { IfOk result (λ t. cons_option t.message [] ≡ messages_of self.old.state step) }
+        ensures ok { IfOk result (λ _. self.new ≡ with_state (stepped step) self.old) }
+        ensures tested { let first = step_refusal tokens_of self.old.state step in MatchResult result (λ _. first ≡ None) (IsRefusal first) }
+        ensures err { OnErr result (self.new ≡ self.old) }
+    {
+        take(&mut self.channel, step)
+    }
+
+    /// Receives a revocation, and gives its number. A refusal leaves all as it was.
+    pub(crate) fn revoke(&mut self, secret: [u8; 32], next_point: Key) -> Result<u64, Refusal>
+        ensures number { IfOk result (λ n. n ≡ length self.old.state.secrets) }
+        ensures ok { IfOk result (λ _. self.new ≡ with_state (λ s. after s (RevokeAndAck secret next_point)) self.old) }
+        ensures tested { let first = receive_refusal tokens_of self.old.state (RevokeAndAck secret next_point) in MatchResult result (λ _. first ≡ None) (IsRefusal first) }
+        ensures err { OnErr result (self.new ≡ self.old) }
+    {
+        match self.flags.reserve(1) {
+            Ok(()) => {}
+            Err(_) => return Err(Refusal::NoMemory),
+        }
+        let number = self.flags.len() as u64;
+        match self
+            .channel
+            .receive(&Message::RevokeAndAck { secret, next_point })
+        {
+            Ok(_) => {}
+            Err(refusal) => return Err(refusal),
+        }
+        self.flags.push(false).unwrap();
+        Ok(number)
+    }
+
+    // Whether a signature awaits its revocation, or penalties are missing.
+    fn check_sign(&self) -> Result<(), SignError>
+        ensures { let first = early_sign_refusal self.now in MatchResult result (λ _. first ≡ None) (λ e. first ≡ Some e) }
+    {
+        if self.channel.waits_to_sign() {
+            return Err(SignError::AwaitingRevocation);
+        }
+        if self.below < self.flags.len() {
+            return Err(SignError::PenaltiesMissing(self.below as u64));
+        }
+        Ok(())
+    }
+
+    /// Signs the peer's next commitment, and gives the message. A refusal leaves all as it was.
+    pub(crate) fn sign(&mut self) -> Result<Message, SignError>
+        ensures message { IfOk result (λ m. m ≡ signature_message tokens_of self.old.state) }
+        ensures ok { IfOk result (λ _. self.new ≡ with_state after_sign self.old) }
+        ensures tested { let first = sign_refusal self.old in MatchResult result (λ _. first ≡ None) (IsSignRefusal first) }
+        ensures err { OnErr result (self.new ≡ self.old) }
+    {
+        match self.check_sign() {
+            Ok(()) => {}
+            Err(error) => return Err(error),
+        }
+        match self.channel.signed() {
+            Ok(message) => Ok(message),
+            Err(refusal) => match refusal {
+                Refusal::NoMemory => Err(SignError::NoMemory),
+                _ => Err(SignError::NoUpdates),
+            },
+        }
+    }
+
+    /// Fills the claims of a batch by the channel's signer.
+    pub(crate) fn release(&self, alloc: Global, batch: &Batch) -> Result<Filled, FillError>
+        ensures ok { IfOk result (λ f. f ≡ filling_by batch.now) }
+        ensures tested { let first = fill_refusal batch.now.claims batch.now.outputs (rights_of self.now.state) batch.now.preimages in MatchResult result (λ _. first ≡ None) (IsFillRefusal first) }
+    {
+        filled(alloc, batch, self.channel.signer())
+    }
+}
