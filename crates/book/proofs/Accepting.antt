@@ -1,9 +1,8 @@
 -- What holds where a call is accepted.
-use Rattle.std.proofs.Common.{◌≡◌, ℕ, ◌<◌, Bool, true, false, not, true≢false, List, Option, Some, None, Result, Ok, Err, refl, sym, ap, ◌∙◌}
-use Rattle.std.specs.Prelude.{is_ok, nat_lt, length, slice_get}
+use Rattle.std.proofs.Common.{◌≡◌, ℕ, ◌<◌, Bool, true, false, not, true≢false, List, Option, Some, None, Result, refl, sym, ap}
+use Rattle.std.specs.Prelude.{is_ok, length}
 use Rattle.std.proofs.lemmas.Bool.{ltb-true}
 use Rattle.claim.specs.Claims.{ClaimParts}
-use Rattle.book.specs.declared.errors.KeepError.{KeepError}
 use Rattle.book.specs.declared.errors.SignError.{SignError}
 use Rattle.book.specs.Penalties.{is_penalty_set}
 use Rattle.book.specs.Books.{ChannelBook, is_kept, first_missing}

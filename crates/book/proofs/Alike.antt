@@ -24,7 +24,7 @@ mapped_first f p (x ∷ xs) (y ∷ ys) = ap (λ t. f (p x) y && t) (mapped_first
 abbrev pub Left : {A B : Type 0} → (A → B → Bool) → List A → List B → ℕ → List B → Type 0
 Left f xs ys i others = all_match f (drop i xs) others ≡ all_match f xs ys
 
-nothing_in : {B : Type 0} (others : List B) → length others ≡ 0 → others ≡ []
+pub nothing_in : {B : Type 0} (others : List B) → length others ≡ 0 → others ≡ []
 nothing_in [] e = refl
 nothing_in (y ∷ others) e = absurd (omega (arith, e))
 

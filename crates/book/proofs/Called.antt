@@ -3,6 +3,7 @@ use Rattle.std.proofs.Common.{◌≡◌, ℕ, zero, suc, ◌<◌, ◌||◌, ◌&
 use Rattle.std.specs.Prelude.{slice_get, is_ok, nat_le}
 use Rattle.std.specs.Ordering.{is_eq}
 use Rattle.book.specs.declared.limits.TheConstants.{MAX_CHANNELS}
+use Rattle.claim.specs.Claims.{ClaimParts}
 use Rattle.filling.specs.Filled.{Filling}
 use Rattle.book.specs.Signers.{rights_of, fill_refusal}
 use Rattle.book.specs.declared.calls.Batch.{Batch}
@@ -22,13 +23,13 @@ use Rattle.channel.specs.States.{after, after_sign, receive_refusal, signature_m
 use Rattle.book.specs.declared.calls.Step.{Step}
 use Rattle.book.specs.declared.calls.Step.TheVariants.{Own, Updated, Signed}
 use Rattle.book.specs.declared.calls.Call.{Call}
-use Rattle.book.specs.declared.calls.Call.TheVariants.{Open, Step as Stepping, Sign, Revoke, Release}
+use Rattle.book.specs.declared.calls.Call.TheVariants.{Open, Step as Stepping, Sign, Revoke, Keep, Release}
 use Rattle.book.specs.declared.calls.Entry.{Entry}
 use Rattle.book.specs.declared.errors.OpenError.{OpenError}
 use Rattle.book.specs.declared.errors.OpenError.TheVariants.{NoMemory as out_of_memory, BookFull, SameFunding, BadSignature}
 use Rattle.book.specs.Penalties.{same_outpoint}
-use Rattle.book.specs.Books.{ChannelBook, Channels, at_index, stepped as state_stepped, with_state, opened_by, channels_after, replayed, replay}
-use Rattle.book.specs.Replies.{Reply, opened, stepped, signed, revoked, released, is_accepted, answer_of, reply_of, extended, step_refusal, messages_of, sign_refusal}
+use Rattle.book.specs.Books.{ChannelBook, Channels, at_index, stepped as state_stepped, with_state, with_kept, opened_by, channels_after, replayed, replay}
+use Rattle.book.specs.Replies.{Reply, opened, stepped, signed, revoked, kept, released, is_accepted, answer_of, reply_of, extended, step_refusal, messages_of, sign_refusal, keep_refusal}
 use Rattle.book.specs.Accepted.{all_accepted}
 use Rattle.book.specs.Kept.{outpoint_cmp, is_funding, IsKeeping}
 use Rattle.book.specs.Calling.{IsCall, IsOpenRefusal, token_refusal, filling_by}
@@ -109,7 +110,7 @@ grown (Err y) x items before history e f ok is same named = absurd cc
 
 pub record IsDone (no_memory reply : Reply) (history new : List Entry) (chs' : Channels) (funds' : OutPoint → Bool) (seat : ℕ) (call : Call) : Type 0 where
   pub called : IsCall no_memory reply history new seat call
-  pub kept : IsKeeping new chs' funds'
+  pub keeps : IsKeeping new chs' funds'
 
 pub step_done : (history new : List Entry) (chs : Channels) (funds : OutPoint → Bool) (seat c : ℕ) (x y : ChannelBook) (step : Step) (m : Option Message) (no_memory : Reply) → IsKeeping history chs funds
     → slice_get chs c ≡ Some x → step_refusal peer_tokens x.state step ≡ None → cons_option m [] ≡ messages_of x.state step → y ≡ with_state (state_stepped step) x
@@ -118,7 +119,7 @@ step_done history new chs funds seat c x y step m no_memory k found none message
     let answer = step_answer chs c x step m found none message in
     record {
       called = taken history new chs seat (Stepping c step) (stepped (Ok (cons_option m []))) no_memory k.left answer refl is;
-      kept = keeping_at (with_state (state_stepped step)) (step_leaves_terms step) history new chs funds seat (Stepping c step) (stepped (Ok (cons_option m []))) c x y refl k answer refl is found written_as;
+      keeps = keeping_at (with_state (state_stepped step)) (step_leaves_terms step) history new chs funds seat (Stepping c step) (stepped (Ok (cons_option m []))) c x y refl k answer refl is found written_as;
     }
 
 pub revoke_done : (history new : List Entry) (chs : Channels) (funds : OutPoint → Bool) (seat c : ℕ) (x y : ChannelBook) (secret : List ℕ) (next_point : Key) (n : ℕ) (no_memory : Reply) → IsKeeping history chs funds
@@ -128,7 +129,7 @@ revoke_done history new chs funds seat c x y secret next_point n no_memory k fou
     let answer = revoke_answer chs c x secret next_point n found none number in
     record {
       called = taken history new chs seat (Revoke c secret next_point) (revoked (Ok n)) no_memory k.left answer refl is;
-      kept = keeping_at (with_state (λ s. after s (RevokeAndAck secret next_point))) (λ ch. refl) history new chs funds seat (Revoke c secret next_point) (revoked (Ok n)) c x y refl k answer refl is found written_as;
+      keeps = keeping_at (with_state (λ s. after s (RevokeAndAck secret next_point))) (λ ch. refl) history new chs funds seat (Revoke c secret next_point) (revoked (Ok n)) c x y refl k answer refl is found written_as;
     }
 
 pub sign_done : (history new : List Entry) (chs : Channels) (funds : OutPoint → Bool) (seat c : ℕ) (x y : ChannelBook) (m : Message) (no_memory : Reply) → IsKeeping history chs funds
@@ -138,7 +139,7 @@ sign_done history new chs funds seat c x y m no_memory k found none message writ
     let answer = sign_answer chs c x m found none message in
     record {
       called = taken history new chs seat (Sign c) (signed (Ok m)) no_memory k.left answer refl is;
-      kept = keeping_at (with_state after_sign) (λ ch. refl) history new chs funds seat (Sign c) (signed (Ok m)) c x y refl k answer refl is found written_as;
+      keeps = keeping_at (with_state after_sign) (λ ch. refl) history new chs funds seat (Sign c) (signed (Ok m)) c x y refl k answer refl is found written_as;
     }
 
 pub open_done : (history new : List Entry) (chs chs' : Channels) (funds funds' : OutPoint → Bool) (seat n : ℕ) (o : Opening) (no_memory : Reply) → IsKeeping history chs funds
@@ -150,7 +151,7 @@ open_done history new chs chs' funds funds' seat n o no_memory k room new_fundin
     let answer : answer_of peer_tokens chs (Open o) ≡ opened (Ok n) = rw (room, other, token) (ap (λ m. opened (Ok m)) (sym index)) in
     record {
       called = taken history new chs seat (Open o) (opened (Ok n)) no_memory k.left answer refl is;
-      kept = keeping history new chs chs' funds funds' seat (Open o) (opened (Ok n)) k answer refl is is_more (funded chs chs' (opened_by o) funds funds' k.fundings is_more more);
+      keeps = keeping history new chs chs' funds funds' seat (Open o) (opened (Ok n)) k answer refl is is_more (funded chs chs' (opened_by o) funds funds' k.fundings is_more more);
     }
 
 -- ---- refused calls
@@ -194,5 +195,15 @@ release_done history new chs funds seat c x b f no_memory k found none filled is
     let answer : answer_of peer_tokens chs (Release c b) ≡ released (Ok f) = rw (found, none) (ap (λ g. released (Ok g)) (sym filled)) in
     record {
       called = taken history new chs seat (Release c b) (released (Ok f)) no_memory k.left answer refl is;
-      kept = keeping history new chs chs funds funds seat (Release c b) (released (Ok f)) k answer refl is refl k.fundings;
+      keeps = keeping history new chs chs funds funds seat (Release c b) (released (Ok f)) k answer refl is refl k.fundings;
+    }
+
+pub keep_done : (history new : List Entry) (chs : Channels) (funds : OutPoint → Bool) (seat c n : ℕ) (x y : ChannelBook) (claims : List ClaimParts) (no_memory : Reply) → IsKeeping history chs funds
+    → slice_get chs c ≡ Some x → keep_refusal x n claims ≡ None → y ≡ with_kept n x
+    → new ≡ history ++ entry seat (Keep c n claims) ∷ [] → IsDone no_memory (kept (Ok tt)) history new (set chs c y) funds seat (Keep c n claims)
+keep_done history new chs funds seat c n x y claims no_memory k found none written_as is =
+    let answer : answer_of peer_tokens chs (Keep c n claims) ≡ kept (Ok tt) = rw (found, none) refl in
+    record {
+      called = taken history new chs seat (Keep c n claims) (kept (Ok tt)) no_memory k.left answer refl is;
+      keeps = keeping_at (with_kept n) (λ ch. refl) history new chs funds seat (Keep c n claims) (kept (Ok tt)) c x y refl k answer refl is found written_as;
     }

@@ -1,7 +1,7 @@
 -- The test of a signer's rights.
-use Rattle.std.proofs.Common.{◌≡◌, ℕ, ◌||◌, ◌↔◌, Bool, true, false, List, refl}
+use Rattle.std.proofs.Common.{◌≡◌, ◌||◌, ◌↔◌, Bool, true, false, refl}
 use Rattle.keys.specs.Keys.{base_keys, learnt_keys, is_among}
-use Rattle.keys.specs.Rights.{Rights, MaySign}
+use Rattle.keys.specs.Rights.{MaySign}
 use Rattle.keys.proofs.Deciding.{signs_own, signs_learnt}
 use Rattle.book.specs.Signers.{may_sign, RightsAreTested}
 

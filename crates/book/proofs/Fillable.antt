@@ -1,54 +1,90 @@
--- Claims on what a revoked commitment lets a side claim lack nothing.
-use Rattle.std.proofs.Common.{◌≡◌, ℕ, ◌&&◌, Bool, true, false, true≢false, List, [], ◌∷◌, ◌++◌, map, Option, Some, None, refl, sym, ap, ◌∙◌, subst, bytes_eq}
+-- Claims of a channel's kept sets lack nothing.
+use Rattle.std.proofs.Common.{◌≡◌, ℕ, ◌+◌, true, false, true≢false, List, [], ◌∷◌, ◌++◌, map, Option, Some, None, refl, sym, ap, ◌∙◌, subst, arith, Contains}
+use Rattle.std.specs.Prelude.{slice_get}
 use Rattle.std.specs.List.{AllByRecursion}
 use Rattle.std.proofs.lemmas.Bool.{and_parts}
 use Rattle.std.proofs.lemmas.List.Concat.{flat_map-cons}
-use Rattle.std.proofs.lemmas.Slice.Eq.{bytes_eq-Decides}
-use Rattle.keys.specs.Rights.{Rights}
+use Rattle.keys.specs.declared.bases.Base.TheVariants.{Payment, Revocation}
+use Rattle.keys.specs.Derivation.{point_of, revocation_key}
+use Rattle.keys.specs.Rights.{Rights, MaySign, own, derived, revoked}
+use Rattle.terms.specs.declared.sides.Side.{Side}
+use Rattle.terms.specs.declared.sides.Side.TheVariants.{A, B}
+use Rattle.terms.specs.declared.agreement.Terms.{Terms}
+use Rattle.terms.specs.Agreement.{party}
+use Rattle.terms.specs.Sides.{other}
+use Rattle.claim.specs.declared.parts.Place.{Place}
 use Rattle.claim.specs.declared.parts.Slot.{Slot}
 use Rattle.claim.specs.declared.parts.Slot.TheVariants.{Sig, Preimage, Exact}
 use Rattle.claim.specs.Claims.{ClaimParts}
-use Rattle.forms.specs.Fillings.{Filling, Signature, PreimageOf, Bytes, filling_of}
-use Rattle.penalty.specs.Claimable.{Claimable, claimable_of}
+use Rattle.commit.specs.declared.outputs.OutputKind.{OutputKind}
+use Rattle.commit.specs.declared.outputs.OutputKind.TheVariants.{ToLocal, ToRemote, ToHtlc}
+use Rattle.commit.specs.declared.outputs.CommitmentOutput.{CommitmentOutput}
+use Rattle.commit.specs.Keys.{keys_of}
+use Rattle.commit.specs.Commitments.{Contents, commitment_of, tx_output, transaction_of}
+use Rattle.forms.specs.Fillings.{filling_of}
+use Rattle.penalty.specs.Claimable.{Claimable, place_in, claims_on, claims_by, claims_from}
 use Rattle.penalty.specs.Rights.{CanFill, CanFillAll}
-use Rattle.penalty.specs.Sets.{claimed_by}
-use Rattle.penalty.proofs.Filling.{peer_can_fill}
 use Rattle.filling.specs.Refusals.{all_slots}
-use Rattle.book.specs.Penalties.{same_filling, same_fillings, same_claimable, is_claim_on, are_claims_on}
-use Rattle.book.specs.Signers.{rights_of, lack_of, first_lack, KeptAreFillable}
+use Rattle.filling.proofs.Lists.{contains-at}
+use Rattle.channel.specs.declared.commitments.CommitmentState.{CommitmentState}
+use Rattle.channel.specs.States.{State}
+use Rattle.book.specs.Bounds.{IsSeedOf}
+use Rattle.book.specs.Penalties.{◌>>=◌, is_claim_on, are_claims_on, are_on, claimable_in, revoked_contents, is_penalty_set}
+use Rattle.book.specs.Signers.{rights_of, lack_of, first_lack}
 use Rattle.book.proofs.Deciding.{rights_are_tested}
+use Rattle.book.proofs.Sets.{fillings_are}
+
+-- ---- what a state's own keys and secrets fill, whatever points came
+
+abbrev pub knowledge_of : State → Rights
+knowledge_of s = record { seed = s.seed; points = []; secrets = s.secrets }
+
+-- a claim's slots are filled by it
+abbrev pub CanFillClaim : State → ClaimParts → Type 0
+CanFillClaim s c = AllByRecursion (CanFill (knowledge_of s)) (map filling_of c.slots)
+
+all_append : (r : Rights) (os ps : List Claimable) → AllByRecursion (CanFillAll r) os → AllByRecursion (CanFillAll r) ps → AllByRecursion (CanFillAll r) (os ++ ps)
+all_append r [] ps a b = b
+all_append r (o ∷ os) ps a b = (a.0, all_append r os ps a.1 b)
+
+on_output : (r : Rights) (c : Contents) (index : ℕ) (place : Place) (kind : OutputKind) → MaySign r c.keys.revocation → MaySign r c.keys.remote → AllByRecursion (CanFillAll r) (claims_on c index place kind)
+on_output r c index place ToLocal penalty payment = ((tt, (penalty, tt)), tt)
+on_output r c index place ToRemote penalty payment = ((tt, (payment, tt)), tt)
+on_output r c index place (ToHtlc direction h) penalty payment = ((tt, (penalty, tt)), ((tt, (penalty, tt)), tt))
+
+from_here : (r : Rights) (c : Contents) (index : ℕ) (os : List CommitmentOutput) → MaySign r c.keys.revocation → MaySign r c.keys.remote → AllByRecursion (CanFillAll r) (claims_from c index os)
+unfolding claims_by
+from_here r c index [] penalty payment = tt
+from_here r c index (o ∷ os) penalty payment =
+    all_append r _ _ (on_output r c index (place_in (transaction_of c) index (tx_output o)) o.kind penalty payment) (from_here r c (index + 1) os penalty payment)
+
+-- the peer of a side's peer
+twice : (side : Side) → other (other side) ≡ side
+twice A = refl
+twice B = refl
+
+own_bases : (seed : List ℕ) (terms : Terms) (side : Side) → IsSeedOf seed (party side terms).bases → IsSeedOf seed (party (other (other side)) terms).bases
+own_bases seed terms side b = subst (λ x. IsSeedOf seed (party x terms).bases) (sym (twice side)) b
+
+signs_revocation : (s : State) (c : CommitmentState) (secret : List ℕ) → IsSeedOf s.seed (party s.held.side s.held.terms).bases → Contains s.secrets secret
+    → MaySign (knowledge_of s) (revoked_contents s c secret).keys.revocation
+unfolding commitment_of keys_of
+signs_revocation s c secret b known = revoked Revocation secret known (ap (λ k. revocation_key k (point_of secret)) (own_bases s.seed s.held.terms s.held.side b).revocation)
+
+signs_payment : (s : State) (c : CommitmentState) (secret : List ℕ) → IsSeedOf s.seed (party s.held.side s.held.terms).bases → MaySign (knowledge_of s) (revoked_contents s c secret).keys.remote
+unfolding commitment_of keys_of
+signs_payment s c secret b = own Payment (own_bases s.seed s.held.terms s.held.side b).payment
+
+claimable_fillable : (s : State) (c : CommitmentState) (secret : List ℕ) → IsSeedOf s.seed (party s.held.side s.held.terms).bases → Contains s.secrets secret
+    → AllByRecursion (CanFillAll (knowledge_of s)) (claimable_in (revoked_contents s c secret))
+unfolding claimable_in
+claimable_fillable s c secret b known =
+    from_here (knowledge_of s) (revoked_contents s c secret) 0 (revoked_contents s c secret).outputs (signs_revocation s c secret b known) (signs_payment s c secret b)
+
+-- ---- claims on outputs that can be filled
 
 not_so : {P : Type 0} → false ≡ true → P
 not_so e = absurd (true≢false (sym e))
-
-filling_is : (a b : Filling) → same_filling a b ≡ true → a ≡ b
-filling_is (Signature a) (Signature b) e = ap Signature ((bytes_eq-Decides a b).0 e)
-filling_is (PreimageOf a) (PreimageOf b) e = ap PreimageOf ((bytes_eq-Decides a b).0 e)
-filling_is (Bytes a) (Bytes b) e = ap Bytes ((bytes_eq-Decides a b).0 e)
-filling_is (Signature a) (PreimageOf b) e = not_so e
-filling_is (Signature a) (Bytes b) e = not_so e
-filling_is (PreimageOf a) (Signature b) e = not_so e
-filling_is (PreimageOf a) (Bytes b) e = not_so e
-filling_is (Bytes a) (Signature b) e = not_so e
-filling_is (Bytes a) (PreimageOf b) e = not_so e
-
-fillings_are : (xs ys : List Filling) → same_fillings xs ys ≡ true → xs ≡ ys
-fillings_are [] [] e = refl
-fillings_are [] (y ∷ ys) e = not_so e
-fillings_are (x ∷ xs) [] e = not_so e
-fillings_are (x ∷ xs) (y ∷ ys) e =
-    let h = and_parts (same_filling x y) (same_fillings xs ys) e in
-    ap (λ z. z ∷ xs) (filling_is x y h.0) ∙ ap (λ zs. y ∷ zs) (fillings_are xs ys h.1)
-
-slot_fillable : (r : Rights) (preimages : List (List ℕ)) (slot : Slot) → CanFill r (filling_of slot) → lack_of r preimages slot ≡ None
-slot_fillable r preimages (Sig k) h = rw ((rights_are_tested r k.bytes).1 h) refl
-slot_fillable r preimages (Preimage x) h = absurd h
-slot_fillable r preimages (Exact b) h = refl
-
-slots_fillable : (r : Rights) (preimages : List (List ℕ)) (slots rest : List Slot) → AllByRecursion (CanFill r) (map filling_of slots)
-    → first_lack r preimages (slots ++ rest) ≡ first_lack r preimages rest
-slots_fillable r preimages [] rest h = refl
-slots_fillable r preimages (x ∷ xs) rest h = rw (slot_fillable r preimages x h.0) (slots_fillable r preimages xs rest h.1)
 
 -- the slots of a claim that is on an output
 slots_of_claim : (o : Claimable) (c : ClaimParts) → is_claim_on o c ≡ true → map filling_of c.slots ≡ o.slots
@@ -56,17 +92,46 @@ slots_of_claim o c e =
     let same = (and_parts _ _ (and_parts _ _ e).0).0 in
     fillings_are _ _ (and_parts _ _ same).1
 
-claims_fillable : (r : Rights) (preimages : List (List ℕ)) (os : List Claimable) (claims : List ClaimParts)
-    → AllByRecursion (CanFillAll r) os → are_claims_on os claims ≡ true → first_lack r preimages (all_slots claims) ≡ None
+claims_fillable : (s : State) (os : List Claimable) (claims : List ClaimParts) → AllByRecursion (CanFillAll (knowledge_of s)) os → are_claims_on os claims ≡ true → AllByRecursion (CanFillClaim s) claims
 unfolding are_claims_on
-claims_fillable r preimages [] [] h e = refl
-claims_fillable r preimages [] (c ∷ cs) h e = not_so e
-claims_fillable r preimages (o ∷ os) [] h e = not_so e
-claims_fillable r preimages (o ∷ os) (c ∷ cs) h e =
+claims_fillable s [] [] h e = tt
+claims_fillable s [] (c ∷ cs) h e = not_so e
+claims_fillable s (o ∷ os) [] h e = not_so e
+claims_fillable s (o ∷ os) (c ∷ cs) h e =
     let parts = and_parts (is_claim_on o c) (are_claims_on os cs) e in
-    ap (first_lack r preimages) (flat_map-cons (λ (x : ClaimParts). x.slots) c cs)
-    ∙ slots_fillable r preimages c.slots (all_slots cs) (subst (AllByRecursion (CanFill r)) (sym (slots_of_claim o c parts.0)) h.0)
-    ∙ claims_fillable r preimages os cs h.1 parts.1
+    (subst (AllByRecursion (CanFill (knowledge_of s))) (sym (slots_of_claim o c parts.0)) h.0, claims_fillable s os cs h.1 parts.1)
 
-pub kept_are_fillable : KeptAreFillable
-kept_are_fillable s state claims preimages bases known e = claims_fillable (rights_of s) preimages (claimable_of state) claims (peer_can_fill state (rights_of s) bases known) e
+-- a penalty set is filled by a side that has its own base keys
+pub set_fillable : (s : State) (n : ℕ) (claims : List ClaimParts) → IsSeedOf s.seed (party s.held.side s.held.terms).bases → is_penalty_set s n claims ≡ true → AllByRecursion (CanFillClaim s) claims
+unfolding is_penalty_set
+set_fillable s n claims b e = by (slice_get s.signed n) (slice_get s.secrets n) refl e
+  where
+    by : (signed : Option CommitmentState) (secret : Option (List ℕ)) → slice_get s.secrets n ≡ secret
+        → are_on (signed >>= (λ c. secret >>= (λ k. Some (claimable_in (revoked_contents s c k))))) claims ≡ true → AllByRecursion (CanFillClaim s) claims
+    by None secret at h = not_so h
+    by (Some c) None at h = not_so h
+    by (Some c) (Some k) at h = claims_fillable s (claimable_in (revoked_contents s c k)) claims (claimable_fillable s c k b (contains-at s.secrets n k at)) h
+
+-- ---- from what is known to what a slot lacks
+
+signs_all : (s : State) (key : List ℕ) → MaySign (knowledge_of s) key → MaySign (rights_of s) key
+signs_all s key (own b e) = own b e
+signs_all s key (derived b point none e) = absurd (omega (arith, none.1))
+signs_all s key (revoked b secret known e) = revoked b secret known e
+
+slot_fillable : (s : State) (preimages : List (List ℕ)) (slot : Slot) → CanFill (knowledge_of s) (filling_of slot) → lack_of (rights_of s) preimages slot ≡ None
+slot_fillable s preimages (Sig k) h = rw ((rights_are_tested (rights_of s) k.bytes).1 (signs_all s k.bytes h)) refl
+slot_fillable s preimages (Preimage x) h = absurd h
+slot_fillable s preimages (Exact b) h = refl
+
+slots_fillable : (s : State) (preimages : List (List ℕ)) (slots rest : List Slot) → AllByRecursion (CanFill (knowledge_of s)) (map filling_of slots)
+    → first_lack (rights_of s) preimages (slots ++ rest) ≡ first_lack (rights_of s) preimages rest
+slots_fillable s preimages [] rest h = refl
+slots_fillable s preimages (x ∷ xs) rest h = rw (slot_fillable s preimages x h.0) (slots_fillable s preimages xs rest h.1)
+
+pub nothing_lacks : (s : State) (preimages : List (List ℕ)) (claims : List ClaimParts) → AllByRecursion (CanFillClaim s) claims → first_lack (rights_of s) preimages (all_slots claims) ≡ None
+nothing_lacks s preimages [] h = refl
+nothing_lacks s preimages (c ∷ cs) h =
+    ap (first_lack (rights_of s) preimages) (flat_map-cons (λ (x : ClaimParts). x.slots) c cs)
+    ∙ slots_fillable s preimages c.slots (all_slots cs) h.0
+    ∙ nothing_lacks s preimages cs h.1

@@ -1,21 +1,20 @@
 -- A book that keeps the penalties of each revocation before it signs again: every history that calls lead to is guarded.
-use Rattle.std.proofs.Common.{◌≡◌, ℕ, zero, suc, ◌+◌, ◌<◌, ◌≤◌, ◌==◌, ◌&&◌, ◌||◌, if◌then◌else◌, Bool, true, false, true≢false, List, [], ◌∷◌, ◌++◌, length, length-append, reverse, Option, Some, None, refl, sym, ap, ◌∙◌, subst, arith, ⊎_elim, inl, inr, ◌⊎◌, cond}
-use Rattle.std.specs.Prelude.{is_ok, slice_get, option_map, unwrap_or}
-use Rattle.std.proofs.lemmas.Bool.{eqb-true, eqb-false, eq-eqb, or_cases, and_from, and_parts}
+use Rattle.std.proofs.Common.{◌≡◌, ℕ, suc, ◌<◌, ◌==◌, ◌||◌, if◌then◌else◌, Bool, true, false, true≢false, List, [], ◌∷◌, ◌++◌, length, length-append, reverse, Option, Some, None, refl, sym, ap, ◌∙◌, subst, arith, ⊎_elim, inl, inr, ◌⊎◌}
+use Rattle.std.specs.Prelude.{slice_get, option_map, unwrap_or}
+use Rattle.std.proofs.lemmas.Bool.{eqb-true, eqb-false, eq-eqb, and_from, and_parts}
 use Rattle.keys.specs.declared.compressed.Key.{Key}
 use Rattle.claim.specs.Claims.{ClaimParts}
 use Rattle.channel.specs.States.{Signing, State}
-use Rattle.book.specs.declared.calls.Opening.{Opening}
 use Rattle.book.specs.declared.calls.Step.{Step}
 use Rattle.book.specs.declared.calls.Step.TheVariants.{Own, Updated, Signed}
 use Rattle.book.specs.declared.calls.Call.{Call}
 use Rattle.book.specs.declared.calls.Call.TheVariants.{Open, Step as Stepping, Sign, Revoke, Keep, Release}
 use Rattle.book.specs.declared.calls.Entry.{Entry}
 use Rattle.book.specs.Penalties.{is_penalty_set}
-use Rattle.book.specs.Books.{ChannelBook, Channels, at_index, stepped, opened_by, with_state, with_kept, channels_after, replayed, is_kept, first_missing}
-use Rattle.book.specs.Replies.{Reply, is_accepted, answer_of, sign_refusal, keep_refusal}
+use Rattle.book.specs.Books.{ChannelBook, Channels, stepped, opened_by, with_state, with_kept, channels_after, replayed, is_kept, first_missing}
+use Rattle.book.specs.Replies.{is_accepted, answer_of}
 use Rattle.book.specs.Accepted.{is_taken, are_accepted}
-use Rattle.book.specs.Guarding.{is_revocation, revocations, is_set_in, number_kept, joined, are_answered, is_allowed, all_allowed, AcceptedIsGuarded}
+use Rattle.book.specs.Guarding.{is_revocation, revocations, number_kept, joined, are_answered, is_allowed, all_allowed, AcceptedIsGuarded}
 use Rattle.book.proofs.Lists.{at_here, at_other, unseen, as_before}
 use Rattle.book.proofs.Accepting.{asked_ok, unless_ok, some_none, keeps, none_missing}
 use Rattle.book.proofs.Missing.{all_kept, kept_or_new}

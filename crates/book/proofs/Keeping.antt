@@ -1,12 +1,20 @@
 -- What the flags beside a channel say of a call that keeps penalties.
-use Rattle.std.proofs.Common.{◌≡◌, ℕ, ◌<◌, ◌≤◌, Bool, true, false, List, [], ◌∷◌, ◌++◌, length, Option, Some, None, refl, sym, ap, ◌∙◌, subst, arith, set, ⊎_elim}
+use Rattle.std.proofs.Common.{◌≡◌, ℕ, ◌+◌, ◌*◌, ◌<◌, ◌≤◌, ◌==◌, Bool, true, false, List, [], ◌∷◌, ◌++◌, length, Option, Some, None, refl, sym, ap, ◌∙◌, subst, arith, set, ⊎_elim}
 use Rattle.std.specs.Prelude.{slice_get, nat_lt}
-use Rattle.std.proofs.lemmas.Bool.{cases_lt}
+use Rattle.std.proofs.lemmas.Bool.{cases_lt, and_from, eq-eqb}
 use Rattle.std.proofs.lemmas.Bool.Decides.{nat_tests}
 use Rattle.std.proofs.lemmas.List.{length-set}
 use Rattle.std.proofs.lemmas.Option.{none-some, same_Some, slice_get_within}
 use Rattle.keys.specs.Derivation.{point_of}
+use Rattle.terms.specs.declared.amounts.TheConstants.{MSAT_PER_SAT}
+use Rattle.terms.specs.declared.sides.Side.{Side}
+use Rattle.terms.specs.declared.agreement.Terms.{Terms}
+use Rattle.terms.specs.declared.views.View.{View}
 use Rattle.terms.specs.Sides.{other}
+use Rattle.commit.specs.Sums.{total_of}
+use Rattle.penalty.specs.Views.{has_heights}
+use Rattle.penalty.specs.Paying.{refusal_of}
+use Rattle.channel.specs.Numbered.{SharesOut, AreNumbered}
 use Rattle.commit.specs.Commitments.{commitment_of}
 use Rattle.claim.specs.Claims.{ClaimParts}
 use Rattle.channel.specs.declared.commitments.CommitmentState.{CommitmentState}
@@ -86,3 +94,18 @@ beside_kept ch flags below n next kept b within is from to passed stopped = reco
   count = length-set flags n true ∙ b.count;
   are = subst (λ ks. AreFlags ks (set flags n true) next) (sym is) (kept_one ch.kept flags below n next b.are (subst (λ k. n < k) (sym b.count) within) from to passed stopped);
 }
+
+-- ---- a commitment that shares out the capacity can be paid
+
+pub payable : (terms : Terms) (view : View) → SharesOut terms view → refusal_of terms view ≡ None
+payable terms view s =
+    let a : length view.a.offered ≤ 483 = s.few_of_a in
+    let b : length view.b.offered ≤ 483 = s.few_of_b in
+    let few : nat_lt 3998 (length view.a.offered + length view.b.offered) ≡ false = less_false 3998 (length view.a.offered + length view.b.offered) (omega (arith, a, b)) in
+    let heights : has_heights view ≡ true = and_from _ _ s.heights_of_a s.heights_of_b in
+    let whole : (total_of view == MSAT_PER_SAT * terms.capacity) ≡ true = eq-eqb (total_of view) (MSAT_PER_SAT * terms.capacity) s.whole in
+    rw (few, heights, whole) refl
+
+-- as each of the peer's commitments does
+pub peers_payable : (terms : Terms) (side : Side) (many n : ℕ) (cs : List CommitmentState) (c : CommitmentState) → AreNumbered terms side many cs → slice_get cs n ≡ Some c → refusal_of terms c.view ≡ None
+peers_payable terms side many n cs c numbered there = payable terms c.view (numbered.each n c there).shares

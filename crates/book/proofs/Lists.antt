@@ -1,5 +1,5 @@
 -- What stands at an index of a list that one call changed.
-use Rattle.std.proofs.Common.{◌≡◌, ℕ, zero, suc, List, [], ◌∷◌, ◌++◌, length, Option, Some, None, refl, ap}
+use Rattle.std.proofs.Common.{◌≡◌, ℕ, zero, suc, List, [], ◌∷◌, ◌++◌, Some, refl, ap}
 use Rattle.std.specs.Prelude.{slice_get, option_map, unwrap_or}
 use Rattle.book.specs.Books.{at_index}
 

@@ -17,6 +17,8 @@ use Rattle.book.specs.declared.errors.OpenError.{OpenError}
 use Rattle.book.specs.declared.errors.OpenError.TheVariants.{BadSignature, NoMemory as out_of_memory}
 use Rattle.book.specs.declared.calls.Call.{Call}
 use Rattle.book.specs.declared.calls.Entry.{Entry}
+use Rattle.book.specs.declared.errors.KeepError.{KeepError}
+use Rattle.book.specs.declared.errors.KeepError.TheVariants.{NoMemory as keep_memory}
 use Rattle.book.specs.declared.errors.SignError.{SignError}
 use Rattle.book.specs.declared.errors.SignError.TheVariants.{NoMemory, AwaitingRevocation}
 use Rattle.book.specs.Books.{ChannelBook, first_missing}
@@ -50,6 +52,11 @@ IsOpenRefusal first e = first ≡ Some e
 -- BadSignature, where the token is not the peer's on this side's commitment 0
 abbrev pub token_refusal : Opening → Option OpenError
 token_refusal o = if_so (not (bytes_eq o.token (peer_tokens o.terms (first_of o.terms o.side (point_at o.seed 0))).commitment)) BadSignature None
+
+-- a refusal to keep is the first that holds, unless memory ran out
+abbrev pub IsKeepRefusal : Option KeepError → KeepError → Type 0
+IsKeepRefusal first keep_memory = Unit {0}
+IsKeepRefusal first e = first ≡ Some e
 
 -- a refusal to release is the first that holds, unless memory ran out
 abbrev pub IsFillRefusal : Option FillError → FillError → Type 0

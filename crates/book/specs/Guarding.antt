@@ -1,11 +1,14 @@
 -- That a book signs nothing after a revocation for which it keeps no penalties (BOLT 5, "Revoked Transaction Close Handling").
 use Rattle.std.specs.Prelude.{◌≡◌, ℕ, suc, ◌==◌, Bool, true, false, ◌&&◌, if◌then◌else◌, List, [], ◌∷◌, ◌++◌, reverse, Option, Some, None, slice_get}
+use Rattle.std.specs.List.{AllByRecursion}
 use Rattle.claim.specs.Claims.{ClaimParts}
+use Rattle.penalty.specs.Claimable.{Claimable}
+use Rattle.penalty.specs.Sets.{AreClaimsOn}
 use Rattle.channel.specs.States.{Signing}
 use Rattle.book.specs.declared.calls.Call.{Call}
 use Rattle.book.specs.declared.calls.Call.TheVariants.{Open, Step, Sign, Revoke, Keep, Release}
 use Rattle.book.specs.declared.calls.Entry.{Entry}
-use Rattle.book.specs.Penalties.{is_penalty_set}
+use Rattle.book.specs.Penalties.{claimable_at, are_claims_on, is_penalty_set, IsChecked}
 use Rattle.book.specs.Books.{ChannelBook, Channels, is_kept, replayed}
 use Rattle.book.specs.Accepted.{all_accepted}
 
@@ -24,6 +27,11 @@ is_revocation c (Release d batch) = false
 abbrev pub revocations : ℕ → List Entry → ℕ
 revocations c [] = 0
 revocations c (e ∷ es) = if is_revocation c e.call then suc (revocations c es) else revocations c es
+
+-- what the peer's revoked commitment of a number lets this side claim in a channel
+abbrev pub claimable_by : Option ChannelBook → ℕ → Option (List Claimable)
+claimable_by None n = None
+claimable_by (Some ch) n = claimable_at ch.state n
 
 abbrev pub is_set_in : Option ChannelBook → ℕ → List ClaimParts → Bool
 is_set_in None n claims = false
@@ -75,13 +83,23 @@ AcceptedIsGuarded = (tokens_of : Signing) (history : List Entry) → all_accepte
 
 -- ---- the same, entry by entry
 
+-- a call keeps the penalties of a number in a channel, by the channels before it: claims that are accepted on all that the peer's commitment of this number lets this side claim, in order; they
+-- are exactly the accepted claims on that, where the scripts are checked ones
+pub record IsKeeping (c n : ℕ) (chs : Channels) (call : Call) : Type 0 where
+  pub claims : List ClaimParts
+  pub outputs : List Claimable
+  pub keeps : call ≡ Keep c n claims
+  pub lets : claimable_by (slice_get chs c) n ≡ Some outputs
+  pub accepted : are_claims_on outputs claims ≡ true
+  pub exact : AllByRecursion (λ o. IsChecked o.form) outputs → AllByRecursion (λ x. IsChecked x.ways) claims → AreClaimsOn outputs claims
+
 -- among the entries between a revocation and a signature, the newest first, there is one that keeps the penalties of the commitment that was revoked
 pub record IsKeptBetween (c : ℕ) (between : List Entry) (revoking : Entry) (earlier : List Entry) : Type 0 where
   pub front : List Entry
   pub keeping : Entry
   pub back : List Entry
   pub split : between ≡ front ++ keeping ∷ back
-  pub kept : number_kept c (replayed (back ++ revoking ∷ earlier)) keeping.call ≡ Some (revocations c earlier)
+  pub kept : IsKeeping c (revocations c earlier) (replayed (back ++ revoking ∷ earlier)) keeping.call
 
 -- wherever a signature stands after a revocation in its channel
 abbrev pub GuardedMeans : Type 0

@@ -1,17 +1,21 @@
 -- The penalty set of a revoked commitment, as a book knows it.
-use Rattle.std.specs.Prelude.{◌≡◌, ℕ, ◌==◌, Bool, true, false, ◌&&◌, not, is_ok, List, [], ◌∷◌, map, Option, Some, None, slice_get}
+use Rattle.std.specs.Prelude.{◌≡◌, ℕ, ◌==◌, Bool, true, false, ◌&&◌, not, Ok, is_ok, All, List, [], ◌∷◌, Option, Some, None, slice_get}
+use Rattle.std.specs.List.{AllByRecursion}
 use Rattle.std.specs.Str.{bytes_eq}
-use Rattle.script.specs.Spelling.{spelling}
+use Rattle.script.specs.Spelling.{spelling, IsOp}
 use Rattle.tx.specs.declared.input.OutPoint.{OutPoint}
 use Rattle.keys.specs.Derivation.{point_of}
 use Rattle.terms.specs.Sides.{other}
+use Rattle.paths.specs.Listing.{CheckedScript, listing}
 use Rattle.claim.specs.declared.parts.Place.{Place}
 use Rattle.claim.specs.Judgement.{judgement_of}
 use Rattle.claim.specs.Claims.{ClaimParts}
 use Rattle.commit.specs.Commitments.{Contents, commitment_of}
 use Rattle.forms.specs.Fillings.{Filling, Signature, PreimageOf, Bytes}
-use Rattle.penalty.specs.Claimable.{Claimable, claims_from}
-use Rattle.penalty.specs.Sets.{claimed_by}
+use Rattle.penalty.specs.declared.states.RevokedState.{RevokedState}
+use Rattle.penalty.specs.Claimable.{Claimable, claims_from, claimable_of}
+use Rattle.penalty.specs.Sets.{claimed_by, AreClaimsOn}
+use Rattle.penalty.specs.States.{HasParts}
 use Rattle.filling.specs.Refusals.{is_fixed}
 use Rattle.channel.specs.declared.commitments.CommitmentState.{CommitmentState}
 use Rattle.channel.specs.States.{State}
@@ -62,9 +66,9 @@ same_fillings xs ys = all_match same_filling xs ys
 abbrev pub same_claimable : Claimable → Claimable → Bool
 same_claimable a b = same_place a.place b.place && bytes_eq (spelling a.form.ops) (spelling b.form.ops) && a.path == b.path && same_fillings a.slots b.slots
 
--- an accepted claim on the output, which any transaction may make
+-- a claim on the output, which any transaction may make, and which is accepted on the output's form
 abbrev pub is_claim_on : Claimable → ClaimParts → Bool
-is_claim_on o c = same_claimable (claimed_by c) o && is_ok (judgement_of c.ways c.index c.slots c.place c.shell) && not (is_fixed c.shell)
+is_claim_on o c = same_claimable (claimed_by c) o && is_ok (judgement_of o.form c.index c.slots c.place c.shell) && not (is_fixed c.shell)
 
 unfoldable pub are_claims_on : List Claimable → List ClaimParts → Bool
 are_claims_on os claims = all_match is_claim_on os claims
@@ -76,3 +80,21 @@ are_on (Some os) claims = are_claims_on os claims
 -- whether the claims are the penalty set of the peer's commitment of this number
 unfoldable pub is_penalty_set : State → ℕ → List ClaimParts → Bool
 is_penalty_set s n claims = are_on (claimable_at s n) claims
+
+-- ---- sets of penalties
+
+-- what the type of a checked script keeps: its paths are those of its opcodes
+pub record IsChecked (c : CheckedScript) : Type 0 where
+  pub each : All IsOp c.ops
+  pub listed : listing c.ops ≡ Ok c.paths
+
+-- the claims that are found to be on what a commitment lets claim are the accepted claims on exactly that, in order, where the scripts are checked ones; and a revoked state lets claim what its
+-- commitment does
+pub record PenaltySetsAreExact : Type 0 where
+  pub found : (c : Contents) (claims : List ClaimParts) → AreClaimsOn (claimable_in c) claims → are_claims_on (claimable_in c) claims ≡ true
+  pub only :
+      (c : Contents) (claims : List ClaimParts) → AllByRecursion (λ o. IsChecked o.form) (claimable_in c) → AllByRecursion (λ x. IsChecked x.ways) claims
+      → are_claims_on (claimable_in c) claims ≡ true → AreClaimsOn (claimable_in c) claims
+  pub same :
+      (s : State) (c : CommitmentState) (secret : List ℕ) (state : RevokedState) → HasParts s.held.terms c.view (other s.held.side) c.number secret state
+      → claimable_of state ≡ claimable_in (revoked_contents s c secret)

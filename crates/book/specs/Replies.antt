@@ -1,5 +1,5 @@
 -- What a book answers to a call, and which history it has then.
-use Rattle.std.specs.Prelude.{ℕ, Bool, true, false, not, ◌||◌, ◌==◌, nat_lt, nat_le, if◌then◌else◌, List, [], ◌∷◌, ◌++◌, length, map, Option, Some, None, Result, Ok, Err, is_ok, slice_get}
+use Rattle.std.specs.Prelude.{ℕ, Bool, true, false, not, ◌||◌, nat_lt, nat_le, List, [], ◌∷◌, ◌++◌, length, map, Option, Some, None, Result, Ok, Err, is_ok, slice_get}
 use Rattle.std.specs.List.{list_any}
 use Rattle.std.specs.Str.{bytes_eq}
 use Rattle.tx.specs.Parts.{Output}
@@ -8,7 +8,6 @@ use Rattle.updates.specs.Refusals.{covers_nothing}
 use Rattle.claim.specs.Claims.{ClaimParts}
 use Rattle.filling.specs.Filling.{filling_of}
 use Rattle.filling.specs.Filled.{Filling}
-use Rattle.filling.specs.declared.errors.FillError.{FillError}
 use Rattle.channel.specs.declared.limits.TheConstants.{LAST_NUMBER}
 use Rattle.channel.specs.declared.messages.Message.{Message}
 use Rattle.channel.specs.declared.messages.Message.TheVariants.{Updated as UpdateMessage, CommitmentSigned, RevokeAndAck}

@@ -1,5 +1,5 @@
 -- What the signer of a channel knows, and whether claims can be filled by it.
-use Rattle.std.specs.Prelude.{◌≡◌, ◌↔◌, ◌⊎◌, Contains, ℕ, ◌+◌, Bool, true, ◌||◌, List, [], ◌∷◌, ◌++◌, map, Option, Some, None, is_some, if◌then◌else◌}
+use Rattle.std.specs.Prelude.{◌≡◌, ◌↔◌, ◌⊎◌, ℕ, ◌+◌, Bool, true, ◌||◌, List, [], ◌∷◌, ◌++◌, map, Option, Some, None, is_some, if◌then◌else◌}
 use Rattle.tx.specs.Parts.{Output}
 use Rattle.keys.specs.Keys.{base_keys, learnt_keys, is_among}
 use Rattle.keys.specs.Rights.{Rights, MaySign}
@@ -10,14 +10,8 @@ use Rattle.filling.specs.declared.errors.FillError.{FillError}
 use Rattle.filling.specs.declared.errors.FillError.TheVariants.{NoMemory, NoRight, NoPreimage, OutputsExceed, MixedShells, SameOutpoint}
 use Rattle.filling.specs.Filling.{preimage_of}
 use Rattle.filling.specs.Refusals.{are_mixed, share_outpoint, do_exceed, all_slots, ArePassed, AreFillable, IsFirstRefusal}
-use Rattle.terms.specs.Agreement.{party}
-use Rattle.terms.specs.Sides.{other}
-use Rattle.penalty.specs.declared.states.RevokedState.{RevokedState}
-use Rattle.penalty.specs.Claimable.{claimable_of}
-use Rattle.penalty.specs.Rights.{AreBasesOf}
 use Rattle.channel.specs.Points.{point_at}
 use Rattle.channel.specs.States.{State}
-use Rattle.book.specs.Penalties.{are_claims_on}
 
 -- the signer of a side knows its own points up to that of its newest commitment's next, every point that came, and every secret that came
 abbrev pub rights_of : State → Rights
@@ -57,14 +51,6 @@ fill_refusal claims outputs r preimages =
 -- the test finds just the keys that a signer may sign for
 abbrev pub RightsAreTested : Type 0
 RightsAreTested = (r : Rights) (key : List ℕ) → may_sign r key ≡ true ↔ MaySign r key
-
--- a signer whose payment and revocation base keys stand in the terms, and who has the secret of a revoked commitment, lacks nothing for claims on what that
--- commitment lets it claim
-abbrev pub KeptAreFillable : Type 0
-KeptAreFillable =
-    (s : State) (state : RevokedState) (claims : List ClaimParts) (preimages : List (List ℕ))
-    → AreBasesOf (rights_of s) (party (other state.owner) state.terms).bases → Contains s.secrets state.secret
-    → are_claims_on (claimable_of state) claims ≡ true → first_lack (rights_of s) preimages (all_slots claims) ≡ None
 
 -- the first reason is the one that `fill` answers, memory aside
 pub record RefusalsAreFound : Type 0 where

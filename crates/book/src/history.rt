@@ -1,12 +1,14 @@
 //! A node's book: its channels, and the history of the calls that it accepted.
 
 use crate::calls::{Batch, Call, Entry, Opening, Step};
-use crate::errors::{OpenError, ReleaseError, SignError, StepError};
+use crate::errors::{KeepError, OpenError, ReleaseError, SignError, StepError};
 use crate::limits::MAX_CHANNELS;
 use crate::open_channel::{OpenChannel, Taken};
 use channel::Message;
+use claim::Claim;
 use filling::{FillError, Filled};
 use keys::Key;
+use lists::List;
 use std::alloc::Global;
 use std::collections::BTreeSet;
 use std::marker::Model;
@@ -185,6 +187,40 @@ impl Book {
         let call = Call::Sign { channel };
         self.entries.push(Entry { seat, call }).unwrap();
         Ok(message)
+    }
+
+    /// Keeps the penalties of the peer's revoked commitment of a number: NoSuchChannel, NotRevoked, AlreadyKept, OtherState where the claims are not its penalty set. A
+    /// refusal leaves the book as it was.
+    pub fn keep(
+        &mut self,
+        seat: u32,
+        channel: u64,
+        number: u64,
+        claims: List<Claim>,
+    ) -> Result<(), KeepError>
+        ensures { IsCall (kept (Err KeepError.NoMemory)) (kept result) self.old self.new seat (Call.Keep channel number claims) }
+    {
+        let index = channel as usize;
+        if index >= self.channels.len() {
+            return Err(KeepError::NoSuchChannel);
+        }
+        match self.entries.reserve(1) {
+            Ok(()) => {}
+            Err(_) => return Err(KeepError::NoMemory),
+        }
+        let alloc = self.alloc;
+        let open = &mut self.channels[index];
+        match open.keep(alloc, number, claims.values()) {
+            Ok(()) => {}
+            Err(error) => return Err(error),
+        }
+        let call = Call::Keep {
+            channel,
+            number,
+            claims,
+        };
+        self.entries.push(Entry { seat, call }).unwrap();
+        Ok(())
     }
 
     /// Fills the claims of a batch by the channel's signer: NoSuchChannel, else the refusal of `fill`. A refusal leaves the book as it was.

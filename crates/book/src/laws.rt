@@ -3,7 +3,9 @@
 ghost use Rattle.book.specs.Accepted.{AcceptedMeans};
 ghost use Rattle.book.specs.Guarding.{AcceptedIsGuarded, GuardedMeans};
 ghost use Rattle.book.specs.Again.{ClaimsComeBack, OpeningsComeBack, EntriesComeBack, DumpsComeBack};
-ghost use Rattle.book.specs.Signers.{RightsAreTested, RefusalsAreFound, KeptAreFillable};
+ghost use Rattle.book.specs.Penalties.{PenaltySetsAreExact};
+ghost use Rattle.book.specs.Releasing.{KeptAreFillable};
+ghost use Rattle.book.specs.Signers.{RightsAreTested, RefusalsAreFound};
 
 /// The histories that a book's calls lead to are those of which each entry is accepted after those before it. Where that is not so, there is a first entry that is refused: what
 /// stands before it is accepted, and with it nothing is.
@@ -28,8 +30,12 @@ pub fn refusals_are_found()
     ensures { RefusalsAreFound }
 {}
 
-/// Of claims on what a revoked commitment lets a side claim, no slot lacks a right or a preimage, once the side has the commitment's secret: so a release of kept claims is never refused
-/// with NoRight.
+/// Accepted claims on exactly what a revoked commitment lets its owner's peer claim, in its order, are its penalty set, and no other claims are.
+pub fn penalty_sets_are_exact()
+    ensures { PenaltySetsAreExact }
+{}
+
+/// After any history, no slot of claims that a channel's kept sets have, one by one or together, lacks a right or a preimage: so a release of kept claims is never refused with NoRight.
 pub fn kept_are_fillable()
     ensures { KeptAreFillable }
 {}

@@ -16,12 +16,12 @@ mod flags;
 pub mod history;
 mod judging;
 pub mod laws;
-pub mod loading;
 mod limits;
-mod openings;
-mod reading;
+pub mod loading;
 pub mod matching;
 mod open_channel;
+mod openings;
+mod reading;
 mod releasing;
 
 pub use calls::{Batch, Call, Entry, Opening, Step};

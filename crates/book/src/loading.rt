@@ -119,11 +119,7 @@ fn keep_of(
 }
 
 // Claims that one transaction takes, with what it gives.
-fn batch_of(
-    claims: List<Claim>,
-    outputs: List<TxOut>,
-    preimages: List<[u8; 32]>,
-) -> Option<Batch>
+fn batch_of(claims: List<Claim>, outputs: List<TxOut>, preimages: List<[u8; 32]>) -> Option<Batch>
     ensures { result ≡ batch_of claims outputs preimages }
 {
     Batch::new(claims, outputs, preimages)

@@ -1,12 +1,15 @@
 //! Whether claims are a penalty set.
 
-ghost use Rattle.std.specs.Prelude.{◌≡◌, map};
+ghost use Rattle.std.specs.Prelude.{◌≡◌, ◌↔◌, ◌&&◌, not, map, All, IsTrue};
+ghost use Rattle.claim.specs.declared.parts.Shell.TheVariants.{Open};
 ghost use Rattle.forms.specs.Fillings.{filling_of};
 ghost use Rattle.penalty.specs.Claimable.{claimable_of};
-ghost use Rattle.penalty.specs.Sets.{claimed_by};
-ghost use Rattle.book.specs.Penalties.{same_outpoint, same_place, same_filling, same_fillings, is_claim_on, are_claims_on};
+ghost use Rattle.penalty.specs.Sets.{claimed_by, IsClaimOn, AreClaimsOn};
+ghost use Rattle.filling.specs.Refusals.{is_fixed};
+ghost use Rattle.book.specs.Penalties.{same_outpoint, same_place, same_filling, same_fillings, same_claimable, all_match, is_claim_on, are_claims_on, IsChecked};
 
 use claim::{Claim, OutPoint, Place, Shell, Slot};
+use paths::Checked;
 use penalty::PenaltySet;
 
 fn same_outpoint(a: &OutPoint, b: &OutPoint) -> bool
@@ -49,12 +52,18 @@ fn same_slots(a: &[Slot], b: &[Slot]) -> bool
     others.is_empty()
 }
 
-// Whether a claim that any transaction may make claims what another one does, in the same way.
-fn is_claim_on(kept: &Claim, claim: &Claim) -> bool
-    ensures { result ≡ is_claim_on (claimed_by kept.now) claim.now }
+// What the type of a checked script keeps, for proofs.
+fn keeps(checked: &Checked)
+    ensures { IsChecked checked.now }
 {
-    // The proof learns from the path that the claim was judged.
-    let _ = claim.path();
+    let _ = checked.paths();
+    let _ = checked.script().ops();
+}
+
+// Whether a claim that any transaction may make claims what another one does, in the same way.
+fn is_alike(kept: &Claim, claim: &Claim) -> bool
+    ensures { result ≡ (same_claimable (claimed_by claim.now) (claimed_by kept.now) && not (is_fixed claim.now.shell)) }
+{
     same_place(claim.place(), kept.place())
         && claim.checked().script().bytes() == kept.checked().script().bytes()
         && claim.index() == kept.index()
@@ -62,11 +71,23 @@ fn is_claim_on(kept: &Claim, claim: &Claim) -> bool
         && matches!(claim.shell(), Shell::Open)
 }
 
-/// Whether the claims are those of the set, in its order.
-pub fn is_set(set: &PenaltySet, claims: &[Claim]) -> bool
-    ensures { result ≡ are_claims_on (claimable_of set.now.state) claims.now }
+// The same, where both are claims: they were accepted, on checked scripts.
+fn is_claim_on(kept: &Claim, claim: &Claim) -> bool
+    ensures value { result ≡ is_claim_on (claimed_by kept.now) claim.now }
+    ensures exact { kept.now.shell ≡ Open → IsTrue result → IsClaimOn (claimed_by kept.now) claim.now }
 {
-    let kept = set.claims();
+    keeps(kept.checked());
+    keeps(claim.checked());
+    // The proof learns from the path that the claim was judged.
+    let _ = claim.path();
+    is_alike(kept, claim)
+}
+
+// Whether claims claim what others do, in the same ways, one after another.
+fn are_claims_on(kept: &[Claim], claims: &[Claim]) -> bool
+    ensures value { result ≡ all_match (λ k c. is_claim_on (claimed_by k) c) kept.now claims.now }
+    ensures exact { All (λ k. k.shell ≡ Open) kept.now → IsTrue result → AreClaimsOn (map claimed_by kept.now) claims.now }
+{
     let mut others = claims;
     for one in kept {
         let Some((claim, rest)) = others.split_first() else {
@@ -78,4 +99,13 @@ pub fn is_set(set: &PenaltySet, claims: &[Claim]) -> bool
         others = rest;
     }
     others.is_empty()
+}
+
+/// Whether the claims are those of the set, in its order: accepted claims on all that the state's commitment lets its owner's peer claim, and on nothing else.
+pub fn is_set(set: &PenaltySet, claims: &[Claim]) -> bool
+    ensures value { result ≡ are_claims_on (claimable_of set.now.state) claims.now }
+    ensures exact { IsTrue result ↔ AreClaimsOn (claimable_of set.now.state) claims.now }
+{
+    let kept = set.claims();
+    are_claims_on(kept, claims)
 }

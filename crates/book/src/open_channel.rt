@@ -9,12 +9,15 @@ ghost use Rattle.book.specs.Books.{update_of, stepped};
 ghost use Rattle.book.specs.Replies.{step_refusal, messages_of};
 
 use crate::calls::{Batch, Opening, Step};
-use crate::errors::{OpenError, SignError};
+use crate::errors::{KeepError, OpenError, SignError};
+use crate::flags::first_unset;
+use crate::judging::are_penalties;
 use crate::releasing::filled;
 use channel::{Channel, Message, Tokens};
+use claim::Claim;
 use filling::{FillError, Filled};
 use keys::{Key, Signer};
-use std::alloc::Global;
+use std::alloc::{AllocError, Global};
 use std::marker::Model;
 use texts::OwnUpdate;
 use updates::Refusal;
@@ -118,12 +121,13 @@ fn take(channel: &mut Channel, step: Step) -> Result<Taken, Refusal>
 }
 
 impl OpenChannel {
-    ghost use Rattle.std.specs.Prelude.{length};
+    ghost use Rattle.std.specs.Prelude.{◌<◌, length};
+    ghost use Rattle.book.specs.Penalties.{is_penalty_set};
     ghost use Rattle.channel.specs.declared.messages.Message.TheVariants.{RevokeAndAck};
     ghost use Rattle.channel.specs.States.{after, after_sign, receive_refusal, signature_message};
-    ghost use Rattle.book.specs.Books.{with_state, opened_by};
-    ghost use Rattle.book.specs.Replies.{sign_refusal};
-    ghost use Rattle.book.specs.Calling.{IsOpenRefusal, IsSignRefusal, IsFillRefusal, token_refusal, early_sign_refusal, filling_by};
+    ghost use Rattle.book.specs.Books.{with_state, with_kept, opened_by};
+    ghost use Rattle.book.specs.Replies.{sign_refusal, keep_refusal};
+    ghost use Rattle.book.specs.Calling.{IsOpenRefusal, IsSignRefusal, IsKeepRefusal, IsFillRefusal, token_refusal, early_sign_refusal, filling_by};
     ghost use Rattle.book.specs.Signers.{rights_of, fill_refusal};
 
     /// The channel, of which no commitment is revoked.
@@ -235,5 +239,80 @@ impl OpenChannel {
         ensures tested { let first = fill_refusal batch.now.claims batch.now.outputs (rights_of self.now.state) batch.now.preimages in MatchResult result (λ _. first ≡ None) (IsFillRefusal first) }
     {
         filled(alloc, batch, self.channel.signer())
+    }
+
+    // Whether the claims are the penalties of the peer's commitment of a number, which is revoked.
+    fn are_penalties(
+        &self,
+        alloc: Global,
+        number: u64,
+        claims: &[Claim],
+    ) -> Result<bool, AllocError>
+        ensures { IfOk result (λ b. b ≡ is_penalty_set self.now.state number claims.now) }
+    {
+        let commitments = self.channel.peers_commitments();
+        let commitment = match commitments.get(number as usize) {
+            Some(commitment) => commitment,
+            None => return Ok(false),
+        };
+        let secret = match self.channel.peers_secret(number) {
+            Some(secret) => secret,
+            None => return Ok(false),
+        };
+        let owner = self.channel.side().other();
+        are_penalties(
+            alloc,
+            self.channel.terms(),
+            owner,
+            commitment,
+            secret,
+            claims,
+        )
+    }
+
+    // Why the penalties of a number are not kept.
+    fn check_keep(&self, alloc: Global, number: u64, claims: &[Claim]) -> Result<(), KeepError>
+        ensures tested { let first = keep_refusal self.now number claims.now in MatchResult result (λ _. first ≡ None) (IsKeepRefusal first) }
+        ensures within { IfOk result (λ _. number < length self.now.state.secrets) }
+    {
+        let Some(is_kept) = self.flags.get(number as usize) else {
+            return Err(KeepError::NotRevoked);
+        };
+        if *is_kept {
+            return Err(KeepError::AlreadyKept);
+        }
+        let are_its_own = match self.are_penalties(alloc, number, claims) {
+            Ok(are_its_own) => are_its_own,
+            Err(_) => return Err(KeepError::NoMemory),
+        };
+        if !are_its_own {
+            return Err(KeepError::OtherState);
+        }
+        Ok(())
+    }
+
+    /// Keeps the penalties of the peer's revoked commitment of a number. A refusal leaves all as it was.
+    pub(crate) fn keep(
+        &mut self,
+        alloc: Global,
+        number: u64,
+        claims: &[Claim],
+    ) -> Result<(), KeepError>
+        ensures ok { IfOk result (λ _. self.new ≡ with_kept number self.old) }
+        ensures tested { let first = keep_refusal self.old number claims.now in MatchResult result (λ _. first ≡ None) (IsKeepRefusal first) }
+        ensures err { OnErr result (self.new ≡ self.old) }
+    {
+        match self.check_keep(alloc, number, claims) {
+            Ok(()) => {}
+            Err(error) => return Err(error),
+        }
+        match self.kept.push(number) {
+            Ok(()) => {}
+            Err(_) => return Err(KeepError::NoMemory),
+        }
+        let index = number as usize;
+        self.flags[index] = true;
+        self.below = first_unset(&self.flags, self.below);
+        Ok(())
     }
 }

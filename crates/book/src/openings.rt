@@ -59,15 +59,16 @@ fn terms_of(alloc: Global, plain: &PlainOpening) -> Option<Terms>
 {
     let own = bases_of(alloc, &plain.seed);
     let terms = &plain.terms;
-    let a = party_of(
-        &terms.a,
-        bases_at(plain.side, Side::A, own, plain.bases),
-    );
-    let b = party_of(
-        &terms.b,
-        bases_at(plain.side, Side::B, own, plain.bases),
-    );
-    match Terms::new(plain.funding, terms.capacity, terms.opener, terms.feerate, a, b) {
+    let a = party_of(&terms.a, bases_at(plain.side, Side::A, own, plain.bases));
+    let b = party_of(&terms.b, bases_at(plain.side, Side::B, own, plain.bases));
+    match Terms::new(
+        plain.funding,
+        terms.capacity,
+        terms.opener,
+        terms.feerate,
+        a,
+        b,
+    ) {
         Ok(terms) => Some(terms),
         Err(_) => None,
     }

@@ -1,4 +1,4 @@
--- A sound view has a commitment.
+-- A sound view shares out the capacity, and so it has a commitment.
 use Rattle.std.proofs.Common.{◌≡◌, ℕ, ◌+◌, ◌*◌, ◌≤◌, List, [], ◌∷◌, length, None, refl, sym, ap, subst, ◌∙◌, arith}
 use Rattle.std.proofs.lemmas.List.Sums.{sum_by-cons}
 use Rattle.terms.specs.declared.htlcs.Htlc.{Htlc}
@@ -16,6 +16,7 @@ use Rattle.commit.specs.Sums.{millisatoshis_of}
 use Rattle.commit.specs.Commitments.{commitment_of}
 use Rattle.commit.specs.Building.{refusal_of}
 use Rattle.commit.proofs.Shared.{shared}
+use Rattle.channel.specs.Numbered.{SharesOut}
 
 amounts_kept : (f : Fate) (o : Htlc) (os : List Htlc) → millisatoshis_of (kept_if_live f o os) ≡ if_live f o.amount + millisatoshis_of os
 amounts_kept Live o os = sum_by-cons (λ (h : Htlc). h.amount) o os
@@ -32,18 +33,27 @@ summed a b p q m n whole e f h = omega (arith, e, f, h)
 few : (m n : ℕ) → m ≤ 483 → n ≤ 483 → m + n ≤ 3998
 few m n h k = omega (arith, h, k)
 
-pub built_of : (terms : Terms) (xs ys : List Update) (owner : Side) (n : ℕ) (point : List ℕ) → IsSound terms xs ys
-    → refusal_of (commitment_of terms (view_of terms xs ys) owner n point).outputs ≡ None
-built_of terms xs ys owner n point s =
-    shared terms (view_of terms xs ys) owner n point
-    (summed (balance terms.a.start xs ys) (balance terms.b.start ys xs) (pending xs ys) (pending ys xs) (millisatoshis_of (live xs ys)) (millisatoshis_of (live ys xs))
-    (MSAT_PER_SAT * terms.capacity) (amounts_live (offers xs) ys) (amounts_live (offers ys) xs) s.sum)
-    (few (length (live xs ys)) (length (live ys xs)) s.few_of_a s.few_of_b)
+shares_of : (terms : Terms) (xs ys : List Update) → IsSound terms xs ys → SharesOut terms (view_of terms xs ys)
+shares_of terms xs ys s = record {
+  few_of_a = s.few_of_a;
+  few_of_b = s.few_of_b;
+  heights_of_a = s.heights_of_a;
+  heights_of_b = s.heights_of_b;
+  whole =
+      summed (balance terms.a.start xs ys) (balance terms.b.start ys xs) (pending xs ys) (pending ys xs) (millisatoshis_of (live xs ys)) (millisatoshis_of (live ys xs))
+      (MSAT_PER_SAT * terms.capacity) (amounts_live (offers xs) ys) (amounts_live (offers ys) xs) s.sum;
+}
+
+pub shares_by : (terms : Terms) (side : Side) (mine others : List Update) → IsSoundBy terms side mine others → SharesOut terms (view_by terms side mine others)
+shares_by terms A mine others s = shares_of terms mine others s
+shares_by terms B mine others s = shares_of terms others mine s
+
+pub built_shares : (terms : Terms) (view : View) (owner : Side) (n : ℕ) (point : List ℕ) → SharesOut terms view → refusal_of (commitment_of terms view owner n point).outputs ≡ None
+built_shares terms view owner n point s = shared terms view owner n point s.whole (few (length view.a.offered) (length view.b.offered) s.few_of_a s.few_of_b)
 
 pub built_by : (terms : Terms) (side : Side) (mine others : List Update) (owner : Side) (n : ℕ) (point : List ℕ) → IsSoundBy terms side mine others
     → refusal_of (commitment_of terms (view_by terms side mine others) owner n point).outputs ≡ None
-built_by terms A mine others owner n point s = built_of terms mine others owner n point s
-built_by terms B mine others owner n point s = built_of terms others mine owner n point s
+built_by terms side mine others owner n point s = built_shares terms (view_by terms side mine others) owner n point (shares_by terms side mine others s)
 
 pub built_view : (terms : Terms) (side : Side) (mine others : List Update) (view : View) (owner : Side) (n : ℕ) (point : List ℕ) → view ≡ view_by terms side mine others
     → IsSoundBy terms side mine others → refusal_of (commitment_of terms view owner n point).outputs ≡ None

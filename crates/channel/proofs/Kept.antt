@@ -1,5 +1,5 @@
 -- What stays true of a channel as it opens, as it signs, and as a signature or a revocation comes; updates change nothing that it speaks of.
-use Rattle.std.proofs.Common.{◌≡◌, ℕ, ◌<◌, ◌≤◌, ◌+◌, Bool, true, false, List, [], ◌∷◌, ◌++◌, length, map, sym, ap, ◌∙◌, subst, refl, arith, length-append}
+use Rattle.std.proofs.Common.{◌≡◌, ℕ, ◌<◌, ◌+◌, Bool, true, false, List, [], ◌∷◌, ◌++◌, length, map, sym, ap, ◌∙◌, subst, refl, arith, length-append}
 use Rattle.std.specs.Prelude.{Contains}
 use Rattle.std.proofs.lemmas.List.Elements.{Contains-push}
 use Rattle.std.proofs.lemmas.List.{map-append}
@@ -7,6 +7,7 @@ use Rattle.keys.specs.declared.compressed.Key.{Key}
 use Rattle.keys.specs.Rights.{Rights}
 use Rattle.terms.specs.declared.sides.Side.{Side}
 use Rattle.terms.specs.declared.agreement.Terms.{Terms}
+use Rattle.terms.specs.Sides.{other}
 use Rattle.updates.specs.Steady.{Held, holding_signed, holding_signature, holding_revocation}
 use Rattle.channel.specs.declared.limits.TheConstants.{LAST_NUMBER}
 use Rattle.channel.specs.declared.commitments.CommitmentState.{CommitmentState}
@@ -14,6 +15,8 @@ use Rattle.channel.specs.Points.{point_at}
 use Rattle.channel.specs.States.{State, opened}
 use Rattle.channel.specs.Rights.{rights_of}
 use Rattle.channel.specs.Keeping.{HasBases, CanOpen, HaveSame, IsSignedIf, IsChannel, one_if}
+use Rattle.channel.specs.Numbered.{IsNumbered, AreNumbered}
+use Rattle.channel.proofs.Numbered.{numbered_push, numbered_same, numbered_first}
 use Rattle.channel.proofs.Learning.{one_signed, one_mine, one_next, first_four}
 
 -- the signer with one point more
@@ -55,16 +58,24 @@ kept_opened s terms side signer r first next e seed points secrets can =
       number = omega arith;
       peer_number = omega arith;
       secrets = refl;
+      mine = numbered_first terms side (point_at signer.seed 0);
+      signed = numbered_first terms (other side) first;
     })
 
 pub kept_signed : (s t : State) (r : Rights) (c : CommitmentState) → IsChannel s r → s.peer_number < LAST_NUMBER → t.held ≡ holding_signed s.held → t.seed ≡ s.seed → t.awaiting ≡ true → t.number ≡ s.number
-    → t.peer_number ≡ s.peer_number → t.next_point ≡ s.next_point → t.secrets ≡ s.secrets → t.mine ≡ s.mine → t.signed ≡ s.signed ++ c ∷ [] → c.point ≡ s.next_point → IsChannel t r
-kept_signed s t r c i below held seed awaiting number peer_number next secrets mine signed point =
+    → t.peer_number ≡ s.peer_number → t.next_point ≡ s.next_point → t.secrets ≡ s.secrets → t.mine ≡ s.mine → t.signed ≡ s.signed ++ c ∷ [] → c.point ≡ s.next_point
+    → s.awaiting ≡ false → IsNumbered s.held.terms (other s.held.side) (s.peer_number + 1) c → IsChannel t r
+kept_signed s t r c i below held seed awaiting number peer_number next secrets mine signed point waits one_more =
     let own = (point_at s.seed (s.number + 1)).bytes in
     let pushed = points_push s.signed t.signed c s.next_point signed point in
     let same = points_same s t own s.next_point (points_of s.mine) (points_of s.signed ++ s.next_point.bytes ∷ []) (λ j. (point_at (seed j) (number j + 1)).bytes) next (ap points_of mine) pushed in
     let one : one_if t.awaiting ≡ 1 = ap one_if awaiting in
     let bound = i.number in
+    let none : one_if s.awaiting ≡ 0 = ap one_if waits in
+    let before : s.peer_number + 1 ≡ s.peer_number + 1 + one_if s.awaiting = omega (arith, none) in
+    let later : t.peer_number + 1 + one_if t.awaiting ≡ s.peer_number + 1 + 1 = omega (arith, peer_number, one) in
+    let terms = ap (λ (h : Held). h.terms) held in
+    let side = ap (λ (h : Held). h.side) held in
     record {
       bases = bases_same s.held.terms t.held.terms s.held.side t.held.side s.seed t.seed (ap (λ (h : Held). h.terms) held) (ap (λ (h : Held). h.side) held) seed i.bases;
       points = subst (λ l. HaveSame r.points l) same (one_signed r.points own s.next_point.bytes (points_of s.mine) (points_of s.signed) i.points);
@@ -76,12 +87,17 @@ kept_signed s t r c i below held seed awaiting number peer_number next secrets m
       number = omega (arith, number, bound);
       peer_number = omega (arith, peer_number, one, below);
       secrets = ap length secrets ∙ i.secrets ∙ sym peer_number;
+      mine = numbered_same s.held.terms t.held.terms s.held.side t.held.side (s.number + 1) (t.number + 1) s.mine t.mine terms side (ap (λ n. n + 1) number) mine i.mine;
+      signed =
+          numbered_same s.held.terms t.held.terms (other s.held.side) (other t.held.side) (s.peer_number + 1 + 1) (t.peer_number + 1 + one_if t.awaiting) t.signed t.signed terms (ap other side) later refl
+          (numbered_push s.held.terms (other s.held.side) (s.peer_number + 1) s.signed t.signed c
+          (subst (λ n. AreNumbered s.held.terms (other s.held.side) n s.signed) (sym before) i.signed) signed one_more);
     }
 
 pub kept_signature : (s t : State) (r r' : Rights) (c : CommitmentState) → IsChannel s r → s.number < LAST_NUMBER → t.held ≡ holding_signature s.held → t.seed ≡ s.seed → t.awaiting ≡ s.awaiting
     → t.number ≡ s.number + 1 → t.peer_number ≡ s.peer_number → t.next_point ≡ s.next_point → t.secrets ≡ s.secrets → t.mine ≡ s.mine ++ c ∷ [] → t.signed ≡ s.signed
-    → c.point ≡ point_at s.seed (s.number + 1) → r' ≡ with_point r (point_at s.seed (s.number + 2)).bytes → IsChannel t r'
-kept_signature s t r r' c i below held seed awaiting number peer_number next secrets mine signed point e =
+    → c.point ≡ point_at s.seed (s.number + 1) → r' ≡ with_point r (point_at s.seed (s.number + 2)).bytes → IsNumbered s.held.terms s.held.side (s.number + 1) c → IsChannel t r'
+kept_signature s t r r' c i below held seed awaiting number peer_number next secrets mine signed point e one_more =
     let own = (point_at s.seed (s.number + 1)).bytes in
     let later = (point_at s.seed (s.number + 2)).bytes in
     let step : t.number + 1 ≡ s.number + 2 = omega (arith, number) in
@@ -92,6 +108,8 @@ kept_signature s t r r' c i below held seed awaiting number peer_number next sec
     let count = i.count in
     let bound = i.peer_number in
     let wait : one_if t.awaiting ≡ one_if s.awaiting = ap one_if awaiting in
+    let terms = ap (λ (h : Held). h.terms) held in
+    let side = ap (λ (h : Held). h.side) held in
     record {
       bases = bases_same s.held.terms t.held.terms s.held.side t.held.side s.seed t.seed (ap (λ (h : Held). h.terms) held) (ap (λ (h : Held). h.side) held) seed i.bases;
       points = subst (λ l. HaveSame r'.points l) same (subst (λ (x : Rights). HaveSame x.points (later ∷ s.next_point.bytes ∷ ((points_of s.mine ++ own ∷ []) ++ points_of s.signed))) (sym e) learnt);
@@ -101,6 +119,12 @@ kept_signature s t r r' c i below held seed awaiting number peer_number next sec
       number = omega (arith, number, below);
       peer_number = omega (arith, peer_number, wait, bound);
       secrets = ap length secrets ∙ i.secrets ∙ sym peer_number;
+      mine =
+          numbered_same s.held.terms t.held.terms s.held.side t.held.side (s.number + 1 + 1) (t.number + 1) t.mine t.mine terms side (ap (λ n. n + 1) number) refl
+          (numbered_push s.held.terms s.held.side (s.number + 1) s.mine t.mine c i.mine mine one_more);
+      signed =
+          numbered_same s.held.terms t.held.terms (other s.held.side) (other t.held.side) (s.peer_number + 1 + one_if s.awaiting) (t.peer_number + 1 + one_if t.awaiting) s.signed t.signed terms (ap other side)
+          (λ j. peer_number j + 1 + wait j) signed i.signed;
     }
 
 pub kept_revocation : (s t : State) (r r' : Rights) (secret : List ℕ) → IsChannel s r → s.awaiting ≡ true → t.held ≡ holding_revocation s.held → t.seed ≡ s.seed → t.awaiting ≡ false → t.number ≡ s.number
@@ -116,6 +140,9 @@ kept_revocation s t r r' secret i awaited held seed awaiting number peer_number 
     let none : one_if t.awaiting ≡ 0 = ap one_if awaiting in
     let bound = i.peer_number in
     let below = i.number in
+    let terms = ap (λ (h : Held). h.terms) held in
+    let side = ap (λ (h : Held). h.side) held in
+    let same_count : t.peer_number + 1 + one_if t.awaiting ≡ s.peer_number + 1 + one_if s.awaiting = omega (arith, peer_number, none, one) in
     record {
       bases = bases_same s.held.terms t.held.terms s.held.side t.held.side s.seed t.seed (ap (λ (h : Held). h.terms) held) (ap (λ (h : Held). h.side) held) seed i.bases;
       points = subst (λ l. HaveSame r'.points l) same (subst (λ (x : Rights). HaveSame x.points (own ∷ t.next_point.bytes ∷ (points_of s.mine ++ points_of s.signed))) (sym e) learnt);
@@ -125,4 +152,8 @@ kept_revocation s t r r' secret i awaited held seed awaiting number peer_number 
       number = omega (arith, number, below);
       peer_number = omega (arith, peer_number, none, one, bound);
       secrets = ap length secrets ∙ length-append s.secrets (secret ∷ []) ∙ ap (λ n. n + 1) i.secrets ∙ sym peer_number;
+      mine = numbered_same s.held.terms t.held.terms s.held.side t.held.side (s.number + 1) (t.number + 1) s.mine t.mine terms side (ap (λ n. n + 1) number) mine i.mine;
+      signed =
+          numbered_same s.held.terms t.held.terms (other s.held.side) (other t.held.side) (s.peer_number + 1 + one_if s.awaiting) (t.peer_number + 1 + one_if t.awaiting) s.signed t.signed terms (ap other side)
+          same_count signed i.signed;
     }

@@ -7,6 +7,7 @@ mod Kept
 mod SameKeys
 mod Built
 mod SignRights
+mod Numbered
 mod Queues
 mod Meeting
 mod Agreement

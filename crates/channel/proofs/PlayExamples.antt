@@ -13,7 +13,7 @@ use Rattle.channel.specs.declared.plays.PairStep.{PairStep}
 use Rattle.channel.specs.declared.plays.Outcome.{Outcome}
 use Rattle.channel.specs.declared.plays.Outcome.TheVariants.{Done, Refused, NoMessage}
 use Rattle.channel.specs.States.{Signing}
-use Rattle.channel.specs.Peers.{World, opened_both}
+use Rattle.channel.specs.Peers.{opened_both}
 use Rattle.channel.specs.Playing.{outcomes_of, world_after}
 use Rattle.channel.proofs.Trusting.{Played', by_trust, outcomes-trusting, world-trusting}
 

@@ -6,10 +6,12 @@ use Rattle.keys.specs.Rights.{Rights}
 use Rattle.terms.specs.declared.sides.Side.{Side}
 use Rattle.terms.specs.declared.agreement.Terms.{Terms}
 use Rattle.terms.specs.Agreement.{party}
+use Rattle.terms.specs.Sides.{other}
 use Rattle.channel.specs.declared.limits.TheConstants.{LAST_NUMBER}
 use Rattle.channel.specs.declared.commitments.CommitmentState.{CommitmentState}
 use Rattle.channel.specs.States.{State}
 use Rattle.channel.specs.Rights.{rights_of}
+use Rattle.channel.specs.Numbered.{AreNumbered}
 
 -- the base keys of a side by which it signs are those of its seed
 pub record HasBases (terms : Terms) (side : Side) (seed : List ℕ) : Type 0 where
@@ -36,8 +38,8 @@ abbrev pub IsSignedIf : Bool → List ℕ → List CommitmentState → Type 0
 IsSignedIf true point signed = Contains (map (λ c. c.point.bytes) signed) point
 IsSignedIf false point signed = Unit {0}
 
--- the signer knows what the state says, the peer's next commitment is signed while its revocation is awaited, no number passes the last, and the store has
--- a secret for each revoked commitment
+-- the signer knows what the state says, the peer's next commitment is signed while its revocation is awaited, no number passes the last, the store has a
+-- secret for each revoked commitment, and the commitments of both sides stand by number
 pub record IsChannel (s : State) (r : Rights) : Type 0 where
   pub bases : HasBases s.held.terms s.held.side s.seed
   pub points : HaveSame r.points (rights_of s).points
@@ -47,3 +49,5 @@ pub record IsChannel (s : State) (r : Rights) : Type 0 where
   pub number : s.number ≤ LAST_NUMBER
   pub peer_number : s.peer_number + one_if s.awaiting ≤ LAST_NUMBER
   pub secrets : length s.secrets ≡ s.peer_number
+  pub mine : AreNumbered s.held.terms s.held.side (s.number + 1) s.mine
+  pub signed : AreNumbered s.held.terms (other s.held.side) (s.peer_number + 1 + one_if s.awaiting) s.signed

@@ -2,6 +2,7 @@ pub mod Points
 pub mod States
 pub mod Tokens
 pub mod Rights
+pub mod Numbered
 pub mod Keeping
 pub mod Peers
 pub mod Playing

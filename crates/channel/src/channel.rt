@@ -8,7 +8,7 @@ use crate::tokens::{peer_tokens, same_tokens, sign_tokens};
 use keys::{Key, Signer, point};
 use secrets::Store;
 use sighash::Token;
-use std::alloc::Global;
+use std::alloc::{AllocError, Global};
 use std::marker::Model;
 use terms::{Side, Terms};
 use updates::{Ledger, Refusal, Update};
@@ -67,7 +67,7 @@ impl Model for Channel {
 }
 
 impl Channel {
-    ghost use Rattle.std.specs.Prelude.{◌≡◌, ◌↔◌, ℕ, List, ◌+◌, ◌^◌, ◌<◌, ◌≤◌, ◌||◌, nat_le, [], ◌∷◌, ◌++◌, false, true, None, slice_get, option_map, IfOk, IfErr, IfSome, IfNone, OnErr, MatchResult};
+    ghost use Rattle.std.specs.Prelude.{◌≡◌, ◌↔◌, ℕ, List, ◌+◌, ◌^◌, ◌<◌, ◌≤◌, ◌||◌, nat_le, [], ◌∷◌, ◌++◌, false, true, None, length, slice_get, option_map, IfOk, IfErr, IfSome, IfNone, OnErr, MatchResult};
     ghost use Rattle.std.specs.List.{cons_option};
     ghost use Rattle.updates.specs.declared.changes.Update.TheVariants.{Add, Fulfil, Fail, Fee};
     ghost use Rattle.updates.specs.declared.refusals.Refusal.TheVariants.{NoMemory};
@@ -76,7 +76,9 @@ impl Channel {
     ghost use Rattle.channel.specs.declared.messages.Message.TheVariants.{Updated, CommitmentSigned, RevokeAndAck};
     ghost use Rattle.channel.specs.declared.limits.TheConstants.{LAST_NUMBER as last_number};
     ghost use Rattle.channel.specs.Points.{is_foreign};
-    ghost use Rattle.channel.specs.Keeping.{CanOpen};
+    ghost use Rattle.channel.specs.Keeping.{CanOpen, one_if};
+    ghost use Rattle.channel.specs.Numbered.{AreNumbered};
+    ghost use Rattle.terms.specs.Sides.{other};
     ghost use Rattle.channel.specs.Rights.{rights_of};
     ghost use Rattle.keys.specs.Rights.{MaySign};
     ghost use Rattle.updates.specs.Shares.{IsSoundIn};
@@ -148,11 +150,71 @@ impl Channel {
         self.ledger.side()
     }
 
+    /// Whether a signature given out awaits its revocation.
+    pub fn awaits_revocation(&self) -> bool
+        ensures { result ≡ self.now.awaiting }
+    {
+        self.awaiting
+    }
+
     /// Whether this side may not sign now, whatever there is to sign: a signature given out awaits its revocation, or the last number is signed.
     pub fn waits_to_sign(&self) -> bool
         ensures { result ≡ (self.now.awaiting || nat_le last_number self.now.peer_number) }
     {
         self.awaiting || self.peer_number >= LAST_NUMBER
+    }
+
+    /// The number of this side's newest commitment.
+    pub fn number(&self) -> u64
+        ensures { result ≡ self.now.number }
+    {
+        self.number
+    }
+
+    /// The number of the peer's newest commitment that revoked the one before, which is how many revocations came.
+    pub fn peer_number(&self) -> u64
+        ensures number { result ≡ self.now.peer_number }
+        ensures revocations { result ≡ length self.now.secrets }
+    {
+        self.peer_number
+    }
+
+    /// This side's commitments that the peer signed, by number.
+    pub fn own_commitments(&self) -> &[CommitmentState]
+        ensures commitments { result.now ≡ self.now.mine }
+        ensures numbered { AreNumbered self.now.held.terms self.now.held.side (self.now.number + 1) result.now }
+    {
+        self.mine.as_slice()
+    }
+
+    /// The peer's commitments that were signed, by number: the revoked ones, the newest, and the one after it where its revocation is awaited.
+    pub fn peers_commitments(&self) -> &[CommitmentState]
+        ensures commitments { result.now ≡ self.now.signed }
+        ensures numbered { AreNumbered self.now.held.terms (other self.now.held.side) (self.now.peer_number + 1 + one_if self.now.awaiting) result.now }
+    {
+        self.signed.as_slice()
+    }
+
+    /// This side's commitment of a number, where the peer signed it.
+    pub fn own_commitment(&self, number: u64) -> Option<&CommitmentState>
+        ensures { option_map (λ c. c.now) result ≡ slice_get self.now.mine number }
+    {
+        self.mine.get(number as usize)
+    }
+
+    /// The peer's tokens on this side's commitment of a number, where the peer signed it: those that came with its signature. The only error is that
+    /// memory ran out.
+    pub fn own_tokens(&self, number: u64) -> Result<Option<Tokens>, AllocError>
+        ensures { IfOk result (λ t. t ≡ option_map (tokens_of self.now.held.terms) (slice_get self.now.mine number)) }
+    {
+        let Some(commitment) = self.own_commitment(number) else {
+            return Ok(None);
+        };
+        let alloc = *self.mine.allocator();
+        match peer_tokens(alloc, self.ledger.terms(), commitment) {
+            Ok(tokens) => Ok(Some(tokens)),
+            Err(_) => Err(AllocError),
+        }
     }
 
     /// The peer's commitment of a number, where it was signed.
@@ -242,6 +304,7 @@ impl Channel {
         requires { self.now.number < last_number }
         ensures ok { IfOk result (λ c. c ≡ own_next self.now) }
         ensures built { IfOk result (λ c. IsBuilt self.now.held.terms c) }
+        ensures sound { IfOk result (λ _. IsSoundIn self.now.held self.now.held.own.past_receiver self.now.held.theirs.known) }
         ensures err { IfErr result (λ e. e ≡ NoMemory) }
     {
         let view = match self.ledger.view_to_receive() {
@@ -354,6 +417,7 @@ impl Channel {
         ensures ok { IfOk result (λ c. c ≡ own_next self.now) }
         ensures tested { let first = receive_refusal tokens_of self.now (CommitmentSigned tokens.now)
             in MatchResult result (λ _. first ≡ None) (IsRefusal first) }
+        ensures sound { IfOk result (λ _. IsSoundIn self.now.held self.now.held.own.past_receiver self.now.held.theirs.known) }
         ensures below { IfOk result (λ _. self.now.number < last_number) }
     {
         if self.number >= LAST_NUMBER {

@@ -5,8 +5,9 @@ ghost use Rattle.keys.specs.Derivation.{base_key};
 ghost use Rattle.terms.specs.Sides.{other};
 ghost use Rattle.channel.specs.Keeping.{HasBases, CanOpen};
 
-use crate::{Channel, Message, opening_points, opening_token};
-use keys::{Base, Signer, revocation};
+use crate::tokens::same_tokens;
+use crate::{Channel, Message, Tokens, opening_points, opening_token};
+use keys::{Base, Signer, point, revocation};
 use std::alloc::Global;
 use std::process::Abort;
 use terms::{BaseKeys, Party, Side, Terms};
@@ -161,18 +162,43 @@ fn two_sides_agree(rt: HostRuntime) {
     assert!(rt; b.signed().is_ok());
 }
 
-// Once B revoked its commitment 0, A may sign for what the commitment would pay B.
+// Once B revoked its commitment 0, A shows its secret, and may sign for what the commitment would pay B.
 #[test]
 fn learns_the_secret_of_a_revocation(rt: HostRuntime) {
     let alloc = rt.alloc();
     let mut a = open(&rt, alloc, Side::A, 0).expect(&rt, "a channel");
     let mut b = open(&rt, alloc, Side::B, 0).expect(&rt, "a channel");
-    let point = opening_points(&Signer::new(alloc, &[2; 32])).first;
-    let key = revocation(&a.signer().base(Base::Revocation), &point);
+    let first = opening_points(&Signer::new(alloc, &[2; 32])).first;
+    let key = revocation(&a.signer().base(Base::Revocation), &first);
     let before = a.signer().can_sign(&key);
     let rate = a.set_fee(2000).expect(&rt, "a feerate");
     let tokens = a.signed().expect(&rt, "tokens");
+    assert!(rt; a.waits_to_sign() && a.peers_secret(0).is_none());
     deliver(&rt, &mut a, &mut b, rate);
     deliver(&rt, &mut a, &mut b, tokens);
     assert_eq!(rt; (before, a.signer().can_sign(&key)), (false, true));
+    let secret = a.peers_secret(0).expect(&rt, "a secret");
+    assert!(rt; point(&secret) == first && !a.waits_to_sign());
+}
+
+// Whether these are the tokens of a message.
+fn has_tokens(message: &Message, tokens: &Tokens) -> bool {
+    match message {
+        Message::CommitmentSigned(sent) => same_tokens(sent, tokens),
+        _ => false,
+    }
+}
+
+// The tokens on an own commitment are those that came.
+#[test]
+fn finds_the_tokens_on_its_own_commitment(rt: HostRuntime) {
+    let mut a = open(&rt, rt.alloc(), Side::A, 0).expect(&rt, "a channel");
+    let mut b = open(&rt, rt.alloc(), Side::B, 0).expect(&rt, "a channel");
+    let sent = offer_and_sign(&mut a, 20_000_000, [9; 32], 500);
+    let (offer, signature) = sent.expect(&rt, "an offer and tokens");
+    deliver(&rt, &mut a, &mut b, offer);
+    assert!(rt; matches!(b.receive(&signature), Ok(Some(_))));
+    let tokens = b.own_tokens(1).expect(&rt, "memory");
+    assert!(rt; has_tokens(&signature, &tokens.expect(&rt, "tokens")));
+    assert!(rt; b.own_tokens(2).expect(&rt, "memory").is_none());
 }

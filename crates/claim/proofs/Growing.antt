@@ -1,5 +1,5 @@
 -- A clean run's height is at least what it starts with.
-use Rattle.std.proofs.Common.{◌≡◌, ℕ, zero, suc, ◌≤◌, ◌+◌, max, nat_le, Bool, true, false, List, [], ◌∷◌, length, reverse, Result, Ok, Err, sym, ap, ◌∙◌, refl, arith}
+use Rattle.std.proofs.Common.{◌≡◌, ℕ, zero, suc, ◌≤◌, ◌+◌, max, nat_le, Bool, true, false, List, [], ◌∷◌, length, reverse, Result, Ok, Err, ap, refl, arith}
 use Rattle.std.specs.Prelude.{if◌then◌else◌}
 use Rattle.std.specs.List.{list_any}
 use Rattle.std.proofs.lemmas.List.{length-reverse}

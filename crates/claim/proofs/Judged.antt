@@ -1,6 +1,6 @@
 -- What a claim's path has, by how it was judged.
 use Rattle.std.proofs.Common.{◌≡◌, ℕ, ◌<◌, ◌≤◌, Bool, true, false, List, [], ◌∷◌, length, get_or, Option, Some, None, sym, ap, subst, ◌∙◌, refl, arith}
-use Rattle.std.specs.Prelude.{slice_get, IsTrue, if◌then◌else◌, nat_lt, unwrap_or, Result, Ok, Err, is_ok, All, MatchResult, IfOk}
+use Rattle.std.specs.Prelude.{slice_get, IsTrue, if◌then◌else◌, nat_lt, unwrap_or, Result, Ok, Err, is_ok, All, MatchResult}
 use Rattle.std.proofs.lemmas.Bool.{ltb-true, false≢true}
 use Rattle.std.proofs.lemmas.Option.{get_or_from_slice_get, slice_get_within, slice_get_read, slice_get_past}
 use Rattle.script.specs.Spelling.{spelling, Spells}

@@ -1,5 +1,5 @@
 -- Which refusal of a claim comes first, and what fits a claim.
-use Rattle.std.proofs.Common.{◌≡◌, ◌<◌, ◌≤◌, ℕ, Bool, true, false, reverse, sym, subst, ap, List, [], ◌∷◌, ◌++◌, map, replicate, refl, lit≤, lit<, arith, Some, None, Result, Ok, Err}
+use Rattle.std.proofs.Common.{◌≡◌, ℕ, Bool, true, false, reverse, sym, subst, ap, List, [], ◌∷◌, ◌++◌, map, replicate, refl, lit≤, lit<, arith, Some, None, Result, Ok, Err}
 use Rattle.std.specs.Prelude.{IsTrue}
 use Rattle.sha2.specs.Sha256.{sha256, digest_bytes, hash_after, compress, rounds, schedule, first_words}
 use Rattle.script.specs.declared.opcode.Op.{Op}
@@ -20,9 +20,11 @@ use Rattle.claim.specs.declared.parts.Place.{Place}
 use Rattle.claim.specs.declared.errors.AcceptError.{AcceptError}
 use Rattle.claim.specs.declared.errors.AcceptError.TheVariants.{NoMemory, NoSuchPath, WrongArity, Unmet, Contradiction, WrongProgram, WrongShell}
 use Rattle.claim.specs.Refusals.{refusal_number as number_of_refusal}
+use Rattle.claim.specs.declared.parts.Shell.{Shell}
 use Rattle.claim.specs.declared.parts.Shell.TheVariants.{Open, Fixed}
 use Rattle.claim.specs.Judgement.{is_program, is_shell, bare_shell, judgement_of, needed_height, age_of}
 use Rattle.claim.specs.Fitting.{FillsSlot, FillsSlots, StandsRound, Fits}
+use Rattle.claim.specs.Claims.{IsBare}
 
 -- the script of a key hash, and its bytes
 abbrev ops : List Op
@@ -125,6 +127,22 @@ shell_order = (refl, refl, refl, refl, refl)
 -- a claim keeps the fixed transaction without its witness
 bare : bare_shell (Fixed (tx 2 500 (input_of 7 0 144 ((1 ∷ []) ∷ []) ∷ []) 999)) ≡ Fixed (tx 2 500 only 999)
 bare = refl
+
+-- an open shell is bare, and so is a fixed transaction whose inputs have no witness item; one item, also an empty one, is one too many
+are_bare : IsBare Open × IsBare (Fixed (tx 2 500 only 999)) × IsBare (Fixed (tx 2 500 [] 999))
+are_bare = (refl, refl, refl)
+
+-- the witness of a shell's first input
+abbrev first_witness : List TxIn → List (List ℕ)
+first_witness [] = []
+first_witness (i ∷ is) = i.witness
+
+abbrev witness_in : Shell → List (List ℕ)
+witness_in Open = []
+witness_in (Fixed t) = first_witness t.inputs
+
+not_bare : IsBare (Fixed (tx 2 500 (input_of 7 0 144 ([] ∷ []) ∷ []) 999)) → ⊥
+not_bare e = let none : ◌≡◌ {A = List (List ℕ)} ([] ∷ []) [] = ap witness_in e in cc
 
 -- what fits a claim on a path of height 500 and age 144: in a transaction of two inputs, the second of which is the claim's
 abbrev spends : ℕ → ℕ → TxIn → Transaction

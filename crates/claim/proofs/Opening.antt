@@ -1,14 +1,13 @@
 -- What a program and the witness of a claim give to be run.
-use Rattle.std.proofs.Common.{◌≡◌, ℕ, ◌<◌, ◌≤◌, Bool, true, false, ◌&&◌, ◌||◌, eqb, List, [], ◌∷◌, ◌++◌, length, take, drop, reverse, Option, Some, None, sym, ap, subst, ◌∙◌, refl, arith, ⊎_elim, eq-eqb, ne_eqb}
-use Rattle.std.specs.Prelude.{if◌then◌else◌}
+use Rattle.std.proofs.Common.{◌≡◌, ℕ, true, false, List, [], ◌∷◌, ◌++◌, length, drop, reverse, Some, sym, ap, subst, refl, arith, ⊎_elim, eq-eqb, ne_eqb}
 use Rattle.std.specs.Str.{bytes_eq}
 use Rattle.std.proofs.lemmas.Bool.{and_parts, and_from, and_left, and_right, or_cases, eqb-true}
 use Rattle.std.proofs.lemmas.Slice.Eq.{bytes_eq-Decides}
 use Rattle.std.proofs.lemmas.List.{reverse-append, reverse-reverse}
 use Rattle.sha2.specs.Sha256.{sha256}
 use Rattle.sha2.proofs.Facts256.{length-sha256}
-use Rattle.sighash.specs.Programs.{Given, is_key_hash_program, is_script_hash_program, key_hash_script, given_by_hash, given_of}
-use Rattle.claim.specs.Judgement.{script_program, key_script, is_key_program, is_program}
+use Rattle.sighash.specs.Programs.{is_key_hash_program, is_script_hash_program, key_hash_script, given_by_hash, given_of}
+use Rattle.claim.specs.Judgement.{script_program, is_key_program, is_program}
 use Rattle.claim.specs.Fitting.{witness_for}
 
 by_hash : (hash script : List ℕ) (items : List (List ℕ)) → sha256 script ≡ hash → given_by_hash hash (reverse (items ++ script ∷ [])) ≡ Some (record { script = script; items = items })

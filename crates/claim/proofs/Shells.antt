@@ -1,21 +1,20 @@
 -- What a transaction has that may stand round an accepted claim.
-use Rattle.std.proofs.Common.{◌≡◌, ℕ, ◌<◌, ◌≤◌, zero, suc, Bool, true, false, ◌&&◌, eqb, List, [], ◌∷◌, ◌++◌, length, map, Option, Some, None, sym, ap, subst, ◌∙◌, refl, arith, Contains}
+use Rattle.std.proofs.Common.{◌≡◌, ℕ, ◌<◌, ◌≤◌, zero, suc, true, List, [], ◌∷◌, sym, ap, subst, ◌∙◌, refl, arith, Contains}
 use Rattle.std.proofs.lemmas.Bool.{and_parts, eqb-true, ltb-true, leb-true, false≢true}
 use Rattle.std.specs.Prelude.{slice_get, option_map}
-use Rattle.std.specs.Str.{bytes_eq}
 use Rattle.digest.specs.Hash.{sha256d}
 use Rattle.tx.specs.declared.input.OutPoint.{OutPoint}
 use Rattle.tx.specs.declared.input.TxIn.{TxIn}
 use Rattle.tx.specs.Parts.{Output}
 use Rattle.tx.specs.Fields.{Transaction, signed_input, unsigned_inputs, unsigned_transaction}
-use Rattle.tx.specs.Spelling.{outpoint, number, bytes_with_length}
-use Rattle.sighash.specs.Signing.{signed_list, all_outpoints, all_sequences, all_outputs, sighash}
-use Rattle.sighash.specs.Programs.{spend_of}
+use Rattle.tx.proofs.Witnesses.{unsigned_twice}
+use Rattle.sighash.specs.Signing.{signed_list, all_outpoints, all_sequences, sighash}
 use Rattle.paths.specs.declared.state.Path.{Path}
 use Rattle.claim.specs.declared.parts.Place.{Place}
 use Rattle.claim.specs.declared.parts.Shell.{Shell}
 use Rattle.claim.specs.declared.parts.Shell.TheVariants.{Open, Fixed}
-use Rattle.claim.specs.Judgement.{is_only_input, is_shell, known_digest, height_of, age_of}
+use Rattle.claim.specs.Judgement.{is_only_input, is_shell, bare_shell, known_digest, height_of, age_of}
+use Rattle.claim.specs.Claims.{IsBare}
 use Rattle.claim.specs.Fitting.{StandsRound}
 use Rattle.claim.proofs.Telling.{Known}
 
@@ -94,3 +93,8 @@ round_of p place (Fixed u) script t input e c s =
       height = subst (λ n. n < 500000000) (sym lock_time) f.height;
       known = known_by u a.y script place.value (signed_list t input script place.value) a.second (signed_alike t u input script place.value a s);
     }
+
+-- what has lost its witness has none to lose
+pub bare_twice : (s : Shell) → IsBare (bare_shell s)
+bare_twice Open = refl
+bare_twice (Fixed t) = ap (λ is. Fixed (record t { inputs = is })) (sym (unsigned_twice t.inputs))

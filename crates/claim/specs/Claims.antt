@@ -11,6 +11,10 @@ use Rattle.claim.specs.declared.parts.Shell.{Shell}
 use Rattle.claim.specs.Judgement.{judgement_of, bare_shell, needed_height, age_of}
 use Rattle.claim.specs.Fitting.{Fits, Opens}
 
+-- the shell of a claim: a fixed transaction has no witness item
+abbrev pub IsBare : Shell → Type 0
+IsBare shell = shell ≡ bare_shell shell
+
 -- a claim: the checked script of the claimed output, the index of the path that it takes, the slots, the top first, where the output stands,
 -- and the transaction round it, which has no witness item where it is fixed
 pub record ClaimParts : Type 0 where

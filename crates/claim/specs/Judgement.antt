@@ -7,7 +7,7 @@ use Rattle.script.specs.Spelling.{spelling}
 use Rattle.script.specs.Step.{result_if, ◌>>=◌}
 use Rattle.tx.specs.declared.input.OutPoint.{OutPoint}
 use Rattle.tx.specs.declared.input.TxIn.{TxIn}
-use Rattle.tx.specs.Fields.{Transaction, unsigned_transaction, total_value}
+use Rattle.tx.specs.Fields.{unsigned_transaction, total_value}
 use Rattle.sighash.specs.Signing.{sighash}
 use Rattle.facts.specs.Symbols.{Stated}
 use Rattle.facts.specs.Sameness.{contradicts}

@@ -31,6 +31,7 @@ fn bare(shell: Shell) -> Shell
 ///
 /// It is refused, in this order, as `NoSuchPath`, `WrongArity`, `WrongProgram`, `WrongShell`, `Contradiction` and `Unmet` with the first fact of the
 /// path that the slots do not show; `NoMemory` where that fact cannot be copied.
+#[tactic(auto, using(crate::proofs::Shells::bare_twice))]
 pub fn accept(
     alloc: Global,
     checked: Checked,

@@ -25,13 +25,13 @@ pub struct Claim {
 impl Model for Claim {
     ghost use Rattle.std.specs.Prelude.{is_ok, IsTrue};
     ghost use Rattle.claim.specs.Judgement.{judgement_of};
-    ghost use Rattle.claim.specs.Claims.{ClaimParts};
+    ghost use Rattle.claim.specs.Claims.{ClaimParts, IsBare};
 
     ghost Value = { ClaimParts };
 
     ghost view = { λ c. record { ways = c.checked; index = c.index; slots = c.slots; place = c.place; shell = c.shell } };
 
-    ghost invariant = { λ c. IsTrue (is_ok (judgement_of c.checked c.index c.slots c.place c.shell)) };
+    ghost invariant = { λ c. IsTrue (is_ok (judgement_of c.checked c.index c.slots c.place c.shell)) × IsBare c.shell };
 }
 
 // The path at an index.
@@ -45,10 +45,10 @@ fn path_at(paths: &[Path], index: usize) -> &Path
 impl Claim {
     ghost use Rattle.std.specs.Prelude.{is_ok, IsTrue, IfOk, Some, true};
     ghost use Rattle.claim.specs.Judgement.{judgement_of, is_shell};
-    ghost use Rattle.claim.specs.Claims.{IsOpening, TakesPath, path_of, sequence_of, lock_time_of};
+    ghost use Rattle.claim.specs.Claims.{IsBare, IsOpening, TakesPath, path_of, sequence_of, lock_time_of};
     ghost use Rattle.paths.specs.Sound.{IsSound};
 
-    // A claim that was judged.
+    // A claim that was judged, round which a fixed transaction is bare.
     pub(crate) fn new(
         checked: Checked,
         index: usize,
@@ -56,7 +56,8 @@ impl Claim {
         place: Place,
         shell: Shell,
     ) -> Claim
-        requires { IsTrue (is_ok (judgement_of checked index slots place shell)) }
+        requires judged { IsTrue (is_ok (judgement_of checked index slots place shell)) }
+        requires bare { IsBare shell }
         ensures { result ≡ record { ways = checked; index = index; slots = slots; place = place; shell = shell } }
     {
         Claim {
@@ -127,7 +128,8 @@ impl Claim {
 
     /// The transaction round the claim. Where it is fixed, it has no witness item.
     pub fn shell(&self) -> &Shell
-        ensures { result.now ≡ self.now.shell }
+        ensures value { result.now ≡ self.now.shell }
+        ensures bare { IsBare result.now }
     {
         &self.shell
     }

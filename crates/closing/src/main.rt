@@ -17,9 +17,14 @@ mod together;
 use anyhow::Result;
 use parties::Parties;
 
+/// Prints what comes of all claims.
+fn show_all<R: Print + AllocGlobal>(rt: &R, parties: &Parties) -> Result<()> {
+    tables::show_all(rt, parties)?;
+    together::show_all(rt, parties)?;
+    shapes::show_all(rt, parties)
+}
+
 fn main(rt: HostRuntime) -> Result<()> {
     let parties = Parties::new(rt.alloc())?;
-    tables::show_all(&rt, &parties)?;
-    together::show_all(&rt, &parties)?;
-    shapes::show_all(&rt, &parties)
+    show_all(&rt, &parties)
 }

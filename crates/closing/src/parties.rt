@@ -17,18 +17,27 @@ pub struct Parties {
     pub patterns: Patterns,
 }
 
+/// The signer of the commitment's owner.
+fn owner(alloc: Global) -> Result<Signer> {
+    let mut owner = Signer::new(alloc, &[1; 32]);
+    owner.learn_point(&point(&SECRET))?;
+    Ok(owner)
+}
+
+/// The signer of the peer, which learnt the secret.
+fn peer(alloc: Global) -> Result<Signer> {
+    let mut peer = Signer::new(alloc, &[2; 32]);
+    peer.learn_point(&point(&SECRET))?;
+    peer.learn_secret(&SECRET)?;
+    Ok(peer)
+}
+
 impl Parties {
     /// Both sides, with what they learnt.
     pub fn new(alloc: Global) -> Result<Parties> {
-        let mut owner = Signer::new(alloc, &[1; 32]);
-        let mut peer = Signer::new(alloc, &[2; 32]);
-        let point = point(&SECRET);
-        owner.learn_point(&point)?;
-        peer.learn_point(&point)?;
-        peer.learn_secret(&SECRET)?;
         Ok(Parties {
-            owner,
-            peer,
+            owner: owner(alloc)?,
+            peer: peer(alloc)?,
             patterns: patterns(alloc)?,
         })
     }

@@ -27,16 +27,27 @@ pub fn outputs(alloc: Global, value: u64) -> Result<Vec<TxOut>> {
     Ok(outputs)
 }
 
-/// The transaction that both sides signed: of sequence 0, with this lock time and an output of this value. It comes with a witness item.
-fn fixed(alloc: Global, outpoint: OutPoint, lock_time: u32, value: u64) -> Result<Tx> {
+/// An input of sequence 0, which comes with a witness item.
+fn signed_input(alloc: Global, outpoint: OutPoint) -> Result<TxIn> {
     let mut witness = Witness::new(alloc);
     witness.push(ByteString::from_slice(alloc, &[1])?)?;
-    let mut inputs = Inputs::new(alloc);
-    inputs.push(TxIn {
+    Ok(TxIn {
         outpoint,
         sequence: 0,
         witness,
-    })?;
+    })
+}
+
+/// That input alone.
+fn signed_inputs(alloc: Global, outpoint: OutPoint) -> Result<Inputs> {
+    let mut inputs = Inputs::new(alloc);
+    inputs.push(signed_input(alloc, outpoint)?)?;
+    Ok(inputs)
+}
+
+/// The transaction that both sides signed: of one input, with this lock time and an output of this value.
+fn fixed(alloc: Global, outpoint: OutPoint, lock_time: u32, value: u64) -> Result<Tx> {
+    let inputs = signed_inputs(alloc, outpoint)?;
     let outputs = Outputs::from_vec(outputs(alloc, value)?)?;
     Ok(Tx::new(2, inputs, outputs, lock_time)?)
 }
@@ -135,8 +146,11 @@ fn slots_of(
     alloc: Global,
     parties: &Parties,
     case: &Case,
-    token: Token,
+    script: &[u8],
+    shell: &Shell,
 ) -> Result<(Vec<Slot>, usize)> {
+    let key = remote_key(parties, case.claimed);
+    let token = remote_token(&key, script, shell, case.slip)?;
     let (mut slots, mut path) = match kind_of(parties, case.claimed, token) {
         Some(kind) => (accepted_slots(alloc, &kind)?, kind.path()),
         None => (funding_slots(alloc, parties, &token)?, 0),
@@ -152,6 +166,49 @@ fn slots_of(
     Ok((slots, path))
 }
 
+/// What is claimed: the path of the script, the slots, the top first, where the output stands, and the transaction round the claim.
+#[derive(Drop)]
+struct Attempt {
+    path: usize,
+    slots: Vec<Slot>,
+    place: Place,
+    shell: Shell,
+}
+
+/// Grants the output to the chain, with the program of the script, or of another one.
+fn granted(
+    alloc: Global,
+    parties: &Parties,
+    case: &Case,
+    script: &[u8],
+    chain: &mut Chain,
+) -> Result<Place> {
+    let granted = match case.slip {
+        Slip::OtherProgram => &[0x51],
+        _ => script,
+    };
+    grant(alloc, parties, case.claimed, granted, chain)
+}
+
+/// What is claimed of a script.
+fn attempt_of(
+    alloc: Global,
+    parties: &Parties,
+    case: &Case,
+    script: &[u8],
+    chain: &mut Chain,
+) -> Result<Attempt> {
+    let place = granted(alloc, parties, case, script, chain)?;
+    let shell = shell(alloc, case, &place)?;
+    let (slots, path) = slots_of(alloc, parties, case, script, &shell)?;
+    Ok(Attempt {
+        path,
+        slots,
+        place,
+        shell,
+    })
+}
+
 /// The claim, or why it is not accepted.
 pub fn claim_of(
     alloc: Global,
@@ -160,20 +217,13 @@ pub fn claim_of(
     chain: &mut Chain,
 ) -> Result<Result<Claim, AcceptError>> {
     let checked = script_of(alloc, parties, case.claimed)?;
-    let script = checked.script().bytes();
-    let granted = match case.slip {
-        Slip::OtherProgram => &[0x51],
-        _ => script,
-    };
-    let place = grant(alloc, parties, case.claimed, granted, chain)?;
-    let shell = shell(alloc, case, &place)?;
-    let token = remote_token(
-        &remote_key(parties, case.claimed),
-        script,
-        &shell,
-        case.slip,
-    )?;
-    let (slots, path) = slots_of(alloc, parties, case, token)?;
+    let attempt = attempt_of(alloc, parties, case, checked.script().bytes(), chain)?;
+    let Attempt {
+        path,
+        slots,
+        place,
+        shell,
+    } = attempt;
     Ok(accept(alloc, checked, path, slots, place, shell))
 }
 
@@ -232,17 +282,42 @@ pub fn connect(
     }
 }
 
+/// What comes of a claim's transaction.
+fn play_filled(
+    alloc: Global,
+    case: &Case,
+    claim: &Claim,
+    tx: Tx,
+    chain: &mut Chain,
+) -> Result<Outcome> {
+    let tx = spoil(alloc, case.slip, tx)?;
+    connect(alloc, case.height, claim, tx, chain)
+}
+
+/// What comes of an accepted claim.
+fn play_accepted(
+    alloc: Global,
+    parties: &Parties,
+    case: &Case,
+    claim: &Claim,
+    chain: &mut Chain,
+) -> Result<Outcome> {
+    match fill_of(alloc, parties, case, claim)? {
+        Ok(filled) => play_filled(alloc, case, claim, filled.into_tx(), chain),
+        Err(refusal) => Ok(Outcome::NotFilled(refusal)),
+    }
+}
+
+/// What comes of a case on a chain.
+fn play_on(alloc: Global, parties: &Parties, case: &Case, chain: &mut Chain) -> Result<Outcome> {
+    match claim_of(alloc, parties, case, chain)? {
+        Ok(claim) => play_accepted(alloc, parties, case, &claim, chain),
+        Err(refusal) => Ok(Outcome::NotAccepted(refusal)),
+    }
+}
+
 /// What comes of a case, on a new chain.
 pub fn play(alloc: Global, parties: &Parties, case: &Case) -> Result<Outcome> {
     let mut chain = Chain::new(alloc)?;
-    let claim = match claim_of(alloc, parties, case, &mut chain)? {
-        Ok(claim) => claim,
-        Err(refusal) => return Ok(Outcome::NotAccepted(refusal)),
-    };
-    let filled = match fill_of(alloc, parties, case, &claim)? {
-        Ok(filled) => filled,
-        Err(refusal) => return Ok(Outcome::NotFilled(refusal)),
-    };
-    let tx = spoil(alloc, case.slip, filled.into_tx())?;
-    connect(alloc, case.height, &claim, tx, &mut chain)
+    play_on(alloc, parties, case, &mut chain)
 }

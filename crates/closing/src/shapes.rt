@@ -48,13 +48,21 @@ fn claim_on(alloc: Global, script: &[u8], slots: Vec<Slot>) -> Result<Result<Cla
     Ok(accept(alloc, checked, 0, slots, place, Shell::Open))
 }
 
+/// The number of the refusal of that claim; `None` where it is accepted.
+fn refusal_on(alloc: Global, script: &[u8], slots: Vec<Slot>) -> Result<Option<u8>> {
+    match claim_on(alloc, script, slots)? {
+        Ok(_) => Ok(None),
+        Err(refusal) => Ok(Some(refusal.number())),
+    }
+}
+
 /// Whether an item of `len` bytes is taken by DROP and 1, which takes any; `None` where it is too long.
 fn takes_any(alloc: Global, len: usize) -> Result<Option<bool>> {
     let Some(slot) = exact(alloc, &vec![in alloc; 9u8; len]?)? else {
         return Ok(None);
     };
-    let answer = claim_on(alloc, &[0x75, 0x51], one(alloc, slot)?)?;
-    Ok(Some(answer.is_ok()))
+    let refusal = refusal_on(alloc, &[0x75, 0x51], one(alloc, slot)?)?;
+    Ok(Some(refusal.is_none()))
 }
 
 /// Items of 0 to 600 bytes.
@@ -76,11 +84,7 @@ fn refusal_of(alloc: Global, script: &[u8], item: &[u8]) -> Result<Option<u8>> {
     let Some(slot) = exact(alloc, item)? else {
         bail!("an item has at most 520 bytes");
     };
-    let slots = one(alloc, slot)?;
-    match claim_on(alloc, script, slots)? {
-        Ok(_) => Ok(None),
-        Err(refusal) => Ok(Some(refusal.number())),
-    }
+    refusal_on(alloc, script, one(alloc, slot)?)
 }
 
 /// The script that takes just this item, of `len` bytes: its push and EQUAL.
@@ -155,7 +159,7 @@ fn takes_signatures(alloc: Global, key: &Key, keys: u8, signatures: u8) -> Resul
 {
     let script = signatures_script(alloc, key, keys, signatures)?;
     let slots = signature_slots(alloc, key, signatures)?;
-    Ok(claim_on(alloc, &script, slots)?.is_ok())
+    Ok(refusal_on(alloc, &script, slots)?.is_none())
 }
 
 /// CHECKMULTISIG of 1 to 16 keys, and of each number of signatures.
@@ -184,7 +188,7 @@ fn other_script(alloc: Global) -> Result<Vec<u8>, AllocError> {
 fn takes_preimage(alloc: Global, hash: [u8; 32]) -> Result<bool> {
     let script = other_script(alloc)?;
     let slots = one(alloc, Slot::Preimage(hash))?;
-    Ok(claim_on(alloc, &script, slots)?.is_ok())
+    Ok(refusal_on(alloc, &script, slots)?.is_none())
 }
 
 /// Prints what comes of claims of many shapes.

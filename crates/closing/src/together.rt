@@ -10,7 +10,7 @@ use claim::Claim;
 use filling::{FillError, Filled, fill};
 use keys::Signer;
 use std::alloc::Global;
-use tx::{MAX_INPUTS, MAX_OUTPUTS};
+use tx::{MAX_INPUTS, MAX_OUTPUTS, Tx};
 
 /// What is claimed together, each accepted by itself.
 const KINDS: [Claimed; 4] = [
@@ -64,6 +64,16 @@ fn answer(
     Ok(fill(alloc, claims, outputs, signer, preimages))
 }
 
+/// Why claims are not filled; nothing where they are.
+fn refusal_of(
+    alloc: Global,
+    claims: &[&Claim],
+    value: u64,
+    signer: &Signer,
+) -> Result<Option<FillError>> {
+    Ok(answer(alloc, claims, value, signer, &[[6; 32]])?.err())
+}
+
 /// Prints why claims are not filled.
 fn show<R: Print + AllocGlobal>(
     rt: &R,
@@ -72,9 +82,9 @@ fn show<R: Print + AllocGlobal>(
     value: u64,
     signer: &Signer,
 ) -> Result<()> {
-    match answer(rt.alloc(), claims, value, signer, &[[6; 32]])? {
-        Ok(_) => println!(rt; "{what}: filled")?,
-        Err(refusal) => println!(rt; "{what}: {}", Outcome::NotFilled(refusal))?,
+    match refusal_of(rt.alloc(), claims, value, signer)? {
+        None => println!(rt; "{what}: filled")?,
+        Some(refusal) => println!(rt; "{what}: {}", Outcome::NotFilled(refusal))?,
     }
     Ok(())
 }
@@ -124,6 +134,32 @@ fn show_refusals<R: Print + AllocGlobal>(
     )
 }
 
+/// The transaction of three claims.
+fn fill_three(alloc: Global, parties: &Parties, claims: &[&Claim]) -> Result<Tx> {
+    let preimages = [[6; 32], crate::funded::PREIMAGE];
+    let filled = answer(alloc, claims, 300_000, &parties.peer, &preimages)??;
+    Ok(filled.into_tx())
+}
+
+/// Prints what a transaction of three claims has.
+fn show_transaction<R: Print>(rt: &R, tx: &Tx) -> Result<()> {
+    let (inputs, lock_time) = (tx.inputs().len(), tx.lock_time());
+    println!(rt; "three claims: {inputs} inputs, lock time {lock_time}")?;
+    Ok(())
+}
+
+/// Prints what comes of a transaction of three claims.
+fn show_connected<R: Print + AllocGlobal>(
+    rt: &R,
+    timeout: &Claim,
+    tx: Tx,
+    chain: &mut Chain,
+) -> Result<()> {
+    let outcome = connect(rt.alloc(), 501, timeout, tx, chain)?;
+    println!(rt; "three claims in block 501: {outcome}")?;
+    Ok(())
+}
+
 /// Prints what comes of three claims in one transaction.
 fn show_three<R: Print + AllocGlobal>(
     rt: &R,
@@ -132,13 +168,9 @@ fn show_three<R: Print + AllocGlobal>(
     timeout: &Claim,
     chain: &mut Chain,
 ) -> Result<()> {
-    let preimages = [[6; 32], crate::funded::PREIMAGE];
-    let filled = answer(rt.alloc(), claims, 300_000, &parties.peer, &preimages)??;
-    let (inputs, lock_time) = (filled.tx().inputs().len(), filled.tx().lock_time());
-    println!(rt; "three claims: {inputs} inputs, lock time {lock_time}")?;
-    let outcome = connect(rt.alloc(), 501, timeout, filled.into_tx(), chain)?;
-    println!(rt; "three claims in block 501: {outcome}")?;
-    Ok(())
+    let tx = fill_three(rt.alloc(), parties, claims)?;
+    show_transaction(rt, &tx)?;
+    show_connected(rt, timeout, tx, chain)
 }
 
 /// Prints what comes of several claims.

@@ -138,6 +138,20 @@ fn htlc_outputs(alloc: Global, outputs: &[CommitmentOutput]) -> Result<List<Htlc
     Ok(List::from_vec(htlcs))
 }
 
+// Equal outputs.
+fn copied_outputs(
+    alloc: Global,
+    outputs: &[CommitmentOutput],
+) -> Result<Vec<CommitmentOutput>, AllocError>
+    ensures { IfOk result (λ v. v.items ≡ outputs.now) }
+{
+    let mut copies = Vec::new(alloc);
+    for output in outputs {
+        copies.push(output.copy()?)?;
+    }
+    Ok(copies)
+}
+
 impl Commitment {
     ghost use Rattle.std.specs.Prelude.{◌≡◌, ◌≤◌, IfOk, length};
     ghost use Rattle.std.specs.List.{All};
@@ -189,6 +203,27 @@ impl Commitment {
             id,
             htlcs,
             second_stage_program,
+        })
+    }
+
+    /// An equal commitment, for which nothing is hashed again. The only error is that memory ran out.
+    pub fn copy(&self) -> Result<Self, AllocError>
+        ensures { IfOk result (λ c. c ≡ self.now) }
+    {
+        let alloc = self.outputs.allocator();
+        let outputs = copied_outputs(alloc, self.outputs.values())?;
+        let htlcs = Vec::from_slice(alloc, self.htlcs.values())?;
+        Ok(Commitment {
+            funding: self.funding,
+            hidden: self.hidden,
+            keys: self.keys,
+            delay: self.delay,
+            feerate: self.feerate,
+            outputs: List::from_vec(outputs),
+            tx: self.tx.copy()?,
+            id: self.id,
+            htlcs: List::from_vec(htlcs),
+            second_stage_program: self.second_stage_program.copy()?,
         })
     }
 

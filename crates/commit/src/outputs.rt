@@ -37,6 +37,22 @@ pub struct CommitmentOutput {
     pub kind: OutputKind,
 }
 
+impl CommitmentOutput {
+    ghost use Rattle.std.specs.Prelude.{◌≡◌, IfOk};
+
+    /// An equal output. The only error is that memory ran out.
+    pub fn copy(&self) -> Result<Self, AllocError>
+        ensures { IfOk result (λ o. o ≡ self.now) }
+    {
+        Ok(CommitmentOutput {
+            value: self.value,
+            script: self.script.copy()?,
+            program: self.program.copy()?,
+            kind: self.kind,
+        })
+    }
+}
+
 /// An output of a commitment to an HTLC.
 #[derive(Clone, Copy, Debug, PartialEq, Eq, Drop)]
 pub struct HtlcOutput {

@@ -219,6 +219,16 @@ fn transactions_are_those_of_the_model(rt: HostRuntime) {
 }
 
 #[test]
+fn a_copy_is_the_same_commitment(rt: HostRuntime) {
+    let commitment = built(&rt, rt.alloc(), Side::B, 43, true);
+    let copy = commitment.copy().expect(&rt, "memory");
+    assert_eq!(rt; copy.id(), commitment.id());
+    assert_eq!(rt; txid(copy.tx()), txid(commitment.tx()));
+    assert_eq!(rt; copy.htlcs().len(), 4);
+    assert_eq!(rt; output(&copy, 1), output(&commitment, 1));
+}
+
+#[test]
 fn digests_are_those_of_the_model(rt: HostRuntime) {
     let commitment = built(&rt, rt.alloc(), Side::B, 43, true);
     let terms = unlike_terms(&rt);

@@ -1,8 +1,11 @@
 //! Sets of penalties.
 
+ghost use Rattle.std.specs.Prelude.{◌≡◌, IfOk};
+
 use crate::states::RevokedState;
 use claim::Claim;
 use lists::List;
+use std::alloc::{AllocError, Global};
 use std::marker::Model;
 
 /// All that a revoked state lets the owner's peer claim: accepted claims on exactly the outputs of `claimable_of`, in its order. `penalties` alone makes
@@ -24,8 +27,19 @@ impl Model for PenaltySet {
     ghost invariant = { λ s. AreClaimsOn (claimable_of s.state) s.claims };
 }
 
+// Equal claims.
+fn copied_claims(alloc: Global, claims: &[Claim]) -> Result<Vec<Claim>, AllocError>
+    ensures { IfOk result (λ v. v.items ≡ claims.now) }
+{
+    let mut copies = Vec::new(alloc);
+    for claim in claims {
+        copies.push(claim.copy()?)?;
+    }
+    Ok(copies)
+}
+
 impl PenaltySet {
-    ghost use Rattle.std.specs.Prelude.{◌≡◌};
+    ghost use Rattle.std.specs.Prelude.{◌≡◌, IfOk};
     ghost use Rattle.penalty.specs.Claimable.{claimable_of};
     ghost use Rattle.penalty.specs.Sets.{AreClaimsOn};
 
@@ -52,6 +66,18 @@ impl PenaltySet {
         // Borrowing both fields gives the prover the invariant.
         let _state = &self.state;
         self.claims.values()
+    }
+
+    /// An equal set, for which nothing is built again. The only error is that memory ran out.
+    pub fn copy(&self) -> Result<PenaltySet, AllocError>
+        ensures { IfOk result (λ p. p ≡ self.now) }
+    {
+        let state = self.state.copy()?;
+        let claims = copied_claims(self.claims.allocator(), self.claims.values())?;
+        Ok(PenaltySet {
+            state,
+            claims: List::from_vec(claims),
+        })
     }
 
     /// The claims, without memory.

@@ -71,6 +71,17 @@ fn claims_all_that_a_commitment_pays(rt: HostRuntime) {
 }
 
 #[test]
+fn copies_a_set(rt: HostRuntime) {
+    let alloc = rt.alloc();
+    let view = view(&rt, alloc);
+    let state = RevokedState::new(terms(&rt), view, Side::A, 7, [5; 32]).expect(&rt, "a state");
+    let set = penalties(alloc, &state).expect(&rt, "memory");
+    let copy = set.copy().expect(&rt, "memory");
+    assert_eq!(rt; copy.claims().len(), 4);
+    assert_eq!(rt; copy.state().number, 7);
+}
+
+#[test]
 fn prints_every_refusal(rt: HostRuntime) {
     for (refusal, text) in [
         (StateError::TooManyHtlcs, "TooManyHtlcs"),

@@ -13,7 +13,7 @@ mod repeating;
 mod spending;
 
 use errors::LineError;
-use penalty::{Terms, penalties};
+use penalty::{PenaltySet, RevokedState, Terms, penalties};
 use printing::write_claims;
 use reading::{learnt, state_of, terms};
 use repeating::{hashed, repeated};
@@ -21,14 +21,30 @@ use spending::write_spends;
 use std::alloc::{AllocError, Global};
 use std::io;
 
+// The claims on what a state pays, and what takes them.
+fn write_set(
+    alloc: Global,
+    state: &RevokedState,
+    set: &PenaltySet,
+    text: &mut String,
+) -> Result<(), LineError> {
+    write_claims(alloc, set, text)?;
+    let signer = learnt(alloc, state)?;
+    write_spends(alloc, set, &signer, text)?;
+    Ok(())
+}
+
+// What a state gives.
+fn write_state(alloc: Global, state: &RevokedState, text: &mut String) -> Result<(), LineError> {
+    let set = penalties(alloc, state)?;
+    write_set(alloc, state, &set, text)
+}
+
 // What a line's state gives.
 fn set_of(alloc: Global, terms: &Terms, line: &str) -> Result<String, LineError> {
     let state = state_of(alloc, terms, line)?;
-    let set = penalties(alloc, &state)?;
-    let signer = learnt(alloc, &state)?;
     let mut text = String::new(alloc);
-    write_claims(alloc, &set, &mut text)?;
-    write_spends(alloc, &set, &signer, &mut text)?;
+    write_state(alloc, &state, &mut text)?;
     Ok(text)
 }
 

@@ -6,7 +6,7 @@ use keys::Signer;
 use lists::ByteString;
 use penalty::PenaltySet;
 use std::alloc::{AllocError, Global};
-use tx::{MAX_INPUTS, MAX_OUTPUTS, TxOut, encode, txid};
+use tx::{MAX_INPUTS, MAX_OUTPUTS, Tx, TxOut, encode, txid};
 
 // The filling of claims, with one output to nobody's script.
 fn filled(
@@ -26,29 +26,46 @@ fn filled(
     fill(alloc, claims, outputs, signer, &[])
 }
 
-// What a filling is, or why there is none.
-fn write_filling(
-    alloc: Global,
-    answer: Result<Filled, FillError>,
-    text: &mut String,
-) -> Result<(), AllocError> {
-    let filled = match answer {
-        Ok(filled) => filled,
-        Err(refusal) => {
-            return text.push_str(format!(in alloc; "refused {refusal}\n")?.as_str());
-        }
-    };
-    let tx = filled.tx();
-    let id = hex::encode(alloc, txid(tx))?;
-    let (inputs, lock_time) = (tx.inputs().len(), tx.lock_time());
-    text.push_str(format!(in alloc;
-        "filled {id} inputs {inputs} lock {lock_time} bytes "
-    )?.as_str())?;
+// The hash of a transaction's bytes.
+fn write_hash(alloc: Global, tx: &Tx, text: &mut String) -> Result<(), AllocError> {
     let Ok(bytes) = encode(alloc, tx) else {
         return text.push_str("none\n");
     };
     text.push_str(hex::encode(alloc, &digest::sha256d(&bytes))?.as_str())?;
     text.push_str("\n")
+}
+
+// What a transaction has.
+fn write_tx(alloc: Global, tx: &Tx, text: &mut String) -> Result<(), AllocError> {
+    let id = hex::encode(alloc, txid(tx))?;
+    let (inputs, lock_time) = (tx.inputs().len(), tx.lock_time());
+    text.push_str(format!(in alloc;
+        "filled {id} inputs {inputs} lock {lock_time} bytes "
+    )?.as_str())
+}
+
+fn write_refusal(alloc: Global, refusal: &FillError, text: &mut String) -> Result<(), AllocError> {
+    text.push_str(format!(in alloc; "refused {refusal}\n")?.as_str())
+}
+
+// A filling, by its transaction.
+fn write_filled(alloc: Global, filled: &Filled, text: &mut String) -> Result<(), AllocError> {
+    write_tx(alloc, filled.tx(), text)?;
+    write_hash(alloc, filled.tx(), text)
+}
+
+// The transaction that takes a value of claims, or why there is none.
+fn write_filling(
+    alloc: Global,
+    claims: &[&Claim],
+    value: u64,
+    signer: &Signer,
+    text: &mut String,
+) -> Result<(), AllocError> {
+    match filled(alloc, claims, value, signer) {
+        Ok(filled) => write_filled(alloc, &filled, text),
+        Err(refusal) => write_refusal(alloc, &refusal, text),
+    }
 }
 
 /// The transaction that takes what the commitment's own outputs have together; the same with a satoshi more; and the first claim with itself.
@@ -70,11 +87,7 @@ pub(crate) fn write_spends(
             total = total.saturating_add(claim.place().value);
         }
     }
-    write_filling(alloc, filled(alloc, own.as_slice(), total, signer), text)?;
-    write_filling(
-        alloc,
-        filled(alloc, own.as_slice(), total.saturating_add(1), signer),
-        text,
-    )?;
-    write_filling(alloc, filled(alloc, &[first, first], total, signer), text)
+    write_filling(alloc, own.as_slice(), total, signer, text)?;
+    write_filling(alloc, own.as_slice(), total.saturating_add(1), signer, text)?;
+    write_filling(alloc, &[first, first], total, signer, text)
 }

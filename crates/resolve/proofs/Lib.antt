@@ -3,4 +3,6 @@ mod TokenLists
 mod Standing
 mod Accepting
 mod Pushing
+mod Numbering
 mod DueExamples
+mod KnownExamples

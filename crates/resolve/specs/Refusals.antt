@@ -3,7 +3,9 @@ use Rattle.std.specs.Prelude.{◌≡◌, ℕ, Option, Some}
 use Rattle.penalty.specs.declared.errors.StateError.{StateError}
 use Rattle.penalty.specs.declared.errors.StateError.TheVariants.{TooManyHtlcs as ManyHtlcs, ExpiryTooLarge as LargeExpiry, WrongTotal as OtherTotal}
 use Rattle.resolve.specs.declared.errors.KnownError.{KnownError}
-use Rattle.resolve.specs.declared.errors.KnownError.TheVariants.{NoMemory, TooManyHtlcs, ExpiryTooLarge, WrongTotal, BadSignature}
+use Rattle.resolve.specs.declared.errors.KnownError.TheVariants.{NoMemory, TooManyHtlcs, ExpiryTooLarge, WrongTotal, BadSignature, NumberTooLarge}
+use Rattle.resolve.specs.declared.errors.RevokedError.{RevokedError}
+use Rattle.resolve.specs.declared.errors.RevokedError.TheVariants.{NoMemory as NoRoom, WrongNumber}
 
 abbrev pub refusal_number : KnownError → ℕ
 refusal_number NoMemory = 0
@@ -11,6 +13,11 @@ refusal_number TooManyHtlcs = 1
 refusal_number ExpiryTooLarge = 2
 refusal_number WrongTotal = 3
 refusal_number BadSignature = 4
+refusal_number NumberTooLarge = 5
+
+abbrev pub push_refusal_number : RevokedError → ℕ
+push_refusal_number NoRoom = 0
+push_refusal_number WrongNumber = 1
 
 -- as a view's refusal is named here
 abbrev pub refusal_by : StateError → KnownError

@@ -177,15 +177,11 @@ fn peers_due(
     Ok(claims)
 }
 
-/// The commitment of a number among those that the peer revoked, which stand by their numbers from 0 on: one look-up. It takes no memory.
+/// The commitment of a number among those that the peer revoked: one look-up. It takes no memory.
 pub fn revoked_at(known: &Known, n: u64) -> Option<&RevokedCommitment>
     ensures { option_map (λ r. r.now) result ≡ revoked_at known.now n }
 {
-    let revoked = known.revoked.values().get(n as usize)?;
-    if revoked.state.number != n {
-        return None;
-    }
-    Some(revoked)
+    known.revoked.get(n)
 }
 
 // The penalty set of the revoked commitment of a number.

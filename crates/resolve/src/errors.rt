@@ -1,14 +1,15 @@
 //! Why something is not known.
 
 ghost use Rattle.std.specs.Prelude.{◌≡◌};
-ghost use Rattle.resolve.specs.Refusals.{refusal_number, refusal_by};
+ghost use Rattle.resolve.specs.Refusals.{refusal_number, refusal_by, push_refusal_number};
 ghost use Rattle.resolve.specs.declared.errors.KnownError.TheVariants.{NoMemory};
+ghost use Rattle.resolve.specs.declared.errors.RevokedError.TheVariants.{NoMemory as NoRoom};
 
 use penalty::StateError;
 use std::alloc::AllocError;
 use thiserror::Error;
 
-/// Why there is no known commitment of these values. It is tested for these in this order, memory last.
+/// Why there is no known commitment of these values. It is tested for `NumberTooLarge` first and then for the others in this order, memory last.
 #[derive(Clone, Copy, Debug, PartialEq, Eq, Drop, Error)]
 pub enum KnownError {
     /// Memory ran out.
@@ -23,9 +24,12 @@ pub enum KnownError {
     /// Balances and HTLCs are together not the capacity.
     #[error("WrongTotal")]
     WrongTotal,
-    /// The tokens on HTLC transactions are not those of the owner's peer.
+    /// The token on the commitment or those on HTLC transactions are not those of the owner's peer.
     #[error("BadSignature")]
     BadSignature,
+    /// The number is 2^48 or above, which no commitment transaction carries (BOLT 3, "Commitment Transaction").
+    #[error("NumberTooLarge")]
+    NumberTooLarge,
 }
 
 impl KnownError {
@@ -39,6 +43,7 @@ impl KnownError {
             KnownError::ExpiryTooLarge => 2,
             KnownError::WrongTotal => 3,
             KnownError::BadSignature => 4,
+            KnownError::NumberTooLarge => 5,
         }
     }
 }
@@ -59,5 +64,36 @@ impl From<AllocError> for KnownError {
 
     fn from(_e: AllocError) -> KnownError {
         KnownError::NoMemory
+    }
+}
+
+/// Why a revoked commitment isn't put behind those before it. It is tested for its number first.
+#[derive(Clone, Copy, Debug, PartialEq, Eq, Drop, Error)]
+pub enum RevokedError {
+    /// Memory ran out.
+    #[error("NoMemory")]
+    NoMemory,
+    /// Its number is not the next one, or is 2^48 or above (BOLT 3, "Commitment Transaction").
+    #[error("WrongNumber")]
+    WrongNumber,
+}
+
+impl RevokedError {
+    /// The refusal's number.
+    pub fn number(&self) -> u8
+        ensures { result ≡ push_refusal_number self.now }
+    {
+        match self {
+            RevokedError::NoMemory => 0,
+            RevokedError::WrongNumber => 1,
+        }
+    }
+}
+
+impl From<AllocError> for RevokedError {
+    ghost from_gives = { λ _ e. e ≡ NoRoom };
+
+    fn from(_e: AllocError) -> RevokedError {
+        RevokedError::NoMemory
     }
 }

@@ -1,12 +1,14 @@
 //! What one side knows of a channel.
 
-ghost use Rattle.std.specs.Prelude.{◌≡◌};
+ghost use Rattle.std.specs.Prelude.{◌≡◌, IfOk};
 ghost use Rattle.commit.specs.Commitments.{id_of};
 ghost use Rattle.penalty.specs.Claimable.{commitment_in};
-ghost use Rattle.resolve.specs.Signed.{AreHtlcTokens};
+ghost use Rattle.resolve.specs.Signed.{IsCommitmentToken, AreHtlcTokens};
 
 use crate::errors::{KnownError, of_view};
-use crate::tokens::are_tokens;
+use crate::numbers::MAX_NUMBER;
+use crate::revoked::RevokedCommitments;
+use crate::tokens::{are_tokens, is_token};
 use commit::{Commitment, signing_digests};
 use keys::{Key, Signer};
 use lists::List;
@@ -36,12 +38,11 @@ impl Model for KnownCommitment {
 impl KnownCommitment {
     ghost use Rattle.std.specs.Prelude.{◌≡◌, None, IfOk, IfErr};
     ghost use Rattle.commit.specs.Commitments.{commitment_of};
-    ghost use Rattle.penalty.specs.Paying.{refusal_of};
     ghost use Rattle.penalty.specs.Outputs.{AreOutputs};
-    ghost use Rattle.resolve.specs.Known.{IsNamed};
+    ghost use Rattle.resolve.specs.Known.{refusal_of, IsNamed};
 
-    /// The owner's commitment of a view, with its number and the owner's per-commitment point for it. It is refused as `penalty::refusal` says of the view,
-    /// else where memory ran out.
+    /// The owner's commitment of a view, with its number and the owner's per-commitment point for it. It is refused as NumberTooLarge where the number is
+    /// above `MAX_NUMBER`, then as `penalty::refusal` says of the view, else where memory ran out.
     pub fn new(
         alloc: Global,
         terms: &Terms,
@@ -51,9 +52,12 @@ impl KnownCommitment {
         point: &Key,
     ) -> Result<KnownCommitment, KnownError>
         ensures value { IfOk result (λ k. k ≡ commitment_of terms.now view.now owner number point.now.bytes) }
-        ensures ok { IfOk result (λ _. refusal_of terms.now view.now ≡ None) }
-        ensures err { IfErr result (IsNamed (refusal_of terms.now view.now)) }
+        ensures ok { IfOk result (λ _. refusal_of terms.now view.now number ≡ None) }
+        ensures err { IfErr result (IsNamed (refusal_of terms.now view.now number)) }
     {
+        if number > MAX_NUMBER {
+            return Err(KnownError::NumberTooLarge);
+        }
         if let Some(refusal) = refusal(terms, view) {
             return Err(of_view(refusal));
         }
@@ -61,6 +65,14 @@ impl KnownCommitment {
             Ok(commitment) => Ok(KnownCommitment { commitment }),
             Err(_) => Err(KnownError::NoMemory),
         }
+    }
+
+    /// An equal commitment. The only error is that memory ran out.
+    pub fn copy(&self) -> Result<KnownCommitment, AllocError>
+        ensures { IfOk result (λ k. k ≡ self.now) }
+    {
+        let commitment = self.commitment().copy()?;
+        Ok(KnownCommitment { commitment })
     }
 
     /// The commitment.
@@ -72,14 +84,19 @@ impl KnownCommitment {
     }
 }
 
-/// One's own commitment, with the peer's tokens on it and on its HTLC transactions.
+/// One's own commitment, with the peer's tokens on it and on its HTLC transactions. The type keeps that these are the right ones.
 #[derive(Debug, Drop)]
 pub struct SignedCommitment {
     pub commitment: KnownCommitment,
-    /// The token on the commitment.
+    /// The terms that the token on the commitment is for.
+    pub terms: Terms,
+    /// Whose commitment it is.
+    pub owner: Side,
+    /// The token on the commitment: that of the peer's funding key.
     pub token: Token,
     /// Those on the HTLC transactions, in the order of the commitment's outputs.
     pub htlc_tokens: List<Token>,
+    pub ghost funding: { IsCommitmentToken terms owner commitment token },
     pub ghost signed: { AreHtlcTokens commitment htlc_tokens },
 }
 
@@ -87,27 +104,50 @@ impl SignedCommitment {
     ghost use Rattle.std.specs.Prelude.{◌≡◌, IfOk, IfErr};
     ghost use Rattle.resolve.specs.Known.{HasTokens, IsTokenRefusal};
 
-    /// A commitment with tokens: BadSignature where those on the HTLC transactions are not the tokens of the commitment's `remote_htlcpubkey`, in the order
-    /// of outputs; NoMemory where that can't be told. The token on the commitment is kept as it is: it is for broadcasts alone.
+    /// The owner's commitment with tokens: BadSignature where the token on it is not that of the funding key of the owner's peer over the commitment's digest,
+    /// or those on the HTLC transactions are not the tokens of the commitment's `remote_htlcpubkey`, in the order of outputs; NoMemory where that can't be told.
     pub fn new(
         alloc: Global,
         terms: &Terms,
+        owner: Side,
         commitment: KnownCommitment,
         token: Token,
         htlc_tokens: List<Token>,
     ) -> Result<SignedCommitment, KnownError>
-        ensures parts { IfOk result (HasTokens commitment token htlc_tokens) }
-        ensures err { IfErr result (IsTokenRefusal commitment htlc_tokens) }
+        ensures parts { IfOk result (HasTokens terms.now owner commitment token htlc_tokens) }
+        ensures err { IfErr result (IsTokenRefusal terms.now owner commitment token htlc_tokens) }
     {
         let digests = signing_digests(alloc, terms, commitment.commitment())?;
+        let funding = terms.party(owner.other()).bases.funding;
+        if !is_token(&funding, &digests.commitment, &token) {
+            return Err(KnownError::BadSignature);
+        }
         let key = commitment.commitment().keys().remote_htlc;
         if !are_tokens(&key, digests.htlcs.values(), htlc_tokens.values()) {
             return Err(KnownError::BadSignature);
         }
         Ok(SignedCommitment {
             commitment,
+            terms: *terms,
+            owner,
             token,
             htlc_tokens,
+        })
+    }
+
+    /// An equal commitment with equal tokens. The only error is that memory ran out.
+    pub fn copy(&self) -> Result<SignedCommitment, AllocError>
+        ensures { IfOk result (λ s. s ≡ self.now) }
+    {
+        let commitment = self.commitment.copy()?;
+        let alloc = self.htlc_tokens.allocator();
+        let htlc_tokens = Vec::from_slice(alloc, self.htlc_tokens.values())?;
+        Ok(SignedCommitment {
+            commitment,
+            terms: self.terms,
+            owner: self.owner,
+            token: self.token,
+            htlc_tokens: List::from_vec(htlc_tokens),
         })
     }
 }
@@ -125,7 +165,7 @@ pub struct RevokedCommitment {
 
 impl RevokedCommitment {
     ghost use Rattle.std.specs.Prelude.{◌≡◌, IfOk};
-    ghost use Rattle.resolve.specs.Known.{HasState};
+    ghost use Rattle.resolve.specs.Known.{HasState, as_kept};
 
     /// A revoked state with its transaction's id. The only error is that memory ran out.
     pub fn new(
@@ -138,6 +178,25 @@ impl RevokedCommitment {
         let commitment = revoked_commitment(alloc, &state)?;
         let id = *commitment.id();
         Ok(RevokedCommitment { state, id, is_kept })
+    }
+
+    // Notes that its penalties are kept.
+    pub(crate) fn keep(&mut self)
+        ensures { self.new ≡ as_kept self.old }
+    {
+        self.is_kept = true;
+    }
+
+    /// An equal one, for which nothing is built again. The only error is that memory ran out.
+    pub fn copy(&self) -> Result<RevokedCommitment, AllocError>
+        ensures { IfOk result (λ r. r ≡ self.now) }
+    {
+        let state = self.state.copy()?;
+        Ok(RevokedCommitment {
+            state,
+            id: self.id,
+            is_kept: self.is_kept,
+        })
     }
 }
 
@@ -157,8 +216,61 @@ pub struct Known {
     pub theirs: KnownCommitment,
     /// The one after it, where it is signed and the newest isn't revoked yet.
     pub next: Option<KnownCommitment>,
-    /// Those that the peer revoked, by their numbers from 0 on.
-    pub revoked: List<RevokedCommitment>,
+    /// Those that the peer revoked.
+    pub revoked: RevokedCommitments,
     /// Preimages of HTLCs, 32 bytes each.
     pub preimages: List<[u8; 32]>,
+}
+
+// Equal commitments with their tokens.
+fn copied_signed(
+    alloc: Global,
+    commitments: &[SignedCommitment],
+) -> Result<Vec<SignedCommitment>, AllocError>
+    ensures { IfOk result (λ v. v.items ≡ commitments.now) }
+{
+    let mut copies = Vec::new(alloc);
+    for commitment in commitments {
+        copies.push(commitment.copy()?)?;
+    }
+    Ok(copies)
+}
+
+// The same, where there is one.
+fn copied_next(next: &Option<KnownCommitment>) -> Result<Option<KnownCommitment>, AllocError>
+    ensures { IfOk result (λ n. n ≡ next.now) }
+{
+    match next {
+        None => Ok(None),
+        Some(known) => Ok(Some(known.copy()?)),
+    }
+}
+
+impl Known {
+    ghost use Rattle.std.specs.Prelude.{◌≡◌, IfOk};
+
+    /// Equal knowledge. The only error is that memory ran out.
+    pub fn copy(&self) -> Result<Known, AllocError>
+        ensures { IfOk result (λ k. k ≡ self.now) }
+    {
+        let alloc = self.preimages.allocator();
+        let signer = self.signer.copy()?;
+        let own = self.own.copy()?;
+        let older = copied_signed(alloc, self.older.values())?;
+        let theirs = self.theirs.copy()?;
+        let next = copied_next(&self.next)?;
+        let revoked = self.revoked.copy()?;
+        let preimages = Vec::from_slice(alloc, self.preimages.values())?;
+        Ok(Known {
+            terms: self.terms,
+            side: self.side,
+            signer,
+            own,
+            older: List::from_vec(older),
+            theirs,
+            next,
+            revoked,
+            preimages: List::from_vec(preimages),
+        })
+    }
 }

@@ -23,7 +23,7 @@ use Rattle.texts.specs.declared.calls.PlainCall.{PlainCall}
 use Rattle.texts.specs.declared.calls.PlainCall.TheVariants.{Open, Step, Sign, Revoke, Keep, Release}
 use Rattle.texts.specs.declared.calls.PlainEntry.{PlainEntry}
 use Rattle.texts.specs.Values.{each_of}
-use Rattle.texts.specs.Writing.{number_data, bytes_data, side_data, terms_data, output_data, update_data, HasWidths, Is32Bytes, IsUpdate}
+use Rattle.texts.specs.Writing.{number_data, bytes_data, side_data, pair_data, terms_data, output_data, update_data, HasWidths, Is32Bytes, IsUpdate}
 use Rattle.texts.specs.ClaimWriting.{outpoint_data, claim_data, plain_claim, IsOutPoint, IsClaim}
 use Rattle.texts.specs.Calls.{can_agree, are_within, call_of, entry_of, dump_of}
 
@@ -33,13 +33,13 @@ key_data k = bytes_data k.bytes
 abbrev pub base_keys_data : BaseKeys → Data
 base_keys_data b = array (item (key_data b.funding) (item (key_data b.payment) (item (key_data b.delayed) (item (key_data b.htlc) (item (key_data b.revocation) no_items)))))
 
--- the points for the commitments 0 and 1
-abbrev pub points_data : Key → Key → Data
-points_data first next = array (item (key_data first) (item (key_data next) no_items))
-
 -- the values in order
 abbrev pub each_data : {A : Type 0} → (A → Data) → List A → Data
 each_data form xs = array (items_of (map form xs))
+
+-- the front of a call: its name and its channel
+abbrev pub call_front : List ℕ → ℕ → List Data
+call_front name channel = string name ∷ number_data channel ∷ []
 
 unfoldable pub signature_data : PlainSignature → Data
 signature_data s = array (item (string (codes "signed")) (item (bytes_data s.commitment) (item (each_data bytes_data s.htlcs) no_items)))
@@ -54,7 +54,7 @@ received_data (Signed s) = signature_data s
 unfoldable pub open_data : PlainOpening → Data
 open_data o =
     array (item (string (codes "open")) (item (terms_data o.terms) (item (outpoint_data o.funding) (item (side_data o.side) (item (bytes_data o.seed)
-    (item (base_keys_data o.bases) (item (points_data o.first_point o.next_point) (item (bytes_data o.token) no_items))))))))
+    (item (base_keys_data o.bases) (item (pair_data key_data (o.first_point, o.next_point)) (item (bytes_data o.token) no_items))))))))
 
 unfoldable pub own_data : ℕ → OwnUpdate → Data
 own_data channel (Offer amount hash expiry) =

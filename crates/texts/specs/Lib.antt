@@ -10,6 +10,7 @@ pub mod Outputs
 pub mod Claims
 pub mod Scenarios
 pub mod Writing
+pub mod Compound
 pub mod ClaimWriting
 pub mod Steps
 pub mod Calls

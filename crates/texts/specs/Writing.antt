@@ -23,14 +23,15 @@ abbrev pub side_data : Side → Data
 side_data A = string (codes "A")
 side_data B = string (codes "B")
 
-abbrev pub pair_data : ℕ → ℕ → Data
-pair_data a b = array (item (number_data a) (item (number_data b) no_items))
+-- two values of one form, that of side A first
+abbrev pub pair_data : {A : Type 0} → (A → Data) → A × A → Data
+pair_data form pair = array (item (form pair.0) (item (form pair.1) no_items))
 
 unfoldable pub terms_data : PlainTerms → Data
 terms_data t =
-    object (member (codes "capacity") (number_data t.capacity) (member (codes "delay") (pair_data t.a.delay t.b.delay) (member (codes "dust") (pair_data t.a.dust t.b.dust)
-    (member (codes "feerate") (number_data t.feerate) (member (codes "minimum") (pair_data t.a.minimum t.b.minimum) (member (codes "opener") (side_data t.opener)
-    (member (codes "start") (pair_data t.a.start t.b.start) no_members)))))))
+    object (member (codes "capacity") (number_data t.capacity) (member (codes "delay") (pair_data number_data (t.a.delay, t.b.delay)) (member (codes "dust") (pair_data number_data (t.a.dust, t.b.dust))
+    (member (codes "feerate") (number_data t.feerate) (member (codes "minimum") (pair_data number_data (t.a.minimum, t.b.minimum)) (member (codes "opener") (side_data t.opener)
+    (member (codes "start") (pair_data number_data (t.a.start, t.b.start)) no_members)))))))
 
 unfoldable pub output_data : Output → Data
 output_data o = array (item (number_data o.value) (item (bytes_data o.script) no_items))

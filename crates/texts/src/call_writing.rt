@@ -1,16 +1,18 @@
 //! Writers of a book's calls and of the dump of its history.
 
-ghost use Rattle.std.specs.Prelude.{◌≡◌, map, IfOk};
+ghost use Rattle.std.specs.Prelude.{◌≡◌, [], ◌∷◌, ◌++◌, map, codes, IfOk};
+ghost use Rattle.serde_json.specs.Data.{string};
 ghost use Rattle.serde_json.specs.View.{view};
-ghost use Rattle.texts.specs.CallWriting.{base_keys_data, points_data, open_data, own_data, receive_data, sign_data, revoke_data, keep_data, release_data, entry_data, dump_data};
+ghost use Rattle.texts.specs.Compound.{items_in};
+ghost use Rattle.texts.specs.CallWriting.{base_keys_data, call_front, open_data, own_data, receive_data, sign_data, revoke_data, keep_data, release_data, entry_data, dump_data};
 
 use crate::calls::PlainOpening;
-use crate::claim_writing::write_each;
+use crate::compound::{ArrayWriter, ObjectWriter};
 use crate::steps::{OwnUpdate, PlainRevocation, PlainSignature};
-use crate::writing::{WriteValue, write_bytes, write_side};
+use crate::writing::{WriteValue, write_bytes};
 use claim::Claim;
 use keys::Key;
-use serde_json::{Value, json};
+use serde_json::Value;
 use sighash::Token;
 use std::alloc::{AllocError, Global};
 use terms::BaseKeys;
@@ -57,9 +59,10 @@ impl WriteValue for PlainSignature {
 
     #[tactic(auto, unfolding(crate::specs::CallWriting::signature_data))]
     fn write_value(&self, alloc: Global) -> Result<Value, AllocError> {
-        let commitment = self.commitment.write_value(alloc)?;
-        let htlcs = write_each(alloc, self.htlcs.values())?;
-        json!(in alloc; ["signed", commitment, htlcs])
+        let message = ArrayWriter::named(alloc, "signed")?
+            .item(&self.commitment)?
+            .each(self.htlcs.values())?;
+        Ok(message.finish())
     }
 }
 
@@ -71,31 +74,28 @@ impl WriteValue for PlainRevocation {
 
     #[tactic(auto, unfolding(crate::specs::CallWriting::revocation_data))]
     fn write_value(&self, alloc: Global) -> Result<Value, AllocError> {
-        let secret = self.secret.write_value(alloc)?;
-        let point = self.next_point.write_value(alloc)?;
-        json!(in alloc; ["revoke", secret, point])
+        let message = ArrayWriter::named(alloc, "revoke")?
+            .item(&self.secret)?
+            .item(&self.next_point)?;
+        Ok(message.finish())
     }
 }
 
-// An array of the five keys.
-fn write_bases(alloc: Global, bases: &BaseKeys) -> Result<Value, AllocError>
-    ensures { IfOk result (λ v. view v ≡ base_keys_data bases.now) }
-{
-    let funding = bases.funding.write_value(alloc)?;
-    let payment = bases.payment.write_value(alloc)?;
-    let delayed = bases.delayed.write_value(alloc)?;
-    let htlc = bases.htlc.write_value(alloc)?;
-    let revocation = bases.revocation.write_value(alloc)?;
-    json!(in alloc; [funding, payment, delayed, htlc, revocation])
-}
+/// An array of the five keys.
+impl WriteValue for BaseKeys {
+    ghost use Rattle.texts.specs.CallWriting.{base_keys_data};
 
-// An array of the two points.
-fn write_points(alloc: Global, first: &Key, next: &Key) -> Result<Value, AllocError>
-    ensures { IfOk result (λ v. view v ≡ points_data first.now next.now) }
-{
-    let first = first.write_value(alloc)?;
-    let next = next.write_value(alloc)?;
-    json!(in alloc; [first, next])
+    ghost writes = { base_keys_data };
+
+    fn write_value(&self, alloc: Global) -> Result<Value, AllocError> {
+        let keys = ArrayWriter::new(alloc)
+            .item(&self.funding)?
+            .item(&self.payment)?
+            .item(&self.delayed)?
+            .item(&self.htlc)?
+            .item(&self.revocation)?;
+        Ok(keys.finish())
+    }
 }
 
 /// The call that opens a channel.
@@ -106,15 +106,31 @@ impl WriteValue for PlainOpening {
 
     #[tactic(auto, unfolding(crate::specs::CallWriting::open_data))]
     fn write_value(&self, alloc: Global) -> Result<Value, AllocError> {
-        let terms = self.terms.write_value(alloc)?;
-        let funding = self.funding.write_value(alloc)?;
-        let side = write_side(alloc, self.side)?;
-        let seed = self.seed.write_value(alloc)?;
-        let bases = write_bases(alloc, &self.bases)?;
-        let points = write_points(alloc, &self.first_point, &self.next_point)?;
-        let token = self.token.write_value(alloc)?;
-        json!(in alloc; ["open", terms, funding, side, seed, bases, points, token])
+        let call = ArrayWriter::named(alloc, "open")?
+            .item(&self.terms)?
+            .item(&self.funding)?
+            .item(&self.side)?
+            .item(&self.seed)?
+            .item(&self.bases)?
+            .item(&(self.first_point, self.next_point))?
+            .item(&self.token)?;
+        Ok(call.finish())
     }
+}
+
+// The front of a call: its name and its channel.
+fn call(alloc: Global, name: &str, channel: u64) -> Result<ArrayWriter, AllocError>
+    ensures { IfOk result (λ w. items_in w ≡ call_front name.now channel) }
+{
+    ArrayWriter::named(alloc, name)?.item(&channel)
+}
+
+// The front of a step: `step`, its channel and its own name.
+fn step(alloc: Global, channel: u64, name: &str) -> Result<ArrayWriter, AllocError>
+    ensures { IfOk result (λ w. items_in w ≡ call_front (codes "step") channel ++ string name.now ∷ []) }
+{
+    let name = Value::try_from_str(alloc, name)?;
+    call(alloc, "step", channel)?.value(name)
 }
 
 /// The step that makes an update.
@@ -122,22 +138,22 @@ impl WriteValue for PlainOpening {
 pub fn write_own(alloc: Global, channel: u64, update: &OwnUpdate) -> Result<Value, AllocError>
     ensures { IfOk result (λ v. view v ≡ own_data channel update.now) }
 {
-    match update {
+    let call = match update {
         OwnUpdate::Offer {
             amount,
             hash,
             expiry,
-        } => {
-            let hash = hash.write_value(alloc)?;
-            json!(in alloc; ["step", channel, "offer", *amount, hash, *expiry])
-        }
+        } => step(alloc, channel, "offer")?
+            .item(amount)?
+            .item(hash)?
+            .item(expiry),
         OwnUpdate::Fulfil { id, preimage } => {
-            let preimage = preimage.write_value(alloc)?;
-            json!(in alloc; ["step", channel, "fulfil", *id, preimage])
+            step(alloc, channel, "fulfil")?.item(id)?.item(preimage)
         }
-        OwnUpdate::Fail { id } => json!(in alloc; ["step", channel, "fail", *id]),
-        OwnUpdate::SetFee { rate } => json!(in alloc; ["step", channel, "fee", *rate]),
-    }
+        OwnUpdate::Fail { id } => step(alloc, channel, "fail")?.item(id),
+        OwnUpdate::SetFee { rate } => step(alloc, channel, "fee")?.item(rate),
+    };
+    Ok(call?.finish())
 }
 
 /// The step that receives a message, of the message as it is written.
@@ -145,7 +161,8 @@ pub fn write_own(alloc: Global, channel: u64, update: &OwnUpdate) -> Result<Valu
 pub fn write_receive(alloc: Global, channel: u64, message: Value) -> Result<Value, AllocError>
     ensures { IfOk result (λ v. view v ≡ receive_data channel (view message)) }
 {
-    json!(in alloc; ["step", channel, "receive", message])
+    let call = step(alloc, channel, "receive")?.value(message)?;
+    Ok(call.finish())
 }
 
 /// The call that signs.
@@ -153,7 +170,7 @@ pub fn write_receive(alloc: Global, channel: u64, message: Value) -> Result<Valu
 pub fn write_sign(alloc: Global, channel: u64) -> Result<Value, AllocError>
     ensures { IfOk result (λ v. view v ≡ sign_data channel) }
 {
-    json!(in alloc; ["sign", channel])
+    Ok(call(alloc, "sign", channel)?.finish())
 }
 
 /// The call that receives a revocation.
@@ -165,8 +182,8 @@ pub fn write_revoke(
 ) -> Result<Value, AllocError>
     ensures { IfOk result (λ v. view v ≡ revoke_data channel revocation.now) }
 {
-    let message = revocation.write_value(alloc)?;
-    json!(in alloc; ["revoke", channel, message])
+    let call = call(alloc, "revoke", channel)?.item(revocation)?;
+    Ok(call.finish())
 }
 
 /// The call that keeps the penalties of a revoked commitment.
@@ -179,8 +196,8 @@ pub fn write_keep(
 ) -> Result<Value, AllocError>
     ensures { IfOk result (λ v. view v ≡ keep_data channel number claims.now) }
 {
-    let claims = write_each(alloc, claims)?;
-    json!(in alloc; ["keep", channel, number, claims])
+    let call = call(alloc, "keep", channel)?.item(&number)?.each(claims)?;
+    Ok(call.finish())
 }
 
 /// The call that releases claims.
@@ -194,10 +211,11 @@ pub fn write_release(
 ) -> Result<Value, AllocError>
     ensures { IfOk result (λ v. view v ≡ release_data channel claims.now outputs.now preimages.now) }
 {
-    let claims = write_each(alloc, claims)?;
-    let outputs = write_each(alloc, outputs)?;
-    let preimages = write_each(alloc, preimages)?;
-    json!(in alloc; ["release", channel, claims, outputs, preimages])
+    let call = call(alloc, "release", channel)?
+        .each(claims)?
+        .each(outputs)?
+        .each(preimages)?;
+    Ok(call.finish())
 }
 
 /// An entry of a history, of its call as it is written.
@@ -205,7 +223,10 @@ pub fn write_release(
 pub fn write_entry(alloc: Global, call: Value, seat: u32) -> Result<Value, AllocError>
     ensures { IfOk result (λ v. view v ≡ entry_data (view call) seat) }
 {
-    json!(in alloc; { "call": call, "seat": seat })
+    let entry = ObjectWriter::new(alloc)
+        .value("call", call)?
+        .member("seat", &seat)?;
+    Ok(entry.finish())
 }
 
 /// A dump of version 2, of the entries as they are written, the oldest first.
@@ -213,6 +234,8 @@ pub fn write_entry(alloc: Global, call: Value, seat: u32) -> Result<Value, Alloc
 pub fn write_dump(alloc: Global, entries: Vec<Value>) -> Result<Value, AllocError>
     ensures { IfOk result (λ v. view v ≡ dump_data (map view entries.items)) }
 {
-    let history = Value::Array(entries);
-    json!(in alloc; { "history": history, "version": 2 })
+    let dump = ObjectWriter::new(alloc)
+        .value("history", Value::Array(entries))?
+        .member("version", &2u64)?;
+    Ok(dump.finish())
 }

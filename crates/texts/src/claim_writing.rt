@@ -1,25 +1,11 @@
 //! Writers of claims.
 
-ghost use Rattle.std.specs.Prelude.{◌≡◌, map, IfOk};
-ghost use Rattle.serde_json.specs.Data.{array};
-ghost use Rattle.serde_json.specs.View.{view, items_of};
-
+use crate::compound::{ArrayWriter, ObjectWriter};
 use crate::writing::{WriteValue, write_bytes};
 use claim::{Claim, Shell, Slot};
-use serde_json::{Value, json};
+use serde_json::Value;
 use std::alloc::{AllocError, Global};
 use tx::{OutPoint, encode_stripped};
-
-/// An array of the values.
-pub fn write_each<T: WriteValue>(alloc: Global, values: &[T]) -> Result<Value, AllocError>
-    ensures { IfOk result (λ v. view v ≡ array (items_of (map T.writes values.now))) }
-{
-    let mut list = Vec::new(alloc);
-    for value in values {
-        list.push(value.write_value(alloc)?)?;
-    }
-    Ok(Value::Array(list))
-}
 
 /// The text `txid:index`.
 impl WriteValue for OutPoint {
@@ -43,20 +29,12 @@ impl WriteValue for Slot {
 
     #[tactic(auto, unfolding(crate::specs::ClaimWriting::slot_data))]
     fn write_value(&self, alloc: Global) -> Result<Value, AllocError> {
-        match self {
-            Slot::Sig(key) => {
-                let bytes = write_bytes(alloc, &key.bytes)?;
-                json!(in alloc; ["sig", bytes])
-            }
-            Slot::Preimage(hash) => {
-                let bytes = write_bytes(alloc, hash)?;
-                json!(in alloc; ["preimage", bytes])
-            }
-            Slot::Exact(item) => {
-                let bytes = write_bytes(alloc, item.item.bytes())?;
-                json!(in alloc; ["exact", bytes])
-            }
-        }
+        let slot = match self {
+            Slot::Sig(key) => ArrayWriter::named(alloc, "sig")?.bytes(&key.bytes),
+            Slot::Preimage(hash) => ArrayWriter::named(alloc, "preimage")?.bytes(hash),
+            Slot::Exact(item) => ArrayWriter::named(alloc, "exact")?.bytes(item.item.bytes()),
+        };
+        Ok(slot?.finish())
     }
 }
 
@@ -84,19 +62,14 @@ impl WriteValue for Claim {
     #[tactic(auto, unfolding(crate::specs::ClaimWriting::claim_data))]
     fn write_value(&self, alloc: Global) -> Result<Value, AllocError> {
         let place = self.place();
-        let outpoint = place.outpoint.write_value(alloc)?;
-        let program = write_bytes(alloc, place.program.bytes())?;
-        let script = write_bytes(alloc, self.checked().script().bytes())?;
-        let shell = self.shell().write_value(alloc)?;
-        let slots = write_each(alloc, self.slots())?;
-        json!(in alloc; {
-            "outpoint": outpoint,
-            "path": self.index(),
-            "program": program,
-            "script": script,
-            "shell": shell,
-            "slots": slots,
-            "value": place.value
-        })
+        let claim = ObjectWriter::new(alloc)
+            .member("outpoint", &place.outpoint)?
+            .member("path", &(self.index() as u64))?
+            .bytes("program", place.program.bytes())?
+            .bytes("script", self.checked().script().bytes())?
+            .member("shell", self.shell())?
+            .each("slots", self.slots())?
+            .member("value", &place.value)?;
+        Ok(claim.finish())
     }
 }

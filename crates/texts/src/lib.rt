@@ -18,6 +18,7 @@ mod call_writing;
 mod calls;
 mod claim_writing;
 mod claims;
+mod compound;
 mod errors;
 mod events;
 mod key_bytes;
@@ -39,11 +40,10 @@ pub use call_writing::{
     write_sign,
 };
 pub use calls::{PlainCall, PlainDump, PlainEntry, PlainOpening};
-pub use claim_writing::write_each;
 pub use claims::PlainClaim;
 pub use errors::ShapeError;
 pub use events::Event;
 pub use scenarios::PlainScenario;
 pub use steps::{OwnUpdate, PlainReceived, PlainRevocation, PlainSignature, PlainStep};
 pub use values::{FromValue, array_of, item, member, name_at, object_of, tag_of};
-pub use writing::{WriteValue, write_bytes};
+pub use writing::{WriteValue, write_bytes, write_each};

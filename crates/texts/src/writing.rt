@@ -1,12 +1,13 @@
 //! Writers: each writes the value that its reader reads as the same.
 
-ghost use Rattle.std.specs.Prelude.{◌≡◌, IfOk, string_bytes};
-ghost use Rattle.serde_json.specs.Data.{Data};
-ghost use Rattle.serde_json.specs.View.{view};
-ghost use Rattle.texts.specs.Writing.{bytes_data, side_data, pair_data, add_data};
+ghost use Rattle.std.specs.Prelude.{◌≡◌, map, IfOk, string_bytes};
+ghost use Rattle.serde_json.specs.Data.{Data, array};
+ghost use Rattle.serde_json.specs.View.{view, items_of};
+ghost use Rattle.texts.specs.Writing.{bytes_data, add_data};
 
 use crate::agreement::PlainTerms;
-use serde_json::{Value, json};
+use crate::compound::{ArrayWriter, ObjectWriter};
+use serde_json::Value;
 use std::alloc::{AllocError, Global};
 use terms::{Htlc, Side};
 use tx::TxOut;
@@ -29,21 +30,74 @@ pub fn write_bytes(alloc: Global, bytes: &[u8]) -> Result<Value, AllocError>
     Ok(Value::String(hex::encode(alloc, bytes)?))
 }
 
-/// The text `A` or `B`.
-pub fn write_side(alloc: Global, side: Side) -> Result<Value, AllocError>
-    ensures { IfOk result (λ v. view v ≡ side_data side) }
+/// An array of the values.
+pub fn write_each<T: WriteValue>(alloc: Global, values: &[T]) -> Result<Value, AllocError>
+    ensures { IfOk result (λ v. view v ≡ array (items_of (map T.writes values.now))) }
 {
-    match side {
-        Side::A => Value::try_from_str(alloc, "A"),
-        Side::B => Value::try_from_str(alloc, "B"),
+    let mut list = Vec::new(alloc);
+    for value in values {
+        list.push(value.write_value(alloc)?)?;
+    }
+    Ok(Value::Array(list))
+}
+
+/// The number.
+impl WriteValue for u64 {
+    ghost use Rattle.texts.specs.Writing.{number_data};
+
+    ghost writes = { number_data };
+
+    fn write_value(&self, _alloc: Global) -> Result<Value, AllocError> {
+        Ok(Value::from(*self))
     }
 }
 
-// An array of what side A has and what side B has.
-fn write_pair(alloc: Global, a: u64, b: u64) -> Result<Value, AllocError>
-    ensures { IfOk result (λ v. view v ≡ pair_data a b) }
-{
-    json!(in alloc; [a, b])
+/// The number.
+impl WriteValue for u32 {
+    ghost use Rattle.texts.specs.Writing.{number_data};
+
+    ghost writes = { number_data };
+
+    fn write_value(&self, _alloc: Global) -> Result<Value, AllocError> {
+        Ok(Value::from(*self))
+    }
+}
+
+/// The number.
+impl WriteValue for u16 {
+    ghost use Rattle.texts.specs.Writing.{number_data};
+
+    ghost writes = { number_data };
+
+    fn write_value(&self, _alloc: Global) -> Result<Value, AllocError> {
+        Ok(Value::from(*self))
+    }
+}
+
+/// The text `A` or `B`.
+impl WriteValue for Side {
+    ghost use Rattle.texts.specs.Writing.{side_data};
+
+    ghost writes = { side_data };
+
+    fn write_value(&self, alloc: Global) -> Result<Value, AllocError> {
+        match self {
+            Side::A => Value::try_from_str(alloc, "A"),
+            Side::B => Value::try_from_str(alloc, "B"),
+        }
+    }
+}
+
+/// An array of two, that of side A first.
+impl<T: WriteValue> WriteValue for (T, T) {
+    ghost use Rattle.texts.specs.Writing.{pair_data};
+
+    ghost writes = { pair_data T.writes };
+
+    fn write_value(&self, alloc: Global) -> Result<Value, AllocError> {
+        let pair = ArrayWriter::new(alloc).item(&self.0)?.item(&self.1)?;
+        Ok(pair.finish())
+    }
 }
 
 /// An object of seven members.
@@ -54,20 +108,16 @@ impl WriteValue for PlainTerms {
 
     #[tactic(auto, unfolding(crate::specs::Writing::terms_data))]
     fn write_value(&self, alloc: Global) -> Result<Value, AllocError> {
-        let opener = write_side(alloc, self.opener)?;
-        let delay = write_pair(alloc, u64::from(self.a.delay), u64::from(self.b.delay))?;
-        let dust = write_pair(alloc, self.a.dust, self.b.dust)?;
-        let minimum = write_pair(alloc, self.a.minimum, self.b.minimum)?;
-        let start = write_pair(alloc, self.a.start, self.b.start)?;
-        json!(in alloc; {
-            "capacity": self.capacity,
-            "delay": delay,
-            "dust": dust,
-            "feerate": self.feerate,
-            "minimum": minimum,
-            "opener": opener,
-            "start": start
-        })
+        let (a, b) = (&self.a, &self.b);
+        let terms = ObjectWriter::new(alloc)
+            .member("capacity", &self.capacity)?
+            .member("delay", &(a.delay, b.delay))?
+            .member("dust", &(a.dust, b.dust))?
+            .member("feerate", &self.feerate)?
+            .member("minimum", &(a.minimum, b.minimum))?
+            .member("opener", &self.opener)?
+            .member("start", &(a.start, b.start))?;
+        Ok(terms.finish())
     }
 }
 
@@ -79,8 +129,10 @@ impl WriteValue for TxOut {
 
     #[tactic(auto, unfolding(crate::specs::Writing::output_data))]
     fn write_value(&self, alloc: Global) -> Result<Value, AllocError> {
-        let script = write_bytes(alloc, self.script().bytes())?;
-        json!(in alloc; [self.value(), script])
+        let output = ArrayWriter::new(alloc)
+            .item(&self.value())?
+            .bytes(self.script().bytes())?;
+        Ok(output.finish())
     }
 }
 
@@ -89,8 +141,12 @@ impl WriteValue for TxOut {
 fn write_add(alloc: Global, htlc: &Htlc) -> Result<Value, AllocError>
     ensures { IfOk result (λ v. view v ≡ add_data htlc.now) }
 {
-    let hash = write_bytes(alloc, &htlc.hash)?;
-    json!(in alloc; ["add", htlc.id, htlc.amount, hash, htlc.expiry])
+    let message = ArrayWriter::named(alloc, "add")?
+        .item(&htlc.id)?
+        .item(&htlc.amount)?
+        .bytes(&htlc.hash)?
+        .item(&htlc.expiry)?;
+    Ok(message.finish())
 }
 
 /// An array with the message's name at its front.
@@ -101,14 +157,16 @@ impl WriteValue for Update {
 
     #[tactic(auto, unfolding(crate::specs::Writing::update_data))]
     fn write_value(&self, alloc: Global) -> Result<Value, AllocError> {
-        match self {
-            Update::Add(htlc) => write_add(alloc, htlc),
+        let message = match self {
+            Update::Add(htlc) => return write_add(alloc, htlc),
             Update::Fulfil { id, preimage } => {
-                let preimage = write_bytes(alloc, preimage)?;
-                json!(in alloc; ["fulfil", *id, preimage])
+                ArrayWriter::named(alloc, "fulfil")?
+                    .item(id)?
+                    .bytes(preimage)
             }
-            Update::Fail { id } => json!(in alloc; ["fail", *id]),
-            Update::Fee { rate } => json!(in alloc; ["fee", *rate]),
-        }
+            Update::Fail { id } => ArrayWriter::named(alloc, "fail")?.item(id),
+            Update::Fee { rate } => ArrayWriter::named(alloc, "fee")?.item(rate),
+        };
+        Ok(message?.finish())
     }
 }

@@ -14,7 +14,7 @@ use Rattle.updates.specs.declared.fates.Fate.TheVariants.{Live, Fulfilled, Faile
 use Rattle.updates.specs.declared.refusals.Refusal.{Refusal}
 use Rattle.updates.specs.declared.refusals.Refusal.TheVariants.{NoMemory, AmountZero, BelowMinimum, ExpiryTooLarge, WrongId, TooManyHtlcs, OverBalance, UnknownHtlc, WrongPreimage, NoUpdates, BadSignature, WrongSecret, NotYourTurn, NotOpener}
 use Rattle.updates.specs.Updates.{fate, offers, offer_of, spent, gained, pending, live_count, last_fee}
-use Rattle.updates.specs.Views.{share_of, feerate_of}
+use Rattle.updates.specs.Views.{share_of, feerate_of, expire_at_heights}
 use Rattle.updates.specs.Stages.{Stages, none_yet, made, to_receiver, by_receiver, to_sender, by_sender}
 use Rattle.updates.specs.Refusals.{refusal_number, first_refusal, update_tests, covers_nothing, to_remove}
 
@@ -50,6 +50,16 @@ shares : (share_of 80000 of_a of_b ≡ holds 64000 (htlc 2 11000 ∷ []))
     × (share_of 80000 of_a [] ≡ holds 57000 (offers of_a))
     × (share_of 80000 [] of_b ≡ holds 80000 [])
 shares = (refl, refl, refl, refl)
+
+abbrev expiring : ℕ → Htlc
+expiring height = record { id = 0; amount = 1; hash = []; expiry = height }
+
+-- heights are below 500,000,000
+heights : (expire_at_heights [] ≡ true)
+    × (expire_at_heights (expiring 499999999 ∷ []) ≡ true)
+    × (expire_at_heights (expiring 500000000 ∷ []) ≡ false)
+    × (expire_at_heights (expiring 500 ∷ expiring 500000000 ∷ []) ≡ false)
+heights = (refl, refl, refl, refl)
 
 -- the last change of the feerate in the opener's list
 fees : (last_fee 1000 [] ≡ 1000)

@@ -1,15 +1,17 @@
 -- What stays true of one side's updates as a channel knows them, and why no balance of a view falls below 0.
-use Rattle.std.proofs.Common.{◌≡◌, ℕ, ◌+◌, ◌*◌, ◌<◌, ◌≤◌, false, eqb, List, [], ◌∷◌, ◌++◌, length, sym, ap, ◌∙◌, refl, arith, append-nil, length-append}
-use Rattle.std.proofs.lemmas.Bool.{eqb-true, ne_eqb, not-false, ltb-false, leb-false}
+use Rattle.std.proofs.Common.{◌≡◌, ℕ, ◌+◌, ◌*◌, ◌<◌, ◌≤◌, true, false, ◌&&◌, eqb, nat_lt, List, [], ◌∷◌, ◌++◌, length, IsTrue, sym, ap, ◌∙◌, refl, arith, append-nil, length-append}
+use Rattle.std.proofs.lemmas.Bool.{eqb-true, ne_eqb, not-false, ltb-false, leb-false, lt-ltb, and_parts, and_from}
+use Rattle.std.proofs.lemmas.List.Folds.{list_all-append}
+use Rattle.terms.specs.declared.htlcs.Htlc.{Htlc}
 use Rattle.updates.specs.declared.changes.Update.{Update}
 use Rattle.updates.specs.declared.changes.Update.TheVariants.{Add, Fulfil, Fail, Fee}
 use Rattle.terms.specs.declared.sides.Side.{Side}
 use Rattle.terms.specs.declared.agreement.Terms.{Terms}
-use Rattle.updates.specs.Updates.{first_of_fates, fate, offers, offer_of, unless_failed, one_if_live, spent, gained, live_count, live}
+use Rattle.updates.specs.Updates.{first_of_fates, fate, offers, offer_of, unless_failed, one_if_live, spent, gained, live_count, kept_if_live, live_in, live}
 use Rattle.updates.specs.declared.fates.Fate.{Fate}
 use Rattle.updates.specs.declared.fates.Fate.TheVariants.{Live, Fulfilled, Failed}
-use Rattle.updates.specs.declared.limits.TheConstants.{MAX_HTLCS}
-use Rattle.updates.specs.Views.{IsCovered, IsSound, start_of}
+use Rattle.updates.specs.declared.limits.TheConstants.{MAX_HTLCS, EXPIRY_END}
+use Rattle.updates.specs.Views.{IsCovered, IsSound, start_of, expire_at_heights}
 use Rattle.updates.specs.Stages.{Stages, made, to_receiver, by_receiver, to_sender, by_sender}
 use Rattle.updates.specs.Refusals.{update_tests, to_remove, is_missing}
 use Rattle.updates.proofs.Sums.{begins_on, begins_longer, begins, fate-append, offers-append, spent_falls, spent_of_fewer, spent-append, spent_is, gained_rises, gained_of_more, live_count_falls, live_count-append, live_count_of_fewer, live-length}
@@ -66,6 +68,7 @@ fair_on start s o s' o' f k ss ok os =
       removes = rw k (removes_below-more _ _ s.known l f.removes);
       covered = omega (arith, out, come, more, had);
       few = omega (arith, live, few);
+      heights = rw k f.heights;
     }
 
 -- and while the sender makes updates that pass its tests
@@ -137,12 +140,24 @@ few_made terms by s o (Fulfil id preimage) t f = let e = live_count-append s.kno
 few_made terms by s o (Fail id) t f = let e = live_count-append s.known (Fail id ∷ []) o.settled in omega (arith, e, f)
 few_made terms by s o (Fee rate) t f = let e = live_count-append s.known (Fee rate ∷ []) o.settled in omega (arith, e, f)
 
+heights_append : (us vs : List Update) → expire_at_heights (offers (us ++ vs)) ≡ (expire_at_heights (offers us) && expire_at_heights (offers vs))
+heights_append us vs = ap expire_at_heights (offers-append us vs) ∙ list_all-append (λ (h : Htlc). nat_lt h.expiry EXPIRY_END) (offers us) (offers vs)
+
+heights_made : (terms : Terms) (by : Side) (s o : Stages) (u : Update) → AllPass (update_tests terms by s o u) → IsTrue (expire_at_heights (offers s.known)) → IsTrue (expire_at_heights (offers (s.known ++ u ∷ [])))
+heights_made terms by s o (Add p) (t1, (t2, (t3, (t4, ts)))) h =
+    let below = lt-ltb p.expiry EXPIRY_END (leb-false _ _ t4) in
+    heights_append s.known (Add p ∷ []) ∙ and_from _ _ h (and_from (nat_lt p.expiry EXPIRY_END) true below refl)
+heights_made terms by s o (Fulfil id preimage) t h = heights_append s.known (Fulfil id preimage ∷ []) ∙ and_from _ _ h refl
+heights_made terms by s o (Fail id) t h = heights_append s.known (Fail id ∷ []) ∙ and_from _ _ h refl
+heights_made terms by s o (Fee rate) t h = heights_append s.known (Fee rate ∷ []) ∙ and_from _ _ h refl
+
 pub fair_made : (terms : Terms) (by : Side) (s o : Stages) (u : Update) → InOrder o → Numbered 0 (offers o.known) → AllPass (update_tests terms by s o u) → IsFair (start_of by terms) s o → IsFair (start_of by terms) (made u s) o
 fair_made terms by s o u order n t f = record {
   numbered = numbered_made terms by s o u t f.numbered;
   removes = removes_below-append _ s.known (u ∷ []) f.removes (removes_made terms by s o u order n t);
   covered = covered_made terms by s o u t f.covered;
   few = few_made terms by s o u t f.few;
+  heights = heights_made terms by s o u t f.heights;
 }
 
 -- the views between what is settled and what is known
@@ -177,10 +192,29 @@ few_in_view start s o p q f sp oq =
     let e = live-length p q in
     omega (arith, a, b, c, e)
 
+heights_kept : (f : Fate) (o : Htlc) (os : List Htlc) → nat_lt o.expiry EXPIRY_END ≡ true → IsTrue (expire_at_heights os) → IsTrue (expire_at_heights (kept_if_live f o os))
+heights_kept Live o os a b = and_from (nat_lt o.expiry EXPIRY_END) (expire_at_heights os) a b
+heights_kept Fulfilled o os a b = b
+heights_kept Failed o os a b = b
+
+heights_live : (os : List Htlc) (ends : List Update) → IsTrue (expire_at_heights os) → IsTrue (expire_at_heights (live_in os ends))
+heights_live [] ends h = refl
+heights_live (o ∷ os) ends h =
+    let (first, rest) = and_parts (nat_lt o.expiry EXPIRY_END) (expire_at_heights os) h in
+    heights_kept (fate o.id ends) o (live_in os ends) first (heights_live os ends rest)
+
+-- and each that stands in a view was offered
+pub heights_in_view : (start : ℕ) (s o : Stages) (p q : List Update) → IsFair start s o → IsPart s p → IsTrue (expire_at_heights (live p q))
+heights_in_view start s o p q f sp =
+    let rest = sp.is_known.0 in
+    let both = sym (heights_append p rest) ∙ ap (λ l. expire_at_heights (offers l)) sp.is_known.1 ∙ f.heights in
+    heights_live (offers p) q (and_parts (expire_at_heights (offers p)) (expire_at_heights (offers rest)) both).0
+
 -- balances and HTLCs sum to the capacity wherever no balance is below 0
-pub sound_view : (terms : Terms) (p q : List Update) → IsCovered terms.a.start p q → IsCovered terms.b.start q p → length (live p q) ≤ MAX_HTLCS → length (live q p) ≤ MAX_HTLCS → IsSound terms p q
-sound_view terms p q a b few_of_a few_of_b =
+pub sound_view : (terms : Terms) (p q : List Update) → IsCovered terms.a.start p q → IsCovered terms.b.start q p → length (live p q) ≤ MAX_HTLCS → length (live q p) ≤ MAX_HTLCS
+    → IsTrue (expire_at_heights (live p q)) → IsTrue (expire_at_heights (live q p)) → IsSound terms p q
+sound_view terms p q a b few_of_a few_of_b heights_of_a heights_of_b =
     let whole : terms.a.start + terms.b.start ≡ 1000 * terms.capacity = terms.whole in
     let d = spent_is p q in
     let e = spent_is q p in
-    record { a = a; b = b; sum = omega (arith, whole, a, b, d, e); few_of_a = few_of_a; few_of_b = few_of_b }
+    record { a = a; b = b; sum = omega (arith, whole, a, b, d, e); few_of_a = few_of_a; few_of_b = few_of_b; heights_of_a = heights_of_a; heights_of_b = heights_of_b }

@@ -1,5 +1,5 @@
 -- What stays true of one side's state, whatever its peer sends.
-use Rattle.std.proofs.Common.{◌≡◌, ℕ, ◌+◌, ◌*◌, ◌≤◌, List, [], ◌∷◌, length, refl, arith, None}
+use Rattle.std.proofs.Common.{◌≡◌, ℕ, ◌+◌, ◌*◌, ◌≤◌, List, [], ◌∷◌, length, IsTrue, refl, arith, None}
 use Rattle.updates.specs.declared.changes.Update.{Update}
 use Rattle.terms.specs.declared.sides.Side.{Side}
 use Rattle.terms.specs.declared.agreement.Terms.{Terms}
@@ -7,19 +7,19 @@ use Rattle.terms.specs.declared.sides.Side.TheVariants.{A, B}
 use Rattle.terms.specs.Sides.{other}
 use Rattle.updates.specs.declared.limits.TheConstants.{MAX_HTLCS}
 use Rattle.updates.specs.Updates.{live}
-use Rattle.updates.specs.Views.{IsCovered, IsSoundBy, start_of}
+use Rattle.updates.specs.Views.{IsCovered, IsSoundBy, start_of, expire_at_heights}
 use Rattle.updates.specs.Stages.{none_yet, made, to_receiver, by_receiver, to_sender, by_sender}
 use Rattle.updates.specs.Refusals.{first_refusal, update_tests}
 use Rattle.updates.proofs.Sums.{begins}
 use Rattle.updates.proofs.Accepting.{all_pass}
-use Rattle.updates.proofs.Funds.{order_made, order_to_receiver, order_by_receiver, order_to_sender, order_by_sender, fair_on, fair_made, settled_past, covered_view, few_in_view, sound_view}
+use Rattle.updates.proofs.Funds.{order_made, order_to_receiver, order_by_receiver, order_to_sender, order_by_sender, fair_on, fair_made, settled_past, covered_view, few_in_view, heights_in_view, sound_view}
 use Rattle.updates.specs.Steady.{Held, InOrder, IsFair, IsPart, IsSteady, holding_none, holding_made, holding_signed, holding_update, holding_signature, holding_revocation}
 
 none_in_order : InOrder none_yet
 none_in_order = record { settled = begins []; sender = begins []; past = begins []; receiver = begins [] }
 
 none_fair : (start : ℕ) → IsFair start none_yet none_yet
-none_fair start = record { numbered = tt; removes = λ id h. refl; covered = omega arith; few = omega arith }
+none_fair start = record { numbered = tt; removes = λ id h. refl; covered = omega arith; few = omega arith; heights = refl }
 
 pub steady_none : (terms : Terms) (side : Side) → IsSteady (holding_none terms side)
 steady_none terms side = record { own = none_in_order; theirs = none_in_order; own_revoked = refl; theirs_revoked = refl; own_fair = none_fair _; their_fair = none_fair _ }
@@ -80,7 +80,9 @@ sound_at h p q k op tq =
     by h.side (covered_view _ h.own h.theirs p q k.own k.theirs k.own_fair k.their_fair.numbered op tq)
     (covered_view _ h.theirs h.own q p k.theirs k.own k.their_fair k.own_fair.numbered tq op)
     (few_in_view _ h.own h.theirs p q k.own_fair op tq) (few_in_view _ h.theirs h.own q p k.their_fair tq op)
+    (heights_in_view _ h.own h.theirs p q k.own_fair op) (heights_in_view _ h.theirs h.own q p k.their_fair tq)
   where
-    by : (side : Side) → IsCovered (start_of side h.terms) p q → IsCovered (start_of (other side) h.terms) q p → length (live p q) ≤ MAX_HTLCS → length (live q p) ≤ MAX_HTLCS → IsSoundBy h.terms side p q
-    by A c d m n = sound_view h.terms p q c d m n
-    by B c d m n = sound_view h.terms q p d c n m
+    by : (side : Side) → IsCovered (start_of side h.terms) p q → IsCovered (start_of (other side) h.terms) q p → length (live p q) ≤ MAX_HTLCS → length (live q p) ≤ MAX_HTLCS
+        → IsTrue (expire_at_heights (live p q)) → IsTrue (expire_at_heights (live q p)) → IsSoundBy h.terms side p q
+    by A c d m n x y = sound_view h.terms p q c d m n x y
+    by B c d m n x y = sound_view h.terms q p d c n m y x

@@ -1,5 +1,5 @@
 -- What stays true of a side's two lists of updates, whatever its peer sends.
-use Rattle.std.specs.Prelude.{◌≡◌, ℕ, suc, ◌+◌, ◌≤◌, List, [], ◌∷◌, ◌++◌, length, None}
+use Rattle.std.specs.Prelude.{◌≡◌, ℕ, suc, ◌+◌, ◌≤◌, List, [], ◌∷◌, ◌++◌, length, None, IsTrue}
 use Rattle.updates.specs.declared.changes.Update.{Update}
 use Rattle.terms.specs.declared.htlcs.Htlc.{Htlc}
 use Rattle.terms.specs.declared.sides.Side.{Side}
@@ -9,7 +9,7 @@ use Rattle.updates.specs.declared.limits.TheConstants.{MAX_HTLCS}
 use Rattle.updates.specs.Updates.{fate, offers, spent, gained, live_count}
 use Rattle.terms.specs.Sides.{other}
 use Rattle.updates.specs.declared.pending.Pending.{Pending}
-use Rattle.updates.specs.Views.{start_of}
+use Rattle.updates.specs.Views.{start_of, expire_at_heights}
 use Rattle.updates.specs.Refusals.{Test, first_refusal, update_tests}
 use Rattle.updates.specs.Pending.{IsKept}
 use Rattle.updates.specs.Stages.{Stages, none_yet, made, to_receiver, by_receiver, to_sender, by_sender}
@@ -34,12 +34,13 @@ Numbered k (o ∷ os) = (o.id ≡ k) × Numbered (suc k) os
 abbrev pub RemovesBelow : ℕ → List Update → Type 0
 RemovesBelow n us = (id : ℕ) → n ≤ id → fate id us ≡ Live
 
--- the ids count up, only settled HTLCs are removed, what the sender spent it had, and no more HTLCs stand live than may
+-- the ids count up, only settled HTLCs are removed, what the sender spent it had, no more HTLCs stand live than may, and each expires at a height
 pub record IsFair (start : ℕ) (s o : Stages) : Type 0 where
   pub numbered : Numbered 0 (offers s.known)
   pub removes : RemovesBelow (length (offers o.settled)) s.known
   pub covered : spent s.known o.settled ≤ start + gained s.settled o.known
   pub few : live_count s.known o.settled ≤ MAX_HTLCS
+  pub heights : IsTrue (expire_at_heights (offers s.known))
 
 -- a part of a list of updates that a commitment may hold: what is settled is in it, what is not known isn't
 pub record IsPart (s : Stages) (part : List Update) : Type 0 where

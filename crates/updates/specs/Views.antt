@@ -1,5 +1,6 @@
 -- The view of a commitment: what two lists of updates leave to each side (BOLT 2, BOLT 3).
-use Rattle.std.specs.Prelude.{◌≡◌, ℕ, ◌+◌, ◌-◌, ◌*◌, ◌≤◌, List, length}
+use Rattle.std.specs.Prelude.{◌≡◌, ℕ, ◌+◌, ◌-◌, ◌*◌, ◌≤◌, nat_lt, Bool, List, length, IsTrue}
+use Rattle.std.specs.List.{list_all}
 use Rattle.updates.specs.declared.changes.Update.{Update}
 use Rattle.terms.specs.declared.htlcs.Htlc.{Htlc}
 use Rattle.terms.specs.declared.sides.Side.{Side}
@@ -9,7 +10,7 @@ use Rattle.terms.specs.declared.views.Share.{Share}
 use Rattle.terms.specs.declared.views.View.{View}
 use Rattle.terms.specs.declared.amounts.TheConstants.{MSAT_PER_SAT}
 use Rattle.terms.specs.Agreement.{party}
-use Rattle.updates.specs.declared.limits.TheConstants.{MAX_HTLCS}
+use Rattle.updates.specs.declared.limits.TheConstants.{MAX_HTLCS, EXPIRY_END}
 use Rattle.updates.specs.Updates.{spent, gained, pending, live, last_fee}
 
 -- millisatoshis that a side begins with
@@ -46,13 +47,19 @@ abbrev pub view_by : Terms → Side → List Update → List Update → View
 view_by terms A mine others = view_of terms mine others
 view_by terms B mine others = view_of terms others mine
 
--- in a sound view no balance is below 0, balances and HTLCs sum to the capacity, and no more HTLCs of a side stand than may
+-- each HTLC expires at a height (BIP 65)
+abbrev pub expire_at_heights : List Htlc → Bool
+expire_at_heights htlcs = list_all (λ h. nat_lt h.expiry EXPIRY_END) htlcs
+
+-- in a sound view no balance is below 0, balances and HTLCs sum to the capacity, no more HTLCs of a side stand than may, and each expires at a height
 pub record IsSound (terms : Terms) (xs ys : List Update) : Type 0 where
   pub a : IsCovered terms.a.start xs ys
   pub b : IsCovered terms.b.start ys xs
   pub sum : balance terms.a.start xs ys + balance terms.b.start ys xs + pending xs ys + pending ys xs ≡ MSAT_PER_SAT * terms.capacity
   pub few_of_a : length (live xs ys) ≤ MAX_HTLCS
   pub few_of_b : length (live ys xs) ≤ MAX_HTLCS
+  pub heights_of_a : IsTrue (expire_at_heights (live xs ys))
+  pub heights_of_b : IsTrue (expire_at_heights (live ys xs))
 
 abbrev pub IsSoundBy : Terms → Side → List Update → List Update → Type 0
 IsSoundBy terms A mine others = IsSound terms mine others

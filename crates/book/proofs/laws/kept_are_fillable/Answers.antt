@@ -1,4 +1,4 @@
-use Rattle.book.proofs.Fillable.{kept_are_fillable}
+use Rattle.book.proofs.KeptReleases.{kept_are_fillable}
 use Rattle.book.proofs.laws.kept_are_fillable.Goals as goal
 
 pub returns : goal.returns

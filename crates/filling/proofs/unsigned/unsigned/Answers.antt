@@ -12,10 +12,10 @@ returns-then-claims-gt1-clause-unsigned c =
 pub returns-in_ok-tx-in-Fixed-clause-unsigned : goal.returns-in_ok-tx-in-Fixed-clause-unsigned
 returns-in_ok-tx-in-Fixed-clause-unsigned c =
     one-fixed c.args.claims.now _ c.index-claims-0.result c.path.result.now c.in-Fixed.fixed c.strip_witnesses.new.self c.requires.some (omega (arith, c.if-claims-gt1.false)) c.index-claims-0.is
-    c.path.ensures.at (sym c.shell.ensures ∙ c.in-Fixed.is) c.path.ensures.shell (c.strip_witnesses.ensures ∙ ap unsigned_transaction c.in_ok-tx-in-Fixed.ensures)
+    c.path.ensures.at (sym c.shell.ensures.value ∙ c.in-Fixed.is) c.path.ensures.shell (c.strip_witnesses.ensures ∙ ap unsigned_transaction c.in_ok-tx-in-Fixed.ensures)
 
 pub returns-in-Open-clause-unsigned : goal.returns-in-Open-clause-unsigned
 returns-in-Open-clause-unsigned c =
     open-result c.open_transaction-in-Open.result (map (λ x. x.now) c.args.claims.now) c.args.outputs.items
-    (one-open c.args.claims.now _ c.index-claims-0.result c.requires.some (omega (arith, c.if-claims-gt1.false)) c.index-claims-0.is (sym c.shell.ensures ∙ c.in-Open.is))
+    (one-open c.args.claims.now _ c.index-claims-0.result c.requires.some (omega (arith, c.if-claims-gt1.false)) c.index-claims-0.is (sym c.shell.ensures.value ∙ c.in-Open.is))
     c.open_transaction-in-Open.ensures.value c.open_transaction-in-Open.ensures.below

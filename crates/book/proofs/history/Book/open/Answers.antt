@@ -31,7 +31,7 @@ invariant_of-self-2 c =
     let index : c.len-index.result ≡ length i.channels.items = search rules in
     let more = grown c.push.result c.unwrap.result c.push.new.self.items c.reserve-2.new.self.items i.channels.items _ _ c.unwrap.ensures c.push.ensures.items c.in-Ok-reserve-2.ensures.items c.in-Ok.ensures.ok in
     let is = grown c.push-2.result c.unwrap-2.result c.push-2.new.self.items c.reserve.new.self.items i.entries.items _ _ c.unwrap-2.ensures c.push-2.ensures.items c.in-Ok-reserve.ensures.items refl in
-    (open_done i.entries.items c.push-2.new.self.items i.channels.items c.push.new.self.items (contains outpoint_cmp i.fundings) (contains outpoint_cmp c.insert.new.self) c.args.seat c.len-index.result c.args.opening (opened (Err NoMemory)) c.self.invariant (no_room MAX_CHANNELS (length i.channels.items) few) (sym c.contains.ensures ∙ c.if-contains.false) c.in-Ok.ensures.tested index more c.in-Ok-insert.ensures.updates.0 is).kept
+    (open_done i.entries.items c.push-2.new.self.items i.channels.items c.push.new.self.items (contains outpoint_cmp i.fundings) (contains outpoint_cmp c.insert.new.self) c.args.seat c.len-index.result c.args.opening (opened (Err NoMemory)) c.self.invariant (no_room MAX_CHANNELS (length i.channels.items) few) (sym c.contains.ensures ∙ c.if-contains.false) c.in-Ok.ensures.tested index more c.in-Ok-insert.ensures.updates.0 is).keeps
 
 pub returns : goal.returns
 returns c =

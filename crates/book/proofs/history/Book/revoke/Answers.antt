@@ -17,7 +17,7 @@ invariant_of-self-2 c =
     let is = grown c.push.result c.unwrap.result c.push.new.self.items c.reserve.new.self.items i.entries.items _ _ c.unwrap.ensures c.push.ensures.items c.in-Ok.ensures.items refl in
     let within : c.args.channel < length i.channels.items = search rules in
     let found = slice_get_read i.channels.items (length i.channels.items) c.args.channel c.index_mut-open.result.now refl within c.index_mut-open.ensures.value in
-    (revoke_done i.entries.items c.push.new.self.items i.channels.items (contains outpoint_cmp i.fundings) c.args.seat c.args.channel c.index_mut-open.result.now c.revoke.new.self c.args.secret c.args.next_point c.in-Ok-revoke.number (revoked (Err (Refused NoMemory))) c.self.invariant found c.in-Ok-revoke.ensures.tested c.in-Ok-revoke.ensures.number c.in-Ok-revoke.ensures.ok is).kept
+    (revoke_done i.entries.items c.push.new.self.items i.channels.items (contains outpoint_cmp i.fundings) c.args.seat c.args.channel c.index_mut-open.result.now c.revoke.new.self c.args.secret c.args.next_point c.in-Ok-revoke.number (revoked (Err (Refused NoMemory))) c.self.invariant found c.in-Ok-revoke.ensures.tested c.in-Ok-revoke.ensures.number c.in-Ok-revoke.ensures.ok is).keeps
 
 pub returns : goal.returns
 returns c =

@@ -16,7 +16,7 @@ invariant_of-self-2 c =
     let is = grown c.push.result c.unwrap.result c.push.new.self.items c.reserve.new.self.items i.entries.items _ _ c.unwrap.ensures c.push.ensures.items c.in-Ok.ensures.items refl in
     let within : c.args.channel < length i.channels.items = search rules in
     let found = slice_get_read i.channels.items (length i.channels.items) c.args.channel c.index_mut-open.result.now refl within c.index_mut-open.ensures.value in
-    (sign_done i.entries.items c.push.new.self.items i.channels.items (contains outpoint_cmp i.fundings) c.args.seat c.args.channel c.index_mut-open.result.now c.sign.new.self c.in-Ok-sign.message (signed (Err NoMemory)) c.self.invariant found c.in-Ok-sign.ensures.tested c.in-Ok-sign.ensures.message c.in-Ok-sign.ensures.ok is).kept
+    (sign_done i.entries.items c.push.new.self.items i.channels.items (contains outpoint_cmp i.fundings) c.args.seat c.args.channel c.index_mut-open.result.now c.sign.new.self c.in-Ok-sign.message (signed (Err NoMemory)) c.self.invariant found c.in-Ok-sign.ensures.tested c.in-Ok-sign.ensures.message c.in-Ok-sign.ensures.ok is).keeps
 
 pub returns : goal.returns
 returns c =

@@ -5,6 +5,8 @@ use Rattle.channel.specs.declared.limits.TheConstants.{LAST_NUMBER}
 use Rattle.channel.specs.declared.commitments.CommitmentState.{CommitmentState}
 use Rattle.channel.specs.Points.{point_at}
 use Rattle.channel.specs.States.{State}
+use Rattle.channel.specs.Numbered.{IsNumbered}
+use Rattle.channel.proofs.Numbered.{numbered_own}
 use Rattle.channel.proofs.Pairing.{pushed}
 use Rattle.channel.proofs.Kept.{with_point, kept_signature}
 use Rattle.channel.proofs.channel.Channel.receive_signature.Goals as goal
@@ -20,4 +22,6 @@ invariant_of-self-2 c =
     in
     let point = ap (λ (k : CommitmentState). k.point) c.in-Ok.ensures.ok ∙ sym (ap (λ (s : State). point_at s.seed (s.number + 1)) c.self.view_is) in
     let learnt = c.in-Ok-learn_point.ensures.ok ∙ ap (λ (k : Key). with_point c.self.inside.signer k.bytes) c.own_point-next_point.ensures in
-    kept_signature _ _ c.self.inside.signer c.learn_point.new.self next c.self.invariant below c.receive_signature.ensures seed refl refl refl refl refl mine refl point learnt
+    let P : State → Type 0 = λ s. IsNumbered s.held.terms s.held.side (s.number + 1) next in
+    let one_more = subst P (sym c.self.view_is) (numbered_own c.args.self.now next c.in-Ok.ensures.ok c.in-Ok.ensures.sound) in
+    kept_signature _ _ c.self.inside.signer c.learn_point.new.self next c.self.invariant below c.receive_signature.ensures seed refl refl refl refl refl mine refl point learnt one_more

@@ -1,4 +1,4 @@
-use Rattle.std.proofs.Common.{◌<◌, ◌∙◌, ap, sym, subst, refl, arith}
+use Rattle.std.proofs.Common.{◌<◌, ◌+◌, ◌∙◌, ap, sym, subst, refl, arith}
 use Rattle.std.specs.Prelude.{Contains}
 use Rattle.keys.specs.Rights.{MaySign}
 use Rattle.terms.specs.Sides.{other}
@@ -6,6 +6,8 @@ use Rattle.channel.specs.declared.commitments.CommitmentState.{CommitmentState}
 use Rattle.channel.specs.declared.limits.TheConstants.{LAST_NUMBER}
 use Rattle.channel.specs.States.{State}
 use Rattle.channel.specs.Tokens.{funding_key, htlc_key}
+use Rattle.channel.specs.Numbered.{IsNumbered}
+use Rattle.channel.proofs.Numbered.{numbered_peers}
 use Rattle.channel.proofs.Kept.{kept_signed}
 use Rattle.channel.proofs.SignRights.{may_sign_first, may_sign_rest}
 use Rattle.channel.proofs.channel.Channel.signed.Goals as goal
@@ -31,4 +33,7 @@ invariant_of-self-2 c =
     let next = c.in-Ok-peers_next.next in
     let point = ap (λ (k : CommitmentState). k.point) c.in-Ok-peers_next.ensures.ok ∙ sym (ap (λ (s : State). s.next_point) c.self.view_is) in
     let below = subst (λ (s : State). s.peer_number < LAST_NUMBER) (sym c.self.view_is) c.in-Ok.ensures.below in
-    kept_signed _ _ c.self.inside.signer next c.self.invariant below c.sign.ensures refl refl refl refl refl refl refl c.in-Ok-push.ensures.items point
+    let waits = ap (λ (s : State). s.awaiting) c.self.view_is ∙ c.in-Ok.ensures.waits in
+    let P : State → Type 0 = λ s. IsNumbered s.held.terms (other s.held.side) (s.peer_number + 1) next in
+    let one_more = subst P (sym c.self.view_is) (numbered_peers c.args.self.now next c.in-Ok-peers_next.ensures.ok c.in-Ok-peers_next.ensures.sound) in
+    kept_signed _ _ c.self.inside.signer next c.self.invariant below c.sign.ensures refl refl refl refl refl refl refl c.in-Ok-push.ensures.items point waits one_more

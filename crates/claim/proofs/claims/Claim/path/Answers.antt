@@ -7,33 +7,33 @@ use Rattle.claim.proofs.Judged.{path-within, path-here, accepted-sound, accepted
 use Rattle.claim.proofs.claims.Claim.path.Goals as goal
 
 pub path_at-requires : goal.path_at-requires
-path_at-requires c = let i = c.self.inside in path-within i.checked i.index i.slots i.place i.shell c.paths.result.now c.paths.ensures.value c.self.invariant
+path_at-requires c = let i = c.self.inside in path-within i.checked i.index i.slots i.place i.shell c.paths.result.now c.paths.ensures.value c.self.invariant.0
 
 pub returns-clause-value : goal.returns-clause-value
 returns-clause-value c =
     let i = c.self.inside in
-    subst (λ v. TakesPath v c.path_at.result.now) c.self.view_is (path-here i.checked i.index i.slots i.place i.shell c.paths.result.now c.path_at.result.now c.paths.ensures.value c.path_at.ensures c.self.invariant)
+    subst (λ v. TakesPath v c.path_at.result.now) c.self.view_is (path-here i.checked i.index i.slots i.place i.shell c.paths.result.now c.path_at.result.now c.paths.ensures.value c.path_at.ensures c.self.invariant.0)
 
 pub returns-clause-at : goal.returns-clause-at
 returns-clause-at c =
     let i = c.self.inside in
     subst (λ v. path_of v ≡ Some c.path_at.result.now) c.self.view_is
     (taken-at (record { ways = i.checked; index = i.index; slots = i.slots; place = i.place; shell = i.shell }) c.path_at.result.now
-    (path-here i.checked i.index i.slots i.place i.shell c.paths.result.now c.path_at.result.now c.paths.ensures.value c.path_at.ensures c.self.invariant))
+    (path-here i.checked i.index i.slots i.place i.shell c.paths.result.now c.path_at.result.now c.paths.ensures.value c.path_at.ensures c.self.invariant.0))
 
 pub returns-clause-shell : goal.returns-clause-shell
 returns-clause-shell c =
     let i = c.self.inside in
     subst (λ v. is_shell c.path_at.result.now v.place v.shell ≡ true) c.self.view_is
     (taken-shell (record { ways = i.checked; index = i.index; slots = i.slots; place = i.place; shell = i.shell }) c.path_at.result.now
-    (path-here i.checked i.index i.slots i.place i.shell c.paths.result.now c.path_at.result.now c.paths.ensures.value c.path_at.ensures c.self.invariant))
+    (path-here i.checked i.index i.slots i.place i.shell c.paths.result.now c.path_at.result.now c.paths.ensures.value c.path_at.ensures c.self.invariant.0))
 
 pub returns-clause-sound : goal.returns-clause-sound
 returns-clause-sound c =
     let i = c.self.inside in
     subst (λ v. IsSound v.ways.ops c.path_at.result.now) c.self.view_is
     (accepted-sound i.checked i.index i.slots i.place i.shell c.path_at.result.now c.paths.ensures.sound
-    (path-here i.checked i.index i.slots i.place i.shell c.paths.result.now c.path_at.result.now c.paths.ensures.value c.path_at.ensures c.self.invariant))
+    (path-here i.checked i.index i.slots i.place i.shell c.paths.result.now c.path_at.result.now c.paths.ensures.value c.path_at.ensures c.self.invariant.0))
 
 pub returns-clause-opens : goal.returns-clause-opens
 returns-clause-opens c =
