@@ -12,6 +12,8 @@ use Rattle.book.specs.declared.errors.KeepError.{KeepError}
 use Rattle.book.specs.declared.errors.KeepError.TheVariants as keeps
 use Rattle.book.specs.declared.errors.ReleaseError.{ReleaseError}
 use Rattle.book.specs.declared.errors.ReleaseError.TheVariants as releases
+use Rattle.book.specs.declared.errors.KnowError.{KnowError}
+use Rattle.book.specs.declared.errors.KnowError.TheVariants as knows
 use Rattle.book.specs.declared.errors.LoadError.{LoadError}
 use Rattle.book.specs.declared.errors.LoadError.TheVariants as loads
 
@@ -42,6 +44,10 @@ keep_error_number keeps.NoSuchChannel = 9
 abbrev pub release_error_number : ReleaseError → ℕ
 release_error_number (releases.Unfilled r) = fill_error_number r
 release_error_number releases.NoSuchChannel = 9
+
+abbrev pub know_error_number : KnowError → ℕ
+know_error_number knows.NoMemory = 0
+know_error_number knows.NoSuchChannel = 9
 
 abbrev pub load_error_number : LoadError → ℕ
 load_error_number loads.NoMemory = 0

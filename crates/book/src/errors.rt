@@ -87,6 +87,17 @@ pub enum ReleaseError {
     NoSuchChannel,
 }
 
+/// Why it isn't told what is known of a channel.
+#[derive(Clone, Copy, Debug, PartialEq, Eq, Drop, Error)]
+pub enum KnowError {
+    /// Memory ran out.
+    #[error("NoMemory")]
+    NoMemory,
+    /// The book has no channel of this index.
+    #[error("NoSuchChannel")]
+    NoSuchChannel,
+}
+
 impl OpenError {
     ghost use Rattle.book.specs.Refusals.{open_error_number};
 
@@ -161,6 +172,20 @@ impl ReleaseError {
         match self {
             ReleaseError::Unfilled(refusal) => refusal.number(),
             ReleaseError::NoSuchChannel => 9,
+        }
+    }
+}
+
+impl KnowError {
+    ghost use Rattle.book.specs.Refusals.{know_error_number};
+
+    /// The number of the refusal; 0 is out of memory.
+    pub fn number(&self) -> u8
+        ensures { result ≡ know_error_number self.now }
+    {
+        match self {
+            KnowError::NoMemory => 0,
+            KnowError::NoSuchChannel => 9,
         }
     }
 }

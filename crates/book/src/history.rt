@@ -1,7 +1,8 @@
 //! A node's book: its channels, and the history of the calls that it accepted.
 
 use crate::calls::{Batch, Call, Entry, Opening, Step};
-use crate::errors::{KeepError, OpenError, ReleaseError, SignError, StepError};
+use crate::errors::{KeepError, KnowError, OpenError, ReleaseError, SignError, StepError};
+use crate::knowing::preimages_in;
 use crate::limits::MAX_CHANNELS;
 use crate::open_channel::{OpenChannel, Taken};
 use channel::Message;
@@ -9,6 +10,7 @@ use claim::Claim;
 use filling::{FillError, Filled};
 use keys::Key;
 use lists::List;
+use resolve::Known;
 use std::alloc::Global;
 use std::collections::BTreeSet;
 use std::marker::Model;
@@ -40,7 +42,7 @@ impl Model for Book {
 }
 
 impl Book {
-    ghost use Rattle.std.specs.Prelude.{◌≡◌, [], true, Err};
+    ghost use Rattle.std.specs.Prelude.{◌≡◌, [], true, Err, slice_get, IfOk, IfErr};
     ghost use Rattle.channel.specs.Tokens.{peer_tokens};
     ghost use Rattle.updates.specs.declared.refusals.Refusal.TheVariants.{NoMemory as refusal_memory};
     ghost use Rattle.filling.specs.declared.errors.FillError.TheVariants.{NoMemory as fill_memory};
@@ -48,6 +50,8 @@ impl Book {
     ghost use Rattle.book.specs.Guarding.{is_guarded};
     ghost use Rattle.book.specs.Replies.{opened, stepped, signed, revoked, kept, released};
     ghost use Rattle.book.specs.Calling.{IsCall, step_reply};
+    ghost use Rattle.book.specs.Books.{replay};
+    ghost use Rattle.book.specs.Knowing.{IsKnownIn, IsKnowRefusal};
 
     /// An empty book, which takes no memory.
     pub fn new(alloc: Global) -> Book
@@ -243,5 +247,25 @@ impl Book {
         let call = Call::Release { channel, batch };
         self.entries.push(Entry { seat, call }).unwrap();
         Ok(filled)
+    }
+
+    /// What the book knows of a channel, with the preimages of its fulfils in the order of the history: NoSuchChannel. It goes over the whole history.
+    pub fn known(&self, channel: u64) -> Result<Known, KnowError>
+        ensures known { IfOk result (IsKnownIn self.now channel (slice_get (replay self.now) channel)) }
+        ensures err { IfErr result (IsKnowRefusal (slice_get (replay self.now) channel)) }
+    {
+        let index = channel as usize;
+        if index >= self.channels.len() {
+            return Err(KnowError::NoSuchChannel);
+        }
+        let open = &self.channels[index];
+        let preimages = match preimages_in(self.alloc, channel, &self.entries) {
+            Ok(preimages) => preimages,
+            Err(_) => return Err(KnowError::NoMemory),
+        };
+        match open.known(self.alloc, preimages) {
+            Ok(known) => Ok(known),
+            Err(_) => Err(KnowError::NoMemory),
+        }
     }
 }

@@ -12,11 +12,13 @@ use crate::calls::{Batch, Opening, Step};
 use crate::errors::{KeepError, OpenError, SignError};
 use crate::flags::first_unset;
 use crate::judging::are_penalties;
+use crate::knowing::known_of;
 use crate::releasing::filled;
 use channel::{Channel, Message, Tokens};
 use claim::Claim;
 use filling::{FillError, Filled};
 use keys::{Key, Signer};
+use resolve::Known;
 use std::alloc::{AllocError, Global};
 use std::marker::Model;
 use texts::OwnUpdate;
@@ -125,7 +127,8 @@ impl OpenChannel {
     ghost use Rattle.book.specs.Penalties.{is_penalty_set};
     ghost use Rattle.channel.specs.declared.messages.Message.TheVariants.{RevokeAndAck};
     ghost use Rattle.channel.specs.States.{after, after_sign, receive_refusal, signature_message};
-    ghost use Rattle.book.specs.Books.{with_state, with_kept, opened_by};
+    ghost use Rattle.book.specs.Books.{with_state, with_kept, opened_by, is_kept};
+    ghost use Rattle.book.specs.Knowing.{IsKnownOf};
     ghost use Rattle.book.specs.Replies.{sign_refusal, keep_refusal};
     ghost use Rattle.book.specs.Calling.{IsOpenRefusal, IsSignRefusal, IsKeepRefusal, IsFillRefusal, token_refusal, early_sign_refusal, filling_by};
     ghost use Rattle.book.specs.Signers.{rights_of, fill_refusal};
@@ -314,5 +317,12 @@ impl OpenChannel {
         self.flags[index] = true;
         self.below = first_unset(&self.flags, self.below);
         Ok(())
+    }
+
+    /// What the side knows of the channel, where these preimages came. The only error is that memory ran out.
+    pub(crate) fn known(&self, alloc: Global, preimages: Vec<[u8; 32]>) -> Result<Known, AllocError>
+        ensures { IfOk result (IsKnownOf self.now.state (is_kept self.now.kept) preimages.items) }
+    {
+        known_of(alloc, &self.channel, &self.flags, preimages)
     }
 }

@@ -1,0 +1,305 @@
+// What a side knows of its channel.
+
+ghost use Rattle.std.specs.Prelude.{◌≡◌, ◌≤◌, ◌<◌, ◌∷◌, ◌++◌, [], ℕ, None, Some, true, false, map, length, slice_get, unwrap_or, IfOk, IfSome, IsSome, OnOk};
+ghost use Rattle.std.specs.List.{cons_option};
+ghost use Rattle.channel.specs.Tokens.{contents_of, peer_tokens};
+ghost use Rattle.penalty.specs.Paying.{refusal_of as view_refusal_of};
+ghost use Rattle.resolve.specs.Known.{refusal_of};
+ghost use Rattle.resolve.specs.Numbered.{is_next};
+ghost use Rattle.book.specs.Knowing.{below, signed_parts, signed_by_peer, own_at, theirs_at, revoked_parts, revoked_by, revoked_at, preimage_in, preimage_of, preimages_in, flag_at, IsKnownOf};
+
+use crate::calls::{Call, Entry, Step};
+use channel::{Channel, CommitmentState, Tokens};
+use lists::List;
+use penalty::RevokedState;
+use resolve::{
+    Known, KnownCommitment, KnownError, RevokedCommitment, RevokedCommitments, RevokedError,
+    SignedCommitment,
+};
+use std::alloc::{AllocError, Global};
+use terms::Terms;
+use texts::OwnUpdate;
+use updates::Update;
+
+// A commitment that a channel recorded.
+fn known_commitment(
+    alloc: Global,
+    terms: &Terms,
+    state: &CommitmentState,
+) -> Result<KnownCommitment, AllocError>
+    requires { refusal_of terms.now state.now.view state.now.number ≡ None }
+    ensures { IfOk result (λ k. k ≡ contents_of terms.now state.now) }
+{
+    match KnownCommitment::new(
+        alloc,
+        terms,
+        &state.view,
+        state.owner,
+        state.number,
+        &state.point,
+    ) {
+        Ok(known) => Ok(known),
+        Err(error) => match error {
+            KnownError::NoMemory => Err(AllocError),
+            _ => unreachable!(),
+        },
+    }
+}
+
+// A commitment that a channel recorded, with the tokens of its owner's peer.
+fn signed_by(
+    alloc: Global,
+    terms: &Terms,
+    state: &CommitmentState,
+    tokens: Tokens,
+) -> Result<SignedCommitment, AllocError>
+    requires passed { refusal_of terms.now state.now.view state.now.number ≡ None }
+    requires tokens { tokens ≡ peer_tokens terms.now state.now }
+    ensures { IfOk result (λ s. signed_parts s ≡ signed_by_peer terms.now state.now) }
+{
+    let known = known_commitment(alloc, terms, state)?;
+    match SignedCommitment::new(
+        alloc,
+        terms,
+        state.owner,
+        known,
+        tokens.commitment,
+        tokens.htlcs,
+    ) {
+        Ok(signed) => Ok(signed),
+        Err(error) => match error {
+            KnownError::NoMemory => Err(AllocError),
+            _ => unreachable!(),
+        },
+    }
+}
+
+// This side's commitment of a number, with the peer's tokens.
+fn own_commitment(
+    alloc: Global,
+    channel: &Channel,
+    number: u64,
+) -> Result<SignedCommitment, AllocError>
+    requires { number ≤ channel.now.number }
+    ensures { IfOk result (λ s. Some (signed_parts s) ≡ own_at channel.now number) }
+{
+    let _last = channel.number();
+    match channel.own_commitments().get(number as usize) {
+        Some(state) => match channel.own_tokens(number) {
+            Ok(tokens) => match tokens {
+                Some(tokens) => signed_by(alloc, channel.terms(), state, tokens),
+                None => unreachable!(),
+            },
+            Err(error) => Err(error),
+        },
+        None => unreachable!(),
+    }
+}
+
+// This side's commitments before its newest, with the peer's tokens.
+#[tactic(auto, using(crate::proofs::Recorded::one_more))]
+fn older_commitments(alloc: Global, channel: &Channel) -> Result<Vec<SignedCommitment>, AllocError>
+    ensures { IfOk result (λ v. map signed_parts v.items ≡ below (own_at channel.now) channel.now.number) }
+{
+    let mut older = Vec::new(alloc);
+    for number in 0..channel.number() {
+        older.push(own_commitment(alloc, channel, number)?)?;
+    }
+    Ok(older)
+}
+
+// The peer's commitment of a number, where it was signed.
+fn peers_commitment(
+    alloc: Global,
+    channel: &Channel,
+    number: u64,
+) -> Result<Option<KnownCommitment>, AllocError>
+    ensures value { IfOk result (λ k. k ≡ theirs_at channel.now number) }
+    ensures there { IfOk result (λ k. number ≤ channel.now.peer_number → IsSome k) }
+{
+    let _last = channel.peer_number();
+    match channel.peers_commitments().get(number as usize) {
+        Some(state) => match known_commitment(alloc, channel.terms(), state) {
+            Ok(known) => Ok(Some(known)),
+            Err(error) => Err(error),
+        },
+        None => Ok(None),
+    }
+}
+
+// A commitment of the peer that this secret revokes.
+fn revoked_commitment(
+    alloc: Global,
+    channel: &Channel,
+    state: &CommitmentState,
+    secret: [u8; 32],
+    is_kept: bool,
+) -> Result<RevokedCommitment, AllocError>
+    requires { view_refusal_of channel.now.held.terms state.now.view ≡ None }
+    ensures { IfOk result (λ r. revoked_parts r ≡ revoked_by channel.now state.now secret is_kept) }
+{
+    let view = state.view.copy()?;
+    match RevokedState::new(
+        *channel.terms(),
+        view,
+        channel.side().other(),
+        state.number,
+        secret,
+    ) {
+        Ok(state) => RevokedCommitment::new(alloc, state, is_kept),
+        Err(_) => unreachable!(),
+    }
+}
+
+// Whether the penalties of a number are kept.
+fn is_kept(flags: &[bool], number: u64) -> bool
+    ensures { result ≡ flag_at flags.now number }
+{
+    match flags.get(number as usize) {
+        Some(is_kept) => *is_kept,
+        None => false,
+    }
+}
+
+// The peer's revoked commitment of a number.
+fn revoked_of(
+    alloc: Global,
+    channel: &Channel,
+    number: u64,
+    flags: &[bool],
+) -> Result<RevokedCommitment, AllocError>
+    requires { number < channel.now.peer_number }
+    ensures value { IfOk result (λ r. Some (revoked_parts r) ≡ revoked_at channel.now (flag_at flags.now) number) }
+    ensures number { IfOk result (λ r. r.state.number ≡ number) }
+{
+    let _count = channel.peer_number();
+    let is_kept = is_kept(flags, number);
+    let state = &channel.peers_commitments()[number as usize];
+    match channel.peers_secret(number) {
+        Some(secret) => revoked_commitment(alloc, channel, state, secret, is_kept),
+        None => unreachable!(),
+    }
+}
+
+// Puts the next one at the end.
+fn push_next(
+    revoked: &mut RevokedCommitments,
+    commitment: RevokedCommitment,
+) -> Result<(), AllocError>
+    requires { is_next revoked.old commitment.state.number ≡ true }
+    ensures { OnOk result (revoked.new ≡ revoked.old ++ commitment ∷ []) }
+{
+    match revoked.push(commitment) {
+        Ok(()) => Ok(()),
+        Err(error) => match error {
+            RevokedError::NoMemory => Err(AllocError),
+            _ => unreachable!(),
+        },
+    }
+}
+
+// The peer's revoked commitments, of which a flag says for each number whether its penalties are kept.
+fn revoked_commitments(
+    alloc: Global,
+    channel: &Channel,
+    flags: &[bool],
+) -> Result<RevokedCommitments, AllocError>
+    ensures { IfOk result (λ r. map revoked_parts r ≡ below (revoked_at channel.now (flag_at flags.now)) (length channel.now.secrets)) }
+{
+    let mut revoked = RevokedCommitments::new(alloc);
+    for number in 0..channel.peer_number() {
+        let commitment = revoked_of(alloc, channel, number, flags)?;
+        match push_next(&mut revoked, commitment) {
+            Ok(()) => {}
+            Err(error) => return Err(error),
+        }
+    }
+    Ok(revoked)
+}
+
+// The preimage of a fulfil, made or received.
+fn preimage_in(step: &Step) -> Option<[u8; 32]>
+    ensures { result ≡ preimage_in step.now }
+{
+    match step {
+        Step::Own(OwnUpdate::Fulfil { preimage, .. }) => Some(*preimage),
+        Step::Updated(Update::Fulfil { preimage, .. }) => Some(*preimage),
+        _ => None,
+    }
+}
+
+// The preimage of a fulfil of this channel.
+fn preimage_of(channel: u64, call: &Call) -> Option<[u8; 32]>
+    ensures { result ≡ preimage_of channel call.now }
+{
+    match call {
+        Call::Step {
+            channel: stepped,
+            step,
+        } => {
+            if *stepped == channel {
+                preimage_in(step)
+            } else {
+                None
+            }
+        }
+        _ => None,
+    }
+}
+
+// Puts one at the end, where there is one.
+fn push_some(preimages: &mut Vec<[u8; 32]>, preimage: Option<[u8; 32]>) -> Result<(), AllocError>
+    ensures { OnOk result (preimages.new.items ≡ preimages.old.items ++ cons_option preimage []) }
+{
+    if let Some(preimage) = preimage {
+        preimages.push(preimage)?;
+    }
+    Ok(())
+}
+
+/// The preimages of a channel's fulfils in these entries, in their order, each as often as it came. The only error is that memory ran out.
+pub(crate) fn preimages_in(
+    alloc: Global,
+    channel: u64,
+    entries: &[Entry],
+) -> Result<Vec<[u8; 32]>, AllocError>
+    ensures { IfOk result (λ v. v.items ≡ preimages_in channel entries.now) }
+{
+    let mut preimages = Vec::new(alloc);
+    for entry in entries {
+        push_some(&mut preimages, preimage_of(channel, &entry.call))?;
+    }
+    Ok(preimages)
+}
+
+/// What the side knows of its channel, where a flag says for each revoked commitment of the peer whether its penalties are kept, and these preimages came. The only
+/// error is that memory ran out.
+pub(crate) fn known_of(
+    alloc: Global,
+    channel: &Channel,
+    flags: &[bool],
+    preimages: Vec<[u8; 32]>,
+) -> Result<Known, AllocError>
+    ensures { IfOk result (IsKnownOf channel.now (flag_at flags.now) preimages.items) }
+{
+    let signer = channel.signer().copy()?;
+    let own = own_commitment(alloc, channel, channel.number())?;
+    let older = older_commitments(alloc, channel)?;
+    let newest = channel.peer_number();
+    let Some(theirs) = peers_commitment(alloc, channel, newest)? else {
+        unreachable!()
+    };
+    let next = peers_commitment(alloc, channel, newest + 1)?;
+    let revoked = revoked_commitments(alloc, channel, flags)?;
+    Ok(Known {
+        terms: *channel.terms(),
+        side: channel.side(),
+        signer,
+        own,
+        older: List::from_vec(older),
+        theirs,
+        next,
+        revoked,
+        preimages: List::from_vec(preimages),
+    })
+}
