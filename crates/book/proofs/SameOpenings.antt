@@ -87,7 +87,7 @@ same_batch b c h =
 
 -- ---- what the constructors answer
 
-agrees : (t : PlainTerms) → CanAgree t.capacity t.a.start t.b.start → can_agree t ≡ true
+pub agrees : (t : PlainTerms) → CanAgree t.capacity t.a.start t.b.start → can_agree t ≡ true
 agrees t h = and_from (nat_le t.capacity max_value) _ (le-leb t.capacity max_value h.limited) (eq-eqb (t.a.start + t.b.start) (MSAT_PER_SAT * t.capacity) h.whole)
 
 agreed : (t : PlainTerms) → can_agree t ≡ true → CanAgree t.capacity t.a.start t.b.start
@@ -160,6 +160,9 @@ opening_is o t r terms some parts = go (can_agree o.terms) refl terms r some par
         → IfSome r (IsOpenedBy t o.side o.seed o.first_point o.next_point o.token) → r ≡ opening_if o b h
     go true h e r some parts = let same : terms_with o.side o h ≡ t = cc in made h t same r some parts
     go false h e r some parts = absurd (cc)
+
+pub within_batch : (b : Batch) → are_within (length b.claims) (length b.outputs) ≡ true
+within_batch b = and_from _ _ (and_from _ _ (lt-ltb 0 (length b.claims) b.some) (le-leb (length b.claims) max_inputs b.inputs)) (le-leb (length b.outputs) max_outputs b.given)
 
 pub batch_is : (claims : List ClaimParts) (outputs : List Output) (preimages : List (List ℕ)) (r : Option Batch) → IsSome r ↔ CanRelease claims outputs
     → IfSome r (IsBatchOf claims outputs preimages) → r ≡ batch_of claims outputs preimages

@@ -12,7 +12,14 @@ use Rattle.texts.specs.declared.agreement.PlainParty.{PlainParty}
 use Rattle.texts.specs.declared.agreement.PlainTerms.{PlainTerms}
 use Rattle.texts.specs.declared.steps.PlainSignature.{PlainSignature}
 use Rattle.texts.specs.declared.steps.PlainRevocation.{PlainRevocation}
+use Rattle.texts.specs.declared.steps.PlainReceived.TheVariants.{Updated as UpdateMessage, Signed as SignatureMessage}
+use Rattle.texts.specs.declared.steps.PlainStep.{PlainStep}
+use Rattle.texts.specs.declared.steps.PlainStep.TheVariants.{Own as OwnStep, Receive}
 use Rattle.texts.specs.declared.calls.PlainOpening.{PlainOpening}
+use Rattle.texts.specs.declared.calls.PlainCall.{PlainCall}
+use Rattle.texts.specs.declared.calls.PlainCall.TheVariants as plain
+use Rattle.texts.specs.declared.calls.PlainEntry.{PlainEntry}
+use Rattle.texts.specs.ClaimWriting.{plain_claim}
 use Rattle.texts.specs.Writing.{update_data}
 use Rattle.texts.specs.CallWriting.{signature_data, open_data, own_data, receive_data, sign_data, revoke_data, keep_data, release_data, entry_data, dump_data}
 use Rattle.book.specs.declared.calls.Opening.{Opening}
@@ -46,6 +53,25 @@ plain_tokens t = record { commitment = t.commitment; htlcs = t.htlcs }
 
 abbrev pub plain_revocation : List ℕ → Key → PlainRevocation
 plain_revocation secret next_point = record { secret = secret; next_point = next_point }
+
+abbrev pub plain_step : Step → PlainStep
+plain_step (Own u) = OwnStep u
+plain_step (Updated u) = Receive (UpdateMessage u)
+plain_step (Signed tokens) = Receive (SignatureMessage (plain_tokens tokens))
+
+-- a call, of claims with their scripts in place of their paths
+abbrev pub plain_call : Call → PlainCall
+plain_call (Open o) = plain.Open (plain_opening o)
+plain_call (Stepping channel step) = plain.Step channel (plain_step step)
+plain_call (Sign channel) = plain.Sign channel
+plain_call (Revoke channel secret next_point) = plain.Revoke channel (plain_revocation secret next_point)
+plain_call (Keep channel number claims) = plain.Keep channel number (map plain_claim claims)
+plain_call (Release channel batch) = plain.Release channel (map plain_claim batch.claims) batch.outputs batch.preimages
+
+abbrev pub plain_entry : Entry → PlainEntry
+plain_entry e = record { call = plain_call e.call; seat = e.seat }
+
+-- ---- the forms that are written
 
 abbrev pub step_data : ℕ → Step → Data
 step_data channel (Own u) = own_data channel u

@@ -2,6 +2,7 @@
 
 ghost use Rattle.book.specs.Accepted.{AcceptedMeans};
 ghost use Rattle.book.specs.Guarding.{AcceptedIsGuarded, GuardedMeans};
+ghost use Rattle.book.specs.Again.{ClaimsComeBack, OpeningsComeBack, EntriesComeBack, DumpsComeBack};
 ghost use Rattle.book.specs.Penalties.{PenaltySetsAreExact};
 ghost use Rattle.book.specs.Releasing.{KeptAreFillable};
 ghost use Rattle.book.specs.Signers.{RightsAreTested, RefusalsAreFound};
@@ -37,4 +38,13 @@ pub fn penalty_sets_are_exact()
 /// After any history, no slot of claims that a channel's kept sets have, one by one or together, lacks a right or a preimage: so a release of kept claims is never refused with NoRight.
 pub fn kept_are_fillable()
     ensures { KeptAreFillable }
+{}
+
+/// An accepted claim, an opening and an entry are taken again from their plain forms as the same; and a text that is read as the form of a history of accepted entries is loaded as that
+/// history.
+pub fn what_is_dumped_is_loaded()
+    ensures claims { ClaimsComeBack }
+    ensures openings { OpeningsComeBack }
+    ensures entries { EntriesComeBack }
+    ensures dumps { DumpsComeBack }
 {}

@@ -17,12 +17,15 @@ pub mod history;
 mod judging;
 pub mod laws;
 mod limits;
+#[cfg(test)]
+mod load_tests;
 pub mod loading;
 pub mod matching;
 mod open_channel;
 mod openings;
 mod reading;
 mod releasing;
+mod replaying;
 
 pub use calls::{Batch, Call, Entry, Opening, Step};
 pub use history::Book;

@@ -1,0 +1,241 @@
+//! A book from the dump of its history, and back.
+
+ghost use Rattle.std.specs.Prelude.{◌≡◌, [], ◌∷◌};
+ghost use Rattle.channel.specs.Tokens.{peer_tokens};
+ghost use Rattle.book.specs.Loaded.{Loads, fault_at, history_after_plain};
+ghost use Rattle.book.specs.Entering.{IsStop, by_seat, Enters, TakesOne};
+
+use crate::calls::{Batch, Call, Entry, Opening, Step};
+use crate::dumping::dump;
+use crate::errors::{
+    EntryError, KeepError, LoadError, OpenError, ReleaseError, SignError, StepError,
+};
+use crate::history::Book;
+use crate::loading::entry_of;
+use crate::reading::dump_in;
+use claim::Claim;
+use filling::FillError;
+use keys::Key;
+use lists::List;
+use std::alloc::{AllocError, Global};
+use texts::PlainEntry;
+use updates::Refusal;
+
+// Why an entry is not put into a book.
+#[derive(Clone, Copy, Debug, PartialEq, Eq, Drop)]
+enum Stop {
+    NoMemory,
+    Refused,
+}
+
+fn stop_of_open(error: &OpenError) -> Stop
+    ensures { IsStop OpenError.NoMemory error.now result }
+{
+    match error {
+        OpenError::NoMemory => Stop::NoMemory,
+        _ => Stop::Refused,
+    }
+}
+
+fn stop_of_step(error: &StepError) -> Stop
+    ensures { IsStop (StepError.Refused Refusal.NoMemory) error.now result }
+{
+    match error {
+        StepError::Refused(refusal) => match refusal {
+            Refusal::NoMemory => Stop::NoMemory,
+            _ => Stop::Refused,
+        },
+        StepError::NoSuchChannel => Stop::Refused,
+    }
+}
+
+fn stop_of_sign(error: &SignError) -> Stop
+    ensures { IsStop SignError.NoMemory error.now result }
+{
+    match error {
+        SignError::NoMemory => Stop::NoMemory,
+        _ => Stop::Refused,
+    }
+}
+
+fn stop_of_keep(error: &KeepError) -> Stop
+    ensures { IsStop KeepError.NoMemory error.now result }
+{
+    match error {
+        KeepError::NoMemory => Stop::NoMemory,
+        _ => Stop::Refused,
+    }
+}
+
+fn stop_of_release(error: &ReleaseError) -> Stop
+    ensures { IsStop (ReleaseError.Unfilled FillError.NoMemory) error.now result }
+{
+    match error {
+        ReleaseError::Unfilled(refusal) => match refusal {
+            FillError::NoMemory => Stop::NoMemory,
+            _ => Stop::Refused,
+        },
+        ReleaseError::NoSuchChannel => Stop::Refused,
+    }
+}
+
+fn enter_open(book: &mut Book, seat: u32, opening: Opening) -> Result<(), Stop>
+    ensures { Enters result book.old book.new (by_seat seat (Call.Open opening)) }
+{
+    match book.open(seat, opening) {
+        Ok(_) => Ok(()),
+        Err(error) => Err(stop_of_open(&error)),
+    }
+}
+
+fn enter_step(book: &mut Book, seat: u32, channel: u64, step: Step) -> Result<(), Stop>
+    ensures { Enters result book.old book.new (by_seat seat (Call.Step channel step)) }
+{
+    match book.step(seat, channel, step) {
+        Ok(_) => Ok(()),
+        Err(error) => Err(stop_of_step(&error)),
+    }
+}
+
+fn enter_sign(book: &mut Book, seat: u32, channel: u64) -> Result<(), Stop>
+    ensures { Enters result book.old book.new (by_seat seat (Call.Sign channel)) }
+{
+    match book.sign(seat, channel) {
+        Ok(_) => Ok(()),
+        Err(error) => Err(stop_of_sign(&error)),
+    }
+}
+
+fn enter_revoke(
+    book: &mut Book,
+    seat: u32,
+    channel: u64,
+    secret: [u8; 32],
+    next_point: Key,
+) -> Result<(), Stop>
+    ensures { Enters result book.old book.new (by_seat seat (Call.Revoke channel secret next_point)) }
+{
+    match book.revoke(seat, channel, secret, next_point) {
+        Ok(_) => Ok(()),
+        Err(error) => Err(stop_of_step(&error)),
+    }
+}
+
+fn enter_keep(
+    book: &mut Book,
+    seat: u32,
+    channel: u64,
+    number: u64,
+    claims: List<Claim>,
+) -> Result<(), Stop>
+    ensures { Enters result book.old book.new (by_seat seat (Call.Keep channel number claims)) }
+{
+    match book.keep(seat, channel, number, claims) {
+        Ok(()) => Ok(()),
+        Err(error) => Err(stop_of_keep(&error)),
+    }
+}
+
+fn enter_release(book: &mut Book, seat: u32, channel: u64, batch: Batch) -> Result<(), Stop>
+    ensures { Enters result book.old book.new (by_seat seat (Call.Release channel batch)) }
+{
+    match book.release(seat, channel, batch) {
+        Ok(_) => Ok(()),
+        Err(error) => Err(stop_of_release(&error)),
+    }
+}
+
+// Puts an entry into a book.
+fn enter(book: &mut Book, entry: Entry) -> Result<(), Stop>
+    ensures { Enters result book.old book.new entry }
+{
+    let Entry { seat, call } = entry;
+    match call {
+        Call::Open(opening) => enter_open(book, seat, opening),
+        Call::Step { channel, step } => enter_step(book, seat, channel, step),
+        Call::Sign { channel } => enter_sign(book, seat, channel),
+        Call::Revoke {
+            channel,
+            secret,
+            next_point,
+        } => enter_revoke(book, seat, channel, secret, next_point),
+        Call::Keep {
+            channel,
+            number,
+            claims,
+        } => enter_keep(book, seat, channel, number, claims),
+        Call::Release { channel, batch } => enter_release(book, seat, channel, batch),
+    }
+}
+
+// The refusal of an entry at an index.
+fn fault_at(index: usize, error: EntryError) -> LoadError
+    ensures { result ≡ fault_at index error }
+{
+    match error {
+        EntryError::NoMemory => LoadError::NoMemory,
+        EntryError::BadShape => LoadError::BadShape,
+        EntryError::BadClaim => LoadError::BadClaim(index),
+    }
+}
+
+// Puts the entry that a plain one stands for into a book, behind those that it has.
+fn take_one(alloc: Global, book: &mut Book, plain: PlainEntry) -> Result<(), LoadError>
+    ensures { TakesOne result book.old book.new plain }
+{
+    let index = book.entries().len();
+    let entry = match entry_of(alloc, plain) {
+        Ok(entry) => entry,
+        Err(error) => return Err(fault_at(index, error)),
+    };
+    match enter(book, entry) {
+        Ok(()) => Ok(()),
+        Err(stop) => match stop {
+            Stop::NoMemory => Err(LoadError::NoMemory),
+            Stop::Refused => Err(LoadError::BadHistory(index)),
+        },
+    }
+}
+
+// The book of plain entries, the oldest first.
+fn book_of(alloc: Global, history: List<PlainEntry>) -> Result<Book, LoadError>
+    ensures { Loads result (history_after_plain peer_tokens 0 [] history) }
+{
+    let mut book = Book::new(alloc);
+    for plain in history.into_vec() {
+        match take_one(alloc, &mut book, plain) {
+            Ok(()) => {}
+            Err(error) => return Err(error),
+        }
+    }
+    Ok(book)
+}
+
+impl Book {
+    ghost use Rattle.std.specs.Prelude.{◌≡◌, Some, IfOk, string_bytes};
+    ghost use Rattle.serde_json.specs.Read.{read};
+    ghost use Rattle.channel.specs.Tokens.{peer_tokens};
+    ghost use Rattle.book.specs.Dumping.{dump_of, history_data};
+    ghost use Rattle.book.specs.Loaded.{Loads, loaded};
+
+    /// The dump of the book's history. The only error is that memory ran out.
+    pub fn dump(&self, alloc: Global) -> Result<String, AllocError>
+        ensures text { IfOk result (λ text. string_bytes text ≡ dump_of self.now) }
+        ensures reads { IfOk result (λ text. read (string_bytes text) ≡ Some (history_data self.now)) }
+    {
+        dump(alloc, self.entries())
+    }
+
+    /// The book of a dump, of version 1 or 2: its calls are made again, and each claim is accepted anew. Refused are, in this order, a text that is no JSON
+    /// (`NotJson`), a value that is no dump (`BadShape`), and the first entry that is not taken: an entry's claims come first (`BadClaim`), then its call
+    /// (`BadHistory`).
+    #[tactic(auto, unfolding(crate::specs::Loaded::loaded))]
+    pub fn load(alloc: Global, text: &str) -> Result<Book, LoadError>
+        ensures { Loads result (loaded peer_tokens text.now) }
+    {
+        match dump_in(alloc, text) {
+            Ok(dump) => book_of(alloc, dump.history),
+            Err(error) => Err(error),
+        }
+    }
+}
