@@ -1,5 +1,5 @@
 -- What a call makes of a history, and of what a book keeps beside it.
-use Rattle.std.proofs.Common.{◌≡◌, ℕ, zero, suc, ◌<◌, ◌||◌, ◌&&◌, if◌then◌else◌, Bool, true, false, true≢false, List, [], ◌∷◌, ◌++◌, length, reverse, set, cond, Option, Some, None, Result, Ok, Err, refl, sym, ap, ◌∙◌, subst, arith, inl, inr}
+use Rattle.std.proofs.Common.{◌≡◌, ℕ, zero, suc, ◌<◌, ◌||◌, Bool, true, false, List, [], ◌∷◌, ◌++◌, length, set, cond, Option, Some, None, Result, Ok, Err, refl, sym, ap, ◌∙◌, arith, inl, inr}
 use Rattle.std.specs.Prelude.{slice_get, is_ok, nat_le}
 use Rattle.std.specs.Ordering.{is_eq}
 use Rattle.book.specs.declared.limits.TheConstants.{MAX_CHANNELS}
@@ -9,7 +9,7 @@ use Rattle.book.specs.Signers.{rights_of, fill_refusal}
 use Rattle.book.specs.declared.calls.Batch.{Batch}
 use Rattle.book.specs.declared.calls.Opening.{Opening}
 use Rattle.book.proofs.Fundings.{funded}
-use Rattle.std.specs.List.{cons_option, list_any}
+use Rattle.std.specs.List.{cons_option}
 use Rattle.std.proofs.lemmas.Bool.{and_from}
 use Rattle.std.proofs.lemmas.Bool.Decides.{nat_tests}
 use Rattle.std.proofs.lemmas.List.{reverse-append}
@@ -31,7 +31,7 @@ use Rattle.book.specs.Penalties.{same_outpoint}
 use Rattle.book.specs.Books.{ChannelBook, Channels, at_index, stepped as state_stepped, with_state, with_kept, opened_by, channels_after, replayed, replay}
 use Rattle.book.specs.Replies.{Reply, opened, stepped, signed, revoked, kept, released, is_accepted, answer_of, reply_of, extended, step_refusal, messages_of, sign_refusal, keep_refusal}
 use Rattle.book.specs.Accepted.{all_accepted}
-use Rattle.book.specs.Kept.{outpoint_cmp, is_funding, IsKeeping}
+use Rattle.book.specs.Kept.{outpoint_cmp, is_funding, AreLeft}
 use Rattle.book.specs.Calling.{IsCall, IsOpenRefusal, token_refusal, filling_by}
 use Rattle.book.proofs.Accepted.{one_more}
 
@@ -47,8 +47,8 @@ taken history new chs seat call reply no_memory left answer ok is = inr (sym sam
     same = ap (λ cs. answer_of peer_tokens cs call) (sym left) ∙ answer
 
 -- what is kept after it
-pub keeping : (history new : List Entry) (chs chs' : Channels) (funds funds' : OutPoint → Bool) (seat : ℕ) (call : Call) (reply : Reply) → IsKeeping history chs funds → answer_of peer_tokens chs call ≡ reply → is_accepted reply ≡ true
-    → new ≡ history ++ entry seat call ∷ [] → chs' ≡ channels_after call chs → ((o : OutPoint) → funds' o ≡ is_funding chs' o) → IsKeeping new chs' funds'
+pub keeping : (history new : List Entry) (chs chs' : Channels) (funds funds' : OutPoint → Bool) (seat : ℕ) (call : Call) (reply : Reply) → AreLeft history chs funds → answer_of peer_tokens chs call ≡ reply → is_accepted reply ≡ true
+    → new ≡ history ++ entry seat call ∷ [] → chs' ≡ channels_after call chs → ((o : OutPoint) → funds' o ≡ is_funding chs' o) → AreLeft new chs' funds'
 keeping history new chs chs' funds funds' seat call reply k answer ok is after fundings = record {
   accepted = ap (all_accepted peer_tokens) is ∙ one_more peer_tokens history (entry seat call) ∙ and_from _ _ accepted k.accepted;
   left = after ∙ ap (channels_after call) k.left ∙ sym (ap replay is ∙ ap replayed (reverse-append history (entry seat call ∷ [])));
@@ -74,8 +74,8 @@ unmoved f same (suc c) (ch ∷ chs) o = ap (λ b. same_outpoint ch.state.held.te
 -- what is kept after an accepted call that writes one channel
 pub keeping_at : (f : ChannelBook → ChannelBook) → ((ch : ChannelBook) → (f ch).state.held.terms ≡ ch.state.held.terms)
     → (history new : List Entry) (chs : Channels) (funds : OutPoint → Bool) (seat : ℕ) (call : Call) (reply : Reply) (c : ℕ) (x y : ChannelBook) → channels_after call chs ≡ at_index f c chs
-    → IsKeeping history chs funds → answer_of peer_tokens chs call ≡ reply → is_accepted reply ≡ true
-    → new ≡ history ++ entry seat call ∷ [] → slice_get chs c ≡ Some x → y ≡ f x → IsKeeping new (set chs c y) funds
+    → AreLeft history chs funds → answer_of peer_tokens chs call ≡ reply → is_accepted reply ≡ true
+    → new ≡ history ++ entry seat call ∷ [] → slice_get chs c ≡ Some x → y ≡ f x → AreLeft new (set chs c y) funds
 keeping_at f same history new chs funds seat call reply c x y after k answer ok is found e =
     let w = written f c chs x y found e in
     keeping history new chs (set chs c y) funds funds seat call reply k answer ok is (w ∙ sym after) (λ o. k.fundings o ∙ unmoved f same c chs o ∙ ap (λ cs. is_funding cs o) (sym w))
@@ -110,9 +110,9 @@ grown (Err y) x items before history e f ok is same named = absurd cc
 
 pub record IsDone (no_memory reply : Reply) (history new : List Entry) (chs' : Channels) (funds' : OutPoint → Bool) (seat : ℕ) (call : Call) : Type 0 where
   pub called : IsCall no_memory reply history new seat call
-  pub keeps : IsKeeping new chs' funds'
+  pub keeps : AreLeft new chs' funds'
 
-pub step_done : (history new : List Entry) (chs : Channels) (funds : OutPoint → Bool) (seat c : ℕ) (x y : ChannelBook) (step : Step) (m : Option Message) (no_memory : Reply) → IsKeeping history chs funds
+pub step_done : (history new : List Entry) (chs : Channels) (funds : OutPoint → Bool) (seat c : ℕ) (x y : ChannelBook) (step : Step) (m : Option Message) (no_memory : Reply) → AreLeft history chs funds
     → slice_get chs c ≡ Some x → step_refusal peer_tokens x.state step ≡ None → cons_option m [] ≡ messages_of x.state step → y ≡ with_state (state_stepped step) x
     → new ≡ history ++ entry seat (Stepping c step) ∷ [] → IsDone no_memory (stepped (Ok (cons_option m []))) history new (set chs c y) funds seat (Stepping c step)
 step_done history new chs funds seat c x y step m no_memory k found none message written_as is =
@@ -122,7 +122,7 @@ step_done history new chs funds seat c x y step m no_memory k found none message
       keeps = keeping_at (with_state (state_stepped step)) (step_leaves_terms step) history new chs funds seat (Stepping c step) (stepped (Ok (cons_option m []))) c x y refl k answer refl is found written_as;
     }
 
-pub revoke_done : (history new : List Entry) (chs : Channels) (funds : OutPoint → Bool) (seat c : ℕ) (x y : ChannelBook) (secret : List ℕ) (next_point : Key) (n : ℕ) (no_memory : Reply) → IsKeeping history chs funds
+pub revoke_done : (history new : List Entry) (chs : Channels) (funds : OutPoint → Bool) (seat c : ℕ) (x y : ChannelBook) (secret : List ℕ) (next_point : Key) (n : ℕ) (no_memory : Reply) → AreLeft history chs funds
     → slice_get chs c ≡ Some x → receive_refusal peer_tokens x.state (RevokeAndAck secret next_point) ≡ None → n ≡ length x.state.secrets → y ≡ with_state (λ s. after s (RevokeAndAck secret next_point)) x
     → new ≡ history ++ entry seat (Revoke c secret next_point) ∷ [] → IsDone no_memory (revoked (Ok n)) history new (set chs c y) funds seat (Revoke c secret next_point)
 revoke_done history new chs funds seat c x y secret next_point n no_memory k found none number written_as is =
@@ -132,7 +132,7 @@ revoke_done history new chs funds seat c x y secret next_point n no_memory k fou
       keeps = keeping_at (with_state (λ s. after s (RevokeAndAck secret next_point))) (λ ch. refl) history new chs funds seat (Revoke c secret next_point) (revoked (Ok n)) c x y refl k answer refl is found written_as;
     }
 
-pub sign_done : (history new : List Entry) (chs : Channels) (funds : OutPoint → Bool) (seat c : ℕ) (x y : ChannelBook) (m : Message) (no_memory : Reply) → IsKeeping history chs funds
+pub sign_done : (history new : List Entry) (chs : Channels) (funds : OutPoint → Bool) (seat c : ℕ) (x y : ChannelBook) (m : Message) (no_memory : Reply) → AreLeft history chs funds
     → slice_get chs c ≡ Some x → sign_refusal x ≡ None → m ≡ signature_message peer_tokens x.state → y ≡ with_state after_sign x
     → new ≡ history ++ entry seat (Sign c) ∷ [] → IsDone no_memory (signed (Ok m)) history new (set chs c y) funds seat (Sign c)
 sign_done history new chs funds seat c x y m no_memory k found none message written_as is =
@@ -142,7 +142,7 @@ sign_done history new chs funds seat c x y m no_memory k found none message writ
       keeps = keeping_at (with_state after_sign) (λ ch. refl) history new chs funds seat (Sign c) (signed (Ok m)) c x y refl k answer refl is found written_as;
     }
 
-pub open_done : (history new : List Entry) (chs chs' : Channels) (funds funds' : OutPoint → Bool) (seat n : ℕ) (o : Opening) (no_memory : Reply) → IsKeeping history chs funds
+pub open_done : (history new : List Entry) (chs chs' : Channels) (funds funds' : OutPoint → Bool) (seat n : ℕ) (o : Opening) (no_memory : Reply) → AreLeft history chs funds
     → nat_le MAX_CHANNELS (length chs) ≡ false → funds o.terms.funding ≡ false → token_refusal o ≡ None → n ≡ length chs → chs' ≡ chs ++ opened_by o ∷ []
     → ((q : OutPoint) → funds' q ≡ cond (is_eq (outpoint_cmp o.terms.funding q)) true (funds q)) → new ≡ history ++ entry seat (Open o) ∷ []
     → IsDone no_memory (opened (Ok n)) history new chs' funds' seat (Open o)
@@ -166,13 +166,13 @@ refused history chs seat call reply no_memory left answer rejected = inr (sym sa
 pub no_room : (m n : ℕ) → n < m → nat_le m n ≡ false
 no_room m n less = grind (arith, nat_tests)
 
-pub same_funding : (history : List Entry) (chs : Channels) (funds : OutPoint → Bool) (seat : ℕ) (o : Opening) (no_memory : Reply) → IsKeeping history chs funds
+pub same_funding : (history : List Entry) (chs : Channels) (funds : OutPoint → Bool) (seat : ℕ) (o : Opening) (no_memory : Reply) → AreLeft history chs funds
     → nat_le MAX_CHANNELS (length chs) ≡ false → funds o.terms.funding ≡ true → IsCall no_memory (opened (Err SameFunding)) history history seat (Open o)
 same_funding history chs funds seat o no_memory k room found =
     let there : is_funding chs o.terms.funding ≡ true = sym (k.fundings o.terms.funding) ∙ found in
     refused history chs seat (Open o) (opened (Err SameFunding)) no_memory k.left (rw (room, there) refl) refl
 
-pub no_token : (history : List Entry) (chs : Channels) (funds : OutPoint → Bool) (seat : ℕ) (o : Opening) (e : OpenError) → IsKeeping history chs funds
+pub no_token : (history : List Entry) (chs : Channels) (funds : OutPoint → Bool) (seat : ℕ) (o : Opening) (e : OpenError) → AreLeft history chs funds
     → nat_le MAX_CHANNELS (length chs) ≡ false → funds o.terms.funding ≡ false → IsOpenRefusal (token_refusal o) e → IsCall (opened (Err out_of_memory)) (opened (Err e)) history history seat (Open o)
 no_token history chs funds seat o e k room new h = by e h
   where
@@ -188,7 +188,7 @@ no_token history chs funds seat o e k room new h = by e h
     by SameFunding is = first SameFunding is
     by BadSignature is = first BadSignature is
 
-pub release_done : (history new : List Entry) (chs : Channels) (funds : OutPoint → Bool) (seat c : ℕ) (x : ChannelBook) (b : Batch) (f : Filling) (no_memory : Reply) → IsKeeping history chs funds
+pub release_done : (history new : List Entry) (chs : Channels) (funds : OutPoint → Bool) (seat c : ℕ) (x : ChannelBook) (b : Batch) (f : Filling) (no_memory : Reply) → AreLeft history chs funds
     → slice_get chs c ≡ Some x → fill_refusal b.claims b.outputs (rights_of x.state) b.preimages ≡ None → f ≡ filling_by b
     → new ≡ history ++ entry seat (Release c b) ∷ [] → IsDone no_memory (released (Ok f)) history new chs funds seat (Release c b)
 release_done history new chs funds seat c x b f no_memory k found none filled is =
@@ -198,7 +198,7 @@ release_done history new chs funds seat c x b f no_memory k found none filled is
       keeps = keeping history new chs chs funds funds seat (Release c b) (released (Ok f)) k answer refl is refl k.fundings;
     }
 
-pub keep_done : (history new : List Entry) (chs : Channels) (funds : OutPoint → Bool) (seat c n : ℕ) (x y : ChannelBook) (claims : List ClaimParts) (no_memory : Reply) → IsKeeping history chs funds
+pub keep_done : (history new : List Entry) (chs : Channels) (funds : OutPoint → Bool) (seat c n : ℕ) (x y : ChannelBook) (claims : List ClaimParts) (no_memory : Reply) → AreLeft history chs funds
     → slice_get chs c ≡ Some x → keep_refusal x n claims ≡ None → y ≡ with_kept n x
     → new ≡ history ++ entry seat (Keep c n claims) ∷ [] → IsDone no_memory (kept (Ok tt)) history new (set chs c y) funds seat (Keep c n claims)
 keep_done history new chs funds seat c n x y claims no_memory k found none written_as is =

@@ -1,5 +1,5 @@
 -- What the flags beside a channel say of a call that keeps penalties.
-use Rattle.std.proofs.Common.{◌≡◌, ℕ, ◌+◌, ◌*◌, ◌<◌, ◌≤◌, ◌==◌, Bool, true, false, List, [], ◌∷◌, ◌++◌, length, Option, Some, None, refl, sym, ap, ◌∙◌, subst, arith, set, ⊎_elim}
+use Rattle.std.proofs.Common.{◌≡◌, ℕ, ◌+◌, ◌*◌, ◌<◌, ◌≤◌, ◌==◌, Bool, true, false, List, [], ◌∷◌, ◌++◌, length, Some, None, refl, sym, ◌∙◌, subst, arith, set, ⊎_elim}
 use Rattle.std.specs.Prelude.{slice_get, nat_lt}
 use Rattle.std.proofs.lemmas.Bool.{cases_lt, and_from, eq-eqb}
 use Rattle.std.proofs.lemmas.Bool.Decides.{nat_tests}
@@ -21,7 +21,7 @@ use Rattle.channel.specs.declared.commitments.CommitmentState.{CommitmentState}
 use Rattle.channel.specs.States.{State}
 use Rattle.book.specs.declared.errors.KeepError.TheVariants.{NotRevoked, AlreadyKept, OtherState}
 use Rattle.book.specs.Penalties.{claimable_in, are_claims_on, is_penalty_set}
-use Rattle.book.specs.Books.{ChannelBook, is_kept, with_kept}
+use Rattle.book.specs.Books.{ChannelBook, is_kept}
 use Rattle.book.specs.Replies.{keep_refusal}
 use Rattle.book.specs.Kept.{AreFlags, IsBeside}
 use Rattle.book.proofs.Numbered.{kept_one}

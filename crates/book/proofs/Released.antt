@@ -1,5 +1,5 @@
 -- What a signer's rights say of a release.
-use Rattle.std.proofs.Common.{◌≡◌, ◌↔◌, ℕ, if◌then◌else◌, Bool, true, false, List, [], ◌∷◌, map, Option, Some, None, Result, Ok, Err, refl, sym, ap, ◌∙◌, inl, inr, ◌⊎◌}
+use Rattle.std.proofs.Common.{◌≡◌, ◌↔◌, ℕ, if◌then◌else◌, Bool, true, false, List, [], ◌∷◌, Option, Some, None, Result, Ok, Err, refl, sym, ap, ◌∙◌, inl, inr, ◌⊎◌}
 use Rattle.std.specs.Prelude.{MatchResult, IfOk}
 use Rattle.tx.specs.Parts.{Output}
 use Rattle.keys.specs.Rights.{Rights, MaySign}

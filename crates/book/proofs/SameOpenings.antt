@@ -1,7 +1,6 @@
 -- Keys, terms, openings and batches are what their parts are: what their types keep beside has one proof.
-use Rattle.std.proofs.Common.{◌≡◌, ◌≤◌, ℕ, ◌+◌, ◌*◌, Bool, true, false, true≢false, List, length, Option, Some, None, Result, Ok, Err, refl, sym, ap, ◌∙◌, arith, subst}
-use Rattle.std.specs.Prelude.{◌↔◌, ◌==◌, ◌&&◌, nat_le, nat_lt, IsTrue, IsOk, IfOk, IsSome, IfSome}
-use Rattle.std.specs.Result.{result_ok}
+use Rattle.std.proofs.Common.{◌≡◌, ◌≤◌, ℕ, ◌+◌, ◌*◌, Bool, true, false, true≢false, List, length, Option, Some, None, refl, sym, ap, ◌∙◌, subst}
+use Rattle.std.specs.Prelude.{◌↔◌, ◌==◌, ◌&&◌, nat_le, nat_lt, IsTrue, IsSome, IfSome}
 use Rattle.std.proofs.lemmas.Bool.{and_from, and_parts, le-leb, leb-true, lt-ltb, ltb-true, eq-eqb, eqb-true}
 use Rattle.std.proofs.Math.Bridge.{le_prop}
 use Rattle.std.proofs.Math.Nat.{ℕ_set}
@@ -11,7 +10,6 @@ use mathlib.Core.List.{is_set as list_set}
 use Rattle.script.specs.Token.{is_key}
 use Rattle.tx.specs.Limits.{max_value, max_inputs, max_outputs}
 use Rattle.tx.specs.Parts.{Output}
-use Rattle.tx.specs.declared.input.OutPoint.{OutPoint}
 use Rattle.keys.specs.declared.compressed.Key.{Key}
 use Rattle.terms.specs.declared.amounts.TheConstants.{MSAT_PER_SAT}
 use Rattle.terms.specs.declared.sides.Side.{Side}
@@ -20,7 +18,6 @@ use Rattle.texts.specs.declared.agreement.PlainParty.{PlainParty}
 use Rattle.terms.specs.declared.agreement.BaseKeys.{BaseKeys}
 use Rattle.terms.specs.declared.agreement.Party.{Party}
 use Rattle.terms.specs.declared.agreement.Terms.{Terms}
-use Rattle.terms.specs.declared.errors.TermsError.{TermsError}
 use Rattle.terms.specs.Agreement.{CanAgree, HasFields, party}
 use Rattle.claim.specs.Claims.{ClaimParts}
 use Rattle.texts.specs.declared.calls.PlainOpening.{PlainOpening}

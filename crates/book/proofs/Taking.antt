@@ -1,5 +1,5 @@
 -- What `parse`, `check` and `accept` answer, and what the definition of a claim says.
-use Rattle.std.proofs.Common.{◌≡◌, ℕ, ◌≤◌, List, [], ◌∷◌, ◌++◌, length, Bool, true, false, Option, Some, None, Result, Ok, Err, refl, sym, ap, ◌∙◌, subst, append_assoc, append-nil}
+use Rattle.std.proofs.Common.{◌≡◌, ℕ, List, [], ◌∷◌, ◌++◌, true, Option, Some, None, Result, Ok, Err, refl, sym, ap, ◌∙◌, subst, append_assoc, append-nil}
 use Rattle.std.specs.Prelude.{is_ok, IsTrue}
 use Rattle.script.specs.declared.opcode.Op.{Op}
 use Rattle.script.specs.declared.parse.ParseError.{ParseError}

@@ -1,5 +1,5 @@
 -- The form of a history has no number with a fraction, and its values stand eight deep at most.
-use Rattle.std.proofs.Common.{◌≡◌, ℕ, suc, ◌≤◌, max, Bool, true, false, List, [], ◌∷◌, map, Some, Result, Ok, Err, refl, sym, ap, ◌∙◌, subst, arith}
+use Rattle.std.proofs.Common.{◌≡◌, ℕ, suc, ◌≤◌, max, false, List, [], ◌∷◌, map, Some, Result, Ok, Err, refl, sym, ap, ◌∙◌, subst, arith}
 use Rattle.std.specs.Prelude.{IfOk}
 use Rattle.serde_json.specs.Data.{Data, depth, items_depth}
 use Rattle.serde_json.specs.View.{items_of}
@@ -20,13 +20,12 @@ use Rattle.texts.specs.declared.steps.OwnUpdate.TheVariants.{Offer, Fulfil, Fail
 use Rattle.texts.specs.Writing.{bytes_data, side_data, terms_data, output_data, add_data, update_data}
 use Rattle.texts.specs.ClaimWriting.{outpoint_data, slot_data, shell_data, claim_data}
 use Rattle.texts.specs.CallWriting.{signature_data, revocation_data, open_data, own_data, receive_data, sign_data, revoke_data, keep_data, release_data, entry_data, dump_data}
-use Rattle.book.specs.declared.calls.Opening.{Opening}
 use Rattle.book.specs.declared.calls.Step.{Step}
 use Rattle.book.specs.declared.calls.Step.TheVariants.{Own, Updated, Signed}
 use Rattle.book.specs.declared.calls.Call.{Call}
 use Rattle.book.specs.declared.calls.Call.TheVariants.{Open, Step as Stepping, Sign, Revoke, Keep, Release}
 use Rattle.book.specs.declared.calls.Entry.{Entry}
-use Rattle.book.specs.Dumping.{plain_opening, plain_tokens, plain_revocation, step_data, call_data, history_entry_data, history_data, dump_of}
+use Rattle.book.specs.Dumping.{step_data, call_data, history_entry_data, history_data, dump_of}
 
 -- ---- no floats
 

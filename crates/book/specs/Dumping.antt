@@ -1,5 +1,5 @@
 -- The dump of a history: its calls in plain forms, and the text that has them.
-use Rattle.std.specs.Prelude.{ℕ, List, [], ◌∷◌, map}
+use Rattle.std.specs.Prelude.{ℕ, List, map}
 use Rattle.serde_json.specs.Data.{Data}
 use Rattle.serde_json.specs.Written.{compact_text}
 use Rattle.keys.specs.declared.compressed.Key.{Key}

@@ -32,7 +32,7 @@ abbrev pub is_funding : Channels → OutPoint → Bool
 is_funding chs o = list_any (λ ch. same_outpoint ch.state.held.terms.funding o) chs
 
 -- the channels are those that an accepted history leaves, and the funding outputs are theirs
-pub record IsKeeping (history : List Entry) (chs : Channels) (funds : OutPoint → Bool) : Type 0 where
+pub record AreLeft (history : List Entry) (chs : Channels) (funds : OutPoint → Bool) : Type 0 where
   pub accepted : all_accepted peer_tokens history ≡ true
   pub left : chs ≡ replay history
   pub fundings : (o : OutPoint) → funds o ≡ is_funding chs o

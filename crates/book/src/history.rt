@@ -30,13 +30,13 @@ impl Model for Book {
     ghost use Rattle.std.specs.Prelude.{List as Values};
     ghost use Rattle.std.specs.BTreeSet.{contains};
     ghost use Rattle.book.specs.declared.calls.Entry.{Entry as HistoryEntry};
-    ghost use Rattle.book.specs.Kept.{outpoint_cmp, IsKeeping};
+    ghost use Rattle.book.specs.Kept.{outpoint_cmp, AreLeft};
 
     ghost Value = { Values HistoryEntry };
 
     ghost view = { λ b. b.entries.items };
 
-    ghost invariant = { λ b. IsKeeping b.entries.items b.channels.items (contains outpoint_cmp b.fundings) };
+    ghost invariant = { λ b. AreLeft b.entries.items b.channels.items (contains outpoint_cmp b.fundings) };
 }
 
 impl Book {

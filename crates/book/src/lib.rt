@@ -1,10 +1,16 @@
 //! A node's book: what it did, in order.
 //!
-//! The definitions say what a book answers to each of its six calls after a history, and which history it has then; [`laws::signing_is_guarded`] proves of them the signing gate: each signature
-//! in a history stands where every revocation that came in its channel has the penalties of the revoked commitment kept between the two. The calls themselves are not built yet.
+//! [`Book`] has six calls that may change it: `open`, `step`, `sign`, `revoke`, `keep` and `release`. Each answers what `reply_of` says of the history, and leaves the history that `history_after` says, or
+//! memory ran out and the history is as before: an accepted call adds one entry, and a refused one changes nothing. The signing gate, [`laws::signing_is_guarded`], holds of each history: each signature
+//! stands where every revocation that came in its channel has the penalties of the revoked commitment kept between the two. [`Book::entries`] hands this out. [`matching::is_set`] tells
+//! whether claims are a penalty set.
 //!
-//! [`matching::is_set`] tells whether claims are a penalty set. What is built beside it is a book that files claims: [`Book::file`] adds exactly one entry to the history and answers how many claims
-//! were filed before; out of memory leaves the book as it was. The test `first_claim` shows a claim filed under two seats.
+//! ```rust
+//! assert!(rt; a.revoke(0, 0, came.secret, came.next_point).is_ok());
+//! assert!(rt; matches!(a.sign(0, 0), Err(SignError::PenaltiesMissing(0))));
+//! assert!(rt; a.keep(3, 0, 0, claims).is_ok());
+//! assert!(rt; a.sign(0, 0).is_ok());
+//! ```
 #![tactic(auto)]
 
 #[cfg(test)]

@@ -166,7 +166,8 @@ impl Channel {
 
     /// The number of this side's newest commitment.
     pub fn number(&self) -> u64
-        ensures { result ≡ self.now.number }
+        ensures number { result ≡ self.now.number }
+        ensures bound { result ≤ last_number }
     {
         self.number
     }
@@ -174,6 +175,7 @@ impl Channel {
     /// The number of the peer's newest commitment that revoked the one before, which is how many revocations came.
     pub fn peer_number(&self) -> u64
         ensures number { result ≡ self.now.peer_number }
+        ensures bound { result ≤ last_number }
         ensures revocations { result ≡ length self.now.secrets }
     {
         self.peer_number

@@ -1,4 +1,4 @@
-use Rattle.std.proofs.Common.{length, ◌-◌, ◌≡◌, ◌<◌, ◌≤◌, ℕ, slice_get, Some, None, true, false, IfOk, OnErr, ◌+◌, ◌++◌, ◌∷◌, [], ◌*◌}
+use Rattle.std.proofs.Common.{length, ◌-◌, ◌≡◌, ◌<◌, ◌≤◌, ℕ, slice_get, Some, true}
 use Rattle.book.proofs.flags.first_unset.Given as goal
 
 abbrev pub invariant-loop-number : goal.invariant-loop-number

@@ -1,4 +1,3 @@
-use Rattle.book.specs.Bounds.{IsSeedOf}
 use Rattle.book.proofs.SameOpenings.{same_bases}
 use Rattle.book.proofs.openings.bases_of.Goals as goal
 

@@ -1,4 +1,4 @@
-use Rattle.std.proofs.Common.{◌≡◌, ◌<◌, ◌∷◌, ◌++◌, [], List, length, Err, Ok, refl, sym, ◌∙◌, subst, rules}
+use Rattle.std.proofs.Common.{◌≡◌, ◌<◌, List, length, Err, Ok, refl, sym, ◌∙◌, subst, rules}
 use Rattle.std.specs.BTreeSet.{contains}
 use Rattle.book.specs.declared.limits.TheConstants.{MAX_CHANNELS}
 use Rattle.book.specs.declared.calls.Call.TheVariants.{Open}

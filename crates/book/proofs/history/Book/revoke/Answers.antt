@@ -1,4 +1,4 @@
-use Rattle.std.proofs.Common.{List, length, ◌<◌, rules, subst, Err, Ok, refl, arith}
+use Rattle.std.proofs.Common.{List, length, ◌<◌, rules, subst, Err, Ok, refl}
 use Rattle.std.specs.BTreeSet.{contains}
 use Rattle.std.proofs.lemmas.Option.{slice_get_read}
 use Rattle.updates.specs.declared.refusals.Refusal.TheVariants.{NoMemory}

@@ -1,4 +1,4 @@
-use Rattle.std.proofs.Common.{List, length, ◌<◌, rules, ap, subst, Err, Ok, [], refl, arith}
+use Rattle.std.proofs.Common.{List, length, ◌<◌, rules, ap, subst, Err, Ok, [], refl}
 use Rattle.std.specs.List.{cons_option}
 use Rattle.std.specs.BTreeSet.{contains}
 use Rattle.std.proofs.lemmas.Option.{slice_get_read}
