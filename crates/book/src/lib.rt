@@ -11,8 +11,12 @@
 //! assert!(rt; a.keep(3, 0, 0, claims).is_ok());
 //! assert!(rt; a.sign(0, 0).is_ok());
 //! ```
+//!
+//! The test `signs_once_penalties_are_kept` has these lines; an update of one's own stands before the first signature.
 #![tactic(auto)]
 
+#[cfg(test)]
+mod book_tests;
 #[cfg(test)]
 mod call_tests;
 pub mod calls;
