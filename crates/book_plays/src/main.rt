@@ -135,7 +135,8 @@ fn follow_dump(rt: &impl Print, alloc: Global, word: &str, text: String) -> Resu
         "beginnings" => print_beginnings(rt, alloc, text),
         "damages" => print_damages(rt, alloc, &text),
         "version" => print_version(rt, alloc, &text),
-        _ => Ok(println!(rt; "{text}")?),
+        "dump" => Ok(println!(rt; "{text}")?),
+        _ => bail!("no such word"),
     }
 }
 
