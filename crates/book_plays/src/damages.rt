@@ -1,0 +1,105 @@
+//! A dump with one thing changed.
+
+use anyhow::{Context, Result};
+use std::alloc::Global;
+
+/// Where a value stands in a dump: behind the first call of this name, behind these words, up to this end.
+#[derive(Clone, Copy, Debug, Drop)]
+pub struct Spot {
+    pub call: &'static str,
+    pub words: &'static str,
+    pub end: &'static str,
+}
+
+/// The path of the first claim that is kept.
+pub const PATH: Spot = Spot {
+    call: "[\"keep\"",
+    words: "\"path\":",
+    end: ",",
+};
+
+/// Its program.
+pub const PROGRAM: Spot = Spot {
+    call: "[\"keep\"",
+    words: "\"program\":\"",
+    end: "\"",
+};
+
+/// Its value.
+pub const VALUE: Spot = Spot {
+    call: "[\"keep\"",
+    words: "\"value\":",
+    end: "}",
+};
+
+/// The secret of the first revocation.
+pub const SECRET: Spot = Spot {
+    call: "[\"revoke\",0",
+    words: "[\"revoke\",\"",
+    end: "\"",
+};
+
+/// The version.
+pub const VERSION: Spot = Spot {
+    call: "{\"history\":",
+    words: "\"version\":",
+    end: "}",
+};
+
+// A text around a value.
+#[derive(Clone, Copy, Drop)]
+struct Parts<'a> {
+    before: &'a str,
+    between: &'a str,
+    value: &'a str,
+    after: &'a str,
+}
+
+// The parts of a text at a spot.
+fn split_at_spot<'a>(text: &'a str, spot: &Spot) -> Option<Parts<'a>> {
+    let (before, rest) = text.split_once(spot.call)?;
+    let (between, rest) = rest.split_once(spot.words)?;
+    let (value, after) = rest.split_once(spot.end)?;
+    Some(Parts {
+        before,
+        between,
+        value,
+        after,
+    })
+}
+
+/// The value at a spot.
+pub fn value_at<'a>(text: &'a str, spot: &Spot) -> Result<&'a str> {
+    let parts = split_at_spot(text, spot).context("no such value")?;
+    Ok(parts.value)
+}
+
+/// The text with another value at a spot.
+pub fn with_value(alloc: Global, text: &str, spot: &Spot, value: &str) -> Result<String> {
+    let parts = split_at_spot(text, spot).context("no such value")?;
+    let mut changed = String::new(alloc);
+    changed.push_str(parts.before)?;
+    changed.push_str(spot.call)?;
+    changed.push_str(parts.between)?;
+    changed.push_str(spot.words)?;
+    changed.push_str(value)?;
+    changed.push_str(spot.end)?;
+    changed.push_str(parts.after)?;
+    Ok(changed)
+}
+
+// Where an entry that keeps begins, and one that signs.
+const KEEP_ENTRY: &str = "{\"call\":[\"keep\"";
+
+const SIGN_ENTRY: &str = "{\"call\":[\"sign\"";
+
+/// The text without the first entry that keeps, and all up to the next one that signs.
+pub fn without_keep(alloc: Global, text: &str) -> Result<String> {
+    let (before, rest) = text.split_once(KEEP_ENTRY).context("nothing is kept")?;
+    let (_, after) = rest.split_once(SIGN_ENTRY).context("nothing is signed")?;
+    let mut changed = String::new(alloc);
+    changed.push_str(before)?;
+    changed.push_str(SIGN_ENTRY)?;
+    changed.push_str(after)?;
+    Ok(changed)
+}

@@ -1,0 +1,183 @@
+//! Plays two nodes with a book each, as the lines of its input say: `open CHANNELS` gives both an empty book and opens so many channels; `A offer MILLISATOSHIS EXPIRY`, `A fee RATE`, `A sign`,
+//! `A deliver` and `A keep NUMBER`, or the same of B, are calls in the first channel. `A zeros` hands A a revocation with a secret of zeros.
+//!
+//! It prints what came of each call, and of a refused one whether the dump is what it was. `entries` prints how many entries both histories have; `beginnings`, `damages` and `version` change A's dump and
+//! load it, and `dump` prints it; `load TEXT` loads a text; `random GAMES` dumps, loads and dumps again the histories of random games.
+#![tactic(auto)]
+
+mod damages;
+mod loading;
+mod nodes;
+mod openings;
+mod peers;
+mod random;
+
+use anyhow::{Result, bail};
+use loading::{print_damages, print_loaded, print_version, read_beginnings};
+use peers::{Act, Peers, Reply, offer};
+use random::play_games;
+use std::alloc::Global;
+use terms::Side;
+use texts::OwnUpdate;
+
+// A line, and its words after the side.
+#[derive(Clone, Copy, Drop)]
+struct Words<'a> {
+    line: &'a str,
+    words: &'a str,
+}
+
+// The call that words say.
+fn act_of(words: &str) -> Result<Act> {
+    let mut words = words.split(' ');
+    let act = match (words.next(), words.next(), words.next()) {
+        (Some("offer"), Some(amount), Some(expiry)) => {
+            Act::Update(offer(amount.parse()?, expiry.parse()?))
+        }
+        (Some("fee"), Some(rate), None) => Act::Update(OwnUpdate::SetFee {
+            rate: rate.parse()?,
+        }),
+        (Some("sign"), None, None) => Act::Sign,
+        (Some("deliver"), None, None) => Act::Deliver,
+        (Some("zeros"), None, None) => Act::Zeros,
+        (Some("keep"), Some(number), None) => Act::Keep(number.parse()?),
+        _ => bail!("no such call"),
+    };
+    Ok(act)
+}
+
+// What came of a call, in words.
+fn print_reply(rt: &impl Print, line: &str, reply: &Reply) -> Result<()> {
+    match reply {
+        Reply::Done => println!(rt; "{line}: ok")?,
+        Reply::NoMessage => println!(rt; "{line}: NoMessage")?,
+        Reply::NotUpdated(error) => println!(rt; "{line}: {error}")?,
+        Reply::NotSigned(error) => println!(rt; "{line}: {error}")?,
+        Reply::NotKept(error) => println!(rt; "{line}: {error}")?,
+    }
+    Ok(())
+}
+
+// A side's dump.
+fn dump(alloc: Global, peers: &Peers, side: Side) -> Result<String> {
+    Ok(peers.node(side).book.dump(alloc)?)
+}
+
+// Prints whether a side's dump is still this one.
+fn print_unchanged(
+    rt: &impl Print,
+    alloc: Global,
+    peers: &Peers,
+    side: Side,
+    before: &str,
+) -> Result<()> {
+    let after = dump(alloc, peers, side)?;
+    let is_same = after.as_str() == before;
+    println!(rt; "  unchanged: {is_same}")?;
+    Ok(())
+}
+
+// Plays a call on a side whose dump is this one, and prints what came of it; of a refused one whether the dump changed.
+fn play_from(
+    rt: &impl Print,
+    alloc: Global,
+    peers: &mut Peers,
+    side: Side,
+    call: &Words,
+    before: &str,
+) -> Result<()> {
+    let reply = peers.act(side, 0, act_of(call.words)?)?;
+    print_reply(rt, call.line, &reply)?;
+    match reply {
+        Reply::Done => Ok(()),
+        _ => print_unchanged(rt, alloc, peers, side, before),
+    }
+}
+
+// Plays the call of a line.
+fn play_line(
+    rt: &impl Print,
+    alloc: Global,
+    peers: &mut Peers,
+    side: Side,
+    call: &Words,
+) -> Result<()> {
+    let before = dump(alloc, peers, side)?;
+    play_from(rt, alloc, peers, side, call, &before)
+}
+
+fn print_entries(rt: &impl Print, peers: &Peers) -> Result<()> {
+    let (a, b) = (peers.a.book.entries(), peers.b.book.entries());
+    println!(rt; "entries of A {}, of B {}", a.len(), b.len())?;
+    Ok(())
+}
+
+// Plays random games, and prints how many of their histories come back.
+fn print_random(rt: &impl Print, alloc: Global, games: u32) -> Result<()> {
+    let tally = play_games(alloc, games)?;
+    println!(rt;
+        "random histories: {}, the same dump again: {}",
+        tally.histories, tally.same
+    )?;
+    println!(rt; "  at least 100 entries of each kind: {}", tally.has(100))?;
+    Ok(())
+}
+
+fn print_beginnings(rt: &impl Print, alloc: Global, text: String) -> Result<()> {
+    let read = read_beginnings(alloc, text);
+    println!(rt; "beginnings that are not refused as NotJson: {read}")?;
+    Ok(())
+}
+
+// Does with A's dump what a line of one word says.
+fn follow_dump(rt: &impl Print, alloc: Global, word: &str, text: String) -> Result<()> {
+    match word {
+        "beginnings" => print_beginnings(rt, alloc, text),
+        "damages" => print_damages(rt, alloc, &text),
+        "version" => print_version(rt, alloc, &text),
+        "dump" => Ok(println!(rt; "{text}")?),
+        _ => bail!("no such word"),
+    }
+}
+
+// Opens so many channels between two empty books.
+fn open(alloc: Global, peers: &mut Peers, channels: &str) -> Result<()> {
+    *peers = Peers::new(alloc);
+    peers.open(alloc, channels.parse()?)
+}
+
+// Does what a line of two words or more says.
+fn follow_words(
+    rt: &impl Print,
+    alloc: Global,
+    peers: &mut Peers,
+    call: &Words,
+    word: &str,
+) -> Result<()> {
+    match word {
+        "open" => open(alloc, peers, call.words),
+        "load" => print_loaded(rt, alloc, call.line, call.words),
+        "random" => print_random(rt, alloc, call.words.parse()?),
+        "A" => play_line(rt, alloc, peers, Side::A, call),
+        "B" => play_line(rt, alloc, peers, Side::B, call),
+        _ => bail!("no such line"),
+    }
+}
+
+// Does what a line says.
+fn follow(rt: &impl Print, alloc: Global, peers: &mut Peers, line: &str) -> Result<()> {
+    match line.split_once(' ') {
+        Some((word, words)) => follow_words(rt, alloc, peers, &Words { line, words }, word),
+        None if line == "entries" => print_entries(rt, peers),
+        None => follow_dump(rt, alloc, line, dump(alloc, peers, Side::A)?),
+    }
+}
+
+fn main(rt: HostRuntime) -> Result<()> {
+    let alloc = rt.alloc();
+    let mut peers = Peers::new(alloc);
+    for line in rt.lines(alloc) {
+        follow(&rt, alloc, &mut peers, line?.as_str())?;
+    }
+    Ok(())
+}

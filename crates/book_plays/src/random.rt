@@ -1,0 +1,149 @@
+//! Histories of random calls.
+
+use crate::loading::comes_back;
+use crate::peers::{Act, PREIMAGE, Peers, Reply, offer};
+use anyhow::Result;
+use book::errors::SignError;
+use book::{Book, Call, Step};
+use std::alloc::Global;
+use terms::Side;
+use texts::OwnUpdate;
+
+/// How many steps make a history.
+const STEPS: u32 = 60;
+
+/// How many entries there are of each kind.
+#[derive(Clone, Copy, Debug, Default, Drop)]
+pub struct Tally {
+    pub histories: u64,
+    /// Whose dump is loaded and gives the same bytes again.
+    pub same: u64,
+    openings: u64,
+    updates: u64,
+    received: u64,
+    signatures: u64,
+    revocations: u64,
+    kept: u64,
+}
+
+impl Tally {
+    /// Whether there are at least so many of each kind that is played.
+    pub fn has(&self, least: u64) -> bool {
+        let fewest = self
+            .openings
+            .min(self.updates)
+            .min(self.received)
+            .min(self.signatures)
+            .min(self.revocations)
+            .min(self.kept);
+        fewest >= least
+    }
+}
+
+// One more.
+fn count(number: &mut u64) {
+    *number = number.saturating_add(1);
+}
+
+// The next of a row of numbers (a linear congruential generator), and its upper 31 bits.
+fn next_number(state: &mut u64) -> u64 {
+    *state = state
+        .wrapping_mul(6_364_136_223_846_793_005)
+        .wrapping_add(1_442_695_040_888_963_407);
+    *state >> 33
+}
+
+// An update or a call by a number.
+fn act_of(number: u64) -> Act {
+    let rest = number >> 4;
+    let id = rest % 5;
+    match number % 16 {
+        0 | 1 => Act::Update(offer(1_000_000 + rest % 4_000_000, 500)),
+        2 => Act::Update(OwnUpdate::Fail { id }),
+        3 => Act::Update(OwnUpdate::Fulfil {
+            id,
+            preimage: PREIMAGE,
+        }),
+        4 => Act::Update(OwnUpdate::SetFee {
+            rate: 1000 + (rest % 1000) as u32,
+        }),
+        5..8 => Act::Sign,
+        _ => Act::Deliver,
+    }
+}
+
+// A side does something; where penalties are missing, it keeps them instead.
+fn play_one(peers: &mut Peers, side: Side, channel: usize, act: Act) -> Result<()> {
+    let reply = peers.act(side, channel, act)?;
+    if let Reply::NotSigned(SignError::PenaltiesMissing(number)) = reply {
+        peers.act(side, channel, Act::Keep(number))?;
+    }
+    Ok(())
+}
+
+// A step by a number, in one of so many channels.
+fn play_step(peers: &mut Peers, channels: u64, number: u64) -> Result<()> {
+    let side = if number % 2 == 0 { Side::A } else { Side::B };
+    let is_odd = (number >> 1) % 2 == 1;
+    let channel = if is_odd && channels > 1 { 1 } else { 0 };
+    play_one(peers, side, channel, act_of(number >> 2))
+}
+
+// Counts the entries of a book.
+fn tally_entries(tally: &mut Tally, book: &Book) {
+    for entry in book.entries() {
+        match &entry.call {
+            Call::Open(_) => count(&mut tally.openings),
+            Call::Step {
+                step: Step::Own(_),
+                ..
+            } => count(&mut tally.updates),
+            Call::Step { .. } => count(&mut tally.received),
+            Call::Sign { .. } => count(&mut tally.signatures),
+            Call::Revoke { .. } => count(&mut tally.revocations),
+            Call::Keep { .. } => count(&mut tally.kept),
+            Call::Release { .. } => {}
+        }
+    }
+}
+
+// Dumps a book, loads the dump and dumps it again.
+fn tally_book(alloc: Global, tally: &mut Tally, book: &Book) -> Result<()> {
+    count(&mut tally.histories);
+    if comes_back(alloc, book)? {
+        count(&mut tally.same);
+    }
+    tally_entries(tally, book);
+    Ok(())
+}
+
+// Opens so many channels, and plays the steps of a history.
+fn play_steps(alloc: Global, peers: &mut Peers, channels: u32, state: &mut u64) -> Result<()> {
+    peers.open(alloc, channels)?;
+    for _ in 0..STEPS {
+        play_step(peers, u64::from(channels), next_number(state))?;
+    }
+    Ok(())
+}
+
+fn tally_both(alloc: Global, tally: &mut Tally, peers: &Peers) -> Result<()> {
+    tally_book(alloc, tally, &peers.a.book)?;
+    tally_book(alloc, tally, &peers.b.book)
+}
+
+// Plays one game of two books.
+fn play_game(alloc: Global, tally: &mut Tally, channels: u32, state: &mut u64) -> Result<()> {
+    let mut peers = Peers::new(alloc);
+    play_steps(alloc, &mut peers, channels, state)?;
+    tally_both(alloc, tally, &peers)
+}
+
+/// Plays so many games, each of two books, of one or two channels in turn.
+pub fn play_games(alloc: Global, games: u32) -> Result<Tally> {
+    let mut tally = Tally::default();
+    let mut state = 1;
+    for game in 0..games {
+        play_game(alloc, &mut tally, 1 + game % 2, &mut state)?;
+    }
+    Ok(tally)
+}
