@@ -81,7 +81,7 @@ fn opening(rt: &impl Abort, alloc: Global, side: Side) -> Opening {
     }
 }
 
-fn opened(rt: &impl Abort, alloc: Global, side: Side) -> Book {
+pub(crate) fn opened(rt: &impl Abort, alloc: Global, side: Side) -> Book {
     let mut book = Book::new(alloc);
     let index = book
         .open(0, opening(rt, alloc, side))
@@ -105,7 +105,7 @@ fn update_in(message: Option<Message>) -> Option<Update> {
     }
 }
 
-fn step_of(message: Message) -> Option<Step> {
+pub(crate) fn step_of(message: Message) -> Option<Step> {
     match message {
         Message::CommitmentSigned(tokens) => Some(Step::Signed(tokens)),
         _ => None,
@@ -114,12 +114,12 @@ fn step_of(message: Message) -> Option<Step> {
 
 // What a revocation brings.
 #[derive(Clone, Copy)]
-struct Revocation {
-    secret: [u8; 32],
-    next_point: Key,
+pub(crate) struct Revocation {
+    pub(crate) secret: [u8; 32],
+    pub(crate) next_point: Key,
 }
 
-fn revocation_in(message: Option<Message>) -> Option<Revocation> {
+pub(crate) fn revocation_in(message: Option<Message>) -> Option<Revocation> {
     match message {
         Some(Message::RevokeAndAck { secret, next_point }) => Some(Revocation {
             secret,
@@ -129,9 +129,13 @@ fn revocation_in(message: Option<Message>) -> Option<Revocation> {
     }
 }
 
-// A's book offers an HTLC and signs it to B's, which answers by a revocation.
 fn offered(rt: &impl Abort, a: &mut Book, b: &mut Book) -> Revocation {
-    let sent = a.step(0, 0, offer(500)).expect(rt, "an offer");
+    offered_by(rt, a, b, offer(500))
+}
+
+// A's book offers an HTLC and signs it to B's, which answers by a revocation.
+pub(crate) fn offered_by(rt: &impl Abort, a: &mut Book, b: &mut Book, offer: Step) -> Revocation {
+    let sent = a.step(0, 0, offer).expect(rt, "an offer");
     let update = update_in(sent).expect(rt, "an update");
     let answer = b.step(0, 0, Step::Updated(update)).expect(rt, "taken");
     assert!(rt; answer.is_none());
@@ -141,7 +145,7 @@ fn offered(rt: &impl Abort, a: &mut Book, b: &mut Book) -> Revocation {
 }
 
 // The penalties of B's commitment 0, which pays what the two sides begin with.
-fn penalties_of_first(rt: &impl Abort, alloc: Global, secret: [u8; 32]) -> List<Claim> {
+pub(crate) fn penalties_of_first(rt: &impl Abort, alloc: Global, secret: [u8; 32]) -> List<Claim> {
     let (a, b) = (Signer::new(alloc, &[1; 32]), Signer::new(alloc, &[2; 32]));
     let terms = terms_of(rt, &a, &b);
     let view = View {

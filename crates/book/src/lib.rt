@@ -26,6 +26,8 @@ mod flags;
 pub mod history;
 mod judging;
 mod knowing;
+#[cfg(test)]
+mod known_tests;
 pub mod laws;
 mod limits;
 #[cfg(test)]
