@@ -1,0 +1,46 @@
+-- Two books whose channels are the two sides of the same ones, with the messages on their way between them.
+use Rattle.std.specs.Prelude.{◌≡◌, ℕ, ◌∷◌, ◌++◌, List, [], Option, Some, None, slice_get, Result, Ok, true}
+use Rattle.terms.specs.declared.sides.Side.{Side}
+use Rattle.terms.specs.declared.sides.Side.TheVariants.{A, B}
+use Rattle.terms.specs.Sides.{other}
+use Rattle.channel.specs.declared.messages.Message.{Message}
+use Rattle.channel.specs.declared.messages.Message.TheVariants.{Updated, CommitmentSigned, RevokeAndAck}
+use Rattle.channel.specs.Tokens.{peer_tokens}
+use Rattle.channel.specs.Points.{point_at}
+use Rattle.channel.specs.Playing.{placed}
+use Rattle.channel.specs.Agreeing.{IsPaired}
+use Rattle.book.specs.declared.calls.Step.TheVariants.{Own, Updated as UpdatedStep, Signed}
+use Rattle.book.specs.declared.calls.Call.{Call}
+use Rattle.book.specs.declared.calls.Entry.{Entry}
+use Rattle.book.specs.Books.{ChannelBook, Channels, at_index, replay}
+use Rattle.book.specs.Replies.{Reply, stepped, is_accepted, reply_of}
+
+-- each channel of a side and the same one of its peer, with the messages on their way to each: they are what steps of two honest peers leave of a new channel
+abbrev pub ArePaired : Side → Channels → Channels → List (List Message) → List (List Message) → Type 0
+ArePaired side [] [] [] [] = Unit {0}
+ArePaired side (x ∷ xs) (y ∷ ys) (p ∷ ps) (q ∷ qs) = IsPaired peer_tokens (placed side x.state y.state p q) × ArePaired side xs ys ps qs
+ArePaired side xs ys ps qs = ⊥
+
+-- two books are, by their histories
+abbrev pub AgreeBy : Side → List Entry → List Entry → List (List Message) → List (List Message) → Type 0
+AgreeBy side mine peers to_me to_peer = ArePaired side (replay mine) (replay peers) to_me to_peer
+
+-- the call by which a book takes a message
+abbrev pub call_of : ℕ → Message → Call
+call_of c (Updated u) = Call.Step c (UpdatedStep u)
+call_of c (CommitmentSigned tokens) = Call.Step c (Signed tokens)
+call_of c (RevokeAndAck secret point) = Call.Revoke c secret point
+
+-- the messages on their way once the oldest came, and those that an accepted answer has
+abbrev pub rest_of : List Message → List Message
+rest_of [] = []
+rest_of (m ∷ ms) = ms
+
+abbrev pub answers_in : Reply → List Message
+answers_in (stepped (Ok messages)) = messages
+answers_in reply = []
+
+-- the oldest message on its way to a side of two that agree is taken by its book
+abbrev pub DeliveriesAreTaken : Type 0
+DeliveriesAreTaken = (side : Side) (mine peers : List Entry) (to_me to_peer : List (List Message)) (c : ℕ) (m : Message) (rest : List Message)
+    → AgreeBy side mine peers to_me to_peer → slice_get to_me c ≡ Some (m ∷ rest) → is_accepted (reply_of peer_tokens mine (call_of c m)) ≡ true
