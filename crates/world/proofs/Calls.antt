@@ -1,5 +1,5 @@
 -- Accepted calls of a book, as steps of its channels.
-use Rattle.std.proofs.Common.{◌≡◌, ℕ, zero, suc, Bool, true, false, ◌||◌, List, [], ◌∷◌, ◌++◌, Option, Some, None, Result, Ok, Err, refl, sym, ap, ◌∙◌, subst, absurd}
+use Rattle.std.proofs.Common.{◌≡◌, ℕ, zero, suc, Bool, true, false, ◌||◌, List, [], ◌∷◌, ◌++◌, Option, Some, None, Result, Ok, Err, refl, sym, ap, ◌∙◌, subst}
 use Rattle.std.specs.Prelude.{slice_get, is_ok, reverse}
 use Rattle.std.proofs.lemmas.List.{reverse-append}
 use Rattle.std.proofs.lemmas.Option.{none-some, same_Some}
@@ -43,7 +43,7 @@ replayed_after history seat call ok =
     ap (λ b. replay (extended b history seat call)) ok ∙ ap replayed (reverse-append history (record { seat = seat; call = call } ∷ []))
 
 pub refused_stays : (history : List Entry) (seat : ℕ) (call : Call) → is_accepted (reply_of peer_tokens history call) ≡ false → history_after peer_tokens history seat call ≡ history
-refused_stays history seat call no = ap (λ b. extended b history seat call) no
+refused_stays history seat call rejected = ap (λ b. extended b history seat call) rejected
 
 -- what a taken call of each kind says
 ok_of_stepped : {r s : Result (List Message) StepError} → stepped r ≡ stepped s → r ≡ s
@@ -168,7 +168,7 @@ answer_is : (m : Message) (c : ℕ) (chs : Channels) (x : ChannelBook) → slice
     → answers_in (answer_of peer_tokens chs (call_of c m)) ≡ answers x.state m
 answer_is (Updated u) c chs x here none = rw (here, none) refl
 answer_is (CommitmentSigned tokens) c chs x here none = rw (here, none) refl
-answer_is (RevokeAndAck secret point) c chs x here none = rw (here, none) refl
+answer_is (RevokeAndAck secret point) c chs x here none = refl
 
 pub taken_is : (m : Message) (c : ℕ) (chs : Channels) (x : ChannelBook) → slice_get chs c ≡ Some x → receive_refusal peer_tokens x.state m ≡ None
     → is_accepted (answer_of peer_tokens chs (call_of c m)) ≡ true
@@ -221,17 +221,31 @@ released_by side mine peers to_me to_peer seat c batch agree ok =
 -- ---- the law
 
 -- the channel of an index, with its peer's
-there : (c : ℕ) (xs ys : Channels) (ps qs : List (List Message)) (side : Side) (m : Message) (rest : List Message) → slice_get ps c ≡ Some (m ∷ rest) → ArePaired side xs ys ps qs
-    → (x : ChannelBook) × (y : ChannelBook) × (q : List Message) × (slice_get xs c ≡ Some x) × IsPaired peer_tokens (placed side x.state y.state (m ∷ rest) q)
-there c [] [] [] [] side m rest queue paired = absurd (none-some (m ∷ rest) queue)
-there zero (x ∷ xs) (y ∷ ys) (p ∷ ps) (q ∷ qs) side m rest queue paired = (x, y, q, refl, subst (λ r. IsPaired peer_tokens (placed side x.state y.state r q)) (same_Some p (m ∷ rest) queue) paired.0)
-there (suc c) (x ∷ xs) (y ∷ ys) (p ∷ ps) (q ∷ qs) side m rest queue paired = there c xs ys ps qs side m rest queue paired.1
-there c [] (y ∷ ys) ps qs side m rest queue paired = absurd paired
-there c [] [] (p ∷ ps) qs side m rest queue paired = absurd paired
-there c [] [] [] (q ∷ qs) side m rest queue paired = absurd paired
-there c (x ∷ xs) [] ps qs side m rest queue paired = absurd paired
-there c (x ∷ xs) (y ∷ ys) [] qs side m rest queue paired = absurd paired
-there c (x ∷ xs) (y ∷ ys) (p ∷ ps) [] side m rest queue paired = absurd paired
+record IsThere (side : Side) (xs : Channels) (c : ℕ) (queue : List Message) : Type 0 where
+  mine : ChannelBook
+  peers : ChannelBook
+  to_peer : List Message
+  here : slice_get xs c ≡ Some mine
+  paired : IsPaired peer_tokens (placed side mine.state peers.state queue to_peer)
+
+there : (c : ℕ) (xs ys : Channels) (ps qs : List (List Message)) (side : Side) (queue : List Message) → slice_get ps c ≡ Some queue → ArePaired side xs ys ps qs → IsThere side xs c queue
+there c [] [] [] [] side queue e paired = absurd (none-some queue e)
+there zero (x ∷ xs) (y ∷ ys) (p ∷ ps) (q ∷ qs) side queue e paired = record {
+  mine = x;
+  peers = y;
+  to_peer = q;
+  here = refl;
+  paired = subst (λ r. IsPaired peer_tokens (placed side x.state y.state r q)) (same_Some p queue e) paired.0;
+}
+there (suc c) (x ∷ xs) (y ∷ ys) (p ∷ ps) (q ∷ qs) side queue e paired =
+    let t = there c xs ys ps qs side queue e paired.1 in
+    record { mine = t.mine; peers = t.peers; to_peer = t.to_peer; here = t.here; paired = t.paired }
+there c [] (y ∷ ys) ps qs side queue e paired = absurd paired
+there c [] [] (p ∷ ps) qs side queue e paired = absurd paired
+there c [] [] [] (q ∷ qs) side queue e paired = absurd paired
+there c (x ∷ xs) [] ps qs side queue e paired = absurd paired
+there c (x ∷ xs) (y ∷ ys) [] qs side queue e paired = absurd paired
+there c (x ∷ xs) (y ∷ ys) (p ∷ ps) [] side queue e paired = absurd paired
 
 takes_oldest : PeersAgree → (side : Side) (x y : State) (m : Message) (rest q : List Message) → IsPaired peer_tokens (placed side x y (m ∷ rest) q) → receive_refusal peer_tokens x m ≡ None
 takes_oldest agree A x y m rest q paired = (agree peer_tokens paired.terms paired.seed_a paired.seed_b _ paired.reached).a_takes m rest refl
@@ -239,5 +253,5 @@ takes_oldest agree B x y m rest q paired = (agree peer_tokens paired.terms paire
 
 pub deliveries_are_taken : PeersAgree → DeliveriesAreTaken
 deliveries_are_taken peers side mine others to_me to_peer c m rest agree queue =
-    let t = there c (replay mine) (replay others) to_me to_peer side m rest queue agree in
-    taken_is m c (replay mine) t.0 t.1.1.1.0 (takes_oldest peers side t.0.state t.1.0.state m rest t.1.1.0 t.1.1.1.1)
+    let t = there c (replay mine) (replay others) to_me to_peer side (m ∷ rest) queue agree in
+    taken_is m c (replay mine) t.mine t.here (takes_oldest peers side t.mine.state t.peers.state m rest t.to_peer t.paired)
