@@ -1,1 +1,4 @@
 pub mod Pairing
+pub mod Refusing
+pub mod Mining
+pub mod Reorganising

@@ -1,4 +1,9 @@
 //! The world of two sides: their books, the messages on their way, the chain with its pool, the watchers and the claims that are to be released, played event by event.
 #![tactic(auto)]
 
+mod errors;
 pub mod laws;
+mod mining;
+mod reorganising;
+
+pub use errors::EventError;

@@ -1,0 +1,71 @@
+-- How blocks take what waits.
+use Rattle.std.proofs.Common.{◌≡◌, ℕ, zero, suc, ◌+◌, ◌≤◌, ◌<◌, ◌||◌, cond, Bool, true, false, List, [], ◌∷◌, ◌++◌, length, take, Option, Some, None, refl, sym, ap, ◌∙◌, arith}
+use Rattle.std.specs.Prelude.{filter}
+use Rattle.std.specs.Ordering.{is_eq, nat_cmp}
+use Rattle.std.specs.Cmp.Lexicographic.{slice_cmp}
+use Rattle.std.specs.Str.{bytes_eq}
+use Rattle.std.proofs.Math.ListN.{get_or}
+use Rattle.std.proofs.lemmas.List.{take_more}
+use Rattle.std.proofs.lemmas.List.Folds.{list_any-append}
+use Rattle.std.proofs.lemmas.Map.Text.{is_eq-slice_cmp}
+use Rattle.tx.specs.Spelling.{transaction_id}
+use Rattle.tx.specs.Fields.{Transaction}
+use Rattle.chain.specs.declared.refusal.Refusal.{Refusal}
+use Rattle.chain.specs.Blocks.{Contents, Standing, empty_block}
+use Rattle.chain.specs.Tests.{transaction_refusal}
+use Rattle.chain.specs.Connecting.{unless_refusal, refusals_of}
+use Rattle.world.specs.Mining.{Mined, waits, is_taken, still_waiting, block_after, blocks_after, has_waiting, IsNextBlock}
+
+abbrev Fewer : List Transaction → List (Option Refusal) → Type 0
+Fewer ts rs = length (filter is_taken rs) + length (still_waiting ts rs) ≤ length ts
+
+-- one more of them, whatever it was refused for
+one_fewer : (t : Transaction) (ts : List Transaction) (r : Option Refusal) (rs : List (Option Refusal)) → Fewer ts rs → Fewer (t ∷ ts) (r ∷ rs)
+one_fewer t ts None rs rest = omega arith
+one_fewer t ts (Some r) rs rest = by (waits (Some r)) refl
+  where
+    by : (b : Bool) → waits (Some r) ≡ b → Fewer (t ∷ ts) (Some r ∷ rs)
+    by true e = rw e (omega arith)
+    by false e = rw e (omega arith)
+
+-- no transaction is both taken and left
+pub fewer_left : (blocks : List Contents) (ts : List Transaction) → Fewer ts (refusals_of blocks ts)
+fewer_left blocks [] = omega arith
+fewer_left blocks (t ∷ ts) =
+    one_fewer t ts (transaction_refusal blocks t) (refusals_of (unless_refusal (transaction_refusal blocks t) blocks t) ts) (fewer_left (unless_refusal (transaction_refusal blocks t) blocks t) ts)
+
+-- a block more is one fewer to come
+pub next_block : (k : ℕ) (m whole : Mined) (new : Standing) (waiting : List Transaction) (taken : ℕ) → IsNextBlock m.chain m.waiting new waiting taken → blocks_after (suc k) m ≡ whole
+    → blocks_after k (record { chain = new; waiting = waiting; txs = m.txs + taken }) ≡ whole
+unfolding blocks_after
+next_block k m whole new waiting taken n e =
+    ap (blocks_after k) (rw (n.chain, n.waiting_is, n.taken_is) refl) ∙ e
+
+-- nothing waits past the last of the answers
+none_left : (ts : List Transaction) → still_waiting ts [] ≡ []
+none_left [] = refl
+none_left (t ∷ ts) = refl
+
+pub past_last : (t : Transaction) (ts items : List Transaction) (rs rs' : List (Option Refusal)) (left whole : List Transaction) → length rs ≡ 0 → rs' ≡ rs → items ≡ t ∷ ts → left ++ still_waiting items rs ≡ whole
+    → left ++ still_waiting ts rs' ≡ whole
+past_last t ts items [] rs' left whole none same is e = rw (same, none_left ts) (ap (λ us. left ++ still_waiting us []) (sym is) ∙ e)
+past_last t ts items (r ∷ rs) rs' left whole none same is e = absurd (omega (arith, none))
+
+-- ---- ids of what waits
+
+pub one_more_waits : (has has' : List ℕ → Bool) (txs : List Transaction) (i : ℕ) (d t : Transaction) (key : List ℕ) → i < length txs → t ≡ get_or txs i d → key ≡ transaction_id t
+    → ((id : List ℕ) → has' id ≡ cond (is_eq (slice_cmp nat_cmp key id)) true (has id)) → ((id : List ℕ) → has id ≡ has_waiting (take i txs) id) → (id : List ℕ) → has' id ≡ has_waiting (take (i + 1) txs) id
+one_more_waits has has' txs i d t key within item spelt more is id =
+    more id
+    ∙ ap (λ b. cond b true (has id)) (is_eq-slice_cmp key id)
+    ∙ joined (bytes_eq key id) (has id)
+    ∙ ap (λ b. b || (bytes_eq key id || false)) (is id)
+    ∙ ap (λ k. has_waiting (take i txs) id || (bytes_eq k id || false)) spelt
+    ∙ sym (list_any-append (λ u. bytes_eq (transaction_id u) id) (take i txs) (t ∷ []))
+    ∙ ap (λ ts. has_waiting ts id) (ap (λ u. take i txs ++ u ∷ []) item ∙ sym (take_more txs i d within))
+  where
+    joined : (t b : Bool) → cond t true b ≡ (b || (t || false))
+    joined true true = refl
+    joined true false = refl
+    joined false true = refl
+    joined false false = refl

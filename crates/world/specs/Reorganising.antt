@@ -1,0 +1,34 @@
+-- Why blocks don't give way, and what is left where they do.
+use Rattle.std.specs.Prelude.{◌≡◌, ℕ, ◌||◌, ◌==◌, nat_lt, List, length, take, drop, Option, Some, None, Result, Ok, Err}
+use Rattle.tx.specs.Fields.{Transaction}
+use Rattle.chain.specs.Blocks.{Standing, transactions_of}
+use Rattle.chain.specs.Connecting.{is_too_deep}
+use Rattle.book.specs.Replies.{if_so}
+use Rattle.world.specs.declared.errors.EventError.{EventError}
+use Rattle.world.specs.declared.errors.EventError.TheVariants.{TooDeep, NoSuchTx}
+use Rattle.world.specs.Refusing.{IsRefusal}
+use Rattle.world.specs.Mining.{kept_of, pool_after, reorganised}
+
+-- TooDeep, NoSuchTx
+abbrev pub reorg_refusal : Standing → ℕ → ℕ → Option EventError
+reorg_refusal chain depth forgotten =
+    if_so (depth == 0 || is_too_deep chain depth) TooDeep (if_so (nat_lt (length (transactions_of (take depth chain.blocks))) forgotten) NoSuchTx None)
+
+abbrev pub without_newest : ℕ → Standing → Standing
+without_newest depth chain = record chain { blocks = drop depth chain.blocks }
+
+-- blocks were taken off, and gave these transactions
+abbrev pub IsTakenOff : Standing → ℕ → ℕ → Result (List Transaction) EventError → Standing → Type 0
+IsTakenOff old depth forgotten (Ok txs) new = (reorg_refusal old depth forgotten ≡ None) × (txs ≡ kept_of depth forgotten old.blocks) × (new ≡ without_newest depth old)
+IsTakenOff old depth forgotten (Err e) new = IsRefusal (reorg_refusal old depth forgotten) e
+
+-- a chain without its newest blocks, and the pool that this leaves
+pub record IsBranch (old : Standing) (pool released : List Transaction) (depth forgotten : ℕ) (new : Standing) (waiting : List Transaction) : Type 0 where
+  pub lawful : reorg_refusal old depth forgotten ≡ None
+  pub chain : new ≡ without_newest depth old
+  pub waiting_is : waiting ≡ pool_after depth forgotten old.blocks pool released
+
+-- the chain and the pool once blocks gave way, and how many transactions the new ones have
+pub record IsReorganised (old : Standing) (pool released : List Transaction) (depth forgotten : ℕ) (new : Standing) (waiting : List Transaction) (txs : ℕ) : Type 0 where
+  pub lawful : reorg_refusal old depth forgotten ≡ None
+  pub mined : reorganised depth forgotten old pool released ≡ record { chain = new; waiting = waiting; txs = txs }

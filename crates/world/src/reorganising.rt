@@ -1,0 +1,134 @@
+//! The newest blocks give way to others.
+
+ghost use Rattle.std.specs.Prelude.{◌≡◌, ◌<◌, ℕ, List, OnOk, IfOk, IfErr, MatchResult, Ok, Err};
+ghost use Rattle.std.specs.List.{list_any};
+ghost use Rattle.std.specs.Str.{bytes_eq};
+ghost use Rattle.std.specs.Ordering.{nat_cmp};
+ghost use Rattle.std.specs.Cmp.Lexicographic.{slice_cmp};
+ghost use Rattle.std.specs.BTreeSet.{contains};
+ghost use Rattle.tx.specs.Spelling.{transaction_id};
+ghost use Rattle.world.specs.Mining.{with_fillings, has_waiting};
+ghost use Rattle.world.specs.Refusing.{IsRefusal};
+ghost use Rattle.world.specs.Reorganising.{reorg_refusal, IsTakenOff, IsBranch, IsReorganised};
+
+use crate::errors::EventError;
+use crate::mining::{Mined, copied, mine};
+use chain::{Coins, Index, Refusal};
+use std::alloc::{AllocError, Global};
+use std::collections::BTreeSet;
+use tx::{Tx, txid};
+
+/// A chain, and the transactions that wait for its next block.
+#[derive(Drop)]
+pub(crate) struct Branch {
+    pub(crate) chain: Index,
+    pub(crate) pool: Vec<Tx>,
+}
+
+/// A chain whose newest blocks gave way to others.
+#[derive(Drop)]
+pub(crate) struct Reorganised {
+    pub(crate) chain: Index,
+    pub(crate) pool: Vec<Tx>,
+    /// How many transactions the new blocks have.
+    pub(crate) txs: u64,
+}
+
+// Takes the newest blocks off, and gives their transactions but for the last ones: TooDeep, NoSuchTx.
+fn taken_off(chain: &mut Index, depth: u64, forgotten: u64) -> Result<Vec<Tx>, EventError>
+    ensures { MatchResult result (λ txs. IsTakenOff chain.old depth forgotten (Ok txs.items) chain.new) (λ e. IsTakenOff chain.old depth forgotten (Err e) chain.new) }
+{
+    if depth == 0 {
+        return Err(EventError::TooDeep);
+    }
+    let mut txs = match chain.disconnect(depth) {
+        Ok(txs) => txs,
+        Err(Refusal::TooDeep) => return Err(EventError::TooDeep),
+        Err(_) => return Err(EventError::NoMemory),
+    };
+    let count = txs.len() as u64;
+    if forgotten > count {
+        return Err(EventError::NoSuchTx);
+    }
+    txs.truncate((count - forgotten) as usize);
+    Ok(txs)
+}
+
+// The ids of transactions.
+fn ids_of(alloc: Global, txs: &[Tx]) -> Result<BTreeSet<[u8; 32]>, AllocError>
+    ensures { IfOk result (λ ids. (id : List ℕ) → contains (slice_cmp nat_cmp) ids id ≡ has_waiting txs.now id) }
+{
+    let mut ids = BTreeSet::new(alloc);
+    for tx in txs {
+        let _is_new = ids.insert(txid(tx))?;
+    }
+    Ok(ids)
+}
+
+// Each filling that was ever released and stands neither on the chain nor in the pool joins the pool.
+fn add_released(
+    alloc: Global,
+    chain: &Index,
+    pool: &mut Vec<Tx>,
+    released: &[Tx],
+) -> Result<(), AllocError>
+    ensures { OnOk result (pool.new.items ≡ with_fillings chain.now.blocks pool.old.items released.now) }
+{
+    let ids = ids_of(alloc, pool)?;
+    for tx in released {
+        let id = txid(tx);
+        if !chain.has_id(&id) && !ids.contains(&id) {
+            pool.push(tx.copy()?)?;
+        }
+    }
+    Ok(())
+}
+
+// A copy of the chain without its newest blocks, with the pool that this leaves: TooDeep, NoSuchTx.
+fn branch_of(
+    alloc: Global,
+    chain: &Index,
+    pool: &[Tx],
+    released: &[Tx],
+    depth: u64,
+    forgotten: u64,
+) -> Result<Branch, EventError>
+    ensures ok { IfOk result (λ b. IsBranch chain.now pool.now released.now depth forgotten b.chain b.pool.items) }
+    ensures err { IfErr result (λ e. IsRefusal (reorg_refusal chain.now depth forgotten) e) }
+{
+    let mut chain = chain.copy()?;
+    let mut waiting = taken_off(&mut chain, depth, forgotten)?;
+    for tx in pool {
+        waiting.push(tx.copy()?)?;
+    }
+    add_released(alloc, &chain, &mut waiting, released)?;
+    Ok(Branch {
+        chain,
+        pool: waiting,
+    })
+}
+
+/// So many of the newest blocks of a copy of the chain give way to one more: the last of their transactions are forgotten, the others wait before those of the pool, and
+/// each filling that was ever released and is on neither waits behind them. TooDeep, NoSuchTx.
+pub(crate) fn reorganise(
+    alloc: Global,
+    chain: &Index,
+    pool: &[Tx],
+    released: &[Tx],
+    depth: u64,
+    forgotten: u64,
+) -> Result<Reorganised, EventError>
+    ensures ok { IfOk result (λ r. IsReorganised chain.now pool.now released.now depth forgotten r.chain r.pool.items r.txs) }
+    ensures err { IfErr result (λ e. IsRefusal (reorg_refusal chain.now depth forgotten) e) }
+{
+    let Branch {
+        chain: mut branch,
+        pool: waiting,
+    } = branch_of(alloc, chain, pool, released, depth, forgotten)?;
+    let mined = mine(alloc, &mut branch, &waiting, depth + 1)?;
+    Ok(Reorganised {
+        chain: branch,
+        pool: mined.waiting,
+        txs: mined.txs,
+    })
+}
