@@ -1,6 +1,6 @@
 -- What a claim is, by its parts.
-use Rattle.std.specs.Prelude.{◌≡◌, ℕ, ◌≤◌, ◌<◌, ◌^◌, List, length, slice_get, Option, option_map, unwrap_or, Ok, is_ok, IsTrue, All}
-use Rattle.script.specs.Limits.{max_script_size, locktime_threshold}
+use Rattle.std.specs.Prelude.{◌≡◌, ℕ, ◌≤◌, List, length, slice_get, Option, option_map, unwrap_or, Ok, is_ok, IsTrue, All}
+use Rattle.script.specs.Limits.{max_script_size}
 use Rattle.script.specs.Spelling.{IsOp, spelling}
 use Rattle.tx.specs.declared.input.TxIn.{TxIn}
 use Rattle.tx.specs.Fields.{Transaction}
@@ -67,18 +67,3 @@ pub record IsWhole (c : ClaimParts) : Type 0 where
   pub listed : listing c.ways.ops ≡ Ok c.ways.paths
   pub accepted : IsAccepted c
   pub bare : bare_shell c.shell ≡ c.shell
-
--- what a transaction and its input have that fit a claim: version 2, the claim's age in blocks as the sequence, and a lock time that is a height, at least the claim's
-pub record IsTimed (c : ClaimParts) (t : Transaction) (input : TxIn) : Type 0 where
-  pub version : t.version ≡ 2
-  pub sequence : input.sequence ≡ sequence_of c
-  pub blocks : sequence_of c < 2 ^ 16
-  pub reached : lock_time_of c ≤ t.lock_time
-  pub height : t.lock_time < locktime_threshold
-
--- whatever fits an accepted claim opens its output, and is timed
-abbrev pub AcceptedOpen : Type 0
-AcceptedOpen = (c : ClaimParts) → IsWhole c → IsOpening c
-
-abbrev pub FittingIsTimed : Type 0
-FittingIsTimed = (c : ClaimParts) (t : Transaction) (input : TxIn) → IsWhole c → FitsClaim c t input → IsTimed c t input

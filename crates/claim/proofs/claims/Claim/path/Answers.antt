@@ -1,4 +1,4 @@
-use Rattle.std.proofs.Common.{◌≡◌, true, Some, subst, sym}
+use Rattle.std.proofs.Common.{◌≡◌, true, Some, subst}
 use Rattle.script.specs.Spelling.{Spells}
 use Rattle.paths.specs.Sound.{IsSound}
 use Rattle.claim.specs.Claims.{TakesPath, path_of, IsOpening, IsWhole}
