@@ -1,1 +1,2 @@
 pub mod DueClaims
+pub mod EnforcementExamples
