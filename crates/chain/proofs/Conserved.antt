@@ -408,6 +408,9 @@ tested_replay old [] (a ∷ answers) new r t = absurd r
 tested_replay old (c ∷ cs) [] new r t = absurd r
 tested_replay old (c ∷ cs) (a ∷ answers) new r t = tested_replay r.0 cs answers new r.2 (tested_call old c a r.0 r.1 t)
 
-pub conserved : (commands : List Command) (answers : List Answer) (s : Standing) → Replays (record { blocks = empty_block ∷ []; greatest = 0 }) commands answers s → AreApart s.blocks → sum_by (λ c. c.output.value) (unspent_of s.blocks) + fees_of s.blocks ≡ granted_of s.blocks
+pub conserved_there : (blocks : List Contents) → is_tested blocks ≡ true → AreApart blocks → sum_by (λ c. c.output.value) (unspent_of blocks) + fees_of blocks ≡ granted_of blocks
 unfolding Conserves
-conserved commands answers s r apart = conserves_all s.blocks (tested_replay (record { blocks = empty_block ∷ []; greatest = 0 }) commands answers s r refl) apart
+conserved_there blocks tested apart = conserves_all blocks tested apart
+
+pub conserved : (commands : List Command) (answers : List Answer) (s : Standing) → Replays (record { blocks = empty_block ∷ []; greatest = 0 }) commands answers s → AreApart s.blocks → sum_by (λ c. c.output.value) (unspent_of s.blocks) + fees_of s.blocks ≡ granted_of s.blocks
+conserved commands answers s r apart = conserved_there s.blocks (tested_replay (record { blocks = empty_block ∷ []; greatest = 0 }) commands answers s r refl) apart

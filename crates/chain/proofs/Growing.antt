@@ -160,7 +160,7 @@ false_above : (a b : ℕ) → nat_lt a b ≡ false → b ≤ a
 false_above a b h = grind (arith, nat_tests)
 
 -- what it means that so many blocks may be taken off
-not_too_deep : (s : Standing) (k : ℕ) → is_too_deep s k ≡ false → (k ≤ height_of s.blocks) × (list_any has_grant (take k s.blocks) ≡ false)
+pub not_too_deep : (s : Standing) (k : ℕ) → is_too_deep s k ≡ false → (k ≤ height_of s.blocks) × (list_any has_grant (take k s.blocks) ≡ false)
 not_too_deep s k h =
     let first = nat_lt (height_of s.blocks) k in
     let second = nat_lt (height_of s.blocks - k + 6) s.greatest in (
@@ -168,16 +168,13 @@ not_too_deep s k h =
       or_right (first || second) (list_any has_grant (take k s.blocks)) h,
     )
 
-pub more_left : (s s' : Standing) (k i : ℕ) → is_too_deep s k ≡ false → i < k → s' ≡ record s { blocks = drop i s.blocks } → 1 < length s'.blocks
-more_left s s' k i h below e =
-    let n = not_too_deep s k h in
+pub more_left : (s s' : Standing) (k i : ℕ) → k ≤ height_of s.blocks → i < k → s' ≡ record s { blocks = drop i s.blocks } → 1 < length s'.blocks
+more_left s s' k i enough below e =
     let count : length s'.blocks ≡ length s.blocks - i = ap (λ (b : Standing). length b.blocks) e ∙ length-drop i s.blocks in
-    omega (arith, n.0)
+    omega arith
 
-pub none_granted_left : (s s' : Standing) (k i : ℕ) → is_too_deep s k ≡ false → i < k → s' ≡ record s { blocks = drop i s.blocks } → MayTakeOff s'.blocks
-none_granted_left s s' k i h below e =
-    let n = not_too_deep s k h in
-    rw e (may_take_off_next s.blocks k i n.1 below (omega (arith, n.0)))
+pub none_granted_left : (s s' : Standing) (k i : ℕ) → k ≤ height_of s.blocks → list_any has_grant (take k s.blocks) ≡ false → i < k → s' ≡ record s { blocks = drop i s.blocks } → MayTakeOff s'.blocks
+none_granted_left s s' k i enough none below e = rw e (may_take_off_next s.blocks k i none below (omega arith))
 
 pub one_fewer : (s s' s'' : Standing) (i : ℕ) → s' ≡ record s { blocks = drop i s.blocks } → s'' ≡ record s' { blocks = taken_off s'.blocks } → s'' ≡ record s { blocks = drop (i + 1) s.blocks }
 one_fewer s s' s'' i e f = f ∙ rw e (ap (λ bs. record s { blocks = bs }) (taken_off_next s.blocks i ∙ ap (λ n. drop n s.blocks) (sym (add-one i))))

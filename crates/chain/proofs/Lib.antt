@@ -3,8 +3,11 @@ pub mod Finding
 pub mod Noting
 pub mod Passing
 pub mod Indexed
+pub mod Copying
 pub mod Replaying
 pub mod Conserved
 pub mod Growing
+pub mod Offering
+pub mod Undoing
 pub mod Sums
 pub mod Examples

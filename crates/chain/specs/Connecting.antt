@@ -41,6 +41,26 @@ abbrev pub Connects : Standing → List Transaction → Result ℕ BlockError �
 Connects old txs (Ok height) new = (connected old.blocks txs ≡ Ok new.blocks) × (height ≡ height_of new.blocks) × (new.greatest ≡ max old.greatest height)
 Connects old txs (Err e) new = (new ≡ old) × UnlessMemory e.refusal (connected old.blocks txs ≡ Err e)
 
+-- the blocks with a transaction added to the newest, where nothing refuses it
+abbrev pub unless_refusal : Option Refusal → List Contents → Transaction → List Contents
+unless_refusal None blocks t = with_transaction blocks t
+unless_refusal (Some refusal) blocks t = blocks
+
+-- the blocks with those of the transactions added to the newest, one by one, that pass behind those added before them
+abbrev pub passing_added : List Contents → List Transaction → List Contents
+passing_added blocks [] = blocks
+passing_added blocks (t ∷ ts) = passing_added (unless_refusal (transaction_refusal blocks t) blocks t) ts
+
+-- what each of them gets in its turn
+abbrev pub refusals_of : List Contents → List Transaction → List (Option Refusal)
+refusals_of blocks [] = []
+refusals_of blocks (t ∷ ts) = transaction_refusal blocks t ∷ refusals_of (unless_refusal (transaction_refusal blocks t) blocks t) ts
+
+-- what a call of `connect_some` did, where it had the memory: a new block of those that pass, and each one's refusal
+abbrev pub ConnectsSome : Standing → List Transaction → List (Option Refusal) → Standing → Type 0
+ConnectsSome old txs refusals new =
+    (new.blocks ≡ passing_added (empty_block ∷ old.blocks) txs) × (refusals ≡ refusals_of (empty_block ∷ old.blocks) txs) × (new.greatest ≡ max old.greatest (height_of new.blocks))
+
 -- outputs were granted in the block
 abbrev pub has_grant : Contents → Bool
 has_grant b = not (length b.granted == 0)

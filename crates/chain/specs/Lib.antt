@@ -4,6 +4,7 @@ pub mod Refusals
 pub mod Running
 pub mod Tests
 pub mod Connecting
+pub mod Marking
 pub mod Storing
 pub mod Scanning
 pub mod Totals

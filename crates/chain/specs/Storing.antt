@@ -1,5 +1,5 @@
 -- How a chain is kept.
-use Rattle.std.specs.Prelude.{◌≡◌, List, [], ◌∷◌, length, Result, Ok, Err, None, Some}
+use Rattle.std.specs.Prelude.{◌≡◌, List, [], ◌∷◌, length, Result, Ok, Err, Option, None, Some}
 use Rattle.chain.specs.declared.store.Found.{Found}
 use Rattle.tx.specs.Parts.{Output}
 use Rattle.tx.specs.Fields.{Transaction}
@@ -8,7 +8,7 @@ use Rattle.chain.specs.declared.refusal.BlockError.{BlockError}
 use Rattle.chain.specs.Blocks.{Contents, Standing, Coin}
 use Rattle.chain.specs.Refusals.{UnlessMemory}
 use Rattle.chain.specs.Tests.{transaction_refusal}
-use Rattle.chain.specs.Connecting.{with_transaction, added}
+use Rattle.chain.specs.Connecting.{with_transaction, added, unless_refusal, passing_added, refusals_of}
 
 -- an output that was found
 abbrev pub found_coin : Found → Coin
@@ -45,3 +45,11 @@ AddsOne old t (Err e) new = (new ≡ old) × UnlessMemory e (transaction_refusal
 abbrev pub AddsAll : {A : Type 0} → Standing → List Transaction → Result A BlockError → Standing → Type 0
 AddsAll old txs (Ok x) new = ChangesNewest old new × (added 0 old.blocks txs ≡ Ok new.blocks)
 AddsAll old txs (Err e) new = ChangesNewest old new × UnlessMemory e.refusal (added 0 old.blocks txs ≡ Err e)
+
+-- a transaction was offered to the newest block: it was added where nothing refuses it
+abbrev pub Offers : Standing → Transaction → Option Refusal → Standing → Type 0
+Offers old t refusal new = (refusal ≡ transaction_refusal old.blocks t) × (new ≡ record old { blocks = unless_refusal refusal old.blocks t })
+
+-- those of the transactions were added to the newest block that pass behind those before them
+abbrev pub AddsPassing : Standing → List Transaction → List (Option Refusal) → Standing → Type 0
+AddsPassing old txs refusals new = (new.blocks ≡ passing_added old.blocks txs) × (refusals ≡ refusals_of old.blocks txs)

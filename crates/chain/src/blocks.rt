@@ -1,6 +1,6 @@
 //! Blocks, and the transactions in them.
 
-ghost use Rattle.std.specs.Prelude.{◌≡◌, ◌∷◌, reverse, OnOk, OnErr, IfErr, MatchOption, [], List};
+ghost use Rattle.std.specs.Prelude.{◌≡◌, ◌∷◌, reverse, IfOk, OnOk, OnErr, IfErr, MatchOption, [], List};
 ghost use Rattle.tx.specs.Spelling.{transaction_id};
 ghost use Rattle.tx.specs.Fields.{Transaction};
 ghost use Rattle.tx.specs.Parts.{Output};
@@ -38,6 +38,16 @@ impl Confirmed {
         Confirmed { id: txid(&tx), tx }
     }
 
+    /// An equal transaction with its id. The only error is that memory ran out.
+    pub fn copy(&self) -> Result<Self, AllocError>
+        ensures { IfOk result (λ c. c ≡ self.now) }
+    {
+        Ok(Confirmed {
+            id: self.id,
+            tx: self.tx.copy()?,
+        })
+    }
+
     /// The id: SHA-256 twice of the transaction without its witnesses, in the hash's own byte order.
     pub fn id(&self) -> &[u8; 32]
         ensures { result.now ≡ transaction_id self.now }
@@ -69,6 +79,31 @@ impl Model for Block {
     ghost view = { λ b. record { transactions = reverse b.transactions.items; granted = b.granted } };
 }
 
+/// Equal transactions.
+fn copied_transactions(
+    alloc: Global,
+    transactions: &[Confirmed],
+) -> Result<Vec<Confirmed>, AllocError>
+    ensures { IfOk result (λ copies. copies.items ≡ transactions.now) }
+{
+    let mut copies = Vec::new(alloc);
+    for confirmed in transactions {
+        copies.push(confirmed.copy()?)?;
+    }
+    Ok(copies)
+}
+
+/// A stack of equal outputs, the last of which is the top.
+fn copied_outputs(alloc: Global, outputs: &[TxOut]) -> Result<Stack<TxOut>, AllocError>
+    ensures { IfOk result (λ copies. copies ≡ reverse outputs.now) }
+{
+    let mut copies = Stack::new(alloc);
+    for output in outputs {
+        copies.push(output.copy()?)?;
+    }
+    Ok(copies)
+}
+
 impl Block {
     /// An empty block.
     pub(crate) fn new(alloc: Global) -> Self
@@ -78,6 +113,17 @@ impl Block {
             transactions: Vec::new(alloc),
             granted: Stack::new(alloc),
         }
+    }
+
+    /// An equal block. The only error is that memory ran out.
+    pub(crate) fn copy(&self) -> Result<Self, AllocError>
+        ensures { IfOk result (λ b. b ≡ self.now) }
+    {
+        let alloc = self.granted.allocator();
+        Ok(Block {
+            transactions: copied_transactions(alloc, &self.transactions)?,
+            granted: copied_outputs(alloc, self.granted.values())?,
+        })
     }
 
     /// The transactions in their order.

@@ -50,9 +50,21 @@ impl Blocks {
         self.items.as_slice()
     }
 
+    /// Equal blocks. The only error is that memory ran out.
+    pub fn copy(&self) -> Result<Self, AllocError>
+        ensures { IfOk result (λ b. b ≡ self.now) }
+    {
+        let mut items = Vec::with_capacity(self.allocator(), self.items.len())?;
+        for block in &self.items {
+            items.push(block.copy()?)?;
+        }
+        Ok(Blocks { items })
+    }
+
     /// Adds an empty block.
     pub fn begin(&mut self) -> Result<(), AllocError>
         ensures ok { OnOk result (self.new ≡ empty_block ∷ self.old) }
+        ensures some { 0 < length self.old }
         ensures err { OnErr result (self.new ≡ self.old) }
     {
         let alloc = *self.items.allocator();

@@ -24,6 +24,20 @@ pub(crate) struct IndexedCoin {
     pub spent: bool,
 }
 
+impl Clone for IndexedCoin {
+    ghost use Rattle.std.specs.Prelude.{◌≡◌};
+
+    ghost is_clone = { λ coin copy. copy ≡ coin };
+
+    fn clone(&self) -> Result<Self, AllocError> {
+        Ok(IndexedCoin {
+            output: self.output.copy()?,
+            height: self.height,
+            spent: self.spent,
+        })
+    }
+}
+
 /// Notes an output at an outpoint where none stands yet.
 pub(crate) fn note_output(
     coins: &mut BTreeMap<OutPoint, IndexedCoin>,

@@ -1,10 +1,10 @@
 //! How a chain grows and shrinks by whole blocks.
 
-ghost use Rattle.std.specs.Prelude.{◌≡◌, ℕ, ◌-◌, ◌≤◌, ◌%◌, ◌^◌, ◌++◌, length, drop, reverse, Ok, Err, IfOk, OnOk, MatchResult};
+ghost use Rattle.std.specs.Prelude.{◌≡◌, ℕ, ◌-◌, ◌≤◌, ◌%◌, ◌^◌, ◌++◌, false, length, take, drop, reverse, Ok, Err, IfOk, OnOk, OnErr, MatchResult};
 ghost use Rattle.std.specs.List.{list_any};
-ghost use Rattle.chain.specs.Blocks.{grant_outpoint, transactions_of};
-ghost use Rattle.chain.specs.Connecting.{Connects, Disconnects, Grants, has_grant, is_too_deep};
-ghost use Rattle.chain.specs.Storing.{AddsOne, AddsAll, MayTakeOff};
+ghost use Rattle.chain.specs.Blocks.{grant_outpoint, height_of, transactions_of};
+ghost use Rattle.chain.specs.Connecting.{Connects, ConnectsSome, Disconnects, Grants, has_grant, is_too_deep};
+ghost use Rattle.chain.specs.Storing.{AddsOne, AddsAll, AddsPassing, ChangesNewest, MayTakeOff, Offers};
 
 use crate::blocks::{Block, Confirmed};
 use crate::program::is_program;
@@ -90,6 +90,58 @@ pub(crate) fn connect<S: Store>(store: &mut S, txs: Vec<Tx>) -> Result<u64, Bloc
     Ok(height)
 }
 
+/// Adds one transaction to the newest block, where it passes its tests, and gives its refusal. The only error is that memory ran out.
+#[tactic(auto, using(crate::proofs::Offering::named))]
+fn offer<S: Store>(store: &mut S, tx: Tx) -> Result<Option<Refusal>, AllocError>
+    requires { MayTakeOff (S.standing store.old).blocks }
+    ensures ok { IfOk result (λ refusal. Offers (S.standing store.old) tx refusal (S.standing store.new)) }
+    ensures err { OnErr result (S.standing store.new ≡ S.standing store.old) }
+{
+    let Err(refusal) = add_one(store, tx) else {
+        return Ok(None);
+    };
+    match refusal {
+        Refusal::NoMemory => Err(AllocError),
+        _ => Ok(Some(refusal)),
+    }
+}
+
+/// Adds those of the transactions to the newest block that pass their tests behind those before them, and gives each one's refusal.
+fn add_passing<S: Store>(store: &mut S, txs: Vec<Tx>) -> Result<Vec<Option<Refusal>>, AllocError>
+    requires { MayTakeOff (S.standing store.old).blocks }
+    ensures newest { ChangesNewest (S.standing store.old) (S.standing store.new) }
+    ensures ok { IfOk result (λ refusals. AddsPassing (S.standing store.old) txs.items refusals.items (S.standing store.new)) }
+{
+    let mut refusals = Vec::new(store.allocator());
+    for tx in txs {
+        refusals.push(offer(store, tx)?)?;
+    }
+    Ok(refusals)
+}
+
+/// Adds the next block, of those of the transactions that pass their tests behind those before them, and gives each one's refusal; `None`
+/// where it stands in the block. The only error is that memory ran out, which changes nothing.
+#[tactic(auto, using(crate::proofs::Growing::more_than_one))]
+pub(crate) fn connect_some<S: Store>(
+    store: &mut S,
+    txs: Vec<Tx>,
+) -> Result<Vec<Option<Refusal>>, AllocError>
+    ensures ok { IfOk result (λ refusals. ConnectsSome (S.standing store.old) txs.items refusals.items (S.standing store.new)) }
+    ensures err { OnErr result (S.standing store.new ≡ S.standing store.old) }
+{
+    store.begin()?;
+    match add_passing(store, txs) {
+        Ok(refusals) => {
+            store.note_height();
+            Ok(refusals)
+        }
+        Err(error) => {
+            store.take_off();
+            Err(error)
+        }
+    }
+}
+
 /// How far the height may fall below the greatest that the chain ever had.
 const MAX_DEPTH: u64 = 6;
 
@@ -150,8 +202,20 @@ fn copy_onto(transactions: &[Confirmed], txs: &mut Vec<Tx>) -> Result<(), AllocE
     Ok(())
 }
 
+/// Takes so many of the newest blocks off, in which nothing was granted. It takes no memory.
+#[tactic(auto, using(crate::proofs::Growing::more_left, crate::proofs::Growing::none_granted_left, crate::proofs::Growing::one_fewer))]
+pub(crate) fn take_off_all<S: Store>(store: &mut S, k: u64)
+    requires above_first { k ≤ height_of (S.standing store.old).blocks }
+    requires no_grant { list_any has_grant (take k (S.standing store.old).blocks) ≡ false }
+    ensures { S.standing store.new ≡ record (S.standing store.old) { blocks = drop k (S.standing store.old).blocks } }
+{
+    for _taken in 0..k {
+        store.take_off();
+    }
+}
+
 /// Takes so many of the newest blocks off, and gives their transactions in their order.
-#[tactic(auto, using(crate::proofs::Growing::more_left, crate::proofs::Growing::none_granted_left, crate::proofs::Growing::one_fewer, crate::proofs::Growing::transactions_of_newest))]
+#[tactic(auto, using(crate::proofs::Growing::not_too_deep, crate::proofs::Growing::transactions_of_newest))]
 pub(crate) fn disconnect<S: Store>(store: &mut S, k: u64) -> Result<Vec<Tx>, Refusal>
     ensures { MatchResult result (λ txs. Disconnects (S.standing store.old) k (Ok txs.items) (S.standing store.new)) (λ e. Disconnects (S.standing store.old) k (Err e) (S.standing store.new)) }
 {
@@ -160,8 +224,6 @@ pub(crate) fn disconnect<S: Store>(store: &mut S, k: u64) -> Result<Vec<Tx>, Ref
     }
     let blocks = store.blocks();
     let txs = copied(store.allocator(), newest(blocks, k))?;
-    for _taken in 0..k {
-        store.take_off();
-    }
+    take_off_all(store, k);
     Ok(txs)
 }

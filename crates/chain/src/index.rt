@@ -138,6 +138,85 @@ impl Index {
     }
 }
 
+/// How a chain stands, to which it can go back.
+#[derive(Clone, Copy, Debug, Drop)]
+pub struct Mark {
+    height: u64,
+    greatest: u64,
+}
+
+impl Index {
+    ghost use Rattle.std.specs.Prelude.{◌≡◌, ◌+◌, IfOk, OnErr, option_map, reverse, slice_get, sum_by};
+    ghost use Rattle.chain.specs.Blocks.{Standing, has_id, unspent_of, fees_of, granted_of};
+    ghost use Rattle.chain.specs.Conserving.{AreApart};
+    ghost use Rattle.chain.specs.Connecting.{ConnectsSome};
+    ghost use Rattle.chain.specs.Marking.{IsMark, IsGrown};
+
+    /// Adds the next block, of those of the transactions that pass the tests of `connect` behind those before them, in their order, and gives
+    /// each one's refusal; `None` where it stands in the block. The only error is that memory ran out, which changes nothing.
+    pub fn connect_some(&mut self, txs: Vec<Tx>) -> Result<Vec<Option<Refusal>>, AllocError>
+        ensures ok { IfOk result (λ refusals. ConnectsSome self.old txs.items refusals.items self.new) }
+        ensures err { OnErr result (self.new ≡ self.old) }
+    {
+        connecting::connect_some(self, txs)
+    }
+
+    /// Marks how the chain stands, so that `undo` can go back to it.
+    pub fn mark(&self) -> Mark
+        ensures { IsMark self.now result }
+    {
+        Mark {
+            height: self.blocks.as_slice().len() as u64 - 1,
+            greatest: self.greatest,
+        }
+    }
+
+    /// Goes back to how the chain stood at a mark, where blocks alone were added since, as if these had never been there. It takes no memory.
+    pub fn undo(&mut self, mark: Mark)
+        requires { (before : Standing) × IsMark before mark × IsGrown before self.old }
+        ensures { (before : Standing) → IsMark before mark → IsGrown before self.old → self.new ≡ before }
+    {
+        let above = Coins::height(self) - mark.height;
+        connecting::take_off_all(self, above);
+        self.greatest = mark.greatest;
+    }
+
+    /// An equal chain. The only error is that memory ran out.
+    pub fn copy(&self) -> Result<Self, AllocError>
+        ensures { IfOk result (λ s. s ≡ self.now) }
+    {
+        Ok(Index {
+            blocks: self.blocks.copy()?,
+            coins: self.coins.clone()?,
+            ids: self.ids.clone()?,
+            greatest: self.greatest,
+            grants: self.grants,
+        })
+    }
+
+    /// The block of a height, where the chain has one.
+    pub fn block_at(&self, height: u64) -> Option<&Block>
+        ensures { option_map (λ b. b.now) result ≡ slice_get (reverse self.now.blocks) height }
+    {
+        self.blocks.as_slice().get(height as usize)
+    }
+
+    /// Whether a transaction of this id stands on the chain.
+    pub fn has_id(&self, id: &[u8; 32]) -> bool
+        ensures { result ≡ has_id self.now.blocks id.now }
+    {
+        Store::has_id(self, id)
+    }
+
+    /// Conservation, by whatever calls the chain came about: what its unspent outputs are worth and its fees together are the satoshis that
+    /// were granted, as long as its outputs stand at different outpoints.
+    pub fn conserves_values(&self)
+        ensures { AreApart self.now.blocks → sum_by (λ c. c.output.value) (unspent_of self.now.blocks) + fees_of self.now.blocks ≡ granted_of self.now.blocks }
+    {
+        let _ = &self.greatest;
+    }
+}
+
 impl Coins for Index {
     ghost standing = { λ s. s };
 

@@ -37,7 +37,7 @@ mod totals;
 pub use blocks::{Block, Confirmed};
 pub use coins::Coins;
 pub use commands::{Answer, Command, replay_commands};
-pub use index::Index;
+pub use index::{Index, Mark};
 pub use program::run_program;
 pub use refusal::{BlockError, Refusal};
 pub use scan::Scan;

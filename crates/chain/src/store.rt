@@ -55,6 +55,7 @@ pub trait Store {
     /// Adds an empty block.
     fn begin(&mut self) -> Result<(), AllocError>
         ensures ok { OnOk result (standing self.new ≡ record (standing self.old) { blocks = empty_block ∷ (standing self.old).blocks }) }
+        ensures some { 0 < length (standing self.old).blocks }
         ensures err { OnErr result (standing self.new ≡ standing self.old) };
 
     /// Adds a transaction that passes its tests to the newest block, in which nothing was granted yet.

@@ -1,5 +1,5 @@
 use Rattle.std.proofs.Common.{◌≡◌, drop}
-use Rattle.chain.proofs.connecting.disconnect.Given as goal
+use Rattle.chain.proofs.connecting.take_off_all.Given as goal
 
 abbrev pub invariant-loop-taken : goal.invariant-loop-taken
 invariant-loop-taken g l =

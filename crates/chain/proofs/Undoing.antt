@@ -1,0 +1,72 @@
+-- Chains that only grew since a mark.
+use Rattle.std.proofs.Common.{◌≡◌, ℕ, ◌+◌, ◌-◌, ◌≤◌, false, List, [], ◌∷◌, ◌++◌, ◌||◌, length, take, drop, Option, Some, None, Result, Ok, Err, sym, ap, ◌∙◌, refl, append_assoc, length-append, arith}
+use Rattle.std.specs.List.{list_any}
+use Rattle.std.proofs.Math.Seq.{take-append_seam, drop-append_seam}
+use Rattle.std.proofs.lemmas.List.Folds.{list_any-append}
+use Rattle.tx.specs.Fields.{Transaction}
+use Rattle.chain.specs.declared.refusal.Refusal.{Refusal}
+use Rattle.chain.specs.declared.refusal.BlockError.{BlockError}
+use Rattle.chain.specs.declared.index.Mark.{Mark}
+use Rattle.chain.specs.Blocks.{Contents, Standing, empty_block, height_of}
+use Rattle.chain.specs.Tests.{transaction_refusal}
+use Rattle.chain.specs.Connecting.{added, unless_refused, unless_refusal, passing_added, has_grant, Connects, ConnectsSome}
+use Rattle.chain.specs.Marking.{IsMark, IsGrown}
+
+-- so many blocks stand above a mark
+pub above_mark : (before s : Standing) (m : Mark) → IsMark before m → (g : IsGrown before s) → height_of s.blocks ≡ length g.above + m.height
+above_mark before s m i g = omega (arith, ap (length {A = Contents}) g.blocks, length-append g.above before.blocks, i.height)
+
+pub none_above : (before s : Standing) (n : ℕ) → (g : IsGrown before s) → n ≡ length g.above → list_any has_grant (take n s.blocks) ≡ false
+none_above before s n g e = rw (e, g.blocks, take-append_seam) g.no_grant
+
+pub back : (before s left last : Standing) (m : Mark) (n : ℕ) → IsMark before m → (g : IsGrown before s) → n ≡ length g.above → left ≡ record s { blocks = drop n s.blocks } → last ≡ record left { greatest = m.greatest } → last ≡ before
+back before s left last m n i g e f l =
+    let blocks : drop n s.blocks ≡ before.blocks = rw (e, g.blocks) (drop-append_seam g.above before.blocks) in
+    l ∙ rw f (rw (blocks, i.greatest) refl)
+
+-- a chain grew by nothing, or by more blocks
+pub grown_itself : (s : Standing) → IsGrown s s
+grown_itself s = record { above = []; blocks = refl; no_grant = refl }
+
+none_in_both : (xs ys : List Contents) → list_any has_grant xs ≡ false → list_any has_grant ys ≡ false → list_any has_grant (xs ++ ys) ≡ false
+none_in_both xs ys n m = list_any-append has_grant xs ys ∙ ap (λ x. x || list_any has_grant ys) n ∙ m
+
+pub grown_further : (first s s' : Standing) → IsGrown first s → IsGrown s s' → IsGrown first s'
+grown_further first s s' g h = record {
+  above = h.above ++ g.above;
+  blocks = h.blocks ∙ ap (λ bs. h.above ++ bs) g.blocks ∙ sym (append_assoc h.above g.above first.blocks);
+  no_grant = none_in_both h.above g.above h.no_grant g.no_grant;
+}
+
+abbrev pub Newest : List Contents → Contents → List Contents → Type 0
+Newest blocks b older = (c : Contents) × (blocks ≡ c ∷ older) × (c.granted ≡ b.granted)
+
+-- only the newest block changes
+pub passing_newest : (b : Contents) (older : List Contents) (ts : List Transaction) → Newest (passing_added (b ∷ older) ts) b older
+passing_newest b older [] = (b, refl, refl)
+passing_newest b older (t ∷ ts) =
+    elim (transaction_refusal (b ∷ older) t) as (λ r. Newest (passing_added (unless_refusal r (b ∷ older) t) ts) b older) [
+      | None ↦ passing_newest (record b { transactions = t ∷ b.transactions }) older ts
+      | Some e ↦ passing_newest b older ts
+    ]
+
+same_blocks : (a b : List Contents) (x : Result (List Contents) BlockError) → x ≡ Ok a → x ≡ Ok b → a ≡ b
+same_blocks a b x e f = cc
+
+added_newest : (index : ℕ) (b : Contents) (older : List Contents) (ts : List Transaction) (new : List Contents) → added index (b ∷ older) ts ≡ Ok new → Newest new b older
+added_newest index b older [] new = λ e. (b, sym (same_blocks (b ∷ older) new (Ok (b ∷ older)) refl e), refl)
+added_newest index b older (t ∷ ts) new =
+    elim (transaction_refusal (b ∷ older) t) as (λ r. unless_refused index r (added (index + 1) (record b { transactions = t ∷ b.transactions } ∷ older) ts) ≡ Ok new → Newest new b older) [
+      | None ↦ added_newest (index + 1) (record b { transactions = t ∷ b.transactions }) older ts new
+      | Some r ↦ λ e. absurd (let x : Err (record { index = index; refusal = r }) ≡ Ok new = e in cc)
+    ]
+
+by_newest : (old new : Standing) → Newest new.blocks empty_block old.blocks → IsGrown old new
+by_newest old new n = record { above = n.0 ∷ []; blocks = n.1; no_grant = rw n.2 refl }
+
+-- each new block is such growth
+pub grown_by_some : (old new : Standing) (txs : List Transaction) (refusals : List (Option Refusal)) → ConnectsSome old txs refusals new → IsGrown old new
+grown_by_some old new txs refusals h = let n = passing_newest empty_block old.blocks txs in by_newest old new (n.0, h.0 ∙ n.1, n.2)
+
+pub grown_by_connect : (old new : Standing) (txs : List Transaction) (height : ℕ) → Connects old txs (Ok height) new → IsGrown old new
+grown_by_connect old new txs height h = by_newest old new (added_newest 0 empty_block old.blocks txs new.blocks h.0)
