@@ -44,7 +44,7 @@ reached tokens_of (e ∷ es) ok = subst (IsHistory tokens_of) (grown (is_accepte
 -- ---- the first that is refused
 
 -- the newest entries in front of those before them
-onto : (e : Entry) (es before : List Entry) → reverse (e ∷ es) ++ before ≡ reverse es ++ (e ∷ before)
+pub onto : (e : Entry) (es before : List Entry) → reverse (e ∷ es) ++ before ≡ reverse es ++ (e ∷ before)
 onto e es before = ap (λ xs. xs ++ before) (reverse-append (e ∷ []) es) ∙ append_assoc (reverse es) (e ∷ []) before
 
 earlier : (tokens_of : Signing) (xs before : List Entry) → are_accepted tokens_of (xs ++ before) ≡ true → are_accepted tokens_of before ≡ true

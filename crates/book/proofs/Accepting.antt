@@ -32,7 +32,7 @@ pub passed : {E : Type 0} (test : Bool) (e : E) (later : Option E) → if_so tes
 passed true e later none = absurd (some_none e none)
 passed false e later none = (refl, none)
 
-not_false : (b : Bool) → not b ≡ false → b ≡ true
+pub not_false : (b : Bool) → not b ≡ false → b ≡ true
 not_false true e = refl
 not_false false e = absurd (true≢false e)
 

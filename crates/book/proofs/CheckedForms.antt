@@ -88,7 +88,7 @@ record AreKeys (k : KeyBytes) : Type 0 where
   local_htlc : is_key k.local_htlc ≡ true
   remote_htlc : is_key k.remote_htlc ≡ true
 
-derived_form : (base point : List ℕ) → is_key (derived_key base point) ≡ true
+pub derived_form : (base point : List ℕ) → is_key (derived_key base point) ≡ true
 unfolding is_key derived_key
 derived_form base point = let h = length-sha256 (codes "derive" ++ base ++ point) in cc
 

@@ -1,7 +1,7 @@
 -- What is dumped is loaded as the same history.
-use Rattle.std.proofs.Common.{◌≡◌, ℕ, suc, ◌≤◌, Bool, true, false, List, [], ◌∷◌, ◌++◌, length, map, reverse, Option, Some, None, Result, Ok, Err, refl, sym, ap, ◌∙◌, subst, append-nil, append_assoc}
+use Rattle.std.proofs.Common.{◌≡◌, ℕ, suc, Bool, true, false, List, [], ◌∷◌, ◌++◌, length, map, reverse, Option, Some, None, Result, Ok, Err, refl, sym, ap, ◌∙◌, subst, append-nil, append_assoc}
 use Rattle.std.proofs.lemmas.List.{reverse-append}
-use Rattle.std.specs.Prelude.{is_ok, if◌then◌else◌, option_map}
+use Rattle.std.specs.Prelude.{if◌then◌else◌, option_map, IfOk}
 use Rattle.std.specs.List.{AllByRecursion}
 use Rattle.serde_json.specs.Data.{Data}
 use Rattle.serde_json.specs.View.{items_of}
@@ -12,21 +12,29 @@ use Rattle.terms.specs.declared.sides.Side.TheVariants.{A, B}
 use Rattle.terms.specs.declared.agreement.Terms.{Terms}
 use Rattle.terms.specs.Agreement.{party}
 use Rattle.terms.specs.Sides.{other}
+use Rattle.updates.specs.declared.changes.Update.{Update}
 use Rattle.claim.specs.Claims.{ClaimParts}
 use Rattle.channel.specs.States.{Signing}
-use Rattle.texts.specs.declared.calls.PlainEntry.{PlainEntry}
-use Rattle.texts.specs.declared.steps.PlainReceived.TheVariants.{Updated as UpdateMessage, Signed as SignatureMessage}
+use Rattle.channel.specs.Tokens.{peer_tokens}
+use Rattle.texts.specs.declared.steps.PlainReceived.{PlainReceived}
+use Rattle.texts.specs.declared.steps.PlainReceived.TheVariants.{Updated as UpdateMessage}
+use Rattle.texts.specs.declared.steps.PlainStep.TheVariants.{Receive}
+use Rattle.texts.specs.declared.calls.PlainCall.{PlainCall}
+use Rattle.texts.specs.declared.calls.PlainCall.TheVariants as plain
 use Rattle.texts.specs.Values.{each_of}
-use Rattle.texts.specs.Calls.{can_agree, call_of as call_in, entry_of as entry_in, dump_of as dump_in_data}
+use Rattle.texts.specs.Messages.{update_of}
+use Rattle.texts.specs.Steps.{received_of}
+use Rattle.texts.specs.Calls.{can_agree, are_within, call_of as call_in, entry_of as entry_in}
 use Rattle.texts.specs.Writing.{update_data}
 use Rattle.texts.specs.ClaimWriting.{plain_claim}
-use Rattle.texts.specs.CallWriting.{received_data}
-use Rattle.texts.proofs.CallReturning.{openings_come_back as opening_text, own_steps_come_back, received_steps_come_back, signs_come_back, revokes_come_back, keeps_come_back, releases_come_back, entries_come_back as entry_text, dumps_come_back as dump_text}
+use Rattle.texts.specs.CallWriting.{CanOpen, open_data, receive_data, release_data, entry_data}
+use Rattle.texts.proofs.CallReturning.{updated_again, dumps_come_back as dump_text}
 use Rattle.book.specs.Bounds.{IsSeedOf}
 use Rattle.book.specs.declared.calls.Opening.{Opening}
 use Rattle.book.specs.declared.calls.Batch.{Batch}
 use Rattle.book.specs.declared.calls.Call.{Call}
 use Rattle.book.specs.declared.calls.Call.TheVariants.{Open, Step as Stepping, Sign, Revoke, Keep, Release}
+use Rattle.book.specs.declared.calls.Step.{Step}
 use Rattle.book.specs.declared.calls.Step.TheVariants.{Own, Updated, Signed}
 use Rattle.book.specs.declared.calls.Entry.{Entry}
 use Rattle.book.specs.declared.errors.LoadError.{LoadError}
@@ -34,12 +42,13 @@ use Rattle.book.specs.declared.errors.LoadError.TheVariants as loads
 use Rattle.book.specs.Accepted.{is_taken, first_refused_after, all_accepted}
 use Rattle.book.specs.Openings.{bases_of, own_or_others, party_of, terms_with, owns, opening_if, opening_of, batch_of}
 use Rattle.book.specs.Loading.{checked_of, claim_of, claims_of, call_of, with_seat, entry_of}
-use Rattle.book.specs.Dumping.{plain_party, plain_terms, plain_opening, plain_call, plain_entry, call_data, history_entry_data, history_data}
-use Rattle.book.specs.Loaded.{with_entry, history_after_plain, dump_in, loaded}
-use Rattle.book.specs.Again.{IsWhole, HasWholeClaims, IsStepText, IsCallText, IsEntryText, ClaimsComeBack, OpeningsComeBack, EntriesComeBack, DumpsComeBack}
+use Rattle.book.specs.Dumping.{plain_party, plain_terms, plain_opening, plain_step, plain_call, plain_entry, step_data, call_data, history_entry_data, history_data}
+use Rattle.book.specs.Loaded.{with_entry, history_after_plain, loaded}
+use Rattle.book.specs.Again.{IsWhole, HasWholeClaims, HasStepTokens, HasTokens, ComesBack, ClaimsComeBack, OpeningsComeBack, EntriesComeBack}
 use Rattle.book.proofs.OpcodesRead.{reads}
 use Rattle.book.proofs.SameOpenings.{same_bases, same_terms, same_opening, same_batch, agrees, batch_is, within_batch}
 use Rattle.book.proofs.Accepted.{accepted_means}
+use Rattle.book.proofs.PeerTokens.{each_token}
 
 -- ---- claims
 
@@ -104,7 +113,10 @@ entries_come_back e h = ap (with_seat e.seat) (call_back e.call h)
 
 -- ---- histories
 
-from_each : (tokens_of : Signing) (i : ℕ) (before es : List Entry) → AllByRecursion (λ e. HasWholeClaims e.call) es → first_refused_after tokens_of before es ≡ None
+abbrev AreWhole : List Entry → Type 0
+AreWhole es = AllByRecursion (λ e. HasWholeClaims e.call) es
+
+from_each : (tokens_of : Signing) (i : ℕ) (before es : List Entry) → AreWhole es → first_refused_after tokens_of before es ≡ None
     → history_after_plain tokens_of i before (map plain_entry es) ≡ Ok (reverse before ++ es)
 from_each tokens_of i before [] h none = ap Ok (sym (append-nil (reverse before)))
 from_each tokens_of i before (e ∷ es) h none =
@@ -121,24 +133,55 @@ from_each tokens_of i before (e ∷ es) h none =
     go true none later = later (rest (first_refused_after tokens_of (e ∷ before) es) none) ∙ ap Ok (ap (λ es'. es' ++ es) (reverse-append (e ∷ []) before) ∙ append_assoc (reverse before) (e ∷ []) es)
     go false none later = absurd (cc)
 
-call_text : (c : Call) → IsCallText c → call_in (call_data c) ≡ Some (plain_call c)
-unfolding received_data update_data
-call_text (Open o) h = opening_text (plain_opening o) h
-call_text (Stepping channel (Own u)) h = own_steps_come_back channel u h
-call_text (Stepping channel (Updated u)) h = received_steps_come_back channel (UpdateMessage u) h
-call_text (Stepping channel (Signed tokens)) h = received_steps_come_back channel (SignatureMessage _) h
-call_text (Sign channel) h = signs_come_back channel
-call_text (Revoke channel secret next_point) h = revokes_come_back channel _ h
-call_text (Keep channel number claims) h = keeps_come_back channel number claims h
-call_text (Release channel batch) h = releases_come_back channel batch.claims batch.outputs batch.preimages h.0 h.1 h.2 (within_batch batch)
+-- ---- what is written
 
-each_entry : (history : List Entry) → AllByRecursion IsEntryText history → each_of entry_in (items_of (map history_entry_data history)) ≡ Some (map plain_entry history)
-each_entry [] h = refl
-each_entry (e ∷ es) h = rw (entry_text (call_data e.call) (plain_call e.call) e.seat (call_text e.call h.0.call) h.0.seat, each_entry es h.1) refl
+-- a received update, in the message that was written
+received_again : (channel : ℕ) (u : Update) (d : Data) → d ≡ update_data u → update_of (update_data u) ≡ Some u
+    → ((m : PlainReceived) → received_of d ≡ Some m → call_in (receive_data channel d) ≡ Some (plain.Step channel (Receive m)))
+    → call_in (step_data channel (Updated u)) ≡ Some (plain.Step channel (plain_step (Updated u)))
+received_again channel u d same back go =
+    subst (λ e. call_in (receive_data channel e) ≡ Some (plain.Step channel (plain_step (Updated u)))) same (go (UpdateMessage u) (ap received_of same ∙ updated_again u back))
 
-pub dumps_come_back : DumpsComeBack
+pub update_again : {A E : Type 0} (channel : ℕ) (s : Step) (u : Update) (d : Data) (r : Result A E) → s ≡ Updated u → d ≡ update_data u → update_of (update_data u) ≡ Some u
+    → IfOk r (λ _. (m : PlainReceived) → received_of d ≡ Some m → call_in (receive_data channel d) ≡ Some (plain.Step channel (Receive m)))
+    → IfOk r (λ _. HasStepTokens s → call_in (step_data channel s) ≡ Some (plain.Step channel (plain_step s)))
+update_again channel s u d (Ok v) is same back go =
+    λ tokens. subst (λ (t : Step). call_in (step_data channel t) ≡ Some (plain.Step channel (plain_step t))) (sym is) (received_again channel u d same back go)
+update_again channel s u d (Err e) is same back go = tt
+
+pub opening_again : (o : Opening) → (CanOpen (plain_opening o) → call_in (open_data (plain_opening o)) ≡ Some (plain.Open (plain_opening o))) → HasTokens (Open o) → call_in (call_data (Open o)) ≡ Some (plain_call (Open o))
+opening_again o go token = go (agrees (plain_terms o.terms) (record { limited = o.terms.limited; whole = o.terms.whole }), token)
+
+pub release_again : (channel : ℕ) (batch : Batch) → (are_within (length batch.claims) (length batch.outputs) ≡ true
+    → call_in (release_data channel batch.claims batch.outputs batch.preimages) ≡ Some (plain.Release channel (map plain_claim batch.claims) batch.outputs batch.preimages))
+    → call_in (call_data (Release channel batch)) ≡ Some (plain_call (Release channel batch))
+release_again channel batch go = go (within_batch batch)
+
+pub entry_again : (e : Entry) (d : Data) → d ≡ call_data e.call → (HasTokens e.call → call_in (call_data e.call) ≡ Some (plain_call e.call)) → HasWholeClaims e.call
+    → ((call : PlainCall) → call_in d ≡ Some call → entry_in (entry_data d e.seat) ≡ Some (record { call = call; seat = e.seat })) → ComesBack e
+entry_again e d same read whole go = record {
+  read = λ tokens. subst (λ x. entry_in (entry_data x e.seat) ≡ Some (plain_entry e)) same (go (plain_call e.call) (ap call_in same ∙ read tokens));
+  whole = whole;
+}
+
+are_whole : (es : List Entry) → AllByRecursion ComesBack es → AreWhole es
+are_whole [] back = tt
+are_whole (e ∷ es) back = (back.0.whole, are_whole es back.1)
+
+are_read : (es : List Entry) → AllByRecursion ComesBack es → AllByRecursion (λ e. HasTokens e.call) es → each_of entry_in (items_of (map history_entry_data es)) ≡ Some (map plain_entry es)
+are_read [] back tokens = refl
+are_read (e ∷ es) back tokens = rw (back.0.read tokens.0, are_read es back.1 tokens.1) refl
+
+-- a text that is read as the form of accepted entries is loaded as their history
+loads_again : (history : List Entry) (text : List ℕ) → all_accepted peer_tokens history ≡ true → AllByRecursion ComesBack history → read text ≡ Some (history_data history)
+    → loaded peer_tokens text ≡ Ok history
 unfolding loaded
-dumps_come_back tokens_of history text accepted whole texts readable =
-    let none = (accepted_means.none_refused tokens_of history).1 accepted in
-    let shape = dump_text (map history_entry_data history) (map plain_entry history) (each_entry history texts) in
-    rw (readable, shape) (from_each tokens_of 0 [] history whole none)
+loads_again history text accepted back readable =
+    let none = (accepted_means.none_refused peer_tokens history).1 accepted in
+    let shape = dump_text (map history_entry_data history) (map plain_entry history) (are_read history back (each_token [] history none)) in
+    rw (readable, shape) (from_each peer_tokens 0 [] history (are_whole history back) none)
+
+pub loaded_again : {S E : Type 0} (bytes : S → List ℕ) (history : List Entry) (r : Result S E) → AllByRecursion ComesBack history
+    → IfOk r (λ s. read (bytes s) ≡ Some (history_data history)) → IfOk r (λ s. all_accepted peer_tokens history ≡ true → loaded peer_tokens (bytes s) ≡ Ok history)
+loaded_again bytes history (Ok s) back readable = λ accepted. loads_again history (bytes s) accepted back readable
+loaded_again bytes history (Err e) back readable = tt

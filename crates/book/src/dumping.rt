@@ -1,19 +1,26 @@
 //! The dump of a history: a text of JSON (RFC 8259) from which the same history is loaded.
 
-ghost use Rattle.std.specs.Prelude.{◌≡◌, map, Some, IfOk, string_bytes};
+ghost use Rattle.std.specs.Prelude.{◌≡◌, true, Some, Ok, IfOk, string_bytes};
+ghost use Rattle.std.specs.List.{AllByRecursion};
 ghost use Rattle.serde_json.specs.Read.{read};
 ghost use Rattle.serde_json.specs.View.{view};
-ghost use Rattle.texts.specs.CallWriting.{signature_data};
-ghost use Rattle.book.specs.Dumping.{plain_party, plain_terms, plain_opening, plain_tokens, step_data, call_data, history_entry_data, history_data, dump_of};
+ghost use Rattle.channel.specs.Tokens.{peer_tokens};
+ghost use Rattle.texts.specs.declared.calls.PlainCall.TheVariants.{Step as PlainStepping};
+ghost use Rattle.texts.specs.Calls.{call_of as call_in};
+ghost use Rattle.book.specs.Accepted.{all_accepted};
+ghost use Rattle.book.specs.Dumping.{plain_party, plain_terms, plain_opening, plain_step, plain_call, step_data, call_data, history_entry_data, history_data, dump_of};
+ghost use Rattle.book.specs.Loaded.{loaded};
+ghost use Rattle.book.specs.Again.{IsWhole, HasWholeClaims, HasStepTokens, HasTokens, ComesBack};
 
 use crate::calls::{Call, Entry, Opening, Step};
-use channel::Tokens;
-use serde_json::{Value, json};
+use claim::Claim;
+use serde_json::Value;
 use std::alloc::{AllocError, Global};
 use terms::{Party, Terms};
 use texts::{
-    PlainOpening, PlainParty, PlainRevocation, PlainTerms, WriteValue, write_dump, write_each,
+    PlainOpening, PlainParty, PlainRevocation, PlainTerms, WriteValue, write_dump,
     write_entry, write_keep, write_own, write_receive, write_release, write_revoke, write_sign,
+    write_signature,
 };
 
 fn plain_party(party: &Party) -> PlainParty
@@ -56,29 +63,47 @@ fn plain_opening(opening: &Opening) -> PlainOpening
     }
 }
 
-// The message that has the tokens.
-#[tactic(auto, unfolding(texts::specs::CallWriting::signature_data))]
-fn tokens_value(alloc: Global, tokens: &Tokens) -> Result<Value, AllocError>
-    ensures { IfOk result (λ v. view v ≡ signature_data (plain_tokens tokens.now)) }
-{
-    let commitment = tokens.commitment.write_value(alloc)?;
-    let htlcs = write_each(alloc, tokens.htlcs.values())?;
-    json!(in alloc; ["signed", commitment, htlcs])
-}
-
 fn step_value(alloc: Global, channel: u64, step: &Step) -> Result<Value, AllocError>
-    ensures { IfOk result (λ v. view v ≡ step_data channel step.now) }
+    ensures form { IfOk result (λ v. view v ≡ step_data channel step.now) }
+    ensures back { IfOk result (λ _. HasStepTokens step.now → call_in (step_data channel step.now) ≡ Some (PlainStepping channel (plain_step step.now))) }
 {
     match step {
         Step::Own(update) => write_own(alloc, channel, update),
         Step::Updated(update) => write_receive(alloc, channel, update.write_value(alloc)?),
-        Step::Signed(tokens) => write_receive(alloc, channel, tokens_value(alloc, tokens)?),
+        Step::Signed(tokens) => {
+            let message = write_signature(alloc, &tokens.commitment, tokens.htlcs.values())?;
+            write_receive(alloc, channel, message)
+        }
+    }
+}
+
+// What the type of a claim keeps, for proofs.
+fn keeps(claim: &Claim)
+    ensures { IsWhole claim.now }
+{
+    let checked = claim.checked();
+    let script = checked.script();
+    let _ = script.ops();
+    let _ = script.bytes();
+    let _ = checked.paths();
+    let _ = claim.path();
+    let _ = claim.shell();
+}
+
+// The same of each claim.
+fn each_keeps(claims: &[Claim])
+    ensures { AllByRecursion IsWhole claims.now }
+{
+    for claim in claims {
+        keeps(claim);
     }
 }
 
 // The call in its form.
 fn call_value(alloc: Global, call: &Call) -> Result<Value, AllocError>
-    ensures { IfOk result (λ v. view v ≡ call_data call.now) }
+    ensures form { IfOk result (λ v. view v ≡ call_data call.now) }
+    ensures back { IfOk result (λ _. HasTokens call.now → call_in (call_data call.now) ≡ Some (plain_call call.now)) }
+    ensures whole { IfOk result (λ _. HasWholeClaims call.now) }
 {
     match call {
         Call::Open(opening) => plain_opening(opening).write_value(alloc),
@@ -99,20 +124,27 @@ fn call_value(alloc: Global, call: &Call) -> Result<Value, AllocError>
             channel,
             number,
             claims,
-        } => write_keep(alloc, *channel, *number, claims.values()),
-        Call::Release { channel, batch } => write_release(
-            alloc,
-            *channel,
-            batch.claims.values(),
-            batch.outputs.values(),
-            batch.preimages.values(),
-        ),
+        } => {
+            each_keeps(claims.values());
+            write_keep(alloc, *channel, *number, claims.values())
+        }
+        Call::Release { channel, batch } => {
+            each_keeps(batch.claims.values());
+            write_release(
+                alloc,
+                *channel,
+                batch.claims.values(),
+                batch.outputs.values(),
+                batch.preimages.values(),
+            )
+        }
     }
 }
 
 // The entry in its form.
 fn entry_value(alloc: Global, entry: &Entry) -> Result<Value, AllocError>
-    ensures { IfOk result (λ v. view v ≡ history_entry_data entry.now) }
+    ensures form { IfOk result (λ v. view v ≡ history_entry_data entry.now) }
+    ensures back { IfOk result (λ _. ComesBack entry.now) }
 {
     let call = call_value(alloc, &entry.call)?;
     write_entry(alloc, call, entry.seat)
@@ -120,7 +152,8 @@ fn entry_value(alloc: Global, entry: &Entry) -> Result<Value, AllocError>
 
 // The history in its form.
 fn history_value(alloc: Global, history: &[Entry]) -> Result<Value, AllocError>
-    ensures { IfOk result (λ v. view v ≡ history_data history.now) }
+    ensures form { IfOk result (λ v. view v ≡ history_data history.now) }
+    ensures back { IfOk result (λ _. AllByRecursion ComesBack history.now) }
 {
     let mut entries = Vec::new(alloc);
     for entry in history {
@@ -137,6 +170,9 @@ pub fn dump(alloc: Global, history: &[Entry]) -> Result<String, AllocError>
 
     // What the text is read as.
     ensures reads { IfOk result (λ text. read (string_bytes text) ≡ Some (history_data history.now)) }
+
+    // And loaded as, where each entry is accepted after those before it.
+    ensures loads { IfOk result (λ text. all_accepted peer_tokens history.now ≡ true → loaded peer_tokens (string_bytes text) ≡ Ok history.now) }
 {
     let value = history_value(alloc, history)?;
     value.to_string(alloc)

@@ -2,7 +2,8 @@
 
 ghost use Rattle.book.specs.Accepted.{AcceptedMeans};
 ghost use Rattle.book.specs.Guarding.{AcceptedIsGuarded, GuardedMeans};
-ghost use Rattle.book.specs.Again.{ClaimsComeBack, OpeningsComeBack, EntriesComeBack, DumpsComeBack};
+ghost use Rattle.book.specs.Again.{ClaimsComeBack, OpeningsComeBack, EntriesComeBack};
+ghost use Rattle.book.specs.Refused.{RefusalsComeInOrder};
 ghost use Rattle.book.specs.Penalties.{PenaltySetsAreExact};
 ghost use Rattle.book.specs.Releasing.{KeptAreFillable};
 ghost use Rattle.book.specs.Signers.{RightsAreTested, RefusalsAreFound};
@@ -40,11 +41,15 @@ pub fn kept_are_fillable()
     ensures { KeptAreFillable }
 {}
 
-/// An accepted claim, an opening and an entry are taken again from their plain forms as the same; and a text that is read as the form of a history of accepted entries is loaded as that
-/// history.
-pub fn what_is_dumped_is_loaded()
+/// An accepted claim, an opening and an entry of accepted claims are taken again from their plain forms as the same.
+pub fn what_is_dumped_is_taken_again()
     ensures claims { ClaimsComeBack }
     ensures openings { OpeningsComeBack }
     ensures entries { EntriesComeBack }
-    ensures dumps { DumpsComeBack }
+{}
+
+/// A text is refused as no JSON, or as a value that is no dump, exactly where it is that, whatever claims and calls it has. Else the entry of a refusal's index is the first one that is not
+/// taken: its claims are not accepted, or they are and its call is not, after the entries before it.
+pub fn refusals_come_in_order()
+    ensures { RefusalsComeInOrder }
 {}

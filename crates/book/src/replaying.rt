@@ -212,16 +212,19 @@ fn book_of(alloc: Global, history: List<PlainEntry>) -> Result<Book, LoadError>
 }
 
 impl Book {
-    ghost use Rattle.std.specs.Prelude.{◌≡◌, Some, IfOk, string_bytes};
+    ghost use Rattle.std.specs.Prelude.{◌≡◌, Some, Ok, IfOk, string_bytes};
     ghost use Rattle.serde_json.specs.Read.{read};
     ghost use Rattle.channel.specs.Tokens.{peer_tokens};
     ghost use Rattle.book.specs.Dumping.{dump_of, history_data};
     ghost use Rattle.book.specs.Loaded.{Loads, loaded};
 
-    /// The dump of the book's history. The only error is that memory ran out.
+    /// The dump of the book's history, which is loaded as this history. The only error is that memory ran out.
     pub fn dump(&self, alloc: Global) -> Result<String, AllocError>
         ensures text { IfOk result (λ text. string_bytes text ≡ dump_of self.now) }
         ensures reads { IfOk result (λ text. read (string_bytes text) ≡ Some (history_data self.now)) }
+
+        // What the text is loaded as.
+        ensures loads { IfOk result (λ text. loaded peer_tokens (string_bytes text) ≡ Ok self.now) }
     {
         dump(alloc, self.entries())
     }

@@ -154,8 +154,10 @@ impl Index {
 
     /// Adds the next block, of those of the transactions that pass the tests of `connect` behind those before them, in their order, and gives
     /// each one's refusal; `None` where it stands in the block. The only error is that memory ran out, which changes nothing.
+    #[tactic(auto, using(crate::proofs::Undoing::grown_by_some, crate::proofs::Undoing::grown_itself))]
     pub fn connect_some(&mut self, txs: Vec<Tx>) -> Result<Vec<Option<Refusal>>, AllocError>
         ensures ok { IfOk result (λ refusals. ConnectsSome self.old txs.items refusals.items self.new) }
+        ensures grown { IfOk result (λ _. IsGrown self.old self.new) }
         ensures err { OnErr result (self.new ≡ self.old) }
     {
         connecting::connect_some(self, txs)

@@ -6,6 +6,7 @@ use std::process::Abort;
 use std::test::Fail;
 use tx::{Inputs, OutPoint, Outputs, Tx, TxIn, TxOut, Witness};
 
+mod offers;
 mod plain;
 mod random;
 mod rows;

@@ -1,14 +1,18 @@
 -- What a claim's path has, by how it was judged.
 use Rattle.std.proofs.Common.{◌≡◌, ℕ, ◌<◌, ◌≤◌, Bool, true, false, List, [], ◌∷◌, length, get_or, Option, Some, None, sym, ap, subst, ◌∙◌, refl, arith}
-use Rattle.std.specs.Prelude.{slice_get, IsTrue, if◌then◌else◌, nat_lt, unwrap_or, Result, Ok, Err, is_ok, All, MatchResult}
+use Rattle.std.specs.Prelude.{slice_get, IsTrue, if◌then◌else◌, nat_lt, unwrap_or, option_map, Result, Ok, Err, is_ok, All, MatchResult}
+use Rattle.tx.specs.Fields.{Transaction}
+use Rattle.tx.specs.declared.input.TxIn.{TxIn}
 use Rattle.std.proofs.lemmas.Bool.{ltb-true, false≢true}
 use Rattle.std.proofs.lemmas.Option.{get_or_from_slice_get, slice_get_within, slice_get_read, slice_get_past}
 use Rattle.script.specs.Spelling.{spelling, Spells}
+use Rattle.script.specs.Run.{Clean, outcome}
+use Rattle.sighash.specs.Programs.{spend_of}
 use Rattle.facts.specs.Symbols.{Fact}
 use Rattle.facts.specs.declared.symbols.FactOver.TheVariants.{Lock}
 use Rattle.facts.specs.Symbols.{Stated}
 use Rattle.paths.specs.declared.state.Path.{Path}
-use Rattle.paths.specs.Listing.{CheckedScript, greater, with_lock, greatest_lock_in}
+use Rattle.paths.specs.Listing.{CheckedScript, listing, greater, with_lock, greatest_lock_in}
 use Rattle.paths.specs.Sound.{IsSound}
 use Rattle.claim.specs.declared.parts.Slot.{Slot}
 use Rattle.claim.specs.declared.parts.Place.{Place}
@@ -17,10 +21,12 @@ use Rattle.claim.specs.declared.parts.Shell.TheVariants.{Open, Fixed}
 use Rattle.claim.specs.declared.errors.AcceptError.{AcceptError}
 use Rattle.claim.specs.declared.errors.AcceptError.TheVariants.{NoSuchPath}
 use Rattle.claim.specs.Evidence.{evidence_of}
-use Rattle.claim.specs.Fitting.{IsRefusal, Opens}
-use Rattle.claim.specs.Judgement.{has_polarity, is_met, first_unmet_or, judgement_of_path, judgement_of, height_of, is_shell, known_digest, needed_height}
-use Rattle.claim.specs.Claims.{ClaimParts, TakesPath, path_of}
-use Rattle.claim.proofs.Shells.{fixed_of}
+use Rattle.claim.specs.Fitting.{IsRefusal, StandsRound, Opens}
+use Rattle.claim.proofs.Locks.{age-small}
+use Rattle.claim.specs.Judgement.{has_polarity, is_met, first_unmet_or, judgement_of_path, judgement_of, height_of, age_of, is_shell, known_digest, needed_height}
+use Rattle.claim.specs.Claims.{ClaimParts, IsAccepted, IsBare, TakesPath, path_of, sequence_of, lock_time_of, FitsClaim, IsWhole}
+use Rattle.claim.specs.Laws.{IsTimed}
+use Rattle.claim.proofs.Shells.{fixed_of, round_of}
 use Rattle.claim.proofs.Meeting.{met_by, judgement_of-ok, judgement_of-opens, sound-at}
 
 pub judgement_of-some : (ways : CheckedScript) (index : ℕ) (slots : List Slot) (place : Place) (shell : Shell) (p : Path) → slice_get ways.paths index ≡ Some p → judgement_of ways index slots place shell ≡ judgement_of_path (spelling ways.ops) slots place shell p
@@ -114,3 +120,37 @@ taken-at c p e = (judgement_of-ok c.ways c.index c.slots c.place c.shell p e).at
 
 pub taken-shell : (c : ClaimParts) (p : Path) → TakesPath c p → is_shell p c.place c.shell ≡ true
 taken-shell c p e = (judgement_of-ok c.ways c.index c.slots c.place c.shell p e).stands
+
+-- what every claim is
+pub whole-spelt : (c : ClaimParts) (bytes : List ℕ) → Spells c.ways.ops bytes → length bytes ≤ 10000 → listing c.ways.ops ≡ Ok c.ways.paths → IsAccepted c → IsBare c.shell → IsWhole c
+whole-spelt c bytes spells short l a b = record { ops = spells.each; short = subst (λ s. length s ≤ 10000) (sym spells.same) short; listed = l; accepted = a; bare = sym b }
+
+-- a transaction that stands round a claim has at least the lock time that the claim needs
+needed-reached : (p : Path) (shell : Shell) (t : Transaction) → StandsRound p shell t → needed_height p shell ≤ t.lock_time
+needed-reached p Open t s = s.1
+needed-reached p (Fixed u) t s = let same = ap (λ w. w.lock_time) s in omega arith
+
+-- whatever fits an accepted claim has its lock time and its age
+pub fits-timed : (c : ClaimParts) (t : Transaction) (input : TxIn) → All (IsSound c.ways.ops) c.ways.paths → FitsClaim c t input → IsTimed c t input
+fits-timed c t input all f =
+    let p = f.path in
+    let at = taken-at c p f.taken in
+    let same : sequence_of c ≡ age_of p = ap (λ o. unwrap_or (option_map age_of o) 0) at in
+    let lock : lock_time_of c ≡ needed_height p c.shell = ap (λ o. unwrap_or (option_map (λ q. needed_height q c.shell) o) 0) at in
+    let s = accepted-sound c.ways c.index c.slots c.place c.shell p all f.taken in
+    let r = round_of p c.place c.shell (spelling c.ways.ops) t input (taken-shell c p f.taken) f.fits.among f.fits.stands in
+    record {
+      version = r.version;
+      sequence = f.fits.sequence ∙ sym same;
+      age = subst (λ n. n < 65536) (sym (same ∙ ap (λ o. unwrap_or o 0) s.age)) (age-small p.facts);
+      reached = subst (λ n. n ≤ t.lock_time) (sym lock) (needed-reached p c.shell t f.fits.stands);
+      height = r.height;
+    }
+
+-- the script of an accepted claim runs clean on the items of what fits it
+pub fits-clean : (c : ClaimParts) (t : Transaction) (input : TxIn) → IsWhole c → All (IsSound c.ways.ops) c.ways.paths → (f : FitsClaim c t input)
+    → outcome (spend_of t input (spelling c.ways.ops) c.place.value) c.ways.ops f.fits.items ≡ Clean f.path.ops f.path.height
+fits-clean c t input w all f =
+    let opens = judgement_of-opens c.ways c.index c.slots c.place c.shell f.path w.ops w.short all f.taken in
+    let s = accepted-sound c.ways c.index c.slots c.place c.shell f.path all f.taken in
+    s.clean (spend_of t input (spelling c.ways.ops) c.place.value) f.fits.items (opens.meets t input f.fits)

@@ -1,10 +1,11 @@
 -- What a claim is, by its parts.
-use Rattle.std.specs.Prelude.{◌≡◌, ℕ, List, slice_get, Option, option_map, unwrap_or, Ok, is_ok, IsTrue}
-use Rattle.script.specs.Spelling.{spelling}
+use Rattle.std.specs.Prelude.{◌≡◌, ℕ, ◌≤◌, List, length, slice_get, Option, option_map, unwrap_or, Ok, is_ok, IsTrue, All}
+use Rattle.script.specs.Limits.{max_script_size}
+use Rattle.script.specs.Spelling.{IsOp, spelling}
 use Rattle.tx.specs.declared.input.TxIn.{TxIn}
 use Rattle.tx.specs.Fields.{Transaction}
 use Rattle.paths.specs.declared.state.Path.{Path}
-use Rattle.paths.specs.Listing.{CheckedScript}
+use Rattle.paths.specs.Listing.{CheckedScript, listing}
 use Rattle.claim.specs.declared.parts.Slot.{Slot}
 use Rattle.claim.specs.declared.parts.Place.{Place}
 use Rattle.claim.specs.declared.parts.Shell.{Shell}
@@ -57,3 +58,12 @@ pub record FitsClaim (c : ClaimParts) (t : Transaction) (input : TxIn) : Type 0 
 -- whatever fits a claim opens its output
 abbrev pub IsOpening : ClaimParts → Type 0
 IsOpening c = (p : Path) → TakesPath c p → Opens c.ways.ops p c.slots c.place c.shell
+
+-- what every claim is: its script is opcodes that are at most 10,000 bytes, with the paths that are listed for them; a path was accepted for it; and its
+-- shell is bare
+pub record IsWhole (c : ClaimParts) : Type 0 where
+  pub ops : All IsOp c.ways.ops
+  pub short : length (spelling c.ways.ops) ≤ max_script_size
+  pub listed : listing c.ways.ops ≡ Ok c.ways.paths
+  pub accepted : IsAccepted c
+  pub bare : bare_shell c.shell ≡ c.shell

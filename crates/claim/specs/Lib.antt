@@ -3,3 +3,4 @@ pub mod Evidence
 pub mod Judgement
 pub mod Fitting
 pub mod Claims
+pub mod Laws

@@ -2,7 +2,7 @@
 
 ghost use Rattle.std.specs.Prelude.{◌≡◌, MatchResult, IfOk};
 ghost use Rattle.claim.specs.Judgement.{judgement_of, bare_shell};
-ghost use Rattle.claim.specs.Claims.{IsAcceptedOf, IsOpening};
+ghost use Rattle.claim.specs.Claims.{IsAcceptedOf, IsOpening, IsWhole};
 ghost use Rattle.claim.specs.Fitting.{IsRefusal};
 
 use crate::claims::Claim;
@@ -42,6 +42,7 @@ pub fn accept(
 ) -> Result<Claim, AcceptError>
     ensures accepted { MatchResult result (IsAcceptedOf checked path slots.items place shell) (IsRefusal (judgement_of checked path slots.items place (bare_shell shell))) }
     ensures opens { IfOk result IsOpening }
+    ensures whole { IfOk result IsWhole }
 {
     let shell = bare(shell);
     match judge(alloc, &checked, path, slots.as_slice(), &place, &shell) {

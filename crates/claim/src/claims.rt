@@ -45,7 +45,7 @@ fn path_at(paths: &[Path], index: usize) -> &Path
 impl Claim {
     ghost use Rattle.std.specs.Prelude.{is_ok, IsTrue, IfOk, Some, true};
     ghost use Rattle.claim.specs.Judgement.{judgement_of, is_shell};
-    ghost use Rattle.claim.specs.Claims.{IsBare, IsOpening, TakesPath, path_of, sequence_of, lock_time_of};
+    ghost use Rattle.claim.specs.Claims.{IsBare, IsOpening, IsWhole, TakesPath, path_of, sequence_of, lock_time_of};
     ghost use Rattle.paths.specs.Sound.{IsSound};
 
     // A claim that was judged, round which a fixed transaction is bare.
@@ -106,9 +106,11 @@ impl Claim {
         ensures shell { is_shell result.now self.now.place self.now.shell ≡ true }
         ensures sound { IsSound self.now.ways.ops result.now }
         ensures opens { IsOpening self.now }
+        ensures whole { IsWhole self.now }
     {
-        // The proof learns from its bytes that the script has its limits.
+        // The proof learns from its bytes and opcodes that the script has its limits.
         let _ = self.checked.script().bytes();
+        let _ = self.checked.script().ops();
         path_at(self.checked.paths(), self.index)
     }
 

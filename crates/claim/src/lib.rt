@@ -18,6 +18,7 @@ mod copies;
 pub mod errors;
 mod evidence;
 mod judgement;
+pub mod laws;
 pub mod parts;
 #[cfg(test)]
 mod tests;

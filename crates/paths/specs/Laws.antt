@@ -1,5 +1,5 @@
 -- What a listing says of whoever opens the script.
-use Rattle.std.specs.Prelude.{◌≡◌, ℕ, true, List, [], Ok, IfSome, Any, ◌↔◌}
+use Rattle.std.specs.Prelude.{◌≡◌, ℕ, true, List, [], Ok, IfSome, All, Any, ◌↔◌}
 use Rattle.script.specs.declared.opcode.Op.{Op}
 use Rattle.script.specs.declared.spending.Spend.{Spend}
 use Rattle.script.specs.Step.{lock_passes, age_passes}
@@ -7,6 +7,11 @@ use Rattle.script.specs.Run.{Clean, outcome}
 use Rattle.paths.specs.declared.state.Path.{Path}
 use Rattle.paths.specs.Listing.{listing}
 use Rattle.paths.specs.Exhaustive.{OpensBy}
+use Rattle.paths.specs.Sound.{IsSound}
+
+-- whatever meets a listed path runs clean, as the path says
+abbrev pub ListedAreSound : Type 0
+ListedAreSound = (ops : List Op) (paths : List Path) → listing ops ≡ Ok paths → All (IsSound ops) paths
 
 -- a listed script opens exactly for whoever meets a listed path, with that path's counted opcodes and height
 abbrev pub OpensExactly : Type 0

@@ -1,6 +1,12 @@
 // Laws of the listing: who can open a script, and when.
 
-ghost use Rattle.paths.specs.Laws.{OpensExactly, NoPathNoWitness, OpenersWait};
+ghost use Rattle.paths.specs.Laws.{ListedAreSound, OpensExactly, NoPathNoWitness, OpenersWait};
+
+/// Whatever meets a listed path runs clean, with exactly that path's counted opcodes and height, at most 201 and 1,000; and the path's locks are
+/// those of its facts.
+pub fn listed_paths_are_sound()
+    ensures { ListedAreSound }
+{}
 
 /// A listed script opens exactly for whoever meets one of its paths: a run ends clean, with these counted opcodes and this height, exactly
 /// where the witness meets a listed path that has them, whatever the witness and the spend.

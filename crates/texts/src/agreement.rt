@@ -4,7 +4,8 @@ ghost use Rattle.std.specs.Prelude.{◌≡◌};
 
 use crate::values::{FromValue, member, object_of};
 use serde_json::Value;
-use terms::Side;
+use terms::{MSAT_PER_SAT, Side};
+use tx::MAX_VALUE;
 
 /// What one side brings to the terms, but for its keys.
 #[derive(Clone, Copy, Debug, PartialEq, Eq, Drop)]
@@ -30,6 +31,21 @@ pub struct PlainTerms {
     pub feerate: u32,
     pub a: PlainParty,
     pub b: PlainParty,
+}
+
+impl PlainTerms {
+    ghost use Rattle.std.specs.Prelude.{◌≡◌};
+    ghost use Rattle.texts.specs.Calls.{can_agree};
+
+    /// Whether two sides can agree on the terms: the capacity is at most 21,000,000 bitcoins, and is what the two sides begin with.
+    pub fn can_agree(&self) -> bool
+        ensures { result ≡ can_agree self.now }
+    {
+        let capacity = self.capacity;
+        let (a, b) = (self.a.start, self.b.start);
+        capacity <= MAX_VALUE
+            && u128::from(a) + u128::from(b) == u128::from(MSAT_PER_SAT) * u128::from(capacity)
+    }
 }
 
 /// An object of seven members: `capacity`, `delay`, `dust`, `feerate`, `minimum`, `opener` and `start`.

@@ -3,7 +3,7 @@
 ghost use Rattle.std.specs.Prelude.{◌≡◌, length};
 ghost use Rattle.serde_json.specs.View.{view};
 ghost use Rattle.texts.specs.Values.{Gives};
-ghost use Rattle.texts.specs.Calls.{can_agree, opening_of, open_of, step_call_of, sign_of, revoke_of, keep_of, are_within, release_of, is_fee, changes_fee, has_fee, any_fee, is_version};
+ghost use Rattle.texts.specs.Calls.{opening_of, open_of, step_call_of, sign_of, revoke_of, keep_of, are_within, release_of, is_fee, changes_fee, has_fee, any_fee, is_version};
 
 use crate::agreement::PlainTerms;
 use crate::allocating::{ReadValue, read_item, read_member};
@@ -16,8 +16,8 @@ use lists::List;
 use serde_json::Value;
 use sighash::Token;
 use std::alloc::Global;
-use terms::{BaseKeys, MSAT_PER_SAT, Side};
-use tx::{MAX_INPUTS, MAX_OUTPUTS, MAX_VALUE, OutPoint, TxOut};
+use terms::{BaseKeys, Side};
+use tx::{MAX_INPUTS, MAX_OUTPUTS, OutPoint, TxOut};
 use updates::Update;
 
 /// How a side opens a channel, as a text has it: the terms without what its own seed gives, and what its peer sent before the channel is there.
@@ -93,16 +93,6 @@ impl<const N: usize> ReadValue for [u8; N] {
     }
 }
 
-// Whether two sides can agree on the terms.
-fn can_agree(terms: &PlainTerms) -> bool
-    ensures { result ≡ can_agree terms.now }
-{
-    let capacity = terms.capacity;
-    let (a, b) = (terms.a.start, terms.b.start);
-    capacity <= MAX_VALUE
-        && u128::from(a) + u128::from(b) == u128::from(MSAT_PER_SAT) * u128::from(capacity)
-}
-
 /// An array of `open`, the terms, the funding outpoint, the side, the seed, the peer's five base keys, its two points, and its token. The terms are ones that two
 /// sides can agree on.
 impl FromValue for PlainOpening {
@@ -113,14 +103,14 @@ impl FromValue for PlainOpening {
     #[tactic(auto, unfolding(crate::specs::Calls::opening_of))]
     fn from_value(value: &Value) -> Option<PlainOpening> {
         let form = array_of(value, 8)?;
-        let terms = item(form, 1)?;
+        let terms: PlainTerms = item(form, 1)?;
         let funding = item(form, 2)?;
         let side = item(form, 3)?;
         let seed = item(form, 4)?;
         let bases = item(form, 5)?;
         let points: (Key, Key) = item(form, 6)?;
         let token = item(form, 7)?;
-        if !can_agree(&terms) {
+        if !terms.can_agree() {
             return None;
         }
         Some(PlainOpening {

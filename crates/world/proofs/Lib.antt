@@ -1,3 +1,5 @@
 mod Turns
 mod Calls
 mod Blocks
+pub mod DueClaims
+pub mod EnforcementExamples

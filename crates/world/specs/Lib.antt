@@ -2,3 +2,4 @@ pub mod Pairing
 pub mod Refusing
 pub mod Mining
 pub mod Reorganising
+pub mod Enforcement

@@ -1,11 +1,26 @@
-//! Laws over the definitions alone.
+//! The Enforcement theorem, as laws over the definitions alone.
 
+ghost use Rattle.world.specs.Enforcement.{ClaimsOpen, LocksAreHeights};
 ghost use Rattle.world.specs.Pairing.{DeliveriesAreTaken};
 
-/// The books of the two sides agree: of two whose channels are what steps of two honest peers leave, the oldest message on its way to either is taken. So no delivery is
-/// refused for its signature.
+use channel::laws::peers_agree;
+use claim::laws::accepted_claims_open;
+
+/// The first half of the Enforcement theorem: at any moment of any chain, whatever fits an accepted claim passes the chain's test of that input for the next block and
+/// runs clean, once the output that it spends is unspent, with the value and program of the claim's place, and its lock time and age are reached. They are reached
+/// exactly where the next block is above the transaction's lock time, and above the output's block by the claim's age.
+pub fn claims_open()
+    ensures opens { ClaimsOpen }
+    ensures locks { LocksAreHeights }
+{
+    // The proof takes from it what is so of each claim, without a chain.
+    accepted_claims_open();
+}
+
+/// The books of the two sides agree: where each channel of the one and the same channel of the other are what steps of two honest peers leave of a new channel, with the
+/// messages on their way, the oldest message on its way to either is taken. So no delivery is refused for its signature.
 pub fn deliveries_are_taken()
     ensures { DeliveriesAreTaken }
 {
-    channel::laws::peers_agree();
+    peers_agree();
 }

@@ -1,9 +1,11 @@
 //! The world of two sides: their books, the messages on their way, the chain with its pool, the watchers and the claims that are to be released, played event by event.
 #![tactic(auto)]
 
+pub mod claimed;
 mod errors;
 pub mod laws;
 mod mining;
 mod reorganising;
 
+pub use claimed::check_claimed;
 pub use errors::EventError;

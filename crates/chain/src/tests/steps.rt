@@ -89,7 +89,7 @@ impl Cast {
         }
     }
 
-    fn made(&self, place: usize) -> Result<&Tx, Fail> {
+    pub(super) fn made(&self, place: usize) -> Result<&Tx, Fail> {
         match self.made.get(place) {
             Some(tx) => Ok(tx),
             None => Err(missing()),
@@ -181,7 +181,7 @@ impl Cast {
         self.give(place, witness)
     }
 
-    fn block(&self, places: &[usize]) -> Result<Vec<Tx>, Fail> {
+    pub(super) fn block(&self, places: &[usize]) -> Result<Vec<Tx>, Fail> {
         let mut txs = Vec::new(self.alloc);
         for place in places {
             let tx = self.made(*place)?.copy()?;
@@ -363,15 +363,23 @@ fn play<C: Coins>(
     }
 }
 
+pub(super) fn play_with<C: Coins>(
+    rt: &impl Abort,
+    cast: &mut Cast,
+    chain: &mut C,
+    steps: &[Step],
+) -> Result<(), Fail> {
+    for step in steps {
+        play(rt, cast, chain, step)?;
+    }
+    Ok(())
+}
+
 pub(super) fn play_all<C: Coins>(
     rt: &impl Abort,
     alloc: Global,
     chain: &mut C,
     steps: &[Step],
 ) -> Result<(), Fail> {
-    let mut cast = Cast::new(alloc);
-    for step in steps {
-        play(rt, &mut cast, chain, step)?;
-    }
-    Ok(())
+    play_with(rt, &mut Cast::new(alloc), chain, steps)
 }

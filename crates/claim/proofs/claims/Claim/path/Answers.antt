@@ -1,9 +1,9 @@
 use Rattle.std.proofs.Common.{◌≡◌, true, Some, subst}
 use Rattle.script.specs.Spelling.{Spells}
 use Rattle.paths.specs.Sound.{IsSound}
-use Rattle.claim.specs.Claims.{TakesPath, path_of, IsOpening}
+use Rattle.claim.specs.Claims.{TakesPath, path_of, IsOpening, IsWhole}
 use Rattle.claim.specs.Judgement.{is_shell}
-use Rattle.claim.proofs.Judged.{path-within, path-here, accepted-sound, accepted-opens, taken-at, taken-shell}
+use Rattle.claim.proofs.Judged.{path-within, path-here, accepted-sound, accepted-opens, taken-at, taken-shell, whole-spelt}
 use Rattle.claim.proofs.claims.Claim.path.Goals as goal
 
 pub path_at-requires : goal.path_at-requires
@@ -40,3 +40,10 @@ returns-clause-opens c =
     let i = c.self.inside in
     subst IsOpening c.self.view_is
     (accepted-opens i.checked i.index i.slots i.place i.shell c.bytes.result.now (subst (λ o. Spells o c.bytes.result.now) c.script.ensures c.bytes.ensures.spelt) c.bytes.ensures.short c.paths.ensures.sound)
+
+pub returns-clause-whole : goal.returns-clause-whole
+returns-clause-whole c =
+    let i = c.self.inside in
+    subst IsWhole c.self.view_is
+    (whole-spelt (record { ways = i.checked; index = i.index; slots = i.slots; place = i.place; shell = i.shell }) c.bytes.result.now
+    (subst (λ o. Spells o c.bytes.result.now) c.script.ensures c.bytes.ensures.spelt) c.bytes.ensures.short c.paths.ensures.listed c.self.invariant.0 c.self.invariant.1)

@@ -1,5 +1,5 @@
-use Rattle.book.proofs.LoadedAgain.{claims_come_back, openings_come_back, entries_come_back, dumps_come_back}
-use Rattle.book.proofs.laws.what_is_dumped_is_loaded.Goals as goal
+use Rattle.book.proofs.LoadedAgain.{claims_come_back, openings_come_back, entries_come_back}
+use Rattle.book.proofs.laws.what_is_dumped_is_taken_again.Goals as goal
 
 pub returns-clause-claims : goal.returns-clause-claims
 returns-clause-claims c = claims_come_back
@@ -9,6 +9,3 @@ returns-clause-openings c = openings_come_back
 
 pub returns-clause-entries : goal.returns-clause-entries
 returns-clause-entries c = entries_come_back
-
-pub returns-clause-dumps : goal.returns-clause-dumps
-returns-clause-dumps c = dumps_come_back

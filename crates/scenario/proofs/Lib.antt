@@ -1,0 +1,3 @@
+mod Examples
+pub mod Tested
+pub mod Values

@@ -1,0 +1,36 @@
+-- What is tested of a scenario that has the form: its limits first, and then the terms of its channels in order.
+use Rattle.std.specs.Prelude.{ℕ, Bool, not, ◌&&◌, nat_le, if◌then◌else◌, List, length, Option, Some, None, Result, Ok, Err}
+use Rattle.std.specs.List.{list_all, position_from}
+use Rattle.texts.specs.declared.agreement.PlainTerms.{PlainTerms}
+use Rattle.texts.specs.declared.events.Event.{Event}
+use Rattle.texts.specs.declared.events.Event.TheVariants.{Blocks}
+use Rattle.texts.specs.declared.scenarios.PlainScenario.{PlainScenario}
+use Rattle.texts.specs.Calls.{can_agree}
+use Rattle.scenario.specs.declared.errors.ScenarioError.{ScenarioError}
+use Rattle.scenario.specs.declared.errors.ScenarioError.TheVariants.{OverLimit, BadTerms}
+use Rattle.scenario.specs.Limits.{max_channels, max_events, max_blocks}
+
+-- the blocks by which the chain is to grow in an event
+abbrev pub blocks_of : Event → ℕ
+blocks_of (Blocks count) = count
+blocks_of event = 0
+
+abbrev pub has_few_blocks : Event → Bool
+has_few_blocks event = nat_le (blocks_of event) max_blocks
+
+abbrev pub have_few_blocks : List Event → Bool
+have_few_blocks events = list_all has_few_blocks events
+
+abbrev pub is_within_limits : List PlainTerms → List Event → Bool
+is_within_limits channels events = nat_le (length channels) max_channels && nat_le (length events) max_events && have_few_blocks events
+
+-- the first channel on whose terms the two sides can't agree, counted from 0
+abbrev pub first_bad_terms : List PlainTerms → Option ℕ
+first_bad_terms channels = position_from (λ terms. not (can_agree terms)) 0 channels
+
+abbrev pub unless_bad : PlainScenario → Option ℕ → Result PlainScenario ScenarioError
+unless_bad s None = Ok s
+unless_bad s (Some channel) = Err (BadTerms channel)
+
+abbrev pub tested : PlainScenario → Result PlainScenario ScenarioError
+tested s = if is_within_limits s.channels s.events then unless_bad s (first_bad_terms s.channels) else Err OverLimit

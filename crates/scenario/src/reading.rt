@@ -1,0 +1,44 @@
+// The plain scenario that a text has.
+
+ghost use Rattle.std.specs.Prelude.{◌≡◌, ok_or};
+ghost use Rattle.serde_json.specs.View.{view};
+ghost use Rattle.scenario.specs.declared.errors.ScenarioError.TheVariants.{NotJson};
+ghost use Rattle.scenario.specs.Reading.{Reads, value_in, plain_in};
+
+use crate::errors::ScenarioError;
+use serde_json::Value;
+use std::alloc::Global;
+use texts::{PlainScenario, ReadValue, ShapeError};
+
+// The value that bytes are.
+fn value_in(alloc: Global, bytes: &[u8]) -> Result<Value, ScenarioError>
+    ensures { Reads view result (ok_or (value_in bytes.now) NotJson) }
+{
+    match Value::from_slice(alloc, bytes) {
+        Ok(value) => Ok(value),
+        Err(error) => {
+            if error.is_memory() {
+                Err(ScenarioError::NoMemory)
+            } else {
+                Err(ScenarioError::NotJson)
+            }
+        }
+    }
+}
+
+/// The plain scenario that bytes are: `NotJson`, or `BadShape` where the value has not the form.
+pub(crate) fn plain_in(alloc: Global, bytes: &[u8]) -> Result<PlainScenario, ScenarioError>
+    ensures { Reads (λ s. s) result (plain_in bytes.now) }
+{
+    let value = match value_in(alloc, bytes) {
+        Ok(value) => value,
+        Err(error) => return Err(error),
+    };
+    match PlainScenario::read_value(alloc, &value) {
+        Ok(plain) => Ok(plain),
+        Err(error) => match error {
+            ShapeError::NoMemory => Err(ScenarioError::NoMemory),
+            ShapeError::BadShape => Err(ScenarioError::BadShape),
+        },
+    }
+}

@@ -1,0 +1,109 @@
+-- A claim, what fits it and a chain for which the premises of the theorem hold.
+use Rattle.std.proofs.Common.{◌≡◌, ℕ, true, false, List, [], ◌∷◌, ◌++◌, length, replicate, refl, lit≤, lit<, Some, None, Ok}
+use Rattle.std.specs.Prelude.{All, IsTrue, is_ok}
+use Rattle.std.proofs.lemmas.List.Elements.{All-nil, All-cons}
+use Rattle.std.specs.Str.{bytes_eq}
+use Rattle.std.proofs.lemmas.Slice.Eq.{bytes_eq-Decides}
+use Rattle.sha2.specs.Sha256.{sha256, digest_bytes, hash_after, compress, rounds, schedule, first_words}
+use Rattle.digest.specs.Hash.{sha256d}
+use Rattle.script.specs.declared.opcode.Op.{Op}
+use Rattle.script.specs.declared.opcode.Op.TheVariants.{Push, CheckSig}
+use Rattle.script.specs.Spelling.{IsOp, spelling}
+use Rattle.script.specs.Token.{token_of, is_key}
+use Rattle.tx.specs.declared.input.OutPoint.{OutPoint}
+use Rattle.tx.specs.declared.input.TxIn.{TxIn}
+use Rattle.tx.specs.Parts.{Output}
+use Rattle.tx.specs.Fields.{Transaction}
+use Rattle.sighash.specs.Signing.{signed_list, all_outpoints, all_sequences}
+use Rattle.facts.specs.Symbols.{Stated}
+use Rattle.facts.specs.declared.symbols.KeySourceOver.TheVariants.{Const as FixedKey}
+use Rattle.facts.specs.declared.symbols.FactOver.TheVariants.{Form, Token}
+use Rattle.paths.specs.declared.state.Path.{Path}
+use Rattle.paths.specs.Rules.{rule_of, check_multi_sig}
+use Rattle.paths.specs.Listing.{listing}
+use Rattle.claim.specs.declared.parts.Slot.{Slot}
+use Rattle.claim.specs.declared.parts.Slot.TheVariants.{Sig}
+use Rattle.claim.specs.declared.parts.Place.{Place}
+use Rattle.claim.specs.declared.parts.Shell.TheVariants.{Open}
+use Rattle.claim.specs.Judgement.{judgement_of}
+use Rattle.claim.specs.Fitting.{FillsSlots, Fits}
+use Rattle.claim.specs.Claims.{ClaimParts, TakesPath, IsWhole}
+use Rattle.sighash.specs.Programs.{spend_of}
+use Rattle.chain.specs.Blocks.{Contents, Coin, grant_id, grant_outpoint, coin_at}
+use Rattle.world.specs.Enforcement.{IsDue, IsTime}
+
+-- a push of a key, and CHECKSIG, with its one path; the hash of its bytes is from outside
+abbrev key : List ℕ
+key = 2 ∷ replicate 32 0x11
+
+abbrev ops : List Op
+ops = Push key ∷ CheckSig ∷ []
+
+abbrev hash : List ℕ
+hash = 0x1d ∷ 0x3b ∷ 0x71 ∷ 0xa1 ∷ 0x53 ∷ 0xa3 ∷ 0x48 ∷ 0xa9 ∷ 0xaf ∷ 0x98 ∷ 0x09 ∷ 0xaa ∷ 0xf1 ∷ 0xc0 ∷ 0x25 ∷ 0x2b ∷ 0x2a ∷ 0xed ∷ 0x2a ∷ 0xef ∷ 0x9b ∷ 0x59 ∷ 0x6a ∷ 0xea ∷ 0x2d ∷ 0x7d ∷ 0xe2 ∷ 0x0c ∷ 0x0e ∷ 0xce ∷ 0xab ∷ 0x3b ∷ []
+
+abbrev path : Path
+path = record { arity = 1; facts = record { fact = Form 0; holds = true } ∷ record { fact = Token 0 (FixedKey key); holds = true } ∷ []; ops = 1; height = 2; lock = None; age = None }
+
+key_form : IsTrue (is_key key)
+unfolding is_key
+key_form = refl
+
+-- the claim of the key on the chain's first grant, of 1,000 satoshis
+abbrev place : Place
+place = record { outpoint = grant_outpoint 0; value = 1000; program = 0x00 ∷ 0x20 ∷ hash }
+
+abbrev claim : ClaimParts
+claim = record { ways = record { ops = ops; paths = path ∷ [] }; index = 0; slots = Sig (record { bytes = key; form = key_form }) ∷ []; place = place; shell = Open }
+
+listed : listing ops ≡ Ok (path ∷ [])
+unfolding listing rule_of check_multi_sig is_key
+listed = refl
+
+taken : TakesPath claim path
+unfolding judgement_of sha256 digest_bytes hash_after compress rounds schedule first_words
+taken = refl
+
+accepted : IsTrue (is_ok (judgement_of claim.ways claim.index claim.slots claim.place claim.shell))
+unfolding judgement_of sha256 digest_bytes hash_after compress rounds schedule first_words
+accepted = refl
+
+whole : IsWhole claim
+whole = record { ops = All-cons IsOp (Push key) (CheckSig ∷ []) (lit≤ tt) (All-cons IsOp CheckSig [] tt (All-nil IsOp)); short = lit≤ tt; listed = listed; accepted = accepted; bare = refl }
+
+-- the transaction that claims it, without a witness and with one
+abbrev input_with : List (List ℕ) → TxIn
+input_with witness = record { outpoint = grant_outpoint 0; sequence = 0; witness = witness }
+
+abbrev spending : TxIn → Transaction
+spending input = record { version = 2; inputs = input ∷ []; outputs = record { value = 900; script = [] } ∷ []; lock_time = 0 }
+
+abbrev token : List ℕ
+token = token_of key (sha256d (signed_list (spending (input_with [])) (input_with []) (spelling ops) 1000))
+
+abbrev input : TxIn
+input = input_with (token ∷ spelling ops ∷ [])
+
+filled : FillsSlots (spend_of (spending input) input (spelling ops) 1000) claim.slots (token ∷ [])
+unfolding signed_list all_outpoints all_sequences
+filled = (refl, tt)
+
+fits : Fits (spelling ops) path claim.slots place Open (spending input) input
+fits = record { among = (0, lit< tt, refl); outpoint = refl; sequence = refl; stands = (refl, lit≤ tt, lit< tt); items = token ∷ []; witness = refl; filled = filled }
+
+-- one block, in which the output was granted, which stands there unspent
+abbrev blocks : List Contents
+blocks = record { transactions = []; granted = record { value = 1000; script = 0x00 ∷ 0x20 ∷ hash } ∷ [] } ∷ []
+
+abbrev coin : Coin
+coin = record { output = record { value = 1000; script = 0x00 ∷ 0x20 ∷ hash }; height = 0; spent = false }
+
+found : coin_at blocks (grant_outpoint 0) ≡ Some coin
+found = rw ((bytes_eq-Decides (grant_id 0) (grant_id 0)).1 refl) refl
+
+due : IsDue blocks claim (spending input) input
+due = record { fits = record { path = path; taken = taken; fits = fits }; coin = coin; reached = record { found = found; unspent = refl; final = refl; old_enough = refl }; value = refl; program = refl }
+
+-- the next block has height 1, above the lock time 0, and the output no age to reach
+time : IsTime blocks claim (spending input) coin
+time = record { height = lit< tt; age = lit≤ tt }
