@@ -1,5 +1,4 @@
 mod Turns
 mod Calls
-mod Blocks
 pub mod DueClaims
 pub mod EnforcementExamples

@@ -1,5 +1,2 @@
-pub mod Pairing
-pub mod Refusing
-pub mod Mining
-pub mod Reorganising
 pub mod Enforcement
+pub mod Pairing

@@ -2,10 +2,6 @@
 #![tactic(auto)]
 
 pub mod claimed;
-mod errors;
 pub mod laws;
-mod mining;
-mod reorganising;
 
 pub use claimed::check_claimed;
-pub use errors::EventError;

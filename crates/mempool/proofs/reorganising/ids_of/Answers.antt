@@ -2,8 +2,8 @@ use Rattle.std.proofs.Common.{◌∙◌, arith}
 use Rattle.std.specs.Ordering.{nat_cmp}
 use Rattle.std.specs.Cmp.Lexicographic.{slice_cmp}
 use Rattle.std.specs.BTreeSet.{contains}
-use Rattle.world.proofs.Blocks.{one_more_waits}
-use Rattle.world.proofs.reorganising.ids_of.Goals as goal
+use Rattle.mempool.proofs.Blocks.{one_more_waits}
+use Rattle.mempool.proofs.reorganising.ids_of.Goals as goal
 
 pub loop-tx-preserved : goal.loop-tx-preserved
 loop-tx-preserved c =

@@ -1,54 +1,56 @@
 //! The newest blocks give way to others.
 
-ghost use Rattle.std.specs.Prelude.{◌≡◌, ◌<◌, ℕ, List, OnOk, IfOk, IfErr, MatchResult, Ok, Err};
+ghost use Rattle.std.specs.Prelude.{◌≡◌, ◌||◌, ◌<◌, ◌+◌, ℕ, List, length, OnOk, IfOk, IfErr, MatchResult, Ok, Err};
 ghost use Rattle.std.specs.List.{list_any};
 ghost use Rattle.std.specs.Str.{bytes_eq};
 ghost use Rattle.std.specs.Ordering.{nat_cmp};
 ghost use Rattle.std.specs.Cmp.Lexicographic.{slice_cmp};
 ghost use Rattle.std.specs.BTreeSet.{contains};
 ghost use Rattle.tx.specs.Spelling.{transaction_id};
-ghost use Rattle.world.specs.Mining.{with_fillings, has_waiting};
-ghost use Rattle.world.specs.Refusing.{IsRefusal};
-ghost use Rattle.world.specs.Reorganising.{reorg_refusal, IsTakenOff, IsBranch, IsReorganised};
+ghost use Rattle.chain.specs.Blocks.{has_id};
+ghost use Rattle.mempool.specs.Mining.{with_fillings, has_waiting};
+ghost use Rattle.mempool.specs.Reorganising.{IsRefusal, reorg_refusal, IsTakenOff, IsBranch, IsReorganised};
 
-use crate::errors::EventError;
+use crate::errors::ReorgError;
 use crate::mining::{Mined, copied, mine};
-use chain::{Coins, Index, Refusal};
+use chain::{Block, Coins, Index, Refusal};
 use std::alloc::{AllocError, Global};
 use std::collections::BTreeSet;
 use tx::{Tx, txid};
 
-/// A chain, and the transactions that wait for its next block.
+// A chain without its newest blocks, and the transactions that wait for its next one.
 #[derive(Drop)]
-pub(crate) struct Branch {
-    pub(crate) chain: Index,
-    pub(crate) pool: Vec<Tx>,
+struct Branch {
+    chain: Index,
+    pool: Vec<Tx>,
 }
 
 /// A chain whose newest blocks gave way to others.
 #[derive(Drop)]
-pub(crate) struct Reorganised {
-    pub(crate) chain: Index,
-    pub(crate) pool: Vec<Tx>,
+pub struct Reorganised {
+    /// The chain.
+    pub chain: Index,
+    /// The transactions that still wait for a block.
+    pub pool: Vec<Tx>,
     /// How many transactions the new blocks have.
-    pub(crate) txs: u64,
+    pub txs: u64,
 }
 
 // Takes the newest blocks off, and gives their transactions but for the last ones: TooDeep, NoSuchTx.
-fn taken_off(chain: &mut Index, depth: u64, forgotten: u64) -> Result<Vec<Tx>, EventError>
+fn taken_off(chain: &mut Index, depth: u64, forgotten: u64) -> Result<Vec<Tx>, ReorgError>
     ensures { MatchResult result (λ txs. IsTakenOff chain.old depth forgotten (Ok txs.items) chain.new) (λ e. IsTakenOff chain.old depth forgotten (Err e) chain.new) }
 {
     if depth == 0 {
-        return Err(EventError::TooDeep);
+        return Err(ReorgError::TooDeep);
     }
     let mut txs = match chain.disconnect(depth) {
         Ok(txs) => txs,
-        Err(Refusal::TooDeep) => return Err(EventError::TooDeep),
-        Err(_) => return Err(EventError::NoMemory),
+        Err(Refusal::TooDeep) => return Err(ReorgError::TooDeep),
+        Err(_) => return Err(ReorgError::NoMemory),
     };
     let count = txs.len() as u64;
     if forgotten > count {
-        return Err(EventError::NoSuchTx);
+        return Err(ReorgError::NoSuchTx);
     }
     txs.truncate((count - forgotten) as usize);
     Ok(txs)
@@ -65,6 +67,14 @@ fn ids_of(alloc: Global, txs: &[Tx]) -> Result<BTreeSet<[u8; 32]>, AllocError>
     Ok(ids)
 }
 
+// Whether a transaction stands on the chain, or has one of these ids.
+fn is_on(chain: &Index, ids: &BTreeSet<[u8; 32]>, tx: &Tx) -> bool
+    ensures { result ≡ (has_id chain.now.blocks (transaction_id tx.now) || contains (slice_cmp nat_cmp) ids.now (transaction_id tx.now)) }
+{
+    let id = txid(tx);
+    chain.has_id(&id) || ids.contains(&id)
+}
+
 // Each filling that was ever released and stands neither on the chain nor in the pool joins the pool.
 fn add_released(
     alloc: Global,
@@ -76,8 +86,7 @@ fn add_released(
 {
     let ids = ids_of(alloc, pool)?;
     for tx in released {
-        let id = txid(tx);
-        if !chain.has_id(&id) && !ids.contains(&id) {
+        if !is_on(chain, &ids, tx) {
             pool.push(tx.copy()?)?;
         }
     }
@@ -92,7 +101,7 @@ fn branch_of(
     released: &[Tx],
     depth: u64,
     forgotten: u64,
-) -> Result<Branch, EventError>
+) -> Result<Branch, ReorgError>
     ensures ok { IfOk result (λ b. IsBranch chain.now pool.now released.now depth forgotten b.chain b.pool.items) }
     ensures err { IfErr result (λ e. IsRefusal (reorg_refusal chain.now depth forgotten) e) }
 {
@@ -108,16 +117,25 @@ fn branch_of(
     })
 }
 
+// One more than a number of blocks that stand above the first.
+fn one_more(depth: u64, blocks: &[Block]) -> u64
+    requires { depth < length blocks.now }
+    ensures { result ≡ depth + 1 }
+{
+    depth + 1
+}
+
 /// So many of the newest blocks of a copy of the chain give way to one more: the last of their transactions are forgotten, the others wait before those of the pool, and
-/// each filling that was ever released and is on neither waits behind them. TooDeep, NoSuchTx.
-pub(crate) fn reorganise(
+/// each filling that was ever released and is on neither waits behind them. The new blocks then take what the chain allows, as those of [`mine`](crate::mine()) do. TooDeep
+/// where there are no blocks to take off or they can't be, NoSuchTx where fewer transactions stand in them than are to be forgotten.
+pub fn reorganise(
     alloc: Global,
     chain: &Index,
     pool: &[Tx],
     released: &[Tx],
     depth: u64,
     forgotten: u64,
-) -> Result<Reorganised, EventError>
+) -> Result<Reorganised, ReorgError>
     ensures ok { IfOk result (λ r. IsReorganised chain.now pool.now released.now depth forgotten r.chain r.pool.items r.txs) }
     ensures err { IfErr result (λ e. IsRefusal (reorg_refusal chain.now depth forgotten) e) }
 {
@@ -125,7 +143,7 @@ pub(crate) fn reorganise(
         chain: mut branch,
         pool: waiting,
     } = branch_of(alloc, chain, pool, released, depth, forgotten)?;
-    let mined = mine(alloc, &mut branch, &waiting, depth + 1)?;
+    let mined = mine(alloc, &mut branch, &waiting, one_more(depth, chain.blocks()))?;
     Ok(Reorganised {
         chain: branch,
         pool: mined.waiting,

@@ -2,7 +2,7 @@
 
 ghost use Rattle.std.specs.Prelude.{◌≡◌, length, filter, IfOk, OnErr};
 ghost use Rattle.chain.specs.Marking.{IsGrown};
-ghost use Rattle.world.specs.Mining.{waits as waits_for, is_taken, still_waiting, IsNextBlock, AreNewBlocks};
+ghost use Rattle.mempool.specs.Mining.{waits as waits_for, is_taken, still_waiting, IsNextBlock, AreNewBlocks};
 
 use chain::{Index, Refusal};
 use std::alloc::{AllocError, Global};
@@ -10,11 +10,11 @@ use tx::Tx;
 
 /// What new blocks leave.
 #[derive(Drop)]
-pub(crate) struct Mined {
+pub struct Mined {
     /// The transactions that still wait for a block, in the order of the pool.
-    pub(crate) waiting: Vec<Tx>,
+    pub waiting: Vec<Tx>,
     /// How many stand in the new blocks.
-    pub(crate) txs: u64,
+    pub txs: u64,
 }
 
 // Whether a transaction that the chain refuses for this waits for a later block: its lock is not reached, or nothing created an output that it spends.
@@ -66,9 +66,10 @@ fn waiting_of(
 }
 
 // One more block of the transactions that the chain allows, in their order. Where memory ran out, the chain has the block or not.
+#[tactic(auto, using(crate::proofs::Blocks::not_grown))]
 fn mine_one(alloc: Global, chain: &mut Index, waiting: Vec<Tx>) -> Result<Mined, AllocError>
     ensures ok { IfOk result (λ m. IsNextBlock chain.old waiting.items chain.new m.waiting.items m.txs) }
-    ensures err { OnErr result (IsGrown chain.old chain.new) }
+    ensures grown { IsGrown chain.old chain.new }
 {
     let txs = copied(alloc, &waiting)?;
     let refusals = chain.connect_some(txs)?;
@@ -80,6 +81,7 @@ fn mine_one(alloc: Global, chain: &mut Index, waiting: Vec<Tx>) -> Result<Mined,
 }
 
 // So many more blocks. Where memory ran out, the chain has some of them.
+#[tactic(auto, using(crate::proofs::Blocks::not_grown, crate::proofs::Blocks::grown_on))]
 fn mine_all(
     alloc: Global,
     chain: &mut Index,
@@ -87,7 +89,7 @@ fn mine_all(
     count: u64,
 ) -> Result<Mined, AllocError>
     ensures ok { IfOk result (λ m. AreNewBlocks count chain.old pool.now chain.new m.waiting.items m.txs) }
-    ensures err { OnErr result (IsGrown chain.old chain.new) }
+    ensures grown { IsGrown chain.old chain.new }
 {
     let mut waiting = copied(alloc, pool)?;
     let mut txs = 0u64;
@@ -101,7 +103,7 @@ fn mine_all(
 
 /// Makes so many blocks. Each takes, in the order of the pool, what the chain allows; what is NotFinal, TooYoung or Unknown waits for the next one, and the rest is
 /// dropped. The only error is that memory ran out, which leaves the chain as it was.
-pub(crate) fn mine(
+pub fn mine(
     alloc: Global,
     chain: &mut Index,
     pool: &[Tx],

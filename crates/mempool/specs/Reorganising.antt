@@ -1,24 +1,27 @@
 -- Why blocks don't give way, and what is left where they do.
-use Rattle.std.specs.Prelude.{◌≡◌, ℕ, ◌||◌, ◌==◌, nat_lt, List, length, take, drop, Option, Some, None, Result, Ok, Err}
+use Rattle.std.specs.Prelude.{◌≡◌, ℕ, ◌||◌, ◌==◌, nat_lt, if◌then◌else◌, List, length, take, drop, Option, Some, None, Result, Ok, Err}
 use Rattle.tx.specs.Fields.{Transaction}
 use Rattle.chain.specs.Blocks.{Standing, transactions_of}
 use Rattle.chain.specs.Connecting.{is_too_deep}
-use Rattle.book.specs.Replies.{if_so}
-use Rattle.world.specs.declared.errors.EventError.{EventError}
-use Rattle.world.specs.declared.errors.EventError.TheVariants.{TooDeep, NoSuchTx}
-use Rattle.world.specs.Refusing.{IsRefusal}
-use Rattle.world.specs.Mining.{kept_of, pool_after, reorganised}
+use Rattle.mempool.specs.declared.errors.ReorgError.{ReorgError}
+use Rattle.mempool.specs.declared.errors.ReorgError.TheVariants.{NoMemory, TooDeep, NoSuchTx}
+use Rattle.mempool.specs.Mining.{kept_of, pool_after, reorganised}
 
 -- TooDeep, NoSuchTx
-abbrev pub reorg_refusal : Standing → ℕ → ℕ → Option EventError
+abbrev pub reorg_refusal : Standing → ℕ → ℕ → Option ReorgError
 reorg_refusal chain depth forgotten =
-    if_so (depth == 0 || is_too_deep chain depth) TooDeep (if_so (nat_lt (length (transactions_of (take depth chain.blocks))) forgotten) NoSuchTx None)
+    if depth == 0 || is_too_deep chain depth then Some TooDeep else (if nat_lt (length (transactions_of (take depth chain.blocks))) forgotten then Some NoSuchTx else None)
+
+-- a refusal is the first that holds, unless memory ran out
+abbrev pub IsRefusal : Option ReorgError → ReorgError → Type 0
+IsRefusal first NoMemory = Unit {0}
+IsRefusal first e = first ≡ Some e
 
 abbrev pub without_newest : ℕ → Standing → Standing
 without_newest depth chain = record chain { blocks = drop depth chain.blocks }
 
 -- blocks were taken off, and gave these transactions
-abbrev pub IsTakenOff : Standing → ℕ → ℕ → Result (List Transaction) EventError → Standing → Type 0
+abbrev pub IsTakenOff : Standing → ℕ → ℕ → Result (List Transaction) ReorgError → Standing → Type 0
 IsTakenOff old depth forgotten (Ok txs) new = (reorg_refusal old depth forgotten ≡ None) × (txs ≡ kept_of depth forgotten old.blocks) × (new ≡ without_newest depth old)
 IsTakenOff old depth forgotten (Err e) new = IsRefusal (reorg_refusal old depth forgotten) e
 

@@ -1,0 +1,123 @@
+-- How blocks take what waits.
+use Rattle.std.proofs.Common.{◌≡◌, ℕ, zero, suc, ◌+◌, ◌≤◌, ◌<◌, ◌||◌, cond, Bool, true, false, List, [], ◌∷◌, ◌++◌, length, take, Option, Some, None, refl, sym, ap, subst, ◌∙◌, append_assoc, append-nil, arith}
+use Rattle.std.specs.Prelude.{not, filter}
+use Rattle.std.specs.Ordering.{is_eq, nat_cmp}
+use Rattle.std.specs.Cmp.Lexicographic.{slice_cmp}
+use Rattle.std.specs.Str.{bytes_eq}
+use Rattle.std.proofs.Math.ListN.{get_or}
+use Rattle.std.proofs.lemmas.List.{take_more}
+use Rattle.std.proofs.lemmas.List.Elements.{filter-append}
+use Rattle.std.proofs.lemmas.List.Folds.{list_any-append}
+use Rattle.std.proofs.lemmas.Map.Text.{is_eq-slice_cmp}
+use Rattle.std.specs.List.{list_any}
+use Rattle.tx.specs.Spelling.{transaction_id}
+use Rattle.chain.specs.Marking.{IsGrown}
+use Rattle.tx.specs.Fields.{Transaction}
+use Rattle.chain.specs.declared.refusal.Refusal.{Refusal}
+use Rattle.chain.specs.Blocks.{Contents, Standing, empty_block}
+use Rattle.chain.specs.Tests.{transaction_refusal}
+use Rattle.chain.specs.Connecting.{unless_refusal, refusals_of, has_grant}
+use Rattle.mempool.specs.Mining.{Mined, waits, is_taken, still_waiting, block_after, blocks_after, has_waiting, is_on, IsNextBlock}
+
+abbrev Fewer : List Transaction → List (Option Refusal) → Type 0
+Fewer ts rs = length (filter is_taken rs) + length (still_waiting ts rs) ≤ length ts
+
+-- one more of them, whatever it was refused for
+one_fewer : (t : Transaction) (ts : List Transaction) (r : Option Refusal) (rs : List (Option Refusal)) → Fewer ts rs → Fewer (t ∷ ts) (r ∷ rs)
+one_fewer t ts None rs rest = omega arith
+one_fewer t ts (Some r) rs rest = by (waits (Some r)) refl
+  where
+    by : (b : Bool) → waits (Some r) ≡ b → Fewer (t ∷ ts) (Some r ∷ rs)
+    by true e = rw e (omega arith)
+    by false e = rw e (omega arith)
+
+-- no transaction is both taken and left
+pub fewer_left : (blocks : List Contents) (ts : List Transaction) → Fewer ts (refusals_of blocks ts)
+fewer_left blocks [] = omega arith
+fewer_left blocks (t ∷ ts) =
+    one_fewer t ts (transaction_refusal blocks t) (refusals_of (unless_refusal (transaction_refusal blocks t) blocks t) ts) (fewer_left (unless_refusal (transaction_refusal blocks t) blocks t) ts)
+
+-- a block more is one fewer to come
+pub next_block : (n k : ℕ) (m whole : Mined) (new : Standing) (waiting : List Transaction) (taken : ℕ) → n ≡ suc k → IsNextBlock m.chain m.waiting new waiting taken → blocks_after n m ≡ whole
+    → blocks_after k (record { chain = new; waiting = waiting; txs = m.txs + taken }) ≡ whole
+unfolding blocks_after
+next_block n k m whole new waiting taken more next e = ap (blocks_after k) (rw (next.chain, next.waiting_is, next.taken_is) refl) ∙ subst (λ x. blocks_after x m ≡ whole) more e
+
+pub no_more : (n : ℕ) (m whole : Mined) → n ≡ 0 → blocks_after n m ≡ whole → whole ≡ m
+unfolding blocks_after
+no_more n m whole none e = sym (subst (λ x. blocks_after x m ≡ whole) none e)
+
+-- the transactions of a new block and those that still wait are no more than waited
+pub no_more_left : (old new : Standing) (txs waiting : List Transaction) (taken : ℕ) → IsNextBlock old txs new waiting taken → taken + length waiting ≤ length txs
+no_more_left old new txs waiting taken next =
+    let few = fewer_left (empty_block ∷ old.blocks) txs in
+    rw (next.taken_is, next.waiting_is) few
+
+-- ---- growth
+
+none_in_both : (xs ys : List Contents) → list_any has_grant xs ≡ false → list_any has_grant ys ≡ false → list_any has_grant (xs ++ ys) ≡ false
+none_in_both xs ys n m = list_any-append has_grant xs ys ∙ ap (λ x. x || list_any has_grant ys) n ∙ m
+
+pub not_grown : (s : Standing) → IsGrown s s
+not_grown s = record { above = []; blocks = refl; no_grant = refl }
+
+pub grown_on : (first s s' : Standing) → IsGrown first s → IsGrown s s' → IsGrown first s'
+grown_on first s s' g h = record {
+  above = h.above ++ g.above;
+  blocks = h.blocks ∙ ap (λ bs. h.above ++ bs) g.blocks ∙ sym (append_assoc h.above g.above first.blocks);
+  no_grant = none_in_both h.above g.above h.no_grant g.no_grant;
+}
+
+-- nothing waits past the last of the answers
+none_left : (ts : List Transaction) → still_waiting ts [] ≡ []
+none_left [] = refl
+none_left (t ∷ ts) = refl
+
+pub past_last : (t : Transaction) (ts items : List Transaction) (rs rs' : List (Option Refusal)) (left whole : List Transaction) → length rs ≡ 0 → rs' ≡ rs → items ≡ t ∷ ts → left ++ still_waiting items rs ≡ whole
+    → left ++ still_waiting ts rs' ≡ whole
+past_last t ts items [] rs' left whole none same is e = rw (same, none_left ts) (ap (λ us. left ++ still_waiting us []) (sym is) ∙ e)
+past_last t ts items (r ∷ rs) rs' left whole none same is e = absurd (omega (arith, none))
+
+-- ---- ids of what waits
+
+pub one_more_waits : (has has' : List ℕ → Bool) (txs : List Transaction) (i : ℕ) (d t : Transaction) (key : List ℕ) → i < length txs → t ≡ get_or txs i d → key ≡ transaction_id t
+    → ((id : List ℕ) → has' id ≡ cond (is_eq (slice_cmp nat_cmp key id)) true (has id)) → ((id : List ℕ) → has id ≡ has_waiting (take i txs) id) → (id : List ℕ) → has' id ≡ has_waiting (take (i + 1) txs) id
+one_more_waits has has' txs i d t key within item spelt more is id =
+    more id
+    ∙ ap (λ b. cond b true (has id)) (is_eq-slice_cmp key id)
+    ∙ joined (bytes_eq key id) (has id)
+    ∙ ap (λ b. b || (bytes_eq key id || false)) (is id)
+    ∙ ap (λ k. has_waiting (take i txs) id || (bytes_eq k id || false)) spelt
+    ∙ sym (list_any-append (λ u. bytes_eq (transaction_id u) id) (take i txs) (t ∷ []))
+    ∙ ap (λ ts. has_waiting ts id) (ap (λ u. take i txs ++ u ∷ []) item ∙ sym (take_more txs i d within))
+  where
+    joined : (t b : Bool) → cond t true b ≡ (b || (t || false))
+    joined true true = refl
+    joined true false = refl
+    joined false true = refl
+    joined false false = refl
+
+-- ---- fillings that come back
+
+abbrev comes_back : List Contents → List Transaction → Transaction → Bool
+comes_back blocks pool t = not (is_on blocks pool t)
+
+last_of : (blocks : List Contents) (old released : List Transaction) (i : ℕ) (d t : Transaction) → i < length released → t ≡ get_or released i d
+    → filter (comes_back blocks old) (take (i + 1) released) ≡ filter (comes_back blocks old) (take i released) ++ filter (comes_back blocks old) (t ∷ [])
+last_of blocks old released i d t within item =
+    ap (filter (comes_back blocks old)) (take_more released i d within ∙ ap (λ u. take i released ++ u ∷ []) (sym item))
+    ∙ filter-append (comes_back blocks old) (take i released) (t ∷ [])
+
+-- one that is on neither joins, and another does not
+pub joins : (blocks : List Contents) (pool old released : List Transaction) (i : ℕ) (d t : Transaction) → i < length released → t ≡ get_or released i d → is_on blocks old t ≡ false
+    → pool ≡ old ++ filter (comes_back blocks old) (take i released) → pool ++ t ∷ [] ≡ old ++ filter (comes_back blocks old) (take (i + 1) released)
+joins blocks pool old released i d t within item off is =
+    let one : filter (comes_back blocks old) (t ∷ []) ≡ t ∷ [] = rw off refl in
+    ap (λ ts. ts ++ t ∷ []) is ∙ append_assoc old (filter (comes_back blocks old) (take i released)) (t ∷ [])
+    ∙ sym (ap (λ ts. old ++ ts) (last_of blocks old released i d t within item ∙ ap (λ ts. filter (comes_back blocks old) (take i released) ++ ts) one))
+
+pub stays : (blocks : List Contents) (pool old released : List Transaction) (i : ℕ) (d t : Transaction) → i < length released → t ≡ get_or released i d → is_on blocks old t ≡ true
+    → pool ≡ old ++ filter (comes_back blocks old) (take i released) → pool ≡ old ++ filter (comes_back blocks old) (take (i + 1) released)
+stays blocks pool old released i d t within item on is =
+    let none : filter (comes_back blocks old) (t ∷ []) ≡ [] = rw on refl in
+    is ∙ sym (ap (λ ts. old ++ ts) (last_of blocks old released i d t within item ∙ ap (λ ts. filter (comes_back blocks old) (take i released) ++ ts) none ∙ append-nil (filter (comes_back blocks old) (take i released))))

@@ -1,0 +1,2 @@
+pub mod Mining
+pub mod Reorganising

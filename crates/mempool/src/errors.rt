@@ -1,0 +1,38 @@
+//! Why blocks don't give way to others.
+
+ghost use Rattle.std.specs.Prelude.{◌≡◌};
+ghost use Rattle.mempool.specs.declared.errors.ReorgError.TheVariants.{NoMemory};
+
+use std::alloc::{AllocError, AllocFailed};
+use thiserror::Error;
+
+/// Why blocks don't give way to others. It is tested for these in this order.
+#[derive(Clone, Copy, Debug, PartialEq, Eq, Drop, Error)]
+pub enum ReorgError {
+    /// Memory ran out.
+    #[error("NoMemory")]
+    NoMemory,
+    /// So many blocks can't be taken off: there are not as many above the first, the height would fall more than 6 below the greatest that the chain ever had, or one of them
+    /// holds a grant. Or they are none.
+    #[error("TooDeep")]
+    TooDeep,
+    /// Fewer transactions stand in these blocks than are to be forgotten.
+    #[error("NoSuchTx")]
+    NoSuchTx,
+}
+
+impl From<AllocError> for ReorgError {
+    ghost from_gives = { λ _ e. e ≡ NoMemory };
+
+    fn from(_error: AllocError) -> ReorgError {
+        ReorgError::NoMemory
+    }
+}
+
+impl<T: Drop> From<AllocFailed<T>> for ReorgError {
+    ghost from_gives = { λ _ e. e ≡ NoMemory };
+
+    fn from(_error: AllocFailed<T>) -> ReorgError {
+        ReorgError::NoMemory
+    }
+}
