@@ -1,12 +1,11 @@
 -- How blocks take what waits.
-use Rattle.std.proofs.Common.{◌≡◌, ℕ, zero, suc, ◌+◌, ◌≤◌, ◌<◌, ◌||◌, cond, Bool, true, false, List, [], ◌∷◌, ◌++◌, length, take, Option, Some, None, refl, sym, ap, subst, ◌∙◌, append_assoc, append-nil, arith}
-use Rattle.std.specs.Prelude.{not, filter}
+use Rattle.std.proofs.Common.{◌≡◌, ℕ, suc, ◌+◌, ◌≤◌, ◌<◌, ◌||◌, cond, Bool, true, false, List, [], ◌∷◌, ◌++◌, length, take, Option, Some, None, refl, sym, ap, subst, ◌∙◌, append_assoc, arith}
+use Rattle.std.specs.Prelude.{filter}
 use Rattle.std.specs.Ordering.{is_eq, nat_cmp}
 use Rattle.std.specs.Cmp.Lexicographic.{slice_cmp}
 use Rattle.std.specs.Str.{bytes_eq}
 use Rattle.std.proofs.Math.ListN.{get_or}
 use Rattle.std.proofs.lemmas.List.{take_more}
-use Rattle.std.proofs.lemmas.List.Elements.{filter-append}
 use Rattle.std.proofs.lemmas.List.Folds.{list_any-append}
 use Rattle.std.proofs.lemmas.Map.Text.{is_eq-slice_cmp}
 use Rattle.std.specs.List.{list_any}
@@ -17,7 +16,7 @@ use Rattle.chain.specs.declared.refusal.Refusal.{Refusal}
 use Rattle.chain.specs.Blocks.{Contents, Standing, empty_block}
 use Rattle.chain.specs.Tests.{transaction_refusal}
 use Rattle.chain.specs.Connecting.{unless_refusal, refusals_of, has_grant}
-use Rattle.mempool.specs.Mining.{Mined, waits, is_taken, still_waiting, block_after, blocks_after, has_waiting, is_on, IsNextBlock}
+use Rattle.mempool.specs.Mining.{Mined, waits, is_taken, still_waiting, blocks_after, has_waiting, IsNextBlock}
 
 abbrev Fewer : List Transaction → List (Option Refusal) → Type 0
 Fewer ts rs = length (filter is_taken rs) + length (still_waiting ts rs) ≤ length ts
@@ -96,28 +95,3 @@ one_more_waits has has' txs i d t key within item spelt more is id =
     joined true false = refl
     joined false true = refl
     joined false false = refl
-
--- ---- fillings that come back
-
-abbrev comes_back : List Contents → List Transaction → Transaction → Bool
-comes_back blocks pool t = not (is_on blocks pool t)
-
-last_of : (blocks : List Contents) (old released : List Transaction) (i : ℕ) (d t : Transaction) → i < length released → t ≡ get_or released i d
-    → filter (comes_back blocks old) (take (i + 1) released) ≡ filter (comes_back blocks old) (take i released) ++ filter (comes_back blocks old) (t ∷ [])
-last_of blocks old released i d t within item =
-    ap (filter (comes_back blocks old)) (take_more released i d within ∙ ap (λ u. take i released ++ u ∷ []) (sym item))
-    ∙ filter-append (comes_back blocks old) (take i released) (t ∷ [])
-
--- one that is on neither joins, and another does not
-pub joins : (blocks : List Contents) (pool old released : List Transaction) (i : ℕ) (d t : Transaction) → i < length released → t ≡ get_or released i d → is_on blocks old t ≡ false
-    → pool ≡ old ++ filter (comes_back blocks old) (take i released) → pool ++ t ∷ [] ≡ old ++ filter (comes_back blocks old) (take (i + 1) released)
-joins blocks pool old released i d t within item off is =
-    let one : filter (comes_back blocks old) (t ∷ []) ≡ t ∷ [] = rw off refl in
-    ap (λ ts. ts ++ t ∷ []) is ∙ append_assoc old (filter (comes_back blocks old) (take i released)) (t ∷ [])
-    ∙ sym (ap (λ ts. old ++ ts) (last_of blocks old released i d t within item ∙ ap (λ ts. filter (comes_back blocks old) (take i released) ++ ts) one))
-
-pub stays : (blocks : List Contents) (pool old released : List Transaction) (i : ℕ) (d t : Transaction) → i < length released → t ≡ get_or released i d → is_on blocks old t ≡ true
-    → pool ≡ old ++ filter (comes_back blocks old) (take i released) → pool ≡ old ++ filter (comes_back blocks old) (take (i + 1) released)
-stays blocks pool old released i d t within item on is =
-    let none : filter (comes_back blocks old) (t ∷ []) ≡ [] = rw on refl in
-    is ∙ sym (ap (λ ts. old ++ ts) (last_of blocks old released i d t within item ∙ ap (λ ts. filter (comes_back blocks old) (take i released) ++ ts) none ∙ append-nil (filter (comes_back blocks old) (take i released))))

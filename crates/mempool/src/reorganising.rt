@@ -143,7 +143,12 @@ pub fn reorganise(
         chain: mut branch,
         pool: waiting,
     } = branch_of(alloc, chain, pool, released, depth, forgotten)?;
-    let mined = mine(alloc, &mut branch, &waiting, one_more(depth, chain.blocks()))?;
+    let mined = mine(
+        alloc,
+        &mut branch,
+        &waiting,
+        one_more(depth, chain.blocks()),
+    )?;
     Ok(Reorganised {
         chain: branch,
         pool: mined.waiting,
