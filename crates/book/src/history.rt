@@ -8,11 +8,11 @@ use crate::open_channel::{OpenChannel, Taken};
 use channel::{Channel, Message};
 use claim::Claim;
 use filling::{FillError, Filled};
+use indexmap::IndexMap;
 use keys::Key;
 use lists::List;
 use resolve::Known;
 use std::alloc::Global;
-use std::collections::BTreeSet;
 use std::marker::Model;
 use tx::OutPoint;
 use updates::Refusal;
@@ -22,23 +22,20 @@ use updates::Refusal;
 pub struct Book {
     alloc: Global,
     entries: Vec<Entry>,
-    // what the calls of the history leave
-    channels: Vec<OpenChannel>,
-    // the funding outputs of the channels
-    fundings: BTreeSet<OutPoint>,
+    // what the calls of the history leave, each channel by its funding output
+    channels: IndexMap<OutPoint, OpenChannel>,
 }
 
 impl Model for Book {
     ghost use Rattle.std.specs.Prelude.{List as Values};
-    ghost use Rattle.std.specs.BTreeSet.{contains};
     ghost use Rattle.book.specs.declared.calls.Entry.{Entry as HistoryEntry};
-    ghost use Rattle.book.specs.Kept.{outpoint_cmp, AreLeft};
+    ghost use Rattle.book.specs.Kept.{AreLeft};
 
     ghost Value = { Values HistoryEntry };
 
     ghost view = { λ b. b.entries.items };
 
-    ghost invariant = { λ b. AreLeft b.entries.items b.channels.items (contains outpoint_cmp b.fundings) };
+    ghost invariant = { λ b. AreLeft b.entries.items b.channels.entries };
 }
 
 impl Book {
@@ -61,8 +58,7 @@ impl Book {
         Book {
             alloc,
             entries: Vec::new(alloc),
-            channels: Vec::new(alloc),
-            fundings: BTreeSet::new(alloc),
+            channels: IndexMap::new(alloc),
         }
     }
 
@@ -87,8 +83,8 @@ impl Book {
     pub fn channel(&self, channel: u64) -> Option<&Channel>
         ensures { option_copied result ≡ option_map (λ ch. ch.state) (slice_get (replay self.now) channel) }
     {
-        match self.channels.get(channel as usize) {
-            Some(open) => Some(open.channel()),
+        match self.channels.get_index(channel as usize) {
+            Some((_, open)) => Some(open.channel()),
             None => None,
         }
     }
@@ -97,8 +93,8 @@ impl Book {
     pub fn keeps(&self, channel: u64, number: u64) -> Option<bool>
         ensures { result ≡ option_and_then (λ ch. kept_at ch number) (slice_get (replay self.now) channel) }
     {
-        match self.channels.get(channel as usize) {
-            Some(open) => open.keeps(number),
+        match self.channels.get_index(channel as usize) {
+            Some((_, open)) => open.keeps(number),
             None => None,
         }
     }
@@ -111,7 +107,7 @@ impl Book {
         if self.channels.len() >= MAX_CHANNELS {
             return Err(OpenError::BookFull);
         }
-        if self.fundings.contains(&opening.terms.funding) {
+        if self.channels.contains_key(&opening.terms.funding) {
             return Err(OpenError::SameFunding);
         }
         let open = match OpenChannel::open(self.alloc, &opening) {
@@ -122,16 +118,11 @@ impl Book {
             Ok(()) => {}
             Err(_) => return Err(OpenError::NoMemory),
         }
-        match self.channels.reserve(1) {
-            Ok(()) => {}
-            Err(_) => return Err(OpenError::NoMemory),
-        }
-        match self.fundings.insert(opening.terms.funding) {
+        let index = self.channels.len() as u64;
+        match self.channels.insert(opening.terms.funding, open) {
             Ok(_) => {}
             Err(_) => return Err(OpenError::NoMemory),
         }
-        let index = self.channels.len() as u64;
-        self.channels.push(open).unwrap();
         let call = Call::Open(opening);
         self.entries.push(Entry { seat, call }).unwrap();
         Ok(index)
