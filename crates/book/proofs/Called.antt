@@ -6,7 +6,8 @@ use Rattle.indexmap.specs.Layout.{set_value_at}
 use Rattle.book.specs.declared.limits.TheConstants.{MAX_CHANNELS}
 use Rattle.claim.specs.Claims.{ClaimParts}
 use Rattle.filling.specs.Filled.{Filling}
-use Rattle.book.specs.Signers.{rights_of, fill_refusal}
+use Rattle.channel.specs.Rights.{rights_of}
+use Rattle.book.specs.Signers.{fill_refusal}
 use Rattle.book.specs.declared.calls.Batch.{Batch}
 use Rattle.book.specs.declared.calls.Opening.{Opening}
 use Rattle.book.proofs.Fundings.{as_many, funds, stands, written, joined}

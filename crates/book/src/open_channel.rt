@@ -131,7 +131,8 @@ impl OpenChannel {
     ghost use Rattle.book.specs.Knowing.{IsKnownOf};
     ghost use Rattle.book.specs.Replies.{sign_refusal, keep_refusal};
     ghost use Rattle.book.specs.Calling.{IsOpenRefusal, IsSignRefusal, IsKeepRefusal, IsFillRefusal, token_refusal, early_sign_refusal, filling_by};
-    ghost use Rattle.book.specs.Signers.{rights_of, fill_refusal};
+    ghost use Rattle.channel.specs.Rights.{rights_of};
+    ghost use Rattle.book.specs.Signers.{fill_refusal};
 
     /// The channel, of which no commitment is revoked.
     pub(crate) fn new(alloc: Global, channel: Channel) -> OpenChannel
