@@ -96,9 +96,9 @@ coin = record { output = record { value = 1000; script = 0x00 ∷ 0x20 ∷ hash 
 found : coin_at blocks (grant_outpoint 0) ≡ Some coin
 found = rw ((bytes_eq-Decides (grant_id 0) (grant_id 0)).1 refl) refl
 
-due : IsDue blocks claim (spending input) input
+due : IsDue blocks 1 claim (spending input) input
 due = record { fits = record { path = path; taken = taken; fits = fits }; coin = coin; reached = record { found = found; unspent = refl; final = refl; old_enough = refl }; value = refl; program = refl }
 
 -- the next block has height 1, above the lock time 0, and the output no age to reach
-time : IsTime blocks claim (spending input) coin
-time = record { height = lit< tt; age = lit≤ tt }
+time : IsTime 1 claim (spending input) coin
+time = record { above = lit< tt; age = lit≤ tt }
