@@ -7,14 +7,11 @@
 
 mod damages;
 mod loading;
-mod nodes;
-mod openings;
-mod peers;
 mod random;
 
 use anyhow::{Result, bail};
+use book_peers::{Act, Peers, Reply, offer};
 use loading::{print_damages, print_loaded, print_version, read_beginnings};
-use peers::{Act, Peers, Reply, offer};
 use random::play_games;
 use std::alloc::Global;
 use terms::Side;

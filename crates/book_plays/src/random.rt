@@ -1,10 +1,10 @@
 //! Histories of random calls.
 
 use crate::loading::comes_back;
-use crate::peers::{Act, PREIMAGE, Peers, Reply, offer};
 use anyhow::Result;
 use book::errors::SignError;
 use book::{Book, Call, Step};
+use book_peers::{Act, PREIMAGE, Peers, Reply, offer};
 use std::alloc::Global;
 use terms::Side;
 use texts::OwnUpdate;

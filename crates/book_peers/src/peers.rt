@@ -134,6 +134,7 @@ impl Peers {
         Ok(())
     }
 
+    /// The node of a side.
     pub fn node(&self, side: Side) -> &Node {
         match side {
             Side::A => &self.a,

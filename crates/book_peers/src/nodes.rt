@@ -159,12 +159,13 @@ impl Node {
         }
     }
 
-    // The channel beside the book's signs.
-    fn sign_along(&mut self, index: usize) -> Result<Message> {
+    /// The channel beside the book's signs: the message for the peer.
+    pub fn sign_along(&mut self, index: usize) -> Result<Message> {
         Ok(self.line(index)?.channel.signed()?)
     }
 
-    fn penalties(&mut self, index: usize, number: u64) -> Result<List<Claim>> {
+    /// The penalties of the peer's commitment of a number; no claim where it is not revoked.
+    pub fn penalties(&mut self, index: usize, number: u64) -> Result<List<Claim>> {
         penalties_in(self.alloc, &self.line(index)?.channel, number)
     }
 

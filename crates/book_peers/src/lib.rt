@@ -1,0 +1,21 @@
+//! Two nodes with a book each, for programs that play with books.
+//!
+//! Beside each channel of a book a node has one that goes along with it: from it come the penalties that the book keeps. What one node sends waits until the other receives it.
+//!
+//! ```rust
+//! let mut peers = Peers::new(alloc);
+//! peers.open(alloc, 1)?;
+//! peers.act(Side::A, 0, Act::Update(offer(1_000_000, 500)))?;
+//! peers.act(Side::B, 0, Act::Deliver)?;
+//! ```
+//!
+//! The program `book_plays` plays so, line by line.
+#![tactic(auto)]
+
+mod nodes;
+mod openings;
+mod peers;
+
+pub use nodes::{Node, SEAT};
+pub use openings::{Opened, open_side};
+pub use peers::{Act, PREIMAGE, Peers, Reply, offer};
