@@ -1,5 +1,5 @@
 -- Chains that only grew since a mark.
-use Rattle.std.proofs.Common.{◌≡◌, ℕ, ◌+◌, ◌-◌, ◌≤◌, false, List, [], ◌∷◌, ◌++◌, ◌||◌, length, take, drop, Option, Some, None, Result, Ok, Err, sym, ap, ◌∙◌, refl, append_assoc, length-append, arith}
+use Rattle.std.proofs.Common.{◌≡◌, ℕ, ◌+◌, false, List, [], ◌∷◌, ◌++◌, ◌||◌, length, take, drop, Option, Some, None, Result, Ok, Err, sym, ap, ◌∙◌, refl, append_assoc, length-append, arith}
 use Rattle.std.specs.List.{list_any}
 use Rattle.std.proofs.Math.Seq.{take-append_seam, drop-append_seam}
 use Rattle.std.proofs.lemmas.List.Folds.{list_any-append}
