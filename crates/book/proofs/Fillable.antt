@@ -29,8 +29,10 @@ use Rattle.filling.proofs.Lists.{contains-at}
 use Rattle.channel.specs.declared.commitments.CommitmentState.{CommitmentState}
 use Rattle.channel.specs.States.{State}
 use Rattle.book.specs.Bounds.{IsSeedOf}
-use Rattle.book.specs.Penalties.{◌>>=◌, is_claim_on, are_claims_on, are_on, claimable_in, revoked_contents, is_penalty_set}
-use Rattle.book.specs.Signers.{rights_of, lack_of, first_lack}
+use Rattle.texts.specs.Values.{◌>>=◌}
+use Rattle.book.specs.Penalties.{is_claim_on, are_claims_on, are_on, claimable_in, revoked_contents, is_penalty_set}
+use Rattle.channel.specs.Rights.{rights_of}
+use Rattle.book.specs.Signers.{lack_of, first_lack}
 use Rattle.book.proofs.Deciding.{rights_are_tested}
 use Rattle.book.proofs.Sets.{fillings_are}
 

@@ -1,52 +1,80 @@
--- The set of the channels' funding outputs.
-use Rattle.std.proofs.Common.{◌≡◌, ℕ, ◌&&◌, ◌||◌, ◌==◌, cond, Bool, true, false, [], ◌∷◌, ◌++◌, refl, sym, ap, ◌∙◌, arith}
-use Rattle.std.specs.Prelude.{nat_lt}
-use Rattle.std.specs.declared.cmp.Ordering.{Ordering}
-use Rattle.std.specs.declared.cmp.Ordering.TheVariants.{Less, Equal, Greater}
-use Rattle.std.specs.Ordering.{is_eq, ordering_then, nat_cmp}
-use Rattle.std.specs.Cmp.Lexicographic.{slice_cmp}
+-- The channels by their funding outputs.
+use Rattle.std.proofs.Common.{◌≡◌, ℕ, zero, suc, ◌&&◌, ◌||◌, ◌==◌, cond, Bool, true, false, List, [], ◌∷◌, ◌++◌, length, Option, Some, is_some, refl, sym, ap, ◌∙◌, arith}
+use Rattle.std.specs.Prelude.{slice_get}
+use Rattle.std.specs.Cmp.Lexicographic.{nat_list_eq_equiv}
+use Rattle.std.specs.List.{list_any}
+use Rattle.std.specs.Map.{lookup, values_of}
 use Rattle.std.specs.Str.{bytes_eq}
 use Rattle.std.proofs.lemmas.Bool.Decides.{nat_tests}
-use Rattle.std.proofs.lemmas.List.Folds.{list_any-append}
-use Rattle.std.proofs.lemmas.Map.Text.{is_eq-slice_cmp}
+use Rattle.std.proofs.lemmas.List.{map-append, length-map}
+use Rattle.std.proofs.lemmas.Option.{none-some, same_Some}
+use Rattle.indexmap.specs.Layout.{set_value_at}
 use Rattle.tx.specs.declared.input.OutPoint.{OutPoint}
 use Rattle.book.specs.Penalties.{same_outpoint}
-use Rattle.book.specs.Books.{ChannelBook, Channels}
-use Rattle.book.specs.Kept.{outpoint_cmp, is_funding}
+use Rattle.channel.specs.Tokens.{peer_tokens}
+use Rattle.book.specs.declared.calls.Entry.{Entry}
+use Rattle.book.specs.Books.{ChannelBook, Channels, at_index, replay}
+use Rattle.book.specs.Accepted.{all_accepted}
+use Rattle.book.specs.Kept.{by_funding, AreLeft}
 
-both_equal : (a b : Ordering) → is_eq (ordering_then a b) ≡ (is_eq a && is_eq b)
-both_equal Less b = refl
-both_equal Equal b = refl
-both_equal Greater b = refl
+same_number : (x y : ℕ) → (x == y) ≡ (y == x)
+same_number x y = grind (arith, nat_tests)
 
-by_tests : (t e : Bool) → (t ≡ true → e ≡ false) → is_eq (cond t Less (cond e Equal Greater)) ≡ e
-by_tests true e h = sym (h refl)
-by_tests false true h = refl
-by_tests false false h = refl
+turned : (o p : OutPoint) → same_outpoint o p ≡ same_outpoint p o
+turned o p = ap (λ b. b && o.index == p.index) (nat_list_eq_equiv.symm o.txid p.txid) ∙ ap (λ b. bytes_eq p.txid o.txid && b) (same_number o.index p.index)
 
-apart : (x y : ℕ) → nat_lt x y ≡ true → (x == y) ≡ false
-apart x y h = grind (arith, nat_tests)
+first_or : {X : Type 0} (t r : Bool) (x : X) (o : Option X) → is_some o ≡ r → is_some (cond t (Some x) o) ≡ (t || r)
+first_or true r x o is = refl
+first_or false r x o is = is
 
-equal_numbers : (x y : ℕ) → is_eq (nat_cmp x y) ≡ (x == y)
-equal_numbers x y = by_tests (nat_lt x y) (x == y) (apart x y)
-
--- outpoints tie exactly where they are one
-ties : (o p : OutPoint) → is_eq (outpoint_cmp o p) ≡ same_outpoint o p
-ties o p =
-    both_equal (slice_cmp nat_cmp o.txid p.txid) (nat_cmp o.index p.index)
-    ∙ ap (λ b. b && is_eq (nat_cmp o.index p.index)) (is_eq-slice_cmp o.txid p.txid)
-    ∙ ap (λ b. bytes_eq o.txid p.txid && b) (equal_numbers o.index p.index)
-
-joined : (t b : Bool) → cond t true b ≡ (b || (t || false))
-joined true true = refl
-joined true false = refl
-joined false true = refl
-joined false false = refl
-
--- one channel more
-pub funded : (chs chs' : Channels) (ch : ChannelBook) (funds funds' : OutPoint → Bool) → ((o : OutPoint) → funds o ≡ is_funding chs o) → chs' ≡ chs ++ ch ∷ []
-    → ((o : OutPoint) → funds' o ≡ cond (is_eq (outpoint_cmp ch.state.held.terms.funding o)) true (funds o)) → (o : OutPoint) → funds' o ≡ is_funding chs' o
-funded chs chs' ch funds funds' are is more o =
+any_funds : (o : OutPoint) (chs : Channels) → is_some (lookup (same_outpoint o) (by_funding chs)) ≡ list_any (λ ch. same_outpoint ch.state.held.terms.funding o) chs
+any_funds o [] = refl
+any_funds o (ch ∷ chs) =
     let f = ch.state.held.terms.funding in
-    more o ∙ ap (λ t. cond t true (funds o)) (ties f o) ∙ joined (same_outpoint f o) (funds o) ∙ ap (λ b. b || (same_outpoint f o || false)) (are o)
-    ∙ sym (list_any-append (λ (c : ChannelBook). same_outpoint c.state.held.terms.funding o) chs (ch ∷ [])) ∙ ap (λ cs. is_funding cs o) (sym is)
+    let rest = list_any (λ (c : ChannelBook). same_outpoint c.state.held.terms.funding o) chs in
+    first_or (same_outpoint o f) rest ch (lookup (same_outpoint o) (by_funding chs)) (any_funds o chs) ∙ ap (λ b. b || rest) (turned o f)
+
+values_are : (chs : Channels) → values_of (by_funding chs) ≡ chs
+values_are [] = refl
+values_are (ch ∷ chs) = ap (λ cs. ch ∷ cs) (values_are chs)
+
+-- a change of one channel that leaves its funding output
+changed : (f : ChannelBook → ChannelBook) → ((ch : ChannelBook) → (f ch).state.held.terms ≡ ch.state.held.terms) → (c : ℕ) (chs : Channels) (x y : ChannelBook) → slice_get chs c ≡ Some x → y ≡ f x
+    → set_value_at (by_funding chs) c y ≡ by_funding (at_index f c chs)
+changed f same c [] x y found e = absurd (none-some x found)
+changed f same zero (z ∷ chs) x y found e =
+    ap (λ w. (z.state.held.terms.funding, w) ∷ by_funding chs) (e ∙ ap f (sym (same_Some z x found))) ∙ ap (λ t. (t.funding, f z) ∷ by_funding chs) (sym (same z))
+changed f same (suc c) (z ∷ chs) x y found e = ap (λ es. (z.state.held.terms.funding, z) ∷ es) (changed f same c chs x y found e)
+
+unchanged : (c : ℕ) (chs : Channels) (x y : ChannelBook) → slice_get chs c ≡ Some x → y ≡ x → set_value_at (by_funding chs) c y ≡ by_funding chs
+unchanged c [] x y found e = refl
+unchanged zero (z ∷ chs) x y found e = ap (λ w. (z.state.held.terms.funding, w) ∷ by_funding chs) (e ∙ sym (same_Some z x found))
+unchanged (suc c) (z ∷ chs) x y found e = ap (λ es. (z.state.held.terms.funding, z) ∷ es) (unchanged c chs x y found e)
+
+module _ (history : List Entry) (channels : List (OutPoint × ChannelBook)) (k : AreLeft history channels) where
+  pub as_many : length channels ≡ length (replay history)
+  as_many = ap length k.left ∙ length-map (replay history) (λ (ch : ChannelBook). (ch.state.held.terms.funding, ch))
+
+  -- an outpoint is found where it is a channel's funding output
+  pub funds : (o : OutPoint) → is_some (lookup (same_outpoint o) channels) ≡ list_any (λ ch. same_outpoint ch.state.held.terms.funding o) (replay history)
+  funds o = ap (λ es. is_some (lookup (same_outpoint o) es)) k.left ∙ any_funds o (replay history)
+
+  -- the channel of an index
+  pub stands : (c : ℕ) (x : ChannelBook) → slice_get (values_of channels) c ≡ Some x → slice_get (replay history) c ≡ Some x
+  stands c x found = sym (ap (λ es. slice_get (values_of es) c) k.left ∙ ap (λ chs. slice_get chs c) (values_are (replay history))) ∙ found
+
+  -- one channel is written
+  pub written : (f : ChannelBook → ChannelBook) → ((ch : ChannelBook) → (f ch).state.held.terms ≡ ch.state.held.terms) → (c : ℕ) (x y : ChannelBook) → slice_get (values_of channels) c ≡ Some x → y ≡ f x
+      → set_value_at channels c y ≡ by_funding (at_index f c (replay history))
+  written f same c x y found e = ap (λ es. set_value_at es c y) k.left ∙ changed f same c (replay history) x y (stands c x found) e
+
+  -- one channel more
+  pub joined : (ch : ChannelBook) → channels ++ (ch.state.held.terms.funding, ch) ∷ [] ≡ by_funding (replay history ++ ch ∷ [])
+  joined ch = ap (λ es. es ++ (ch.state.held.terms.funding, ch) ∷ []) k.left ∙ sym (map-append (λ (c : ChannelBook). (c.state.held.terms.funding, c)) (replay history) (ch ∷ []))
+
+  -- a channel is as it was
+  pub left_alone : (new : List Entry) → new ≡ history → (c : ℕ) (x y : ChannelBook) → slice_get (values_of channels) c ≡ Some x → y ≡ x → AreLeft new (set_value_at channels c y)
+  left_alone new is c x y found e = record {
+    accepted = ap (all_accepted peer_tokens) is ∙ k.accepted;
+    left = ap (λ es. set_value_at es c y) k.left ∙ unchanged c (replay history) x y (stands c x found) e ∙ ap (λ h. by_funding (replay h)) (sym is);
+  }

@@ -27,7 +27,8 @@ use Rattle.book.specs.declared.calls.Entry.{Entry}
 use Rattle.book.specs.declared.errors.ReleaseError.TheVariants.{Unfilled, NoSuchChannel}
 use Rattle.book.specs.Bounds.{IsSeedOf}
 use Rattle.book.specs.Books.{ChannelBook, Channels, at_index, stepped, with_state, channels_after, replayed, replay}
-use Rattle.book.specs.Signers.{rights_of, first_lack, fill_refusal}
+use Rattle.channel.specs.Rights.{rights_of}
+use Rattle.book.specs.Signers.{first_lack, fill_refusal}
 use Rattle.book.specs.Replies.{Reply, released, asked, unless, fill_answer, reply_of}
 use Rattle.book.specs.Accepted.{is_taken, are_accepted, all_accepted}
 use Rattle.book.specs.Releasing.{IsKeptIn, KeptAreFillable}

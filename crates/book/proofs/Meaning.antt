@@ -10,7 +10,8 @@ use Rattle.channel.specs.States.{State}
 use Rattle.book.specs.declared.calls.Call.{Call}
 use Rattle.book.specs.declared.calls.Call.TheVariants.{Open, Step, Sign, Revoke, Keep, Release}
 use Rattle.book.specs.declared.calls.Entry.{Entry}
-use Rattle.book.specs.Penalties.{◌>>=◌, revoked_contents, claimable_in, claimable_at, are_claims_on, are_on, is_penalty_set}
+use Rattle.texts.specs.Values.{◌>>=◌}
+use Rattle.book.specs.Penalties.{revoked_contents, claimable_in, claimable_at, are_claims_on, are_on, is_penalty_set}
 use Rattle.book.specs.Books.{ChannelBook, Channels, replayed, is_kept}
 use Rattle.book.specs.Guarding.{is_revocation, revocations, claimable_by, is_set_in, number_kept, joined, are_answered, is_allowed, all_allowed, IsKeeping, IsKeptBetween, GuardedMeans}
 use Rattle.book.proofs.Sets.{AllOpen, open_from, claims_are}

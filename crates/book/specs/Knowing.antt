@@ -24,7 +24,7 @@ use Rattle.book.specs.declared.calls.Call.TheVariants.{Step as Stepping}
 use Rattle.book.specs.declared.calls.Entry.{Entry}
 use Rattle.book.specs.declared.errors.KnowError.{KnowError}
 use Rattle.book.specs.declared.errors.KnowError.TheVariants.{NoMemory, NoSuchChannel}
-use Rattle.book.specs.Penalties.{◌>>=◌}
+use Rattle.texts.specs.Values.{◌>>=◌}
 use Rattle.book.specs.Books.{ChannelBook, is_kept}
 
 -- what stands at the numbers below this one, in order

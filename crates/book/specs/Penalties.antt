@@ -24,12 +24,7 @@ use Rattle.penalty.specs.Paying.{CanPay}
 use Rattle.filling.specs.Refusals.{is_fixed}
 use Rattle.channel.specs.declared.commitments.CommitmentState.{CommitmentState}
 use Rattle.channel.specs.States.{State}
-
--- what comes of a value that is there
-infixl 10 ◌>>=◌
-abbrev pub ◌>>=◌ : {A B : Type 0} → Option A → (A → Option B) → Option B
-(Some x) >>= f = f x
-None >>= f = None
+use Rattle.texts.specs.Values.{◌>>=◌}
 
 -- the peer's commitment of a number, with the point of the secret by which it was revoked
 abbrev pub revoked_contents : State → CommitmentState → List ℕ → Contents

@@ -10,7 +10,8 @@ use Rattle.book.specs.declared.calls.Call.TheVariants.{Keep, Release}
 use Rattle.book.specs.declared.calls.Entry.{Entry}
 use Rattle.book.specs.declared.errors.ReleaseError.TheVariants.{Unfilled}
 use Rattle.book.specs.Books.{ChannelBook, replay}
-use Rattle.book.specs.Signers.{rights_of, first_lack}
+use Rattle.channel.specs.Rights.{rights_of}
+use Rattle.book.specs.Signers.{first_lack}
 use Rattle.book.specs.Replies.{released, reply_of}
 use Rattle.book.specs.Accepted.{all_accepted}
 

@@ -32,7 +32,8 @@ use Rattle.book.specs.declared.errors.ReleaseError.{ReleaseError}
 use Rattle.book.specs.declared.errors.ReleaseError.TheVariants.{Unfilled, NoSuchChannel as NoChannelToRelease}
 use Rattle.book.specs.Penalties.{same_outpoint, is_penalty_set}
 use Rattle.book.specs.Books.{ChannelBook, Channels, update_of, is_kept, first_missing, replay}
-use Rattle.book.specs.Signers.{rights_of, fill_refusal}
+use Rattle.channel.specs.Rights.{rights_of}
+use Rattle.book.specs.Signers.{fill_refusal}
 
 -- an answer to each of the six calls
 pub data Reply : Type 0 where

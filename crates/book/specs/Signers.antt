@@ -1,5 +1,5 @@
--- What the signer of a channel knows, and whether claims can be filled by it.
-use Rattle.std.specs.Prelude.{◌≡◌, ◌↔◌, ◌⊎◌, ℕ, ◌+◌, Bool, true, ◌||◌, List, [], ◌∷◌, ◌++◌, map, Option, Some, None, is_some, if◌then◌else◌}
+-- What a signer may sign for, and whether claims can be filled by it.
+use Rattle.std.specs.Prelude.{◌≡◌, ◌↔◌, ◌⊎◌, ℕ, Bool, true, ◌||◌, List, [], ◌∷◌, Option, Some, None, is_some, if◌then◌else◌}
 use Rattle.tx.specs.Parts.{Output}
 use Rattle.keys.specs.Keys.{base_keys, learnt_keys, is_among}
 use Rattle.keys.specs.Rights.{Rights, MaySign}
@@ -10,16 +10,6 @@ use Rattle.filling.specs.declared.errors.FillError.{FillError}
 use Rattle.filling.specs.declared.errors.FillError.TheVariants.{NoMemory, NoRight, NoPreimage, OutputsExceed, MixedShells, SameOutpoint}
 use Rattle.filling.specs.Filling.{preimage_of}
 use Rattle.filling.specs.Refusals.{are_mixed, share_outpoint, do_exceed, all_slots, ArePassed, AreFillable, IsFirstRefusal}
-use Rattle.channel.specs.Points.{point_at}
-use Rattle.channel.specs.States.{State}
-
--- the signer of a side knows its own points up to that of its newest commitment's next, every point that came, and every secret that came
-abbrev pub rights_of : State → Rights
-rights_of s = record {
-  seed = s.seed;
-  points = (point_at s.seed (s.number + 1)).bytes ∷ s.next_point.bytes ∷ (map (λ c. c.point.bytes) s.mine ++ map (λ c. c.point.bytes) s.signed);
-  secrets = s.secrets;
-}
 
 -- whether a signer may sign for a key: one of its base keys, or of those that it got with what it learnt
 unfoldable pub may_sign : Rights → List ℕ → Bool

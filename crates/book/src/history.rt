@@ -5,14 +5,14 @@ use crate::errors::{KeepError, KnowError, OpenError, ReleaseError, SignError, St
 use crate::knowing::preimages_in;
 use crate::limits::MAX_CHANNELS;
 use crate::open_channel::{OpenChannel, Taken};
-use channel::Message;
+use channel::{Channel, Message};
 use claim::Claim;
 use filling::{FillError, Filled};
+use indexmap::IndexMap;
 use keys::Key;
 use lists::List;
 use resolve::Known;
 use std::alloc::Global;
-use std::collections::BTreeSet;
 use std::marker::Model;
 use tx::OutPoint;
 use updates::Refusal;
@@ -22,27 +22,25 @@ use updates::Refusal;
 pub struct Book {
     alloc: Global,
     entries: Vec<Entry>,
-    // what the calls of the history leave
-    channels: Vec<OpenChannel>,
-    // the funding outputs of the channels
-    fundings: BTreeSet<OutPoint>,
+    // what the calls of the history leave, each channel by its funding output
+    channels: IndexMap<OutPoint, OpenChannel>,
 }
 
 impl Model for Book {
     ghost use Rattle.std.specs.Prelude.{List as Values};
-    ghost use Rattle.std.specs.BTreeSet.{contains};
     ghost use Rattle.book.specs.declared.calls.Entry.{Entry as HistoryEntry};
-    ghost use Rattle.book.specs.Kept.{outpoint_cmp, AreLeft};
+    ghost use Rattle.book.specs.Kept.{AreLeft};
 
     ghost Value = { Values HistoryEntry };
 
     ghost view = { λ b. b.entries.items };
 
-    ghost invariant = { λ b. AreLeft b.entries.items b.channels.items (contains outpoint_cmp b.fundings) };
+    ghost invariant = { λ b. AreLeft b.entries.items b.channels.entries };
 }
 
 impl Book {
-    ghost use Rattle.std.specs.Prelude.{◌≡◌, [], true, Err, slice_get, IfOk, IfErr};
+    ghost use Rattle.std.specs.Prelude.{◌≡◌, [], true, Err, length, slice_get, option_map, IfOk, IfErr};
+    ghost use Rattle.std.specs.Option.{option_and_then, option_copied};
     ghost use Rattle.channel.specs.Tokens.{peer_tokens};
     ghost use Rattle.updates.specs.declared.refusals.Refusal.TheVariants.{NoMemory as refusal_memory};
     ghost use Rattle.filling.specs.declared.errors.FillError.TheVariants.{NoMemory as fill_memory};
@@ -50,7 +48,7 @@ impl Book {
     ghost use Rattle.book.specs.Guarding.{is_guarded};
     ghost use Rattle.book.specs.Replies.{opened, stepped, signed, revoked, kept, released};
     ghost use Rattle.book.specs.Calling.{IsCall, step_reply};
-    ghost use Rattle.book.specs.Books.{replay};
+    ghost use Rattle.book.specs.Books.{replay, kept_at};
     ghost use Rattle.book.specs.Knowing.{IsKnownIn, IsKnowRefusal};
 
     /// An empty book, which takes no memory.
@@ -60,8 +58,7 @@ impl Book {
         Book {
             alloc,
             entries: Vec::new(alloc),
-            channels: Vec::new(alloc),
-            fundings: BTreeSet::new(alloc),
+            channels: IndexMap::new(alloc),
         }
     }
 
@@ -75,6 +72,33 @@ impl Book {
         &self.entries
     }
 
+    /// How many channels there are.
+    pub fn channel_count(&self) -> u64
+        ensures { result ≡ length (replay self.now) }
+    {
+        self.channels.len() as u64
+    }
+
+    /// The channel of an index, where there is one.
+    pub fn channel(&self, channel: u64) -> Option<&Channel>
+        ensures { option_copied result ≡ option_map (λ ch. ch.state) (slice_get (replay self.now) channel) }
+    {
+        match self.channels.get_index(channel as usize) {
+            Some((_, open)) => Some(open.channel()),
+            None => None,
+        }
+    }
+
+    /// Whether the penalties of the peer's revoked commitment of a number are kept; `None` where there is no such channel, or the commitment is not revoked.
+    pub fn keeps(&self, channel: u64, number: u64) -> Option<bool>
+        ensures { result ≡ option_and_then (λ ch. kept_at ch number) (slice_get (replay self.now) channel) }
+    {
+        match self.channels.get_index(channel as usize) {
+            Some((_, open)) => open.keeps(number),
+            None => None,
+        }
+    }
+
     /// Opens a channel, and gives its index: BookFull where there are 65,536, SameFunding where one has the same funding output, BadSignature where the token is not
     /// the peer's on this side's commitment 0. A refusal leaves the book as it was.
     pub fn open(&mut self, seat: u32, opening: Opening) -> Result<u64, OpenError>
@@ -83,7 +107,7 @@ impl Book {
         if self.channels.len() >= MAX_CHANNELS {
             return Err(OpenError::BookFull);
         }
-        if self.fundings.contains(&opening.terms.funding) {
+        if self.channels.contains_key(&opening.terms.funding) {
             return Err(OpenError::SameFunding);
         }
         let open = match OpenChannel::open(self.alloc, &opening) {
@@ -94,16 +118,11 @@ impl Book {
             Ok(()) => {}
             Err(_) => return Err(OpenError::NoMemory),
         }
-        match self.channels.reserve(1) {
-            Ok(()) => {}
-            Err(_) => return Err(OpenError::NoMemory),
-        }
-        match self.fundings.insert(opening.terms.funding) {
+        let index = self.channels.len() as u64;
+        match self.channels.insert(opening.terms.funding, open) {
             Ok(_) => {}
             Err(_) => return Err(OpenError::NoMemory),
         }
-        let index = self.channels.len() as u64;
-        self.channels.push(open).unwrap();
         let call = Call::Open(opening);
         self.entries.push(Entry { seat, call }).unwrap();
         Ok(index)

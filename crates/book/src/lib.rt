@@ -3,7 +3,7 @@
 //! [`Book`] has six calls that may change it: `open`, `step`, `sign`, `revoke`, `keep` and `release`. Each answers what `reply_of` says of the history, and leaves the history that `history_after` says, or
 //! memory ran out and the history is as before: an accepted call adds one entry, and a refused one changes nothing. The signing gate, [`laws::signing_is_guarded`], holds of each history: each signature
 //! stands where every revocation that came in its channel has the penalties of the revoked commitment kept between the two. [`Book::entries`] hands this out. [`matching::is_set`] tells
-//! whether claims are a penalty set. [`Book::known`] hands out what the node knows of a channel, for what is due on the chain.
+//! whether claims are a penalty set. [`Book::known`] hands out what the node knows of a channel, for what is due on the chain. What [`Book::dump`] gives, [`Book::load`] loads as the same history.
 //!
 //! ```rust
 //! assert!(rt; a.revoke(0, 0, came.secret, came.next_point).is_ok());

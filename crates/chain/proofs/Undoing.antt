@@ -1,28 +1,14 @@
 -- Chains that only grew since a mark.
-use Rattle.std.proofs.Common.{◌≡◌, ℕ, ◌+◌, ◌-◌, ◌≤◌, false, List, [], ◌∷◌, ◌++◌, ◌||◌, length, take, drop, Option, Some, None, Result, Ok, Err, sym, ap, ◌∙◌, refl, append_assoc, length-append, arith}
+use Rattle.std.proofs.Common.{◌≡◌, ℕ, ◌+◌, false, List, [], ◌∷◌, ◌++◌, ◌||◌, Option, Some, None, Result, Ok, Err, sym, ap, ◌∙◌, refl, append_assoc}
 use Rattle.std.specs.List.{list_any}
-use Rattle.std.proofs.Math.Seq.{take-append_seam, drop-append_seam}
 use Rattle.std.proofs.lemmas.List.Folds.{list_any-append}
 use Rattle.tx.specs.Fields.{Transaction}
 use Rattle.chain.specs.declared.refusal.Refusal.{Refusal}
 use Rattle.chain.specs.declared.refusal.BlockError.{BlockError}
-use Rattle.chain.specs.declared.index.Mark.{Mark}
-use Rattle.chain.specs.Blocks.{Contents, Standing, empty_block, height_of}
+use Rattle.chain.specs.Blocks.{Contents, Standing, empty_block}
 use Rattle.chain.specs.Tests.{transaction_refusal}
 use Rattle.chain.specs.Connecting.{added, unless_refused, unless_refusal, passing_added, has_grant, Connects, ConnectsSome}
-use Rattle.chain.specs.Marking.{IsMark, IsGrown}
-
--- so many blocks stand above a mark
-pub above_mark : (before s : Standing) (m : Mark) → IsMark before m → (g : IsGrown before s) → height_of s.blocks ≡ length g.above + m.height
-above_mark before s m i g = omega (arith, ap (length {A = Contents}) g.blocks, length-append g.above before.blocks, i.height)
-
-pub none_above : (before s : Standing) (n : ℕ) → (g : IsGrown before s) → n ≡ length g.above → list_any has_grant (take n s.blocks) ≡ false
-none_above before s n g e = rw (e, g.blocks, take-append_seam) g.no_grant
-
-pub back : (before s left last : Standing) (m : Mark) (n : ℕ) → IsMark before m → (g : IsGrown before s) → n ≡ length g.above → left ≡ record s { blocks = drop n s.blocks } → last ≡ record left { greatest = m.greatest } → last ≡ before
-back before s left last m n i g e f l =
-    let blocks : drop n s.blocks ≡ before.blocks = rw (e, g.blocks) (drop-append_seam g.above before.blocks) in
-    l ∙ rw f (rw (blocks, i.greatest) refl)
+use Rattle.chain.specs.Marking.{IsGrown}
 
 -- a chain grew by nothing, or by more blocks
 pub grown_itself : (s : Standing) → IsGrown s s

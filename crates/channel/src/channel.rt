@@ -76,7 +76,7 @@ impl Channel {
     ghost use Rattle.channel.specs.declared.messages.Message.TheVariants.{Updated, CommitmentSigned, RevokeAndAck};
     ghost use Rattle.channel.specs.declared.limits.TheConstants.{LAST_NUMBER as last_number};
     ghost use Rattle.channel.specs.Points.{is_foreign};
-    ghost use Rattle.channel.specs.Keeping.{CanOpen, one_if};
+    ghost use Rattle.channel.specs.Keeping.{CanOpen, HasBases, one_if};
     ghost use Rattle.channel.specs.Numbered.{AreNumbered};
     ghost use Rattle.terms.specs.Sides.{other};
     ghost use Rattle.channel.specs.Rights.{rights_of};
@@ -236,10 +236,11 @@ impl Channel {
         self.secrets.get(FIRST_INDEX - number)
     }
 
-    /// The side's signer. It knows its own points up to that of its newest commitment's next, and each point and each secret of the peer that came, so that
-    /// it may sign for what the peer's revoked commitments pay.
+    /// The side's signer, whose funding and HTLC base keys stand in the terms. It knows its own points up to that of its newest commitment's next, and each point
+    /// and each secret of the peer that came, so that it may sign for what the peer's revoked commitments pay.
     pub fn signer(&self) -> &Signer
         ensures seed { result.now.seed ≡ self.now.seed }
+        ensures bases { HasBases self.now.held.terms self.now.held.side self.now.seed }
         ensures rights { (key : List ℕ) → MaySign result.now key ↔ MaySign (rights_of self.now) key }
     {
         &self.signer

@@ -1,5 +1,5 @@
 -- Whatever fits an accepted claim passes the chain's test, once it is due.
-use Rattle.std.proofs.Common.{◌≡◌, ℕ, ◌+◌, ◌%◌, ◌^◌, ◌<◌, zero, suc, Bool, true, false, ◌&&◌, ◌||◌, nat_le, eqb, List, [], ◌∷◌, length, Some, None, sym, ap, subst, ◌∙◌, refl, arith, Contains}
+use Rattle.std.proofs.Common.{◌≡◌, ℕ, ◌+◌, ◌%◌, ◌^◌, ◌<◌, zero, suc, Bool, true, false, ◌&&◌, ◌||◌, nat_le, eqb, List, [], ◌∷◌, Some, None, sym, ap, subst, ◌∙◌, refl, arith, Contains}
 use Rattle.std.specs.Prelude.{nat_lt}
 use Rattle.std.specs.List.{list_all}
 use Rattle.std.proofs.lemmas.Bool.{lt-ltb, ltb-true, le-leb, leb-true, ne_eqb, false_from_ne_true}
@@ -28,18 +28,14 @@ reached_passes : (blocks : List Contents) (height : ℕ) (t : Transaction) (inpu
     → input_refusal blocks height t input ≡ None
 reached_passes blocks height t input coin n h r run = rw (r.found, r.unspent, r.final, r.old_enough, run) refl
 
-due_passes : (opening : AcceptedOpen) (clean : FittingRunsClean) (blocks : List Contents) (x : ClaimParts) (t : Transaction) (input : TxIn) → IsWhole x → (due : IsDue blocks x t input) → Passes blocks x t input due
-due_passes opening clean blocks x t input w due =
+due_passes : (opening : AcceptedOpen) (clean : FittingRunsClean) (blocks : List Contents) (height : ℕ) (x : ClaimParts) (t : Transaction) (input : TxIn) → IsWhole x → (due : IsDue blocks height x t input)
+    → Passes blocks height x t input due
+due_passes opening clean blocks height x t input w due =
     let opens = opening x w due.fits.path due.fits.taken in
     let output = same_output due.coin.output x.place due.value due.program in
     let run : run_of t input due.coin.output ≡ Some (Clean due.fits.path.ops due.fits.path.height) = ap (run_of t input) output ∙ opens.clean t input due.fits.fits in
-    record {
-      passes = λ i at. ap (indexed_refusal blocks (length blocks) t) at ∙ reached_passes blocks (length blocks) t input due.coin due.fits.path.ops due.fits.path.height due.reached run;
-      run = run;
-      clean = clean x t input w due.fits;
-      few = opens.few;
-      low = opens.low;
-    }
+    let passes = reached_passes blocks height t input due.coin due.fits.path.ops due.fits.path.height due.reached run in
+    record { passes = passes; at_index = λ i at. ap (indexed_refusal blocks height t) at ∙ passes; run = run; clean = clean x t input w due.fits; few = opens.few; low = opens.low }
 
 pub claims_open : AcceptedOpen → FittingRunsClean → ClaimsOpen
 claims_open opening clean = due_passes opening clean
@@ -84,10 +80,10 @@ old_is height coin_height x t input i =
     old_by height t.version input.sequence coin_height i.version (subst (λ n. n < 65536) (sym i.sequence) i.age) ∙ ap (λ n. nat_le (coin_height + n) height) i.sequence
 
 pub locks_are_heights : FittingIsTimed → LocksAreHeights
-locks_are_heights timed blocks x t input coin w f found unspent =
+locks_are_heights timed blocks height x t input coin w f found unspent =
     let i = timed x t input w f in
-    let final = final_is (length blocks) x t input f i in
-    let old = old_is (length blocks) coin.height x t input i in (
-      λ r. record { height = ltb-true t.lock_time (length blocks) (sym final ∙ r.final); age = leb-true (coin.height + sequence_of x) (length blocks) (sym old ∙ r.old_enough) },
-      λ e. record { found = found; unspent = unspent; final = final ∙ lt-ltb t.lock_time (length blocks) e.height; old_enough = old ∙ le-leb (coin.height + sequence_of x) (length blocks) e.age },
+    let final = final_is height x t input f i in
+    let old = old_is height coin.height x t input i in (
+      λ r. record { above = ltb-true t.lock_time height (sym final ∙ r.final); age = leb-true (coin.height + sequence_of x) height (sym old ∙ r.old_enough) },
+      λ e. record { found = found; unspent = unspent; final = final ∙ lt-ltb t.lock_time height e.above; old_enough = old ∙ le-leb (coin.height + sequence_of x) height e.age },
     )

@@ -1,8 +1,7 @@
 -- A claim, what fits it and a chain for which the premises of the theorem hold.
-use Rattle.std.proofs.Common.{◌≡◌, ℕ, true, false, List, [], ◌∷◌, ◌++◌, length, replicate, refl, lit≤, lit<, Some, None, Ok}
-use Rattle.std.specs.Prelude.{All, IsTrue, is_ok}
+use Rattle.std.proofs.Common.{◌≡◌, ℕ, true, false, List, [], ◌∷◌, replicate, refl, lit≤, lit<, Some, None, Ok}
+use Rattle.std.specs.Prelude.{IsTrue, is_ok}
 use Rattle.std.proofs.lemmas.List.Elements.{All-nil, All-cons}
-use Rattle.std.specs.Str.{bytes_eq}
 use Rattle.std.proofs.lemmas.Slice.Eq.{bytes_eq-Decides}
 use Rattle.sha2.specs.Sha256.{sha256, digest_bytes, hash_after, compress, rounds, schedule, first_words}
 use Rattle.digest.specs.Hash.{sha256d}
@@ -10,18 +9,14 @@ use Rattle.script.specs.declared.opcode.Op.{Op}
 use Rattle.script.specs.declared.opcode.Op.TheVariants.{Push, CheckSig}
 use Rattle.script.specs.Spelling.{IsOp, spelling}
 use Rattle.script.specs.Token.{token_of, is_key}
-use Rattle.tx.specs.declared.input.OutPoint.{OutPoint}
 use Rattle.tx.specs.declared.input.TxIn.{TxIn}
-use Rattle.tx.specs.Parts.{Output}
 use Rattle.tx.specs.Fields.{Transaction}
 use Rattle.sighash.specs.Signing.{signed_list, all_outpoints, all_sequences}
-use Rattle.facts.specs.Symbols.{Stated}
 use Rattle.facts.specs.declared.symbols.KeySourceOver.TheVariants.{Const as FixedKey}
 use Rattle.facts.specs.declared.symbols.FactOver.TheVariants.{Form, Token}
 use Rattle.paths.specs.declared.state.Path.{Path}
 use Rattle.paths.specs.Rules.{rule_of, check_multi_sig}
 use Rattle.paths.specs.Listing.{listing}
-use Rattle.claim.specs.declared.parts.Slot.{Slot}
 use Rattle.claim.specs.declared.parts.Slot.TheVariants.{Sig}
 use Rattle.claim.specs.declared.parts.Place.{Place}
 use Rattle.claim.specs.declared.parts.Shell.TheVariants.{Open}
@@ -101,9 +96,9 @@ coin = record { output = record { value = 1000; script = 0x00 ∷ 0x20 ∷ hash 
 found : coin_at blocks (grant_outpoint 0) ≡ Some coin
 found = rw ((bytes_eq-Decides (grant_id 0) (grant_id 0)).1 refl) refl
 
-due : IsDue blocks claim (spending input) input
+due : IsDue blocks 1 claim (spending input) input
 due = record { fits = record { path = path; taken = taken; fits = fits }; coin = coin; reached = record { found = found; unspent = refl; final = refl; old_enough = refl }; value = refl; program = refl }
 
 -- the next block has height 1, above the lock time 0, and the output no age to reach
-time : IsTime blocks claim (spending input) coin
-time = record { height = lit< tt; age = lit≤ tt }
+time : IsTime 1 claim (spending input) coin
+time = record { above = lit< tt; age = lit≤ tt }

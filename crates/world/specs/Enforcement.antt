@@ -1,12 +1,13 @@
--- The Enforcement theorem, of claims on a chain. A stranger reads this file first.
+-- The first half of the Enforcement theorem: claims on a chain. A stranger reads this file first. (The other half, that a book signs nothing after a revocation before its penalties are
+-- kept, is `GuardedMeans` of `book/specs/Guarding.antt`.)
 --
 -- Every filling of an accepted claim, once its output is unspent and its height and age are reached, runs to one true value with no missing operand, failed check or open
--- branch, within 201 counted opcodes and 1,000 entries; and the next block's test of that input finds nothing against it.
+-- branch, within 201 counted opcodes and 1,000 entries; and the chain's test of that input finds nothing against it.
 --
 -- A filling is any input of any transaction that fits the claim (`FitsClaim`), whoever made it, and whatever else the transaction spends and pays. An accepted claim is what every `Claim`
 -- is (`IsWhole`). The chain is any list of blocks, so the theorem holds at every moment of whatever happens to it. It does not say that the transaction comes into a block, that its
 -- other inputs pass, or that its outputs are worth no more than its inputs.
-use Rattle.std.specs.Prelude.{◌≡◌, ℕ, ◌+◌, ◌≤◌, ◌<◌, false, List, length, slice_get, Some, None, ◌↔◌}
+use Rattle.std.specs.Prelude.{◌≡◌, ℕ, ◌+◌, ◌≤◌, ◌<◌, false, List, slice_get, Some, None, ◌↔◌}
 use Rattle.script.specs.Limits.{max_ops, max_stack_size}
 use Rattle.script.specs.Spelling.{spelling}
 use Rattle.script.specs.Clean.{IsClean}
@@ -17,23 +18,25 @@ use Rattle.sighash.specs.Programs.{spend_of, run_of}
 use Rattle.claim.specs.Claims.{ClaimParts, IsWhole, FitsClaim, sequence_of}
 use Rattle.chain.specs.Blocks.{Contents, Coin, coin_at}
 use Rattle.chain.specs.Locks.{IsReached}
-use Rattle.chain.specs.Tests.{indexed_refusal}
+use Rattle.chain.specs.Tests.{input_refusal, indexed_refusal}
 
--- The blocks have the newest first, and the next one has their number as its height.
+-- The blocks have the newest first; `height` is that of the block that is to take the transaction. `check_input` tests for the next block, whose height is the number of blocks, and
+-- `connect` for the new block, behind the transactions that it has so far.
 
--- an input fits a claim, and its time has come: the output that it names stands on the chain unspent, the lock time and the age are reached in the next block (BIP 65, 68), and the
--- output has the value and the program of the claim's place
-pub record IsDue (blocks : List Contents) (x : ClaimParts) (t : Transaction) (input : TxIn) : Type 0 where
+-- an input fits a claim, and its time has come: the output that it names stands on the chain unspent, the lock time and the age are reached in a block of this height (BIP 65, 68), and
+-- the output has the value and the program of the claim's place
+pub record IsDue (blocks : List Contents) (height : ℕ) (x : ClaimParts) (t : Transaction) (input : TxIn) : Type 0 where
   pub fits : FitsClaim x t input
   pub coin : Coin
-  pub reached : IsReached blocks (length blocks) t input coin
+  pub reached : IsReached blocks height t input coin
   pub value : coin.output.value ≡ x.place.value
   pub program : coin.output.script ≡ x.place.program
 
 -- such an input passes, and runs clean
-pub record Passes (blocks : List Contents) (x : ClaimParts) (t : Transaction) (input : TxIn) (due : IsDue blocks x t input) : Type 0 where
-  -- the chain's test of it for the next block, by any index at which it stands, finds nothing
-  pub passes : (i : ℕ) → slice_get t.inputs i ≡ Some input → indexed_refusal blocks (length blocks) t (slice_get t.inputs i) ≡ None
+pub record Passes (blocks : List Contents) (height : ℕ) (x : ClaimParts) (t : Transaction) (input : TxIn) (due : IsDue blocks height x t input) : Type 0 where
+  -- the chain's test of it finds nothing, by itself and by any index at which it stands
+  pub passes : input_refusal blocks height t input ≡ None
+  pub at_index : (i : ℕ) → slice_get t.inputs i ≡ Some input → indexed_refusal blocks height t (slice_get t.inputs i) ≡ None
   -- the program of the output that it spends runs clean on its whole witness (BIP 141)
   pub run : run_of t input due.coin.output ≡ Some (Clean due.fits.path.ops due.fits.path.height)
   -- a chain of steps leads from the items of the witness to the end of the script with one true value: no operand is missing, no check fails, no branch is open
@@ -44,15 +47,16 @@ pub record Passes (blocks : List Contents) (x : ClaimParts) (t : Transaction) (i
 
 -- at any moment of any chain, for each accepted claim and whatever fits it
 abbrev pub ClaimsOpen : Type 0
-ClaimsOpen = (blocks : List Contents) (x : ClaimParts) (t : Transaction) (input : TxIn) → IsWhole x → (due : IsDue blocks x t input) → Passes blocks x t input due
+ClaimsOpen =
+    (blocks : List Contents) (height : ℕ) (x : ClaimParts) (t : Transaction) (input : TxIn) → IsWhole x → (due : IsDue blocks height x t input) → Passes blocks height x t input due
 
--- the next block is above the transaction's lock time, and above the output's by the claim's age in blocks
-pub record IsTime (blocks : List Contents) (x : ClaimParts) (t : Transaction) (coin : Coin) : Type 0 where
-  pub height : t.lock_time < length blocks
-  pub age : coin.height + sequence_of x ≤ length blocks
+-- the block is above the transaction's lock time, and above the output's by the claim's age in blocks
+pub record IsTime (height : ℕ) (x : ClaimParts) (t : Transaction) (coin : Coin) : Type 0 where
+  pub above : t.lock_time < height
+  pub age : coin.height + sequence_of x ≤ height
 
 -- for what fits an accepted claim, on an unspent output, 'reached' is just that
 abbrev pub LocksAreHeights : Type 0
 LocksAreHeights =
-    (blocks : List Contents) (x : ClaimParts) (t : Transaction) (input : TxIn) (coin : Coin) → IsWhole x → FitsClaim x t input → coin_at blocks input.outpoint ≡ Some coin → coin.spent ≡ false
-    → IsReached blocks (length blocks) t input coin ↔ IsTime blocks x t coin
+    (blocks : List Contents) (height : ℕ) (x : ClaimParts) (t : Transaction) (input : TxIn) (coin : Coin) → IsWhole x → FitsClaim x t input → coin_at blocks input.outpoint ≡ Some coin
+    → coin.spent ≡ false → IsReached blocks height t input coin ↔ IsTime height x t coin

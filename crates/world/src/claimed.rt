@@ -20,7 +20,7 @@ pub fn check_claimed<C: Coins>(
     index: usize,
 ) -> Result<(), Refusal>
     ensures exact { Answers (indexed_refusal (C.standing chain.now).blocks (length (C.standing chain.now).blocks) tx.now (slice_get tx.now.inputs index)) result }
-    ensures due { (input : TxIn) → slice_get tx.now.inputs index ≡ Some input → IsDue (C.standing chain.now).blocks claim.now tx.now input → MatchResult result (λ _. ⊤) (λ e. e ≡ NoMemory) }
+    ensures due { (input : TxIn) → slice_get tx.now.inputs index ≡ Some input → IsDue (C.standing chain.now).blocks (length (C.standing chain.now).blocks) claim.now tx.now input → MatchResult result (λ _. ⊤) (λ e. e ≡ NoMemory) }
 {
     // The proof takes from these that the claim is an accepted one, and what is so of such claims.
     claims_open();

@@ -13,4 +13,4 @@ memory_alone o (Err e) n a = absurd (cc)
 
 pub returns-clause-due : goal.returns-clause-due
 returns-clause-due g = λ c input at due.
-    memory_alone _ c.check_input.result ((c.claims_open.ensures.opens (g.C.Coins.standing c.args.chain.now).blocks c.args.claim.now c.args.tx.now input c.path.ensures.whole due).passes c.args.index at) c.check_input.ensures
+    memory_alone _ c.check_input.result ((c.claims_open.ensures.opens _ _ c.args.claim.now c.args.tx.now input c.path.ensures.whole due).at_index c.args.index at) c.check_input.ensures

@@ -1,7 +1,8 @@
 use Rattle.std.proofs.Common.{◌≡◌, None, subst}
 use Rattle.std.specs.Prelude.{MatchResult}
 use Rattle.book.specs.Books.{ChannelBook}
-use Rattle.book.specs.Signers.{rights_of, fill_refusal}
+use Rattle.channel.specs.Rights.{rights_of}
+use Rattle.book.specs.Signers.{fill_refusal}
 use Rattle.book.specs.Calling.{IsFillRefusal}
 use Rattle.book.proofs.Released.{tested_by, filled_by}
 use Rattle.book.proofs.open_channel.OpenChannel.release.Goals as goal

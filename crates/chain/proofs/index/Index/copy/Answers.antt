@@ -1,4 +1,4 @@
-use Rattle.std.proofs.Common.{rules, ◌≡◌, sym, ap, ◌∙◌, ◌%◌, ◌^◌, nat_cmp}
+use Rattle.std.proofs.Common.{sym, ap, ◌∙◌, ◌%◌, ◌^◌, nat_cmp}
 use Rattle.std.specs.Cmp.Lexicographic.{slice_cmp}
 use Rattle.std.specs.BTreeSet.{contains}
 use Rattle.std.specs.List.{each_same}

@@ -1,10 +1,13 @@
 use Rattle.std.proofs.Common.{ap, sym, subst, ◌∙◌}
 use Rattle.channel.specs.States.{State}
 use Rattle.channel.specs.Rights.{rights_of}
-use Rattle.channel.specs.Keeping.{HaveSame}
+use Rattle.channel.specs.Keeping.{HasBases, HaveSame}
 use Rattle.channel.proofs.Learning.{turned_round}
 use Rattle.channel.proofs.SignRights.{same_rights}
 use Rattle.channel.proofs.channel.Channel.signer.Goals as goal
+
+pub returns-clause-bases : goal.returns-clause-bases
+returns-clause-bases c = subst (λ (s : State). HasBases s.held.terms s.held.side s.seed) c.self.view_is c.self.invariant.bases
 
 pub returns-clause-rights : goal.returns-clause-rights
 returns-clause-rights c key =
