@@ -1,4 +1,14 @@
-//! The world of two sides: their books, the messages on their way, the chain with its pool, the watchers and the claims that are to be released, played event by event.
+//! What holds of two sides on one chain, at every moment: the Enforcement theorem, so far as it stands.
+//!
+//! [`laws::claims_open`]: whatever fits an accepted claim passes the chain's test and runs clean, once it is due. [`laws::deliveries_are_taken`]: of two books that agree, the oldest
+//! message on its way to either is taken. [`check_claimed`] tests an input by the first law.
+//!
+//! ```rust
+//! /// Whether the next block's test of a claim's input finds nothing: of a due one, unless memory runs out.
+//! fn passes(chain: &Index, claim: &Claim, tx: &Tx) -> bool {
+//!     check_claimed(chain, claim, tx, 0).is_ok()
+//! }
+//! ```
 #![tactic(auto)]
 
 pub mod claimed;
