@@ -1,0 +1,5 @@
+pub mod Worlds
+pub mod Refusing
+pub mod Releasing
+pub mod Acts
+pub mod Beginning
