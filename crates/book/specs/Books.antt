@@ -1,5 +1,5 @@
 -- What a book knows, by its history.
-use Rattle.std.specs.Prelude.{ℕ, zero, suc, ◌+◌, ◌==◌, Bool, if◌then◌else◌, List, [], ◌∷◌, ◌++◌, length, reverse, Option, Some, None}
+use Rattle.std.specs.Prelude.{ℕ, zero, suc, ◌+◌, ◌==◌, nat_lt, Bool, if◌then◌else◌, List, [], ◌∷◌, ◌++◌, length, reverse, Option, Some, None}
 use Rattle.std.specs.List.{list_any}
 use Rattle.channel.specs.declared.messages.Message.TheVariants.{Updated as UpdateMessage, CommitmentSigned, RevokeAndAck}
 use Rattle.channel.specs.States.{State, opened, after_update, after_sign, after}
@@ -73,6 +73,10 @@ replay history = replayed (reverse history)
 
 abbrev pub is_kept : List ℕ → ℕ → Bool
 is_kept kept n = list_any (λ m. m == n) kept
+
+-- whether the penalties of the peer's commitment of a number are kept, where it is revoked
+abbrev pub kept_at : ChannelBook → ℕ → Option Bool
+kept_at ch n = if nat_lt n (length ch.state.secrets) then Some (is_kept ch.kept n) else None
 
 -- the least number from n on, of this many, that is not kept
 abbrev pub missing_from : List ℕ → ℕ → ℕ → Option ℕ

@@ -5,7 +5,7 @@ use crate::errors::{KeepError, KnowError, OpenError, ReleaseError, SignError, St
 use crate::knowing::preimages_in;
 use crate::limits::MAX_CHANNELS;
 use crate::open_channel::{OpenChannel, Taken};
-use channel::Message;
+use channel::{Channel, Message};
 use claim::Claim;
 use filling::{FillError, Filled};
 use keys::Key;
@@ -42,7 +42,8 @@ impl Model for Book {
 }
 
 impl Book {
-    ghost use Rattle.std.specs.Prelude.{◌≡◌, [], true, Err, slice_get, IfOk, IfErr};
+    ghost use Rattle.std.specs.Prelude.{◌≡◌, [], true, Err, length, slice_get, option_map, IfOk, IfErr};
+    ghost use Rattle.std.specs.Option.{option_and_then, option_copied};
     ghost use Rattle.channel.specs.Tokens.{peer_tokens};
     ghost use Rattle.updates.specs.declared.refusals.Refusal.TheVariants.{NoMemory as refusal_memory};
     ghost use Rattle.filling.specs.declared.errors.FillError.TheVariants.{NoMemory as fill_memory};
@@ -50,7 +51,7 @@ impl Book {
     ghost use Rattle.book.specs.Guarding.{is_guarded};
     ghost use Rattle.book.specs.Replies.{opened, stepped, signed, revoked, kept, released};
     ghost use Rattle.book.specs.Calling.{IsCall, step_reply};
-    ghost use Rattle.book.specs.Books.{replay};
+    ghost use Rattle.book.specs.Books.{replay, kept_at};
     ghost use Rattle.book.specs.Knowing.{IsKnownIn, IsKnowRefusal};
 
     /// An empty book, which takes no memory.
@@ -73,6 +74,33 @@ impl Book {
         ensures guarded { is_guarded self.now ≡ true }
     {
         &self.entries
+    }
+
+    /// How many channels there are.
+    pub fn channel_count(&self) -> u64
+        ensures { result ≡ length (replay self.now) }
+    {
+        self.channels.len() as u64
+    }
+
+    /// The channel of an index, where there is one.
+    pub fn channel(&self, channel: u64) -> Option<&Channel>
+        ensures { option_copied result ≡ option_map (λ ch. ch.state) (slice_get (replay self.now) channel) }
+    {
+        match self.channels.get(channel as usize) {
+            Some(open) => Some(open.channel()),
+            None => None,
+        }
+    }
+
+    /// Whether the penalties of the peer's revoked commitment of a number are kept; `None` where there is no such channel, or the commitment is not revoked.
+    pub fn keeps(&self, channel: u64, number: u64) -> Option<bool>
+        ensures { result ≡ option_and_then (λ ch. kept_at ch number) (slice_get (replay self.now) channel) }
+    {
+        match self.channels.get(channel as usize) {
+            Some(open) => open.keeps(number),
+            None => None,
+        }
     }
 
     /// Opens a channel, and gives its index: BookFull where there are 65,536, SameFunding where one has the same funding output, BadSignature where the token is not

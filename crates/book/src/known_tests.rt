@@ -65,6 +65,10 @@ fn offer() -> Step {
 fn knows_no_other_channel(rt: HostRuntime) {
     let book = opened(&rt, rt.alloc(), Side::A);
     assert!(rt; matches!(book.known(1), Err(KnowError::NoSuchChannel)));
+    assert_eq!(rt; book.channel_count(), 1);
+    assert!(rt; book.channel(0).is_some());
+    assert!(rt; book.channel(1).is_none());
+    assert_eq!(rt; book.keeps(1, 0), None);
 }
 
 // The peer's commitment with the HTLC is its next one until it revokes the first, whose penalties are then kept.
@@ -85,9 +89,12 @@ fn knows_what_is_revoked_and_kept(rt: HostRuntime) {
         preimage: None,
     };
     assert_eq!(rt; known_to(&rt, &a), signed);
+    assert_eq!(rt; a.keeps(0, 0), None);
     assert!(rt; a.revoke(0, 0, came.secret, came.next_point).is_ok());
+    assert_eq!(rt; a.keeps(0, 0), Some(false));
     let claims = penalties_of_first(&rt, alloc, came.secret);
     assert!(rt; a.keep(3, 0, 0, claims).is_ok());
+    assert_eq!(rt; a.keeps(0, 0), Some(true));
     let kept = Summary {
         theirs: 1,
         next: None,

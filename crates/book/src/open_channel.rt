@@ -127,7 +127,7 @@ impl OpenChannel {
     ghost use Rattle.book.specs.Penalties.{is_penalty_set};
     ghost use Rattle.channel.specs.declared.messages.Message.TheVariants.{RevokeAndAck};
     ghost use Rattle.channel.specs.States.{after, after_sign, receive_refusal, signature_message};
-    ghost use Rattle.book.specs.Books.{with_state, with_kept, opened_by, is_kept};
+    ghost use Rattle.book.specs.Books.{with_state, with_kept, opened_by, is_kept, kept_at};
     ghost use Rattle.book.specs.Knowing.{IsKnownOf};
     ghost use Rattle.book.specs.Replies.{sign_refusal, keep_refusal};
     ghost use Rattle.book.specs.Calling.{IsOpenRefusal, IsSignRefusal, IsKeepRefusal, IsFillRefusal, token_refusal, early_sign_refusal, filling_by};
@@ -324,5 +324,19 @@ impl OpenChannel {
         ensures { IfOk result (IsKnownOf self.now.state (is_kept self.now.kept) preimages.items) }
     {
         known_of(alloc, &self.channel, &self.flags, preimages)
+    }
+
+    /// The channel by itself.
+    pub(crate) fn channel(&self) -> &Channel
+        ensures { result.now ≡ self.now.state }
+    {
+        &self.channel
+    }
+
+    /// Whether the penalties of the peer's revoked commitment of a number are kept; `None` where it is not revoked.
+    pub(crate) fn keeps(&self, number: u64) -> Option<bool>
+        ensures { result ≡ kept_at self.now number }
+    {
+        self.flags.get(number as usize).copied()
     }
 }
