@@ -1,2 +1,4 @@
 pub mod Answering
 pub mod Sending
+pub mod Releases
+pub mod Keeps

@@ -3,3 +3,4 @@ pub mod Refusing
 pub mod Releasing
 pub mod Acts
 pub mod Beginning
+pub mod Keeping

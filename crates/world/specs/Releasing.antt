@@ -74,32 +74,31 @@ refusal_of (j ∷ jobs) n =
     (if_so (nat_lt max_value (value_of (j ∷ jobs))) OverValue
     (refusal_in (release_answer j.channel (j ∷ jobs) n)))
 
+-- a release is of 1 to 4,000 claims, of those that were taken
+abbrev pub is_no_count : ℕ → ℕ → Bool
+is_no_count k taken = k == 0 || nat_lt max_inputs k || nat_lt taken k
+
 abbrev pub release_refusal : ℕ → Node → Option EventError
-release_refusal k n = if_so (k == 0 || nat_lt max_inputs k || nat_lt (length n.taken) k) NoJob (refusal_of (take k n.taken) n)
+release_refusal k n = if_so (is_no_count k (length n.taken)) NoJob (refusal_of (take k n.taken) n)
 
 -- the claims that were released are no longer taken
 abbrev pub without_taken : ℕ → Node → Node
 without_taken k n = record n { taken = drop k n.taken }
 
--- so many of the oldest claims that a side took, all of one channel, are released by this batch of its book
-pub record IsReleasedBy (jobs : List Job) (n : Node) (channel : ℕ) (ch : ChannelBook) (batch : Batch) : Type 0 where
+-- claims, all of one channel, are released by this batch, where the book does not refuse it
+pub record IsReady (jobs : List Job) (n : Node) (channel : ℕ) (batch : Batch) : Type 0 where
+  pub ch : ChannelBook
   pub there : channel_of n channel ≡ Some ch
   pub all_of : are_of channel jobs ≡ true
   pub batch_is : IsBatchOf (claims_in jobs) (output_for ch.state jobs ∷ []) (preimages_for jobs) batch
+  pub left : refusal_of jobs n ≡ refusal_in (answer_to n (Release channel batch))
 
--- it is the batch for so many of them, which only the book can refuse
-pub record IsReady (k : ℕ) (n : Node) (channel : ℕ) (batch : Batch) : Type 0 where
-  pub ch : ChannelBook
-  pub by : IsReleasedBy (take k n.taken) n channel ch batch
-  pub left : release_refusal k n ≡ refusal_in (answer_to n (Release channel batch))
-
--- what the side is then, and the transaction
+-- so many of the oldest claims that a side took are released: what the side is then, and the transaction
 pub record IsReleased (k : ℕ) (n done : Node) (t : Transaction) : Type 0 where
   pub channel : ℕ
-  pub ch : ChannelBook
   pub batch : Batch
   pub filling : Filling
-  pub by : IsReleasedBy (take k n.taken) n channel ch batch
+  pub ready : IsReady (take k n.taken) n channel batch
   pub answer : answer_to n (Release channel batch) ≡ released (Ok filling)
   pub tx : t ≡ filling.tx
   pub after : done ≡ without_taken k (after_call (Release channel batch) n)

@@ -4,9 +4,12 @@ use crate::errors::EventError;
 use crate::jobs::Job;
 use crate::limits::SEAT;
 use book::errors::OpenError;
-use book::{Book, Opening, Step};
+use book::{Batch, Book, Opening, Step};
 use channel::Message;
+use claim::Claim;
+use filling::Filled;
 use keys::Key;
+use lists::List;
 use std::alloc::Global;
 use std::collections::VecDeque;
 use std::marker::Model;
@@ -55,10 +58,12 @@ impl Model for Node {
 }
 
 impl Node {
-    ghost use Rattle.std.specs.Prelude.{◌≡◌, []};
-    ghost use Rattle.book.specs.declared.calls.Call.TheVariants.{Step as Stepping, Sign as Signing, Revoke as Revoking};
+    ghost use Rattle.std.specs.Prelude.{◌≡◌, [], Ok, IfOk};
+    ghost use Rattle.book.specs.declared.calls.Call.TheVariants.{Step as Stepping, Sign as Signing, Revoke as Revoking, Keep as Keeping, Release as Releasing};
+    ghost use Rattle.book.specs.Replies.{released};
+    ghost use Rattle.world.specs.Worlds.{answer_to, after_call};
     ghost use Rattle.world.specs.Beginning.{IsOpened};
-    ghost use Rattle.world.specs.Refusing.{IsAnswered};
+    ghost use Rattle.world.specs.Refusing.{refusal_in, IsEvent, IsAnswered};
 
     /// A side without channels, which has read the first block. It takes no memory.
     pub(crate) fn new(alloc: Global) -> Node
@@ -126,6 +131,32 @@ impl Node {
         match self.book.sign(SEAT, channel) {
             Ok(message) => Ok(Some(message)),
             Err(error) => Err(EventError::of_sign(error)),
+        }
+    }
+
+    /// Its book keeps penalties: the refusal of the book. A refusal leaves the side as it was.
+    pub(crate) fn keep(
+        &mut self,
+        channel: u64,
+        number: u64,
+        claims: List<Claim>,
+    ) -> Result<(), EventError>
+        ensures { let call = Keeping channel number claims in IsEvent (refusal_in (answer_to self.old call)) result self.old (after_call call self.old) self.new }
+    {
+        match self.book.keep(SEAT, channel, number, claims) {
+            Ok(()) => Ok(()),
+            Err(error) => Err(EventError::of_keep(error)),
+        }
+    }
+
+    /// Its book fills the claims of a batch: the refusal of the book. A refusal leaves the side as it was.
+    pub(crate) fn release(&mut self, channel: u64, batch: Batch) -> Result<Filled, EventError>
+        ensures side { let call = Releasing channel batch in IsEvent (refusal_in (answer_to self.old call)) result self.old (after_call call self.old) self.new }
+        ensures filled { IfOk result (λ f. answer_to self.old (Releasing channel batch) ≡ released (Ok f)) }
+    {
+        match self.book.release(SEAT, channel, batch) {
+            Ok(filled) => Ok(filled),
+            Err(error) => Err(EventError::of_release(error)),
         }
     }
 }

@@ -8,8 +8,10 @@ ghost use Rattle.terms.specs.Sides.{other};
 
 use crate::delivering::{deliver, sign, update};
 use crate::errors::EventError;
+use crate::keeping::keep;
 use crate::nodes::Node;
 use book::Opening;
+use book::errors::KeepError;
 use channel::{opening_points, opening_token};
 use keys::{Base, Signer};
 use std::alloc::Global;
@@ -95,6 +97,7 @@ enum Deed {
     Fulfil,
     Sign,
     Deliver,
+    Keep(u64),
 }
 
 #[derive(Clone, Copy)]
@@ -139,6 +142,42 @@ const OFFERED: [Row; 8] = [
     },
 ];
 
+// The penalties of both revoked commitments are kept, and the HTLC is fulfilled.
+const FULFILLED: [Row; 8] = [
+    Row {
+        side: Side::A,
+        deed: Deed::Keep(0),
+    },
+    Row {
+        side: Side::B,
+        deed: Deed::Keep(0),
+    },
+    Row {
+        side: Side::B,
+        deed: Deed::Fulfil,
+    },
+    Row {
+        side: Side::A,
+        deed: Deed::Deliver,
+    },
+    Row {
+        side: Side::B,
+        deed: Deed::Sign,
+    },
+    Row {
+        side: Side::A,
+        deed: Deed::Deliver,
+    },
+    Row {
+        side: Side::B,
+        deed: Deed::Deliver,
+    },
+    Row {
+        side: Side::B,
+        deed: Deed::Keep(1),
+    },
+];
+
 fn act(alloc: Global, me: &mut Node, peer: &mut Node, deed: Deed) -> Result<(), EventError> {
     match deed {
         Deed::Offer => {
@@ -158,6 +197,7 @@ fn act(alloc: Global, me: &mut Node, peer: &mut Node, deed: Deed) -> Result<(), 
         }
         Deed::Sign => sign(me, peer, 0),
         Deed::Deliver => deliver(alloc, me, peer, 0),
+        Deed::Keep(number) => keep(alloc, me, 0, number),
     }
 }
 
@@ -169,14 +209,21 @@ fn play(alloc: Global, a: &mut Node, b: &mut Node, row: Row) -> Result<(), Event
 }
 
 #[test]
-fn offers_an_htlc(rt: HostRuntime) {
+fn fulfils_an_htlc(rt: HostRuntime) {
     let alloc = rt.alloc();
     let mut a = opened(&rt, alloc, Side::A);
     let mut b = opened(&rt, alloc, Side::B);
     for row in OFFERED {
         assert!(rt; play(alloc, &mut a, &mut b, row).is_ok());
     }
-    assert_eq!(rt; (a.book.entries().len(), b.book.entries().len()), (5, 5));
+    for row in FULFILLED {
+        assert!(rt; play(alloc, &mut a, &mut b, row).is_ok());
+    }
+    assert_eq!(rt; (a.book.entries().len(), b.book.entries().len()), (8, 10));
+    let again = keep(alloc, &mut b, 0, 1);
+    assert!(rt; matches!(again, Err(EventError::Keep(KeepError::AlreadyKept))));
+    let early = keep(alloc, &mut b, 0, 2);
+    assert!(rt; matches!(early, Err(EventError::Keep(KeepError::NotRevoked))));
 }
 
 // Nothing is on its way, and there is one channel.
