@@ -1,6 +1,6 @@
 -- Accepted calls of a book, as steps of its channels.
 use Rattle.std.proofs.Common.{◌≡◌, ℕ, zero, suc, Bool, true, false, ◌||◌, List, [], ◌∷◌, ◌++◌, Option, Some, None, Result, Ok, Err, refl, sym, ap, ◌∙◌, subst}
-use Rattle.std.specs.Prelude.{slice_get, is_ok, reverse}
+use Rattle.std.specs.Prelude.{drop, slice_get, is_ok, reverse}
 use Rattle.std.proofs.lemmas.List.{reverse-append}
 use Rattle.std.proofs.lemmas.Option.{none-some, same_Some}
 use Rattle.terms.specs.declared.sides.Side.{Side}
@@ -33,7 +33,8 @@ use Rattle.terms.specs.declared.sides.Side.TheVariants.{A, B}
 use Rattle.channel.specs.Agreeing.{IsPaired, PeersAgree}
 use Rattle.channel.specs.Playing.{placed}
 use Rattle.book.specs.declared.calls.Batch.{Batch}
-use Rattle.world.specs.Pairing.{ArePaired, AgreeBy, DeliveriesAreTaken, call_of, rest_of, answers_in}
+use Rattle.world.specs.Refusing.{call_of, messages_in}
+use Rattle.world.specs.Pairing.{ArePaired, AgreeBy, DeliveriesAreTaken}
 use Rattle.world.proofs.Turns.{acted_at, unmoved}
 
 -- the channels after an accepted call, and after a refused one
@@ -165,7 +166,7 @@ call_changes (RevokeAndAck secret point) c chs = refl
 
 -- what a book answers where the channel takes the message, and where it does not
 answer_is : (m : Message) (c : ℕ) (chs : Channels) (x : ChannelBook) → slice_get chs c ≡ Some x → receive_refusal peer_tokens x.state m ≡ None
-    → answers_in (answer_of peer_tokens chs (call_of c m)) ≡ answers x.state m
+    → messages_in (answer_of peer_tokens chs (call_of c m)) ≡ answers x.state m
 answer_is (Updated u) c chs x here none = rw (here, none) refl
 answer_is (CommitmentSigned tokens) c chs x here none = rw (here, none) refl
 answer_is (RevokeAndAck secret point) c chs x here none = refl
@@ -193,17 +194,17 @@ channel_takes m c chs x (Some r) is here ok = absurd (true-false (sym ok ∙ not
 -- the oldest message came, and its answer is on its way
 pub received : (side : Side) (mine peers : List Entry) (to_me to_peer : List (List Message)) (seat c : ℕ) (m : Message) (rest : List Message) → AgreeBy side mine peers to_me to_peer
     → slice_get to_me c ≡ Some (m ∷ rest) → is_accepted (reply_of peer_tokens mine (call_of c m)) ≡ true
-    → AgreeBy side (history_after peer_tokens mine seat (call_of c m)) peers (at_index rest_of c to_me) (at_index (λ q. q ++ answers_in (reply_of peer_tokens mine (call_of c m))) c to_peer)
+    → AgreeBy side (history_after peer_tokens mine seat (call_of c m)) peers (at_index (drop 1) c to_me) (at_index (λ q. q ++ messages_in (reply_of peer_tokens mine (call_of c m))) c to_peer)
 received side mine peers to_me to_peer seat c m rest agree queue ok =
     let x = rest_is c (replay mine) (replay peers) to_me to_peer side m rest queue agree in
     let none = channel_takes m c (replay mine) x.0 (receive_refusal peer_tokens x.0.state m) refl x.1 ok in
     let sent = answer_is m c (replay mine) x.0 x.1 none in
     let acts : Acts peer_tokens x.0.state (m ∷ rest) (after x.0.state m) (answers x.0.state m) rest = receives m rest refl none in
-    let at = acted_at side (λ s. after s m) rest_of (answers x.0.state m) c (replay mine) (replay peers) to_me to_peer x.0 (m ∷ rest) x.1 queue acts agree in
+    let at = acted_at side (λ s. after s m) (drop 1) (answers x.0.state m) c (replay mine) (replay peers) to_me to_peer x.0 (m ∷ rest) x.1 queue acts agree in
     let changed : replay (history_after peer_tokens mine seat (call_of c m)) ≡ at_index (with_state (λ s. after s m)) c (replay mine)
           = replayed_after mine seat (call_of c m) ok ∙ call_changes m c (replay mine) in
-    subst (λ chs. ArePaired side chs (replay peers) (at_index rest_of c to_me) (at_index (λ q. q ++ answers_in (reply_of peer_tokens mine (call_of c m))) c to_peer)) (sym changed)
-        (subst (λ ms. ArePaired side (at_index (with_state (λ s. after s m)) c (replay mine)) (replay peers) (at_index rest_of c to_me) (at_index (λ q. q ++ ms) c to_peer)) (sym sent) at)
+    subst (λ chs. ArePaired side chs (replay peers) (at_index (drop 1) c to_me) (at_index (λ q. q ++ messages_in (reply_of peer_tokens mine (call_of c m))) c to_peer)) (sym changed)
+        (subst (λ ms. ArePaired side (at_index (with_state (λ s. after s m)) c (replay mine)) (replay peers) (at_index (drop 1) c to_me) (at_index (λ q. q ++ ms) c to_peer)) (sym sent) at)
 
 -- ---- calls that leave the states
 

@@ -9,11 +9,10 @@ use Rattle.channel.specs.Tokens.{peer_tokens}
 use Rattle.channel.specs.Points.{point_at}
 use Rattle.channel.specs.Playing.{placed}
 use Rattle.channel.specs.Agreeing.{IsPaired}
-use Rattle.book.specs.declared.calls.Step.TheVariants.{Own, Updated as UpdatedStep, Signed}
-use Rattle.book.specs.declared.calls.Call.{Call}
 use Rattle.book.specs.declared.calls.Entry.{Entry}
 use Rattle.book.specs.Books.{ChannelBook, Channels, at_index, replay}
-use Rattle.book.specs.Replies.{Reply, stepped, is_accepted, reply_of}
+use Rattle.book.specs.Replies.{is_accepted, reply_of}
+use Rattle.world.specs.Refusing.{call_of}
 
 -- each channel of a side and the same one of its peer, with the messages on their way to each: they are what steps of two honest peers leave of a new channel
 abbrev pub ArePaired : Side → Channels → Channels → List (List Message) → List (List Message) → Type 0
@@ -24,21 +23,6 @@ ArePaired side xs ys ps qs = ⊥
 -- two books are, by their histories
 abbrev pub AgreeBy : Side → List Entry → List Entry → List (List Message) → List (List Message) → Type 0
 AgreeBy side mine peers to_me to_peer = ArePaired side (replay mine) (replay peers) to_me to_peer
-
--- the call by which a book takes a message
-abbrev pub call_of : ℕ → Message → Call
-call_of c (Updated u) = Call.Step c (UpdatedStep u)
-call_of c (CommitmentSigned tokens) = Call.Step c (Signed tokens)
-call_of c (RevokeAndAck secret point) = Call.Revoke c secret point
-
--- the messages on their way once the oldest came, and those that an accepted answer has
-abbrev pub rest_of : List Message → List Message
-rest_of [] = []
-rest_of (m ∷ ms) = ms
-
-abbrev pub answers_in : Reply → List Message
-answers_in (stepped (Ok messages)) = messages
-answers_in reply = []
 
 -- the oldest message on its way to a side of two that agree is taken by its book
 abbrev pub DeliveriesAreTaken : Type 0

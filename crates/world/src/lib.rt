@@ -11,7 +11,17 @@
 //! ```
 #![tactic(auto)]
 
+mod batches;
 pub mod claimed;
+mod delivering;
+pub mod errors;
+mod jobs;
+mod keeping;
 pub mod laws;
+mod limits;
+mod nodes;
+mod releasing;
+#[cfg(test)]
+mod tests;
 
 pub use claimed::check_claimed;

@@ -1,0 +1,101 @@
+-- Why claims are not released together, and by which batch they are.
+use Rattle.std.proofs.Common.{◌≡◌, ℕ, ◌≤◌, Bool, true, false, List, [], ◌∷◌, map, take, drop, length, Option, Some, None, Result, Ok, Err, refl, sym, ap, subst, ◌∙◌, arith}
+use Rattle.std.specs.Prelude.{slice_get, option_map, nat_lt, not}
+use Rattle.std.proofs.lemmas.Bool.Decides.{nat_tests}
+use Rattle.std.proofs.lemmas.Option.{none-some, same_Some}
+use Rattle.tx.specs.Parts.{Output}
+use Rattle.tx.specs.Fields.{Transaction}
+use Rattle.tx.specs.Limits.{max_value}
+use Rattle.claim.specs.Claims.{ClaimParts}
+use Rattle.filling.specs.Filled.{Filling}
+use Rattle.channel.specs.States.{State}
+use Rattle.book.specs.declared.calls.Batch.{Batch}
+use Rattle.book.specs.declared.calls.Call.TheVariants.{Release}
+use Rattle.book.specs.declared.errors.ReleaseError.TheVariants.{NoSuchChannel}
+use Rattle.book.specs.Calls.{IsBatchOf}
+use Rattle.book.specs.Books.{ChannelBook}
+use Rattle.book.specs.Replies.{released, asked, fill_answer, if_so}
+use Rattle.world.specs.declared.errors.EventError.{EventError}
+use Rattle.world.specs.declared.errors.EventError.TheVariants as errors
+use Rattle.world.specs.declared.jobs.Job.{Job}
+use Rattle.world.specs.Worlds.{Node, channel_of, answer_to, after_call}
+use Rattle.world.specs.Refusing.{refusal_in, IsRefusal}
+use Rattle.world.specs.Releasing.{are_of, value_of, claims_in, output_for, preimages_for, release_answer, refusal_of, is_no_count, release_refusal, without_taken, IsReady, IsReleased}
+
+pub first_of_map : {A B : Type 0} (f : A → B) (xs : List A) (x : A) → slice_get xs 0 ≡ Some x → slice_get (map f xs) 0 ≡ Some (f x)
+first_of_map f [] x found = absurd (none-some x found)
+first_of_map f (y ∷ ys) x found = ap (λ z. Some (f z)) (same_Some y x found)
+
+pub not_over : (m v : ℕ) → v ≤ m → nat_lt m v ≡ false
+not_over m v small = grind (arith, nat_tests)
+
+-- the first refusal, by the oldest of the claims
+by_first : (jobs : List Job) (n : Node) (j : Job) → slice_get jobs 0 ≡ Some j
+    → refusal_of jobs n ≡ if_so (not (are_of j.channel jobs)) errors.MixedChannels (if_so (nat_lt max_value (value_of jobs)) errors.OverValue (refusal_in (release_answer j.channel jobs n)))
+by_first [] n j found = absurd (none-some j found)
+by_first (x ∷ jobs) n j found =
+    ap (λ (y : Job). if_so (not (are_of y.channel (x ∷ jobs))) errors.MixedChannels (if_so (nat_lt max_value (value_of (x ∷ jobs))) errors.OverValue (refusal_in (release_answer y.channel (x ∷ jobs) n)))) (same_Some x j found)
+
+by_value : (jobs : List Job) (n : Node) (j : Job) → slice_get jobs 0 ≡ Some j → are_of j.channel jobs ≡ true
+    → refusal_of jobs n ≡ if_so (nat_lt max_value (value_of jobs)) errors.OverValue (refusal_in (release_answer j.channel jobs n))
+by_value jobs n j found all = by_first jobs n j found ∙ ap (λ b. if_so (not b) errors.MixedChannels (if_so (nat_lt max_value (value_of jobs)) errors.OverValue (refusal_in (release_answer j.channel jobs n)))) all
+
+by_book : (jobs : List Job) (n : Node) (j : Job) → slice_get jobs 0 ≡ Some j → are_of j.channel jobs ≡ true → nat_lt max_value (value_of jobs) ≡ false → refusal_of jobs n ≡ refusal_in (release_answer j.channel jobs n)
+by_book jobs n j found all little = by_value jobs n j found all ∙ ap (λ b. if_so b errors.OverValue (refusal_in (release_answer j.channel jobs n))) little
+
+-- ---- the channel
+
+abbrev pub answer_in : Option ChannelBook → (State → List Output) → List ClaimParts → List (List ℕ) → Option EventError
+answer_in o outputs claims preimages = refusal_in (released (asked NoSuchChannel o (λ ch. fill_answer ch.state claims (outputs ch.state) preimages)))
+
+pub record IsThere (o : Option ChannelBook) (s : State) : Type 0 where
+  pub ch : ChannelBook
+  pub there : o ≡ Some ch
+  pub state : ch.state ≡ s
+
+pub is_there : (o : Option ChannelBook) (s : State) → Some s ≡ option_map (λ ch. ch.state) o → IsThere o s
+is_there None s is = absurd (none-some s (sym is))
+is_there (Some ch) s is = record { ch = ch; there = refl; state = sym (same_Some s ch.state is) }
+
+-- ---- the batch
+
+same_answer : (o : Option ChannelBook) (ch : ChannelBook) (outputs : State → List Output) (claims : List ClaimParts) (preimages : List (List ℕ)) (batch : Batch)
+    → o ≡ Some ch → IsBatchOf claims (outputs ch.state) preimages batch
+    → answer_in o outputs claims preimages ≡ refusal_in (released (asked NoSuchChannel o (λ c. fill_answer c.state batch.claims batch.outputs batch.preimages)))
+same_answer o ch outputs claims preimages batch there is =
+    ap (λ p. answer_in p outputs claims preimages) there
+    ∙ ap (λ cs. refusal_in (released (fill_answer ch.state cs (outputs ch.state) preimages))) (sym is.claims_is)
+    ∙ ap (λ os. refusal_in (released (fill_answer ch.state batch.claims os preimages))) (sym is.outputs_is)
+    ∙ ap (λ ps. refusal_in (released (fill_answer ch.state batch.claims batch.outputs ps))) (sym is.preimages_is)
+    ∙ ap (λ p. refusal_in (released (asked NoSuchChannel p (λ c. fill_answer c.state batch.claims batch.outputs batch.preimages)))) (sym there)
+
+pub is_ready : (jobs : List Job) (n : Node) (j : Job) (s : State) (batch : Batch) → slice_get jobs 0 ≡ Some j → are_of j.channel jobs ≡ true → nat_lt max_value (value_of jobs) ≡ false
+    → Some s ≡ option_map (λ ch. ch.state) (channel_of n j.channel) → IsBatchOf (claims_in jobs) (output_for s jobs ∷ []) (preimages_for jobs) batch → IsReady jobs n j.channel batch
+is_ready jobs n j s batch found all little there is =
+    let t = is_there (channel_of n j.channel) s there in
+    let batch_is = subst (λ (x : State). IsBatchOf (claims_in jobs) (output_for x jobs ∷ []) (preimages_for jobs) batch) (sym t.state) is in
+    record {
+      ch = t.ch;
+      there = t.there;
+      all_of = all;
+      batch_is = batch_is;
+      left = by_book jobs n j found all little ∙ same_answer (channel_of n j.channel) t.ch (λ x. output_for x jobs ∷ []) (claims_in jobs) (preimages_for jobs) batch t.there batch_is;
+    }
+
+-- ---- what is left
+
+unrefused : (k : ℕ) (n : Node) (channel : ℕ) (batch : Batch) → is_no_count k (length n.taken) ≡ false → IsReady (take k n.taken) n channel batch
+    → release_refusal k n ≡ refusal_in (answer_to n (Release channel batch))
+unrefused k n channel batch counted ready = ap (λ b. if_so b errors.NoJob (refusal_of (take k n.taken) n)) counted ∙ ready.left
+
+pub record IsWhole (k : ℕ) (n new : Node) (t : Transaction) : Type 0 where
+  pub first : release_refusal k n ≡ None
+  pub done : IsReleased k n new t
+
+pub whole : (k : ℕ) (n mid new : Node) (channel : ℕ) (batch : Batch) (f : Filling) (t : Transaction) → is_no_count k (length n.taken) ≡ false → IsReady (take k n.taken) n channel batch
+    → refusal_in (answer_to n (Release channel batch)) ≡ None → mid ≡ after_call (Release channel batch) n → answer_to n (Release channel batch) ≡ released (Ok f) → t ≡ f.tx → new ≡ without_taken k mid
+    → IsWhole k n new t
+whole k n mid new channel batch f t counted ready none after answer tx without = record {
+  first = unrefused k n channel batch counted ready ∙ none;
+  done = record { channel = channel; batch = batch; filling = f; ready = ready; answer = answer; tx = tx; after = without ∙ ap (without_taken k) after };
+}

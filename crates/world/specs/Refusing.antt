@@ -1,0 +1,113 @@
+-- Why an event is refused, and what it leaves.
+use Rattle.std.specs.Prelude.{◌≡◌, ℕ, nat_le, List, [], ◌∷◌, length, Option, Some, None, Result, Ok, Err}
+use Rattle.std.specs.List.{cons_option}
+use Rattle.channel.specs.declared.messages.Message.{Message}
+use Rattle.channel.specs.declared.messages.Message.TheVariants.{Updated, CommitmentSigned, RevokeAndAck}
+use Rattle.updates.specs.declared.refusals.Refusal.TheVariants.{NoMemory as refusal_memory}
+use Rattle.filling.specs.declared.errors.FillError.TheVariants.{NoMemory as fill_memory}
+use Rattle.book.specs.declared.calls.Call.{Call}
+use Rattle.book.specs.declared.calls.Call.TheVariants as calls
+use Rattle.book.specs.declared.calls.Step.TheVariants.{Updated as UpdatedStep, Signed}
+use Rattle.book.specs.declared.errors.StepError.{StepError}
+use Rattle.book.specs.declared.errors.StepError.TheVariants.{Refused, NoSuchChannel as NoChannelToStep}
+use Rattle.book.specs.declared.errors.SignError.{SignError}
+use Rattle.book.specs.declared.errors.SignError.TheVariants.{NoMemory as sign_memory, NoSuchChannel as NoChannelToSign}
+use Rattle.book.specs.declared.errors.KeepError.{KeepError}
+use Rattle.book.specs.declared.errors.KeepError.TheVariants.{NoMemory as keep_memory, NoSuchChannel as NoChannelToKeep}
+use Rattle.book.specs.declared.errors.ReleaseError.{ReleaseError}
+use Rattle.book.specs.declared.errors.ReleaseError.TheVariants.{Unfilled, NoSuchChannel as NoChannelToRelease}
+use Rattle.book.specs.Replies.{Reply, if_so, opened, stepped, signed, revoked, kept, released}
+use Rattle.world.specs.declared.errors.EventError.{EventError}
+use Rattle.world.specs.declared.errors.EventError.TheVariants.{NoMemory, NoSuchChannel, NoMessage, Channel, Sign, Keep, Fill}
+use Rattle.world.specs.Worlds.{Line, Node, answer_to, after_call, sent_to, received_by}
+
+-- ---- refusals
+
+-- the refusals of a book, as an event has them
+abbrev pub by_step : StepError → EventError
+by_step (Refused refusal_memory) = NoMemory
+by_step (Refused refusal) = Channel refusal
+by_step NoChannelToStep = NoSuchChannel
+
+abbrev pub by_sign : SignError → EventError
+by_sign sign_memory = NoMemory
+by_sign NoChannelToSign = NoSuchChannel
+by_sign error = Sign error
+
+abbrev pub by_keep : KeepError → EventError
+by_keep keep_memory = NoMemory
+by_keep NoChannelToKeep = NoSuchChannel
+by_keep error = Keep error
+
+abbrev pub by_release : ReleaseError → EventError
+by_release (Unfilled fill_memory) = NoMemory
+by_release (Unfilled refusal) = Fill refusal
+by_release NoChannelToRelease = NoSuchChannel
+
+abbrev pub refusal_in : Reply → Option EventError
+refusal_in (stepped (Err e)) = Some (by_step e)
+refusal_in (signed (Err e)) = Some (by_sign e)
+refusal_in (revoked (Err e)) = Some (by_step e)
+refusal_in (kept (Err e)) = Some (by_keep e)
+refusal_in (released (Err e)) = Some (by_release e)
+refusal_in reply = None
+
+-- the messages that a book answers
+abbrev pub messages_in : Reply → List Message
+messages_in (stepped (Ok messages)) = messages
+messages_in (signed (Ok message)) = message ∷ []
+messages_in reply = []
+
+-- a refusal is the first condition that holds, unless memory ran out
+abbrev pub IsRefusal : Option EventError → EventError → Type 0
+IsRefusal first NoMemory = Unit {0}
+IsRefusal first e = first ≡ Some e
+
+-- an event of which this is the first refusal leaves this, and a refused one changes nothing
+abbrev pub IsEvent : {A S : Type 0} → Option EventError → Result A EventError → S → S → S → Type 0
+IsEvent first (Ok x) old done new = (first ≡ None) × (new ≡ done)
+IsEvent first (Err e) old done new = IsRefusal first e × (new ≡ old)
+
+-- ---- messages
+
+-- why a side does not make a call in a channel that its peer is to hear of, and what is on its way to the peer once it does
+abbrev pub sending_refusal : ℕ → Call → Node → Node → Option EventError
+sending_refusal c call me peer = if_so (nat_le (length peer.lines) c) NoSuchChannel (refusal_in (answer_to me call))
+
+abbrev pub sent_by : ℕ → Call → Node → Node → Node
+sent_by c call me peer = sent_to c (messages_in (answer_to me call)) peer
+
+-- the oldest message on its way: NoSuchChannel, NoMessage
+abbrev pub oldest_of : List Message → Result Message EventError
+oldest_of [] = Err NoMessage
+oldest_of (m ∷ ms) = Ok m
+
+abbrev pub oldest_in : Option Line → Result Message EventError
+oldest_in None = Err NoSuchChannel
+oldest_in (Some line) = oldest_of line.inbox
+
+-- the call by which a book takes a message
+abbrev pub call_of : ℕ → Message → Call
+call_of c (Updated u) = calls.Step c (UpdatedStep u)
+call_of c (CommitmentSigned tokens) = calls.Step c (Signed tokens)
+call_of c (RevokeAndAck secret point) = calls.Revoke c secret point
+
+-- why a message is not delivered to a side, what the side is once it is, and its peer
+abbrev pub delivery_refusal : ℕ → Result Message EventError → Node → Node → Option EventError
+delivery_refusal c (Err e) me peer = Some e
+delivery_refusal c (Ok m) me peer = sending_refusal c (call_of c m) me peer
+
+abbrev pub delivered : ℕ → Result Message EventError → Node → Node
+delivered c (Err e) me = me
+delivered c (Ok m) me = received_by c (after_call (call_of c m) me)
+
+abbrev pub answered : ℕ → Result Message EventError → Node → Node → Node
+answered c (Err e) me peer = peer
+answered c (Ok m) me peer = sent_by c (call_of c m) me peer
+
+-- ---- within an event
+
+-- what a side's book gives to send, by a call of an event
+abbrev pub IsAnswered : Call → Result (Option Message) EventError → Node → Node → Type 0
+IsAnswered call (Ok m) old new = (refusal_in (answer_to old call) ≡ None) × (messages_in (answer_to old call) ≡ cons_option m []) × (new ≡ after_call call old)
+IsAnswered call (Err e) old new = IsRefusal (refusal_in (answer_to old call)) e × (new ≡ old)

@@ -1,0 +1,104 @@
+-- Jobs that are taken, and claims that are released.
+use Rattle.std.specs.Prelude.{◌≡◌, ℕ, ◌+◌, ◌==◌, Bool, true, ◌&&◌, ◌||◌, not, nat_lt, List, [], ◌∷◌, ◌++◌, length, take, drop, map, fold, Option, Some, None, Ok, if◌then◌else◌}
+use Rattle.std.specs.List.{list_any, flat_map}
+use Rattle.std.specs.Str.{bytes_eq}
+use Rattle.digest.specs.Hash.{hash160}
+use Rattle.tx.specs.Parts.{Output}
+use Rattle.tx.specs.Limits.{max_inputs, max_value}
+use Rattle.tx.specs.Fields.{Transaction}
+use Rattle.keys.specs.declared.bases.Base.TheVariants.{Payment}
+use Rattle.keys.specs.Derivation.{base_key}
+use Rattle.claim.specs.Claims.{ClaimParts}
+use Rattle.filling.specs.Filled.{Filling}
+use Rattle.channel.specs.States.{State}
+use Rattle.book.specs.declared.calls.Batch.{Batch}
+use Rattle.book.specs.declared.calls.Call.TheVariants.{Release}
+use Rattle.book.specs.declared.errors.ReleaseError.TheVariants.{NoSuchChannel}
+use Rattle.book.specs.Calls.{IsBatchOf}
+use Rattle.book.specs.Books.{ChannelBook}
+use Rattle.book.specs.Replies.{Reply, released, asked, fill_answer, if_so}
+use Rattle.world.specs.declared.errors.EventError.{EventError}
+use Rattle.world.specs.declared.errors.EventError.TheVariants.{NoJob, MixedChannels, OverValue}
+use Rattle.world.specs.declared.jobs.Job.{Job}
+use Rattle.world.specs.Worlds.{Node, channel_of, answer_to, after_call}
+use Rattle.world.specs.Refusing.{refusal_in}
+
+-- so many jobs are taken, the oldest first: NoJob where there are fewer
+abbrev pub take_refusal : ℕ → Node → Option EventError
+take_refusal k n = if_so (nat_lt (length n.jobs) k) NoJob None
+
+abbrev pub with_taken : ℕ → Node → Node
+with_taken k n = record n { jobs = drop k n.jobs; taken = n.taken ++ take k n.jobs }
+
+-- ---- releases
+
+-- whether jobs are all of a channel
+abbrev pub are_of : ℕ → List Job → Bool
+are_of c [] = true
+are_of c (j ∷ jobs) = j.channel == c && are_of c jobs
+
+-- what claims are worth together, in satoshis
+abbrev pub value_of : List Job → ℕ
+value_of [] = 0
+value_of (j ∷ jobs) = j.claim.place.value + value_of jobs
+
+-- the values in order, each where it stands first
+abbrev pub with_new : List (List ℕ) → List ℕ → List (List ℕ)
+with_new xs x = if list_any (λ y. bytes_eq y x) xs then xs else xs ++ x ∷ []
+
+abbrev pub each_once : List (List ℕ) → List (List ℕ)
+each_once xs = fold with_new [] xs
+
+-- what the claims are filled by: one output of their whole value to the hash of the side's payment key in the channel, and the preimages that they want
+abbrev pub claims_in : List Job → List ClaimParts
+claims_in jobs = map (λ j. j.claim) jobs
+
+abbrev pub payment_program : State → List ℕ
+payment_program s = 0x00 ∷ 0x14 ∷ hash160 (base_key s.seed Payment)
+
+abbrev pub output_for : State → List Job → Output
+output_for s jobs = record { value = value_of jobs; script = payment_program s }
+
+abbrev pub preimages_for : List Job → List (List ℕ)
+preimages_for jobs = each_once (flat_map (λ j. j.preimages) jobs)
+
+-- what the book answers to the release of claims of a channel
+abbrev pub release_answer : ℕ → List Job → Node → Reply
+release_answer c jobs n = released (asked NoSuchChannel (channel_of n c) (λ ch. fill_answer ch.state (claims_in jobs) (output_for ch.state jobs ∷ []) (preimages_for jobs)))
+
+-- NoJob, MixedChannels, OverValue, else the refusal of the book
+abbrev pub refusal_of : List Job → Node → Option EventError
+refusal_of [] n = Some NoJob
+refusal_of (j ∷ jobs) n =
+    if_so (not (are_of j.channel (j ∷ jobs))) MixedChannels
+    (if_so (nat_lt max_value (value_of (j ∷ jobs))) OverValue
+    (refusal_in (release_answer j.channel (j ∷ jobs) n)))
+
+-- a release is of 1 to 4,000 claims, of those that were taken
+abbrev pub is_no_count : ℕ → ℕ → Bool
+is_no_count k taken = k == 0 || nat_lt max_inputs k || nat_lt taken k
+
+abbrev pub release_refusal : ℕ → Node → Option EventError
+release_refusal k n = if_so (is_no_count k (length n.taken)) NoJob (refusal_of (take k n.taken) n)
+
+-- the claims that were released are no longer taken
+abbrev pub without_taken : ℕ → Node → Node
+without_taken k n = record n { taken = drop k n.taken }
+
+-- claims, all of one channel, are released by this batch, where the book does not refuse it
+pub record IsReady (jobs : List Job) (n : Node) (channel : ℕ) (batch : Batch) : Type 0 where
+  pub ch : ChannelBook
+  pub there : channel_of n channel ≡ Some ch
+  pub all_of : are_of channel jobs ≡ true
+  pub batch_is : IsBatchOf (claims_in jobs) (output_for ch.state jobs ∷ []) (preimages_for jobs) batch
+  pub left : refusal_of jobs n ≡ refusal_in (answer_to n (Release channel batch))
+
+-- so many of the oldest claims that a side took are released: what the side is then, and the transaction
+pub record IsReleased (k : ℕ) (n done : Node) (t : Transaction) : Type 0 where
+  pub channel : ℕ
+  pub batch : Batch
+  pub filling : Filling
+  pub ready : IsReady (take k n.taken) n channel batch
+  pub answer : answer_to n (Release channel batch) ≡ released (Ok filling)
+  pub tx : t ≡ filling.tx
+  pub after : done ≡ without_taken k (after_call (Release channel batch) n)

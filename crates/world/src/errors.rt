@@ -1,0 +1,120 @@
+//! Why an event is refused.
+
+ghost use Rattle.std.specs.Prelude.{◌≡◌};
+ghost use Rattle.world.specs.declared.errors.EventError.TheVariants.{NoMemory};
+
+use book::errors::{KeepError, ReleaseError, SignError, StepError};
+use filling::FillError;
+use std::alloc::{AllocError, AllocFailed};
+use thiserror::Error;
+use updates::Refusal;
+
+/// Why an event is refused.
+#[derive(Debug, Drop, Error)]
+pub enum EventError {
+    /// Memory ran out.
+    #[error("NoMemory")]
+    NoMemory,
+    /// The scenario has no channel of this index.
+    #[error("NoSuchChannel")]
+    NoSuchChannel,
+    /// No message is on its way to the side.
+    #[error("NoMessage")]
+    NoMessage,
+    /// The side has no such transaction, or fewer transactions stand in the blocks that are taken off than are to be forgotten.
+    #[error("NoSuchTx")]
+    NoSuchTx,
+    /// The side has no so many jobs, or took no so many claims; or a release is of none, or of more than 4,000.
+    #[error("NoJob")]
+    NoJob,
+    /// The claims of a release are not all of one channel.
+    #[error("MixedChannels")]
+    MixedChannels,
+    /// What a release claims is worth more than 21,000,000 bitcoins.
+    #[error("OverValue")]
+    OverValue,
+    /// So many blocks can't be taken off.
+    #[error("TooDeep")]
+    TooDeep,
+    /// The channel refuses the update or the message.
+    #[error("{0}")]
+    Channel(Refusal),
+    /// The book refuses to sign.
+    #[error("{0}")]
+    Sign(SignError),
+    /// The book refuses to keep.
+    #[error("{0}")]
+    Keep(KeepError),
+    /// The claims are not filled.
+    #[error("{0}")]
+    Fill(FillError),
+}
+
+impl EventError {
+    ghost use Rattle.std.specs.Prelude.{◌≡◌};
+    ghost use Rattle.world.specs.Refusing.{by_step, by_sign, by_keep, by_release};
+
+    /// The refusal of a step or of a revocation.
+    pub(crate) fn of_step(error: StepError) -> EventError
+        ensures { result ≡ by_step error }
+    {
+        match error {
+            StepError::Refused(refusal) => match refusal {
+                Refusal::NoMemory => EventError::NoMemory,
+                _ => EventError::Channel(refusal),
+            },
+            StepError::NoSuchChannel => EventError::NoSuchChannel,
+        }
+    }
+
+    /// The refusal of a signature.
+    pub(crate) fn of_sign(error: SignError) -> EventError
+        ensures { result ≡ by_sign error }
+    {
+        match error {
+            SignError::NoMemory => EventError::NoMemory,
+            SignError::NoSuchChannel => EventError::NoSuchChannel,
+            _ => EventError::Sign(error),
+        }
+    }
+
+    /// The refusal to keep penalties.
+    pub(crate) fn of_keep(error: KeepError) -> EventError
+        ensures { result ≡ by_keep error }
+    {
+        match error {
+            KeepError::NoMemory => EventError::NoMemory,
+            KeepError::NoSuchChannel => EventError::NoSuchChannel,
+            _ => EventError::Keep(error),
+        }
+    }
+
+    /// The refusal of a release.
+    pub(crate) fn of_release(error: ReleaseError) -> EventError
+        ensures { result ≡ by_release error }
+    {
+        match error {
+            ReleaseError::Unfilled(refusal) => match refusal {
+                FillError::NoMemory => EventError::NoMemory,
+                _ => EventError::Fill(refusal),
+            },
+            ReleaseError::NoSuchChannel => EventError::NoSuchChannel,
+        }
+    }
+}
+
+impl From<AllocError> for EventError {
+    ghost from_gives = { λ _ e. e ≡ NoMemory };
+
+    fn from(_error: AllocError) -> EventError {
+        EventError::NoMemory
+    }
+}
+
+impl<T: Drop> From<AllocFailed<T>> for EventError {
+    ghost from_gives = { λ _ e. e ≡ NoMemory };
+
+    fn from(_error: AllocFailed<T>) -> EventError {
+        EventError::NoMemory
+    }
+}
