@@ -1,6 +1,6 @@
 -- What is broadcast opens what it spends.
 use Rattle.std.proofs.Common.{◌≡◌, ℕ, ◌+◌, ◌*◌, ◌/◌, ◌%◌, ◌^◌, ◌<◌, ◌≤◌, Bool, true, false, eqb, ltb, leb, List, [], ◌∷◌, ◌++◌, length, Option, Some, None, sym, ap, subst, refl, arith, ◌∙◌}
-use Rattle.std.specs.Prelude.{bit_xor, if◌then◌else◌, slice_get, option_map}
+use Rattle.std.specs.Prelude.{bit_xor, codes, if◌then◌else◌, slice_get, option_map}
 use Rattle.std.specs.List.{All}
 use Rattle.std.specs.Str.{bytes_eq}
 use Rattle.std.proofs.lemmas.Bool.{eq-eqb, le-ltb, lt-ltb, le-leb}
@@ -47,7 +47,7 @@ use Rattle.commit.specs.Signing.{funding_script, commitment_digest, htlc_digest}
 use Rattle.channel.specs.declared.commitments.CommitmentState.{CommitmentState}
 use Rattle.channel.specs.States.{State}
 use Rattle.channel.specs.Tokens.{contents_of}
-use Rattle.publish.specs.Published.{funding_witness, signed_transaction, preimage_among, branch_item, htlc_witness, signed_second_stage, signed_htlc_of}
+use Rattle.publish.specs.Published.{funding_witness, signed_transaction, preimage_among, branch_item, htlc_witness, signed_second_stage, signed_htlc_of, signed_htlc_tx_of}
 use Rattle.publish.specs.Opening.{funding_output, HasUnspent, IsTaken, CommitmentsOpen, output_of, outpoint_of, IsHtlcTx, HtlcTxsOpen}
 use Rattle.publish.proofs.Clean.{runs_clean, two_of_two-valid, two_of_two-short, offered-valid, offered-short, received-valid, received-short, meets_two, meets_timeout, meets_success}
 
@@ -123,3 +123,115 @@ commitments_open s n t blocks height e has = by_state (slice_get s.mine n) e
     by_state : (o : Option CommitmentState) → option_map (λ c. signed_transaction s.held.terms (contents_of s.held.terms c)) o ≡ Some t → IsTaken blocks height t
     by_state None e = absurd (cc)
     by_state (Some c) e = subst (IsTaken blocks height) (same_Some _ t e) (commitment_taken s.held.terms c blocks height has)
+
+-- ---- HTLC transactions
+
+timeout_run : (t : Transaction) (input : TxIn) (value : ℕ) (r m l p digest : List ℕ) → is_key m ≡ true → is_key l ≡ true → length r ≡ 20 → length p ≡ 20 → bytes_eq (hash160 []) r ≡ false
+    → digest ≡ sha256d (signed_list t input (spelling (offered r m l p)) value) → input.witness ≡ [] ∷ token_of m digest ∷ token_of l digest ∷ [] ∷ spelling (offered r m l p) ∷ []
+    → run_of t input (record { value = value; script = script_hash_program (spelling (offered r m l p)) }) ≡ Some (Clean 21 7)
+timeout_run t input value r m l p digest mk lk rl pl apart e w =
+    let ml = key-length m mk in
+    let ll = key-length l lk in
+    let ops = offered r m l p in
+    let ways = offered_ways r m l p in
+    let all = listing-sound ops ways (offered-listed r m l p mk lk ml ll rl pl) in
+    runs_clean t input value ops _ _ (offered-valid r m l p rl ml ll pl) (offered-short r m l p rl ml ll pl) (sound-at ops ways 1 _ all refl)
+    (subst (λ d. input.witness ≡ ([] ∷ token_of m d ∷ token_of l d ∷ [] ∷ []) ++ spelling ops ∷ []) e w)
+    (meets_timeout (spend_of t input (spelling ops) value) r m l mk lk (length-sha256 _) apart)
+
+success_run : (t : Transaction) (input : TxIn) (value : ℕ) (r m l hash : List ℕ) (expiry : ℕ) (item digest : List ℕ) → is_key m ≡ true → is_key l ≡ true → length r ≡ 20 → expiry < 2 ^ 32
+    → length item ≡ 32 → sha256 item ≡ hash → bytes_eq (hash160 item) r ≡ false
+    → digest ≡ sha256d (signed_list t input (spelling (received r m l (ripemd160 hash) expiry)) value)
+    → input.witness ≡ [] ∷ token_of m digest ∷ token_of l digest ∷ item ∷ spelling (received r m l (ripemd160 hash) expiry) ∷ []
+    → run_of t input (record { value = value; script = script_hash_program (spelling (received r m l (ripemd160 hash) expiry)) }) ≡ Some (Clean 23 7)
+success_run t input value r m l hash expiry item digest mk lk rl low il is apart e w =
+    let ml = key-length m mk in
+    let ll = key-length l lk in
+    let p = ripemd160 hash in
+    let pl = length-ripemd160 hash in
+    let ops = received r m l p expiry in
+    let ways = received_ways r m l p expiry in
+    let all = listing-sound ops ways (received-listed r m l p expiry low mk lk ml ll rl pl) in
+    runs_clean t input value ops _ _ (received-valid r m l p expiry low rl ml ll pl) (received-short r m l p expiry low rl ml ll pl) (sound-at ops ways 1 _ all refl)
+    (subst (λ d. input.witness ≡ ([] ∷ token_of m d ∷ token_of l d ∷ item ∷ []) ++ spelling ops ∷ []) e w)
+    (meets_success (spend_of t input (spelling ops) value) r m l hash item mk lk (length-sha256 _) il is apart)
+
+abbrev second_input : Contents → HtlcOutput → List ℕ → TxIn
+second_input c h item = record { outpoint = outpoint_of c h; sequence = 0; witness = htlc_witness c h item }
+
+second_digest : (c : Contents) (h : HtlcOutput) (item : List ℕ)
+    → htlc_digest c h ≡ sha256d (signed_list (signed_second_stage c h item) (second_input c h item) (htlc_script c.keys h.direction h.htlc) (satoshis_of h.htlc.amount))
+unfolding htlc_digest second_stage_of signed_list all_outpoints all_sequences
+second_digest c h item = refl
+
+-- a preimage that was found
+found : (hash : List ℕ) (ps : List (List ℕ)) (item : List ℕ) → All (λ p. length p ≡ 32) ps → preimage_among ps hash ≡ Some item → (length item ≡ 32) × (sha256 item ≡ hash)
+found hash [] item a e = absurd (cc)
+found hash (p ∷ ps) item a e =
+    by_test (bytes_eq (sha256 p) hash) refl (λ f. found hash ps item (All-tail (λ x. length x ≡ 32) p ps a) f) e
+  where
+    by_test : (b : Bool) → bytes_eq (sha256 p) hash ≡ b → (preimage_among ps hash ≡ Some item → (length item ≡ 32) × (sha256 item ≡ hash))
+        → (if b then Some p else preimage_among ps hash) ≡ Some item → (length item ≡ 32) × (sha256 item ≡ hash)
+    by_test true t rest e = let same = same_Some p item e in subst (λ x. (length x ≡ 32) × (sha256 x ≡ hash)) same (All-head (λ x. length x ≡ 32) p ps a, (bytes_eq-Decides _ _).0 t)
+    by_test false t rest e = rest e
+
+abbrev runs_to : Direction → ℕ
+runs_to Offered = 21
+runs_to Received = 23
+
+second_runs : (c : Contents) (index : ℕ) (d : Direction) (x : Htlc) (preimages : List (List ℕ)) (item : List ℕ) → is_key c.keys.remote_htlc ≡ true → is_key c.keys.local_htlc ≡ true
+    → branch_item preimages d x ≡ Some item → All (λ p. length p ≡ 32) preimages → x.expiry < 2 ^ 32 → bytes_eq (hash160 item) (hash160 c.keys.revocation) ≡ false
+    → let h : HtlcOutput = record { index = index; direction = d; htlc = x } in run_of (signed_second_stage c h item) (second_input c h item) (output_of c h) ≡ Some (Clean (runs_to d) 7)
+unfolding htlc_script
+second_runs c index Offered x preimages item mk lk e a low apart =
+    let h : HtlcOutput = record { index = index; direction = Offered; htlc = x } in
+    let empty : [] ≡ item = same_Some [] item e in
+    subst (λ y. run_of (signed_second_stage c h y) (second_input c h y) (output_of c h) ≡ Some (Clean 21 7)) empty
+    (timeout_run (signed_second_stage c h []) (second_input c h []) (satoshis_of x.amount) (hash160 c.keys.revocation) c.keys.remote_htlc c.keys.local_htlc (ripemd160 x.hash) (htlc_digest c h)
+    mk lk (length-ripemd160 _) (length-ripemd160 _) (subst (λ y. bytes_eq (hash160 y) (hash160 c.keys.revocation) ≡ false) (sym empty) apart) (second_digest c h []) refl)
+second_runs c index Received x preimages item mk lk e a low apart =
+    let h : HtlcOutput = record { index = index; direction = Received; htlc = x } in
+    let is = found x.hash preimages item a e in
+    success_run (signed_second_stage c h item) (second_input c h item) (satoshis_of x.amount) (hash160 c.keys.revocation) c.keys.remote_htlc c.keys.local_htlc x.hash x.expiry item (htlc_digest c h)
+    mk lk (length-ripemd160 _) low is.0 is.1 apart (second_digest c h item) refl
+
+derived_form : (base point : List ℕ) → is_key (derived_key base point) ≡ true
+unfolding derived_key is_key
+derived_form base point = let h = length-sha256 (codes "derive" ++ base ++ point) in cc
+
+second_final : (d : Direction) (x : Htlc) (height : ℕ) (inputs : List TxIn) → x.expiry < locktime_threshold → lock_time_of d x < height → is_final height (lock_time_of d x) inputs ≡ true
+second_final Offered x height inputs low reached = rw (lt-ltb x.expiry 500000000 low, lt-ltb x.expiry height reached) refl
+second_final Received x height inputs low reached = rw (lt-ltb 0 height reached) refl
+
+second_old : (height coin : ℕ) → coin ≤ height → is_old_enough height 2 0 coin ≡ true
+second_old height coin l = le-leb (coin + 0) height (omega arith)
+
+second_taken : (terms : Terms) (state : CommitmentState) (h : HtlcOutput) (preimages : List (List ℕ)) (item : List ℕ) (blocks : List Block) (height : ℕ)
+    → branch_item preimages h.direction h.htlc ≡ Some item → All (λ p. length p ≡ 32) preimages → h.htlc.expiry < locktime_threshold
+    → bytes_eq (hash160 item) (hash160 (contents_of terms state).keys.revocation) ≡ false
+    → (here : HasUnspent blocks (outpoint_of (contents_of terms state) h) (output_of (contents_of terms state) h)) → here.coin.height ≤ height → lock_time_of h.direction h.htlc < height
+    → IsTaken blocks height (signed_second_stage (contents_of terms state) h item)
+unfolding commitment_of keys_of second_stage_of
+second_taken terms state h preimages item blocks height e a low apart here old reached =
+    let c = contents_of terms state in
+    let t = signed_second_stage c h item in
+    taken blocks height t (second_input c h item) (outpoint_of c h) (output_of c h) (runs_to h.direction) 7 here refl refl (second_final h.direction h.htlc height t.inputs low reached) (second_old height here.coin.height old)
+    (second_runs c h.index h.direction h.htlc preimages item (derived_form _ _) (derived_form _ _) e a (omega arith) apart)
+
+htlc_tx_is : (s : State) (n k : ℕ) (preimages : List (List ℕ)) (state : CommitmentState) (h : HtlcOutput) (item : List ℕ) → slice_get s.mine n ≡ Some state
+    → slice_get (htlcs_of (contents_of s.held.terms state)) k ≡ Some h → branch_item preimages h.direction h.htlc ≡ Some item
+    → signed_htlc_tx_of s n k preimages ≡ Some (signed_second_stage (contents_of s.held.terms state) h item)
+htlc_tx_is s n k preimages state h item e f g = rw (e, f, g) refl
+
+pub htlc_txs_open : HtlcTxsOpen
+htlc_txs_open s n k preimages c h item t blocks height is all low apart here old reached =
+    let terms = s.held.terms in
+    let kth = subst (λ (y : Contents). slice_get (htlcs_of y) k ≡ Some h) is.contents is.kth in
+    let same = same_Some _ t (sym (htlc_tx_is s n k preimages is.state h item is.recorded kth is.branch) ∙ is.tx) in
+    subst (IsTaken blocks height) same (at_contents c is.contents apart here old)
+  where
+    at_contents : (y : Contents) → y ≡ contents_of s.held.terms is.state → bytes_eq (hash160 item) (hash160 y.keys.revocation) ≡ false
+        → (here : HasUnspent blocks (outpoint_of y h) (output_of y h)) → here.coin.height ≤ height → IsTaken blocks height (signed_second_stage (contents_of s.held.terms is.state) h item)
+    at_contents y e apart here old =
+        let P : Contents → Type 0 = λ z. bytes_eq (hash160 item) (hash160 z.keys.revocation) ≡ false → (here : HasUnspent blocks (outpoint_of z h) (output_of z h)) → here.coin.height ≤ height → IsTaken blocks height (signed_second_stage (contents_of s.held.terms is.state) h item) in
+        subst P (sym e) (λ apart here old. second_taken s.held.terms is.state h preimages item blocks height is.branch all low apart here old reached) apart here old

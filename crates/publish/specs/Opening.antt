@@ -57,7 +57,7 @@ pub record IsHtlcTx (s : State) (n k : ℕ) (preimages : List (List ℕ)) (c : C
   pub tx : signed_htlc_tx_of s n k preimages ≡ Some t
 
 -- An HTLC transaction with both signatures opens the HTLC's output, wherever that stands unspent, in each block above the expiry where it is HTLC-timeout, and else in the next one.
--- Its hash apart: where what stands above the signatures had the hash of the revocation key, the script would take it for that key.
+-- The one exception: what stands above the signatures must not have the hash of the revocation key, for which the script would take it.
 abbrev pub HtlcTxsOpen : Type 0
 HtlcTxsOpen =
     (s : State) (n k : ℕ) (preimages : List (List ℕ)) (c : Contents) (h : HtlcOutput) (item : List ℕ) (t : Transaction) (blocks : List Block) (height : ℕ)

@@ -122,7 +122,14 @@ fn second_stage_witness(
     let remote = recorded.tokens.htlcs.values()[k];
     let digest = recorded.digests.htlcs.values()[k];
     let local = own_htlc_token(channel, number, state, &recorded.commitment, &digest);
-    htlc_witness(alloc, recorded.commitment.keys(), htlc, &remote, &local, item)
+    htlc_witness(
+        alloc,
+        recorded.commitment.keys(),
+        htlc,
+        &remote,
+        &local,
+        item,
+    )
 }
 
 // The HTLC transaction of the `k`-th HTLC of a commitment of this side, with both signatures.
@@ -146,8 +153,7 @@ fn second_stage_by_both(
     let Some(item) = branch_item(alloc, htlc.direction, &htlc.htlc, preimages)? else {
         return Ok(None);
     };
-    let witness =
-        second_stage_witness(alloc, channel, number, state, recorded, k, htlc, item)?;
+    let witness = second_stage_witness(alloc, channel, number, state, recorded, k, htlc, item)?;
     match htlc_tx(alloc, &recorded.commitment, k)? {
         Some(tx) => Ok(Some(with_witness(tx, witness))),
         None => unreachable!(),

@@ -68,7 +68,12 @@ pub(crate) fn funding_witness(
     ensures { IfOk result (λ w. w ≡ ([] ∷ in_key_order terms.now.a.bases.funding.bytes of_a.now terms.now.b.bases.funding.bytes of_b.now) ++ funding_script terms.now ∷ []) }
 {
     let patterns = patterns(alloc)?;
-    let checked = funding(alloc, &patterns, &terms.a.bases.funding, &terms.b.bases.funding)?;
+    let checked = funding(
+        alloc,
+        &patterns,
+        &terms.a.bases.funding,
+        &terms.b.bases.funding,
+    )?;
     let mut witness = funding_tokens(alloc, terms, of_a, of_b)?;
     push_script(alloc, &mut witness, checked.script())?;
     Ok(witness)

@@ -35,8 +35,15 @@ fn show_htlc<R: Print + AllocGlobal>(
     k: u64,
     preimages: &[[u8; 32]],
 ) -> Result<()> {
-    print!(rt; "{:?} {number} HTLC {k}, preimages {}: ", channel.side(), preimages.len())?;
-    show_tx(rt, signed_htlc_tx(rt.alloc(), channel, number, k as usize, preimages)?)
+    print!(rt;
+        "{:?} {number} HTLC {k}, preimages {}: ",
+        channel.side(),
+        preimages.len()
+    )?;
+    show_tx(
+        rt,
+        signed_htlc_tx(rt.alloc(), channel, number, k as usize, preimages)?,
+    )
 }
 
 /// Prints a commitment of a number with its HTLC transactions.

@@ -21,8 +21,8 @@ returns-in-A c =
     let side : s.held.side ≡ A = sym c.side.ensures ∙ c.in-A.is in
     let owner : state.owner ≡ A = (c.own_commitments-numbered.ensures.numbered.each c.args.number state found).owner ∙ side in
     let own = c.own_funding_token-own.ensures
-      ∙ ap (λ d. token_of (party d terms).bases.funding.bytes c.args.recorded.now.digests.commitment) side
-      ∙ ap (λ (r : Recorded). token_of terms.a.bases.funding.bytes r.digests.commitment) c.requires.recorded in
+    ∙ ap (λ d. token_of (party d terms).bases.funding.bytes c.args.recorded.now.digests.commitment) side
+    ∙ ap (λ (r : Recorded). token_of terms.a.bases.funding.bytes r.digests.commitment) c.requires.recorded in
     let peers = ap (λ (r : Recorded). r.tokens.commitment) c.requires.recorded ∙ ap (λ d. token_of (party (other d) terms).bases.funding.bytes digest) owner in
     funding_by c.funding_witness.result c.terms.result.now terms contents _ _ c.terms.ensures own peers c.funding_witness.ensures
 
@@ -37,7 +37,7 @@ returns-in-B c =
     let side : s.held.side ≡ B = sym c.side.ensures ∙ c.in-B.is in
     let owner : state.owner ≡ B = (c.own_commitments-numbered.ensures.numbered.each c.args.number state found).owner ∙ side in
     let own = c.own_funding_token-own.ensures
-      ∙ ap (λ d. token_of (party d terms).bases.funding.bytes c.args.recorded.now.digests.commitment) side
-      ∙ ap (λ (r : Recorded). token_of terms.b.bases.funding.bytes r.digests.commitment) c.requires.recorded in
+    ∙ ap (λ d. token_of (party d terms).bases.funding.bytes c.args.recorded.now.digests.commitment) side
+    ∙ ap (λ (r : Recorded). token_of terms.b.bases.funding.bytes r.digests.commitment) c.requires.recorded in
     let peers = ap (λ (r : Recorded). r.tokens.commitment) c.requires.recorded ∙ ap (λ d. token_of (party (other d) terms).bases.funding.bytes digest) owner in
     funding_by c.funding_witness-in-B.result c.terms-in-B.result.now terms contents _ _ c.terms-in-B.ensures peers own c.funding_witness-in-B.ensures

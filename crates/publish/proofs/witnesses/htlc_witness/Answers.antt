@@ -10,5 +10,5 @@ pub returns : goal.returns
 returns c =
     let h = c.args.htlc.now in
     let script : spelling c.script.result.now ≡ htlc_script (bytes_of c.args.keys.now) h.direction h.htlc =
-      ap spelling c.script.ensures ∙ ap (λ (x : CheckedScript). spelling x.ops) c.in_ok-checked.ensures ∙ spelt (bytes_of c.args.keys.now) h.direction h.htlc in
+    ap spelling c.script.ensures ∙ ap (λ (x : CheckedScript). spelling x.ops) c.in_ok-checked.ensures ∙ spelt (bytes_of c.args.keys.now) h.direction h.htlc in
     c.in_ok-push_script.ensures ∙ ap (λ x. c.push_within_limit.new.self ++ x ∷ []) script ∙ ap (λ x. x ++ htlc_script (bytes_of c.args.keys.now) h.direction h.htlc ∷ []) (c.in_ok-push_within_limit.ensures.ok ∙ ap (λ x. x ++ c.args.item ∷ []) c.in_ok-witness.ensures)
