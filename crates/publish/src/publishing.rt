@@ -173,11 +173,9 @@ pub fn signed_htlc_tx(
 ) -> Result<Option<Tx>, AllocError>
     ensures { IfOk result (λ t. t ≡ signed_htlc_tx_of channel.now number k preimages.now) }
 {
-    match channel.own_commitments().get(number as usize) {
-        None => Ok(None),
-        Some(state) => {
-            let recorded = recorded_commitment(alloc, channel, number, state)?;
-            second_stage_by_both(alloc, channel, number, state, &recorded, k, preimages)
-        }
-    }
+    let Some(state) = channel.own_commitments().get(number as usize) else {
+        return Ok(None);
+    };
+    let recorded = recorded_commitment(alloc, channel, number, state)?;
+    second_stage_by_both(alloc, channel, number, state, &recorded, k, preimages)
 }
