@@ -1,0 +1,4 @@
+mod Kept
+mod Witnessed
+mod Clean
+mod Opened

@@ -1,0 +1,22 @@
+//! The transactions that one side of a channel can broadcast: its commitments with both signatures, and their HTLC transactions (BOLT 3).
+//!
+//! [`signed_commitment`] gives this side's commitment of a number, and [`signed_htlc_tx`] the HTLC transaction of its `k`-th HTLC that isn't trimmed: HTLC-timeout for
+//! one that this side offered, and HTLC-success for one that was offered to it, where the preimage is among those that are given. Each is exactly that of the
+//! definitions `signed_commitment_of` and `signed_htlc_tx_of`, witness included.
+//!
+//! ```rust
+//! /// What closes a channel: this side's newest commitment.
+//! fn closing_tx(alloc: Global, channel: &Channel) -> Result<Option<Tx>, AllocError> {
+//!     signed_commitment(alloc, channel, channel.number())
+//! }
+//! ```
+#![tactic(auto)]
+
+pub mod laws;
+mod preimages;
+mod publishing;
+mod recorded;
+mod tokens;
+mod witnesses;
+
+pub use publishing::{signed_commitment, signed_htlc_tx};
