@@ -1,6 +1,6 @@
 -- What a book answers, call by call: the first scenario's calls, and each refusal before the next one in its order.
 use Rattle.std.proofs.Common.{◌≡◌, ℕ, true, false, List, [], ◌∷◌, ◌++◌, length, replicate, map, Some, None, Ok, Err, refl, lit≤}
-use Rattle.std.specs.Prelude.{option_map, IsTrue}
+use Rattle.std.specs.Prelude.{IsTrue}
 use Rattle.sha2.specs.Sha256.{sha256, digest_bytes, hash_after, compress, rounds, schedule, first_words}
 use Rattle.script.specs.Token.{is_key}
 use Rattle.keys.specs.declared.compressed.Key.{Key}
@@ -10,7 +10,7 @@ use Rattle.terms.specs.declared.sides.Side.{Side}
 use Rattle.terms.specs.declared.sides.Side.TheVariants.{A, B}
 use Rattle.terms.specs.declared.agreement.BaseKeys.{BaseKeys}
 use Rattle.terms.specs.declared.agreement.Terms.{Terms}
-use Rattle.updates.specs.declared.changes.Update.TheVariants.{Add, Fulfil, Fail}
+use Rattle.updates.specs.declared.changes.Update.TheVariants.{Add}
 use Rattle.updates.specs.declared.refusals.Refusal.TheVariants.{WrongSecret, NotYourTurn}
 use Rattle.claim.specs.Claims.{ClaimParts}
 use Rattle.channel.specs.declared.messages.Tokens.{Tokens}

@@ -1,5 +1,5 @@
 -- What texts are loaded as: each refusal before the next one in its order.
-use Rattle.std.proofs.Common.{◌≡◌, ℕ, true, false, List, [], ◌∷◌, ◌++◌, replicate, map, Option, Some, None, Result, Ok, Err, codes, refl}
+use Rattle.std.proofs.Common.{◌≡◌, ℕ, List, [], ◌∷◌, replicate, Some, None, Ok, Err, codes, refl}
 use Rattle.serde_json.proofs.OnLiterals.{serde_json_on_literals}
 use Rattle.script.specs.declared.opcode.Op.TheVariants.{Push, Number, If, NotIf, Else, EndIf, Drop, Dup, Swap, Size, Equal, EqualVerify, Hash160, CheckSig, CheckMultiSig, CheckLockTimeVerify, CheckSequenceVerify}
 use Rattle.claim.specs.declared.parts.Shell.TheVariants.{Open as OpenShell}
@@ -14,7 +14,7 @@ use Rattle.book.specs.declared.errors.LoadError.TheVariants.{NotJson, BadShape, 
 use Rattle.book.specs.Opcodes.{ops_in, ops_of}
 use Rattle.book.specs.Openings.{batch_of}
 use Rattle.book.specs.Loading.{checked_of, claim_of, claims_of, call_of, entry_of}
-use Rattle.book.specs.Loaded.{dump_in, history_after_plain, loaded}
+use Rattle.book.specs.Loaded.{dump_in, history_after_plain}
 
 -- each opcode by its byte, pushes of 0, 2 and 75 bytes, the numbers 1 and 16, and bytes that are none
 opcodes : (ops_of [] ≡ Some [])

@@ -37,7 +37,6 @@ use Rattle.book.specs.declared.calls.Call.TheVariants.{Open, Step as Stepping, S
 use Rattle.book.specs.declared.calls.Step.{Step}
 use Rattle.book.specs.declared.calls.Step.TheVariants.{Own, Updated, Signed}
 use Rattle.book.specs.declared.calls.Entry.{Entry}
-use Rattle.book.specs.declared.errors.LoadError.{LoadError}
 use Rattle.book.specs.declared.errors.LoadError.TheVariants as loads
 use Rattle.book.specs.Accepted.{is_taken, first_refused_after, all_accepted}
 use Rattle.book.specs.Openings.{bases_of, own_or_others, party_of, terms_with, owns, opening_if, opening_of, batch_of}
@@ -46,7 +45,7 @@ use Rattle.book.specs.Dumping.{plain_party, plain_terms, plain_opening, plain_st
 use Rattle.book.specs.Loaded.{with_entry, history_after_plain, loaded}
 use Rattle.book.specs.Again.{IsWhole, HasWholeClaims, HasStepTokens, HasTokens, ComesBack, ClaimsComeBack, OpeningsComeBack, EntriesComeBack}
 use Rattle.book.proofs.OpcodesRead.{reads}
-use Rattle.book.proofs.SameOpenings.{same_bases, same_terms, same_opening, same_batch, agrees, batch_is, within_batch}
+use Rattle.book.proofs.SameOpenings.{same_bases, same_terms, same_opening, agrees, batch_is, within_batch}
 use Rattle.book.proofs.Accepted.{accepted_means}
 use Rattle.book.proofs.PeerTokens.{each_token}
 

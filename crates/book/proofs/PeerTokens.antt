@@ -1,6 +1,6 @@
 -- An accepted call took its tokens as the peer's, and these have a token's form.
-use Rattle.std.proofs.Common.{◌≡◌, ℕ, suc, Bool, true, false, if◌then◌else◌, List, [], ◌∷◌, length, map, Option, Some, None, option_map, refl, sym, ap, ◌∙◌, arith}
-use Rattle.std.specs.Prelude.{is_ok, not, nat_le, slice_get}
+use Rattle.std.proofs.Common.{◌≡◌, ℕ, suc, Bool, true, false, if◌then◌else◌, List, [], ◌∷◌, length, map, Option, Some, None, option_map, refl, ap, ◌∙◌, arith}
+use Rattle.std.specs.Prelude.{not, nat_le, slice_get}
 use Rattle.std.specs.Str.{bytes_eq}
 use Rattle.std.specs.List.{AllByRecursion, list_any}
 use Rattle.std.proofs.lemmas.Bool.{ne_eqb, and_parts, false≢true}
@@ -16,7 +16,7 @@ use Rattle.updates.specs.Refusals.{Test, first_refusal, covers_nothing}
 use Rattle.commit.specs.declared.outputs.HtlcOutput.{HtlcOutput}
 use Rattle.commit.specs.Keys.{keys_of}
 use Rattle.commit.specs.Commitments.{Contents, commitment_of, htlcs_of}
-use Rattle.commit.specs.Signing.{commitment_digest, htlc_digest, htlc_digests}
+use Rattle.commit.specs.Signing.{commitment_digest, htlc_digest}
 use Rattle.channel.specs.declared.commitments.CommitmentState.{CommitmentState}
 use Rattle.channel.specs.declared.limits.TheConstants.{LAST_NUMBER}
 use Rattle.channel.specs.declared.messages.Tokens.{Tokens}
@@ -34,8 +34,8 @@ use Rattle.book.specs.declared.calls.Entry.{Entry}
 use Rattle.book.specs.declared.limits.TheConstants.{MAX_CHANNELS}
 use Rattle.book.specs.declared.errors.OpenError.TheVariants.{BookFull, SameFunding, BadSignature as WrongToken}
 use Rattle.book.specs.Penalties.{same_outpoint}
-use Rattle.book.specs.Books.{ChannelBook, Channels, replayed}
-use Rattle.book.specs.Replies.{is_accepted, answer_of, unless, open_refusal, step_refusal, messages_of}
+use Rattle.book.specs.Books.{Channels, replayed}
+use Rattle.book.specs.Replies.{is_accepted, answer_of, open_refusal, step_refusal}
 use Rattle.book.specs.Accepted.{is_taken, first_refused_after}
 use Rattle.book.specs.Dumping.{plain_tokens}
 use Rattle.book.specs.Again.{HasStepTokens, HasTokens}
@@ -111,8 +111,8 @@ opening_token chs o none =
 signature_tokens : (s : State) (tokens : Tokens) → first_refusal (receive_tests peer_tokens s (CommitmentSigned tokens)) ≡ None → AreTokens (plain_tokens tokens)
 signature_tokens s tokens none =
     let same =
-      last_passed (nat_le LAST_NUMBER s.number, NotYourTurn) (covers_nothing s.held.theirs s.held.own, NoUpdates)
-      (not (same_tokens tokens (peer_tokens s.held.terms (own_next s))), BadSignature) none
+    last_passed (nat_le LAST_NUMBER s.number, NotYourTurn) (covers_nothing s.held.theirs s.held.own, NoUpdates)
+    (not (same_tokens tokens (peer_tokens s.held.terms (own_next s))), BadSignature) none
     in
     are_tokens s.held.terms (own_next s) tokens (not_false _ same)
 

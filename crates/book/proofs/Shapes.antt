@@ -6,7 +6,7 @@ use Rattle.std.specs.List.{AllByRecursion}
 use Rattle.std.proofs.lemmas.Bool.{and_from}
 use Rattle.std.proofs.lemmas.Option.{none-some, same_Some}
 use Rattle.serde_json.specs.Data.{Data, Items, no_items, item}
-use Rattle.serde_json.specs.Find.{as_array, as_str, get}
+use Rattle.serde_json.specs.Find.{as_array, get}
 use Rattle.serde_json.specs.Read.{read}
 use Rattle.tx.specs.Parts.{Output}
 use Rattle.claim.specs.Claims.{ClaimParts}
@@ -305,8 +305,8 @@ one_on tokens_of i before p x ps e is s = record {
   accepted = ap (are_accepted tokens_of) (onto x s.earlier before) ∙ s.accepted;
   there = s.there;
   refused =
-    subst (λ es. Says tokens_of es s.entry (i + suc s.many) e) (sym (onto x s.earlier before))
-    (subst (λ k. Says tokens_of (reverse s.earlier ++ (x ∷ before)) s.entry k e) (omega arith) s.refused);
+      subst (λ es. Says tokens_of es s.entry (i + suc s.many) e) (sym (onto x s.earlier before))
+      (subst (λ k. Says tokens_of (reverse s.earlier ++ (x ∷ before)) s.entry k e) (omega arith) s.refused);
 }
 
 stops : (tokens_of : Signing) (i : ℕ) (before : List Entry) (ps : List PlainEntry) (e : LoadError) → are_accepted tokens_of before ≡ true → history_after_plain tokens_of i before ps ≡ Err e
@@ -388,7 +388,7 @@ refusals_come_in_order = record {
   not_json = λ tokens_of text. (of_value tokens_of (read text)).0;
   bad_shape = λ tokens_of text. (of_value tokens_of (read text)).1;
   bad_claim = λ tokens_of text i is.
-    let h = of_history tokens_of text (BadClaim i) tt is in stops_at tokens_of text h.0 (BadClaim i) i HasBadClaim h.1 h.2 (λ before p k says. says);
+      let h = of_history tokens_of text (BadClaim i) tt is in stops_at tokens_of text h.0 (BadClaim i) i HasBadClaim h.1 h.2 (λ before p k says. says);
   bad_history = λ tokens_of text i is.
-    let h = of_history tokens_of text (BadHistory i) tt is in stops_at tokens_of text h.0 (BadHistory i) i (HasBadCall tokens_of) h.1 h.2 (λ before p k says. says);
+      let h = of_history tokens_of text (BadHistory i) tt is in stops_at tokens_of text h.0 (BadHistory i) i (HasBadCall tokens_of) h.1 h.2 (λ before p k says. says);
 }

@@ -18,9 +18,8 @@ use serde_json::Value;
 use std::alloc::{AllocError, Global};
 use terms::{Party, Terms};
 use texts::{
-    PlainOpening, PlainParty, PlainRevocation, PlainTerms, WriteValue, write_dump,
-    write_entry, write_keep, write_own, write_receive, write_release, write_revoke, write_sign,
-    write_signature,
+    PlainOpening, PlainParty, PlainRevocation, PlainTerms, WriteValue, write_dump, write_entry,
+    write_keep, write_own, write_receive, write_release, write_revoke, write_sign, write_signature,
 };
 
 fn plain_party(party: &Party) -> PlainParty
