@@ -7,7 +7,6 @@ use Rattle.channel.specs.declared.messages.Message.{Message}
 use Rattle.book.specs.declared.calls.Call.{Call}
 use Rattle.book.specs.Books.{at_index}
 use Rattle.book.specs.Replies.{if_so}
-use Rattle.book.proofs.Called.{written}
 use Rattle.world.specs.declared.errors.EventError.{EventError}
 use Rattle.world.specs.declared.errors.EventError.TheVariants.{NoSuchChannel}
 use Rattle.world.specs.Worlds.{Line, Node, answer_to, received_by}
@@ -24,6 +23,12 @@ pub unchanged : {A : Type 0} (c : ℕ) (xs : List A) (x y : A) → slice_get xs 
 unchanged c [] x y found e = absurd (none-some x found)
 unchanged zero (z ∷ xs) x y found e = ap (λ w. w ∷ xs) (e ∙ sym (same_Some z x found))
 unchanged (suc c) (z ∷ xs) x y found e = ap (λ ys. z ∷ ys) (unchanged c xs x y found e)
+
+-- one that is written as changed
+written : {A : Type 0} (f : A → A) (c : ℕ) (xs : List A) (x y : A) → slice_get xs c ≡ Some x → y ≡ f x → set xs c y ≡ at_index f c xs
+written f c [] x y found e = absurd (none-some x found)
+written f zero (z ∷ xs) x y found e = ap (λ w. w ∷ xs) (e ∙ ap f (sym (same_Some z x found)))
+written f (suc c) (z ∷ xs) x y found e = ap (λ ys. z ∷ ys) (written f c xs x y found e)
 
 pub not_past : (n c : ℕ) → c < n → nat_le n c ≡ false
 not_past n c within = grind (arith, nat_tests)
