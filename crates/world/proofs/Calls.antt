@@ -1,6 +1,6 @@
 -- Accepted calls of a book, as steps of its channels.
-use Rattle.std.proofs.Common.{◌≡◌, ℕ, zero, suc, Bool, true, false, ◌||◌, List, [], ◌∷◌, ◌++◌, Option, Some, None, Result, Ok, Err, refl, sym, ap, ◌∙◌, subst}
-use Rattle.std.specs.Prelude.{drop, slice_get, is_ok, reverse}
+use Rattle.std.proofs.Common.{◌≡◌, ℕ, zero, suc, Bool, true, false, ◌||◌, List, [], ◌∷◌, ◌++◌, Option, Some, None, Result, Ok, refl, sym, ap, ◌∙◌, subst}
+use Rattle.std.specs.Prelude.{drop, slice_get}
 use Rattle.std.proofs.lemmas.List.{reverse-append}
 use Rattle.std.proofs.lemmas.Option.{none-some, same_Some}
 use Rattle.terms.specs.declared.sides.Side.{Side}
@@ -9,14 +9,14 @@ use Rattle.updates.specs.declared.refusals.Refusal.{Refusal}
 use Rattle.channel.specs.declared.messages.Message.{Message}
 use Rattle.channel.specs.declared.messages.Message.TheVariants.{Updated, CommitmentSigned, RevokeAndAck}
 use Rattle.channel.specs.Tokens.{peer_tokens}
-use Rattle.channel.specs.States.{State, update_refusal, receive_refusal, after_update, after_sign, after, answers, signature_message}
+use Rattle.channel.specs.States.{State, update_refusal, receive_refusal, after_sign, after, answers, signature_message}
 use Rattle.channel.specs.Peers.{Acts, updates, signs, receives}
-use Rattle.book.specs.declared.calls.Step.TheVariants.{Own, Updated as UpdatedStep, Signed}
+use Rattle.book.specs.declared.calls.Step.TheVariants.{Own}
 use Rattle.book.specs.declared.calls.Call.{Call}
-use Rattle.book.specs.declared.calls.Call.TheVariants.{Step as Stepping, Sign, Revoke, Keep, Release}
+use Rattle.book.specs.declared.calls.Call.TheVariants.{Step as Stepping, Sign, Keep, Release}
 use Rattle.book.specs.declared.calls.Entry.{Entry}
 use Rattle.book.specs.Books.{ChannelBook, Channels, at_index, with_state, with_kept, update_of, stepped as state_stepped, channels_after, replayed, replay}
-use Rattle.book.specs.Replies.{Reply, stepped, signed, revoked, kept, released, is_accepted, answer_of, reply_of, extended, history_after, unless, asked, step_refusal, sign_refusal, messages_of}
+use Rattle.book.specs.Replies.{stepped, signed, is_accepted, answer_of, reply_of, extended, history_after, unless, asked, sign_refusal}
 use Rattle.std.specs.Prelude.{nat_le}
 use Rattle.updates.specs.Refusals.{first_refusal, covers_nothing}
 use Rattle.updates.specs.declared.refusals.Refusal.TheVariants.{NotYourTurn, NoUpdates as NothingCovered}
@@ -128,9 +128,9 @@ pub made : (side : Side) (mine peers : List Entry) (to_me to_peer : List (List M
 made side mine peers to_me to_peer seat c u ms agree reply =
     let m = made_of (slice_get (replay mine) c) u (replay mine) c ms refl (ok_of_stepped reply) in
     let acts : (p : List Message) → Acts peer_tokens m.channel.state p (state_stepped (Own u) m.channel.state) ms p
-          = λ p. subst (λ sent. Acts peer_tokens m.channel.state p (state_stepped (Own u) m.channel.state) sent p) (sym m.sent) (updates (update_of m.channel.state u) m.taken) in
+    = λ p. subst (λ sent. Acts peer_tokens m.channel.state p (state_stepped (Own u) m.channel.state) sent p) (sym m.sent) (updates (update_of m.channel.state u) m.taken) in
     subst (λ chs. ArePaired side chs (replay peers) to_me (at_index (λ q. q ++ ms) c to_peer)) (sym (replayed_after mine seat (Stepping c (Own u)) (ap is_accepted reply)))
-        (acted side (state_stepped (Own u)) ms c (replay mine) (replay peers) to_me to_peer m.channel m.there acts agree)
+    (acted side (state_stepped (Own u)) ms c (replay mine) (replay peers) to_me to_peer m.channel m.there acts agree)
 
 -- a signature
 pub signed_once : (side : Side) (mine peers : List Entry) (to_me to_peer : List (List Message)) (seat c : ℕ) (m : Message) → AgreeBy side mine peers to_me to_peer
@@ -139,9 +139,9 @@ pub signed_once : (side : Side) (mine peers : List Entry) (to_me to_peer : List 
 signed_once side mine peers to_me to_peer seat c m agree reply =
     let s = signed_of (slice_get (replay mine) c) (replay mine) c m refl (ok_of_signed reply) in
     let acts : (p : List Message) → Acts peer_tokens s.channel.state p (after_sign s.channel.state) (m ∷ []) p
-          = λ p. subst (λ sent. Acts peer_tokens s.channel.state p (after_sign s.channel.state) (sent ∷ []) p) (sym s.sent) (signs (channel_signs s.channel s.taken)) in
+    = λ p. subst (λ sent. Acts peer_tokens s.channel.state p (after_sign s.channel.state) (sent ∷ []) p) (sym s.sent) (signs (channel_signs s.channel s.taken)) in
     subst (λ chs. ArePaired side chs (replay peers) to_me (at_index (λ q. q ++ m ∷ []) c to_peer)) (sym (replayed_after mine seat (Sign c) (ap is_accepted reply)))
-        (acted side after_sign (m ∷ []) c (replay mine) (replay peers) to_me to_peer s.channel s.there acts agree)
+    (acted side after_sign (m ∷ []) c (replay mine) (replay peers) to_me to_peer s.channel s.there acts agree)
 
 -- ---- deliveries
 
@@ -202,9 +202,9 @@ received side mine peers to_me to_peer seat c m rest agree queue ok =
     let acts : Acts peer_tokens x.0.state (m ∷ rest) (after x.0.state m) (answers x.0.state m) rest = receives m rest refl none in
     let at = acted_at side (λ s. after s m) (drop 1) (answers x.0.state m) c (replay mine) (replay peers) to_me to_peer x.0 (m ∷ rest) x.1 queue acts agree in
     let changed : replay (history_after peer_tokens mine seat (call_of c m)) ≡ at_index (with_state (λ s. after s m)) c (replay mine)
-          = replayed_after mine seat (call_of c m) ok ∙ call_changes m c (replay mine) in
+    = replayed_after mine seat (call_of c m) ok ∙ call_changes m c (replay mine) in
     subst (λ chs. ArePaired side chs (replay peers) (at_index (drop 1) c to_me) (at_index (λ q. q ++ messages_in (reply_of peer_tokens mine (call_of c m))) c to_peer)) (sym changed)
-        (subst (λ ms. ArePaired side (at_index (with_state (λ s. after s m)) c (replay mine)) (replay peers) (at_index (drop 1) c to_me) (at_index (λ q. q ++ ms) c to_peer)) (sym sent) at)
+    (subst (λ ms. ArePaired side (at_index (with_state (λ s. after s m)) c (replay mine)) (replay peers) (at_index (drop 1) c to_me) (at_index (λ q. q ++ ms) c to_peer)) (sym sent) at)
 
 -- ---- calls that leave the states
 
@@ -212,7 +212,7 @@ pub filed : (side : Side) (mine peers : List Entry) (to_me to_peer : List (List 
     → is_accepted (reply_of peer_tokens mine (Keep c n claims)) ≡ true → AgreeBy side (history_after peer_tokens mine seat (Keep c n claims)) peers to_me to_peer
 filed side mine peers to_me to_peer seat c n claims agree ok =
     subst (λ chs. ArePaired side chs (replay peers) to_me to_peer) (sym (replayed_after mine seat (Keep c n claims) ok))
-        (unmoved side (with_kept n) (λ ch. refl) c (replay mine) (replay peers) to_me to_peer agree)
+    (unmoved side (with_kept n) (λ ch. refl) c (replay mine) (replay peers) to_me to_peer agree)
 
 pub released_by : (side : Side) (mine peers : List Entry) (to_me to_peer : List (List Message)) (seat c : ℕ) (batch : Batch) → AgreeBy side mine peers to_me to_peer
     → is_accepted (reply_of peer_tokens mine (Release c batch)) ≡ true → AgreeBy side (history_after peer_tokens mine seat (Release c batch)) peers to_me to_peer

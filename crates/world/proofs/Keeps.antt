@@ -11,9 +11,7 @@ use Rattle.penalty.specs.Claimable.{Claimable, claimable_of}
 use Rattle.penalty.specs.Sets.{AreClaimsOn}
 use Rattle.penalty.specs.States.{HasParts}
 use Rattle.penalty.specs.declared.states.RevokedState.{RevokedState}
-use Rattle.keys.specs.Derivation.{point_of}
 use Rattle.book.specs.declared.calls.Call.TheVariants as calls
-use Rattle.book.specs.declared.errors.KeepError.{KeepError}
 use Rattle.book.specs.declared.errors.KeepError.TheVariants as keeps
 use Rattle.book.specs.Penalties.{revoked_contents, is_penalty_set}
 use Rattle.book.specs.Books.{ChannelBook, is_kept, kept_at}
@@ -22,7 +20,6 @@ use Rattle.book.proofs.Keeping.{penalties_are}
 use Rattle.book.proofs.Judged.{same_penalties}
 use Rattle.book.proofs.Sets.{penalty_sets_are_exact}
 use Rattle.world.specs.declared.errors.EventError.{EventError}
-use Rattle.world.specs.declared.errors.EventError.TheVariants as errors
 use Rattle.world.specs.Worlds.{Node, channel_of, answer_to, after_call}
 use Rattle.world.specs.Refusing.{refusal_in, IsRefusal, IsEvent}
 use Rattle.world.specs.Keeping.{keep_refusal, IsSetFor, IsKept}

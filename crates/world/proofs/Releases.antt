@@ -1,5 +1,5 @@
 -- Why claims are not released together, and by which batch they are.
-use Rattle.std.proofs.Common.{◌≡◌, ℕ, ◌≤◌, Bool, true, false, List, [], ◌∷◌, map, take, drop, length, Option, Some, None, Result, Ok, Err, refl, sym, ap, subst, ◌∙◌, arith}
+use Rattle.std.proofs.Common.{◌≡◌, ℕ, ◌≤◌, true, false, List, [], ◌∷◌, map, take, length, Option, Some, None, Ok, refl, sym, ap, subst, ◌∙◌, arith}
 use Rattle.std.specs.Prelude.{slice_get, option_map, nat_lt, not}
 use Rattle.std.proofs.lemmas.Bool.Decides.{nat_tests}
 use Rattle.std.proofs.lemmas.Option.{none-some, same_Some}
@@ -19,7 +19,7 @@ use Rattle.world.specs.declared.errors.EventError.{EventError}
 use Rattle.world.specs.declared.errors.EventError.TheVariants as errors
 use Rattle.world.specs.declared.jobs.Job.{Job}
 use Rattle.world.specs.Worlds.{Node, channel_of, answer_to, after_call}
-use Rattle.world.specs.Refusing.{refusal_in, IsRefusal}
+use Rattle.world.specs.Refusing.{refusal_in}
 use Rattle.world.specs.Releasing.{are_of, value_of, claims_in, output_for, preimages_for, release_answer, refusal_of, is_no_count, release_refusal, without_taken, IsReady, IsReleased}
 
 pub first_of_map : {A B : Type 0} (f : A → B) (xs : List A) (x : A) → slice_get xs 0 ≡ Some x → slice_get (map f xs) 0 ≡ Some (f x)

@@ -1,5 +1,5 @@
 -- One side's step leaves the two books paired.
-use Rattle.std.proofs.Common.{◌≡◌, ℕ, zero, suc, List, [], ◌∷◌, ◌++◌, Option, Some, None, refl, sym, ap, ◌∙◌, subst}
+use Rattle.std.proofs.Common.{◌≡◌, ℕ, zero, suc, List, [], ◌∷◌, ◌++◌, Some, refl, sym, subst}
 use Rattle.std.specs.Prelude.{slice_get}
 use Rattle.std.proofs.lemmas.Option.{none-some, same_Some}
 use Rattle.terms.specs.declared.sides.Side.{Side}
@@ -8,7 +8,7 @@ use Rattle.terms.specs.Sides.{other}
 use Rattle.channel.specs.declared.messages.Message.{Message}
 use Rattle.channel.specs.Tokens.{peer_tokens}
 use Rattle.channel.specs.States.{State}
-use Rattle.channel.specs.Peers.{World, Acts, Steps, by_a, by_b, IsReached, then}
+use Rattle.channel.specs.Peers.{Acts, Steps, by_a, by_b, then}
 use Rattle.channel.specs.Playing.{placed}
 use Rattle.channel.specs.Agreeing.{IsPaired}
 use Rattle.book.specs.Books.{ChannelBook, Channels, at_index, with_state}

@@ -1,16 +1,12 @@
 -- Two books whose channels are the two sides of the same ones, with the messages on their way between them.
-use Rattle.std.specs.Prelude.{◌≡◌, ℕ, ◌∷◌, ◌++◌, List, [], Option, Some, None, slice_get, Result, Ok, true}
+use Rattle.std.specs.Prelude.{◌≡◌, ℕ, ◌∷◌, List, [], Some, slice_get, true}
 use Rattle.terms.specs.declared.sides.Side.{Side}
-use Rattle.terms.specs.declared.sides.Side.TheVariants.{A, B}
-use Rattle.terms.specs.Sides.{other}
 use Rattle.channel.specs.declared.messages.Message.{Message}
-use Rattle.channel.specs.declared.messages.Message.TheVariants.{Updated, CommitmentSigned, RevokeAndAck}
 use Rattle.channel.specs.Tokens.{peer_tokens}
-use Rattle.channel.specs.Points.{point_at}
 use Rattle.channel.specs.Playing.{placed}
 use Rattle.channel.specs.Agreeing.{IsPaired}
 use Rattle.book.specs.declared.calls.Entry.{Entry}
-use Rattle.book.specs.Books.{ChannelBook, Channels, at_index, replay}
+use Rattle.book.specs.Books.{Channels, replay}
 use Rattle.book.specs.Replies.{is_accepted, reply_of}
 use Rattle.world.specs.Refusing.{call_of}
 

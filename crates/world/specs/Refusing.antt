@@ -16,7 +16,7 @@ use Rattle.book.specs.declared.errors.KeepError.{KeepError}
 use Rattle.book.specs.declared.errors.KeepError.TheVariants.{NoMemory as keep_memory, NoSuchChannel as NoChannelToKeep}
 use Rattle.book.specs.declared.errors.ReleaseError.{ReleaseError}
 use Rattle.book.specs.declared.errors.ReleaseError.TheVariants.{Unfilled, NoSuchChannel as NoChannelToRelease}
-use Rattle.book.specs.Replies.{Reply, if_so, opened, stepped, signed, revoked, kept, released}
+use Rattle.book.specs.Replies.{Reply, if_so, stepped, signed, revoked, kept, released}
 use Rattle.world.specs.declared.errors.EventError.{EventError}
 use Rattle.world.specs.declared.errors.EventError.TheVariants.{NoMemory, NoSuchChannel, NoMessage, Channel, Sign, Keep, Fill}
 use Rattle.world.specs.Worlds.{Line, Node, answer_to, after_call, sent_to, received_by}
