@@ -258,7 +258,7 @@ fn push_some(preimages: &mut Vec<[u8; 32]>, preimage: Option<[u8; 32]>) -> Resul
 }
 
 /// The preimages of a channel's fulfils in these entries, in their order, each as often as it came. The only error is that memory ran out.
-pub(crate) fn preimages_in(
+pub fn preimages_in(
     alloc: Global,
     channel: u64,
     entries: &[Entry],

@@ -42,4 +42,5 @@ mod replaying;
 
 pub use calls::{Batch, Call, Entry, Opening, Step};
 pub use history::Book;
+pub use knowing::preimages_in;
 pub use limits::MAX_CHANNELS;
