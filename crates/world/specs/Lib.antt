@@ -1,4 +1,5 @@
 pub mod Enforcement
+pub mod Opening
 pub mod Worlds
 pub mod Refusing
 pub mod Releasing
@@ -6,3 +7,7 @@ pub mod Acts
 pub mod Beginning
 pub mod Keeping
 pub mod Pairing
+pub mod Looking
+pub mod Publishing
+pub mod Steps
+pub mod Theorem

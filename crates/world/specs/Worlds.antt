@@ -1,15 +1,16 @@
 -- The world of two sides: what each has, and the chain with its pool.
-use Rattle.std.specs.Prelude.{◌≡◌, ℕ, List, [], ◌∷◌, ◌++◌, drop, length, Option, slice_get}
+use Rattle.std.specs.Prelude.{◌≡◌, ℕ, List, [], ◌∷◌, ◌++◌, drop, length, map, Option, slice_get}
 use Rattle.std.specs.List.{AllByRecursion}
 use Rattle.tx.specs.Fields.{Transaction}
 use Rattle.terms.specs.declared.sides.Side.{Side}
 use Rattle.terms.specs.declared.sides.Side.TheVariants.{A, B}
-use Rattle.claim.specs.Claims.{IsAccepted}
+use Rattle.claim.specs.Claims.{ClaimParts, IsWhole}
 use Rattle.channel.specs.declared.messages.Message.{Message}
 use Rattle.channel.specs.Tokens.{peer_tokens}
 use Rattle.chain.specs.Blocks.{Standing}
 use Rattle.watch.specs.Watching.{Seen, nothing_seen}
 use Rattle.book.specs.declared.calls.Call.{Call}
+use Rattle.book.specs.declared.calls.Call.TheVariants.{Keep, Release}
 use Rattle.book.specs.declared.calls.Entry.{Entry}
 use Rattle.book.specs.Books.{ChannelBook, at_index, replay}
 use Rattle.book.specs.Replies.{Reply, reply_of, history_after}
@@ -31,11 +32,18 @@ pub record Node : Type 0 where
   pub jobs : List Job
   pub taken : List Job
 
+-- the claims of a call
+abbrev pub claims_by : Call → List ClaimParts
+claims_by (Keep c n claims) = claims
+claims_by (Release c batch) = batch.claims
+claims_by call = []
+
 -- what holds of each side: it has a line for each channel of its book, and its claims were accepted
 pub record IsNode (n : Node) : Type 0 where
   pub lines : length n.lines ≡ length (replay n.history)
-  pub jobs : AllByRecursion (λ j. IsAccepted j.claim) n.jobs
-  pub taken : AllByRecursion (λ j. IsAccepted j.claim) n.taken
+  pub called : AllByRecursion (λ e. AllByRecursion IsWhole (claims_by e.call)) n.history
+  pub jobs : AllByRecursion (λ j. IsWhole j.claim) n.jobs
+  pub taken : AllByRecursion (λ j. IsWhole j.claim) n.taken
 
 -- the two sides, the chain, the transactions that wait for a block, and the fillings that were ever released
 pub record World : Type 0 where
@@ -52,6 +60,15 @@ node_of B w = w.b
 abbrev pub with_node : Side → Node → World → World
 with_node A n w = record w { a = n }
 with_node B n w = record w { b = n }
+
+-- the world with another side, and another peer of it
+abbrev pub with_nodes : Side → Node → Node → World → World
+with_nodes A n peer w = record w { a = n; b = peer }
+with_nodes B n peer w = record w { a = peer; b = n }
+
+-- the messages on their way to a side, by channel
+abbrev pub inboxes : Node → List (List Message)
+inboxes n = map (λ l. l.inbox) n.lines
 
 -- a side's channel, where it is there
 abbrev pub channel_of : Node → ℕ → Option ChannelBook

@@ -5,6 +5,7 @@ ghost use Rattle.world.specs.declared.errors.EventError.TheVariants.{NoMemory};
 
 use book::errors::{KeepError, ReleaseError, SignError, StepError};
 use filling::FillError;
+use mempool::ReorgError;
 use std::alloc::{AllocError, AllocFailed};
 use thiserror::Error;
 use updates::Refusal;
@@ -89,6 +90,16 @@ impl EventError {
         }
     }
 
+    /// The refusal of blocks to give way.
+    pub(crate) fn of_reorg(error: ReorgError) -> EventError
+    {
+        match error {
+            ReorgError::NoMemory => EventError::NoMemory,
+            ReorgError::TooDeep => EventError::TooDeep,
+            ReorgError::NoSuchTx => EventError::NoSuchTx,
+        }
+    }
+
     /// The refusal of a release.
     pub(crate) fn of_release(error: ReleaseError) -> EventError
         ensures { result ≡ by_release error }
@@ -116,5 +127,24 @@ impl<T: Drop> From<AllocFailed<T>> for EventError {
 
     fn from(_error: AllocFailed<T>) -> EventError {
         EventError::NoMemory
+    }
+}
+
+/// Why a world does not begin.
+#[derive(Debug, Drop, Error)]
+pub enum WorldError {
+    /// Memory ran out.
+    #[error("NoMemory")]
+    NoMemory,
+    /// The two sides can't agree on the terms of the channel of this index.
+    #[error("BadTerms {0}")]
+    BadTerms(usize),
+}
+
+impl From<AllocError> for WorldError {
+    ghost from_gives = { λ _ e. e ≡ NoMemory };
+
+    fn from(_error: AllocError) -> WorldError {
+        WorldError::NoMemory
     }
 }

@@ -1,0 +1,127 @@
+-- One event of the world, by cases; and a run of events.
+use Rattle.std.specs.Prelude.{◌≡◌, ℕ, ◌-◌, List, [], ◌∷◌, ◌++◌, length, option_map, Option, Some, None, Ok, slice_get}
+use Rattle.tx.specs.Fields.{Transaction}
+use Rattle.terms.specs.declared.sides.Side.{Side}
+use Rattle.terms.specs.declared.sides.Side.TheVariants.{A, B}
+use Rattle.terms.specs.Sides.{other}
+use Rattle.texts.specs.declared.events.Event.{Event}
+use Rattle.texts.specs.declared.events.Event.TheVariants as events
+use Rattle.texts.specs.declared.steps.OwnUpdate.{OwnUpdate}
+use Rattle.texts.specs.declared.steps.OwnUpdate.TheVariants.{Offer, Fulfil, Fail, SetFee}
+use Rattle.chain.specs.Blocks.{height_of}
+use Rattle.mempool.specs.declared.errors.ReorgError.{ReorgError}
+use Rattle.mempool.specs.declared.errors.ReorgError.TheVariants as reorgs
+use Rattle.mempool.specs.Mining.{Mined, mined_by, reorganised}
+use Rattle.mempool.specs.Reorganising.{reorg_refusal}
+use Rattle.book.specs.declared.calls.Call.{Call}
+use Rattle.book.specs.declared.calls.Call.TheVariants as calls
+use Rattle.book.specs.declared.calls.Step.TheVariants.{Own}
+use Rattle.world.specs.declared.errors.EventError.{EventError}
+use Rattle.world.specs.declared.errors.EventError.TheVariants.{NoMemory, TooDeep, NoSuchTx}
+use Rattle.world.specs.declared.outcomes.Outcome.{Outcome}
+use Rattle.world.specs.declared.outcomes.Outcome.TheVariants.{Done, Looked, Mined as MinedBlocks, Refused}
+use Rattle.world.specs.Worlds.{World, Node, node_of, with_node, with_nodes, channel_of, after_call}
+use Rattle.world.specs.Refusing.{sending_refusal, sent_by, oldest_in, delivery_refusal, delivered, answered}
+use Rattle.world.specs.Keeping.{keep_refusal, IsKept}
+use Rattle.world.specs.Publishing.{preimages_known, commitment_in, htlc_tx_in, refusal_by}
+use Rattle.world.specs.Releasing.{take_refusal, with_taken, release_refusal, IsReleased}
+use Rattle.world.specs.Looking.{Looks, back_to}
+
+-- ---- calls of a book of which the peer is to hear
+
+abbrev pub own_call : ℕ → OwnUpdate → Call
+own_call c u = calls.Step c (Own u)
+
+-- why a side does not make a call in a channel, and the world once it did: the message is on its way to the peer
+abbrev pub call_refusal : Side → ℕ → Call → World → Option EventError
+call_refusal s c call w = sending_refusal c call (node_of s w) (node_of (other s) w)
+
+abbrev pub called : Side → ℕ → Call → World → World
+called s c call w = with_nodes s (after_call call (node_of s w)) (sent_by c call (node_of s w) (node_of (other s) w)) w
+
+-- why a side does not receive its oldest message in a channel, and the world once it did: the answer is on its way to the peer
+abbrev pub receipt_refusal : Side → ℕ → World → Option EventError
+receipt_refusal s c w = delivery_refusal c (oldest_in (slice_get (node_of s w).lines c)) (node_of s w) (node_of (other s) w)
+
+abbrev pub received : Side → ℕ → World → World
+received s c w =
+    let message = oldest_in (slice_get (node_of s w).lines c) in
+    with_nodes s (delivered c message (node_of s w)) (answered c message (node_of s w) (node_of (other s) w)) w
+
+-- ---- the chain and its pool
+
+-- a transaction waits for a block
+abbrev pub with_waiting : Transaction → World → World
+with_waiting t w = record w { pool = w.pool ++ t ∷ [] }
+
+-- a filling was released, and waits
+abbrev pub with_released : Transaction → World → World
+with_released t w = record w { pool = w.pool ++ t ∷ []; released = w.released ++ t ∷ [] }
+
+-- the chain has other blocks, and the pool what still waits
+abbrev pub with_mined : Mined → World → World
+with_mined m w = record w { chain = m.chain; pool = m.waiting }
+
+abbrev pub blocks_outcome : Mined → Outcome
+blocks_outcome m = MinedBlocks (height_of m.chain.blocks) m.txs
+
+-- both sides' watches go back to a height
+abbrev pub both_back : ℕ → World → World
+both_back height w = record w { a = back_to height w.a; b = back_to height w.b }
+
+abbrev pub by_reorg : ReorgError → EventError
+by_reorg reorgs.NoMemory = NoMemory
+by_reorg reorgs.TooDeep = TooDeep
+by_reorg reorgs.NoSuchTx = NoSuchTx
+
+-- ---- one event
+
+-- why an event is refused, memory aside
+abbrev pub refusal_of : World → Event → Option EventError
+refusal_of w (events.Offer s c amount hash expiry) = call_refusal s c (own_call c (Offer amount hash expiry)) w
+refusal_of w (events.Fulfil s c id preimage) = call_refusal s c (own_call c (Fulfil id preimage)) w
+refusal_of w (events.Fail s c id) = call_refusal s c (own_call c (Fail id)) w
+refusal_of w (events.Fee s c rate) = call_refusal s c (own_call c (SetFee rate)) w
+refusal_of w (events.Sign s c) = call_refusal s c (calls.Sign c) w
+refusal_of w (events.Deliver s c) = receipt_refusal s c w
+refusal_of w (events.Keep s c n) = keep_refusal n (channel_of (node_of s w) c)
+refusal_of w (events.Broadcast s c n) = refusal_by (commitment_in n (channel_of (node_of s w) c))
+refusal_of w (events.BroadcastHtlc s c n k) = refusal_by (htlc_tx_in n k (preimages_known c (node_of s w)) (channel_of (node_of s w) c))
+refusal_of w (events.Blocks k) = None
+refusal_of w (events.Look s) = None
+refusal_of w (events.Take s k) = take_refusal k (node_of s w)
+refusal_of w (events.Release s k) = release_refusal k (node_of s w)
+refusal_of w (events.Reorg depth forgotten) = option_map by_reorg (reorg_refusal w.chain depth forgotten)
+
+-- what happens where nothing refuses the event
+pub data Happens (w : World) : Event → World → Outcome → Type 0 where
+  offers : {s : Side} {c amount : ℕ} {hash : List ℕ} {expiry : ℕ}
+      → Happens w (events.Offer s c amount hash expiry) (called s c (own_call c (Offer amount hash expiry)) w) Done
+  fulfils : {s : Side} {c id : ℕ} {preimage : List ℕ} → Happens w (events.Fulfil s c id preimage) (called s c (own_call c (Fulfil id preimage)) w) Done
+  fails : {s : Side} {c id : ℕ} → Happens w (events.Fail s c id) (called s c (own_call c (Fail id)) w) Done
+  sets_fee : {s : Side} {c rate : ℕ} → Happens w (events.Fee s c rate) (called s c (own_call c (SetFee rate)) w) Done
+  signs : {s : Side} {c : ℕ} → Happens w (events.Sign s c) (called s c (calls.Sign c) w) Done
+  receives : {s : Side} {c : ℕ} → Happens w (events.Deliver s c) (received s c w) Done
+  keeps : {s : Side} {c n : ℕ} {after : Node} → IsKept (node_of s w) c n after → Happens w (events.Keep s c n) (with_node s after w) Done
+  broadcasts : {s : Side} {c n : ℕ} {t : Transaction} → commitment_in n (channel_of (node_of s w) c) ≡ Ok t → Happens w (events.Broadcast s c n) (with_waiting t w) Done
+  broadcasts_htlc : {s : Side} {c n k : ℕ} {t : Transaction} → htlc_tx_in n k (preimages_known c (node_of s w)) (channel_of (node_of s w) c) ≡ Ok t
+      → Happens w (events.BroadcastHtlc s c n k) (with_waiting t w) Done
+  mines : {k : ℕ} {m : Mined} → m ≡ mined_by k w.chain w.pool → Happens w (events.Blocks k) (with_mined m w) (blocks_outcome m)
+  looks : {s : Side} {after : Node} {count : ℕ} → Looks w.chain.blocks (node_of s w) after count → Happens w (events.Look s) (with_node s after w) (Looked count)
+  takes : {s : Side} {k : ℕ} → Happens w (events.Take s k) (with_node s (with_taken k (node_of s w)) w) Done
+  releases : {s : Side} {k : ℕ} {after : Node} {t : Transaction} → IsReleased k (node_of s w) after t
+      → Happens w (events.Release s k) (with_released t (with_node s after w)) Done
+  reorganises : {depth forgotten : ℕ} {m : Mined} → m ≡ reorganised depth forgotten w.chain w.pool w.released
+      → Happens w (events.Reorg depth forgotten) (both_back (height_of w.chain.blocks - depth) (with_mined m w)) (blocks_outcome m)
+
+-- one event: it happens where nothing refuses it; a refused one leaves the world as it was and, memory aside, names the first condition that holds
+pub data WorldSteps (w : World) (e : Event) : World → Outcome → Type 0 where
+  happens : {after : World} {o : Outcome} → refusal_of w e ≡ None → Happens w e after o → WorldSteps w e after o
+  refuses : {r : EventError} → refusal_of w e ≡ Some r → WorldSteps w e w (Refused r)
+  runs_out : WorldSteps w e w (Refused NoMemory)
+
+-- a run: each event of a list with what became of it, and the world at each moment, the first and the last included
+pub data Runs : World → List Event → List Outcome → List World → World → Type 0 where
+  ends : {w : World} → Runs w [] [] (w ∷ []) w
+  goes_on : {w v end : World} {e : Event} {es : List Event} {o : Outcome} {os : List Outcome} {moments : List World}
+      → WorldSteps w e v o → Runs v es os moments end → Runs w (e ∷ es) (o ∷ os) (w ∷ moments) end

@@ -1,0 +1,71 @@
+-- The Enforcement theorem: what holds at every moment of every run of the world of two sides, whatever the events are. A stranger reads this file first, then `Steps.antt` for what an event is, and
+-- `Enforcement.antt` for what 'due' and 'passes' mean.
+--
+-- Over every interleaving of channel steps, blocks, reorganisations, broadcasts, looks and releases: every filling of an accepted claim, once its output is unspent and its height and age are
+-- reached, passes the chain's test of its input and runs to one true value with no missing operand, failed check or open branch, within 201 counted opcodes and 1,000 entries; and after a
+-- received revocation no commitment is signed until verified penalties for every claimable output are kept.
+use Rattle.std.specs.Prelude.{◌≡◌, ◌⊎◌, ℕ, true, List, [], ◌∷◌, ◌++◌, length, map, Some, slice_get}
+use Rattle.std.specs.List.{AllByRecursion, flat_map}
+use Rattle.tx.specs.declared.input.TxIn.{TxIn}
+use Rattle.tx.specs.Fields.{Transaction}
+use Rattle.terms.specs.declared.sides.Side.{Side}
+use Rattle.terms.specs.declared.sides.Side.TheVariants.{A}
+use Rattle.claim.specs.Claims.{ClaimParts, IsWhole}
+use Rattle.channel.specs.declared.messages.Message.{Message}
+use Rattle.channel.specs.Tokens.{peer_tokens}
+use Rattle.texts.specs.declared.events.Event.{Event}
+use Rattle.texts.specs.declared.events.Event.TheVariants.{Deliver}
+use Rattle.book.specs.declared.calls.Entry.{Entry}
+use Rattle.book.specs.Accepted.{all_accepted, IsHistory}
+use Rattle.book.specs.Guarding.{is_guarded}
+use Rattle.book.specs.Replies.{is_accepted}
+use Rattle.world.specs.declared.errors.EventError.{EventError}
+use Rattle.world.specs.declared.errors.EventError.TheVariants.{NoSuchChannel, NoMessage}
+use Rattle.world.specs.declared.outcomes.Outcome.{Outcome}
+use Rattle.world.specs.declared.jobs.Job.{Job}
+use Rattle.world.specs.Worlds.{World, Node, IsNode, claims_by, node_of, inboxes, answer_to}
+use Rattle.world.specs.Refusing.{call_of}
+use Rattle.world.specs.Pairing.{AgreeBy}
+use Rattle.world.specs.Enforcement.{IsDue, Passes}
+use Rattle.world.specs.Steps.{refusal_of, WorldSteps, Runs}
+
+-- the claims that a side has: those that its book keeps and released, those that wait as jobs, and those that were taken
+abbrev pub claims_of : Node → List ClaimParts
+claims_of n = flat_map (λ e. claims_by e.call) n.history ++ map (λ j. j.claim) (n.jobs ++ n.taken)
+
+-- at a moment
+pub record HoldsAt (w : World) : Type 0 where
+  -- each call in both books was accepted after those before it, and no signature stands after a revocation in its channel without the penalties kept between them (what that means, entry by
+  -- entry, is `GuardedMeans` of `book/specs/Guarding.antt`)
+  pub accepted : (s : Side) → all_accepted peer_tokens (node_of s w).history ≡ true
+  pub guarded : (s : Side) → is_guarded (node_of s w).history ≡ true
+  -- each claim that a side has is an accepted one
+  pub claims : (s : Side) → AllByRecursion IsWhole (claims_of (node_of s w))
+  -- whatever fits an accepted claim passes the chain's test for the next block and runs clean, once it is due
+  pub opens : (x : ClaimParts) (t : Transaction) (input : TxIn) → IsWhole x → (due : IsDue w.chain.blocks (length w.chain.blocks) x t input)
+      → Passes w.chain.blocks (length w.chain.blocks) x t input due
+  -- the oldest message on its way to a side is taken by its book, so a delivery is refused only where there is no channel or no message
+  pub takes : (s : Side) (c : ℕ) (m : Message) (rest : List Message) → slice_get (inboxes (node_of s w)) c ≡ Some (m ∷ rest) → is_accepted (answer_to (node_of s w) (call_of c m)) ≡ true
+  pub delivers : (s : Side) (c : ℕ) (r : EventError) → refusal_of w (Deliver s c) ≡ Some r → (r ≡ NoSuchChannel) ⊎ (r ≡ NoMessage)
+
+-- what `play` did: a run of the events, at each moment of which all of this holds
+pub record IsPlay (w : World) (es : List Event) (os : List Outcome) (end : World) : Type 0 where
+  pub moments : List World
+  pub runs : Runs w es os moments end
+  pub holds : AllByRecursion HoldsAt moments
+
+-- ---- why it holds
+
+-- what is kept from event to event: the histories are those of calls, and the books are two sides of the same channels with the messages on their way
+pub record IsWorld (w : World) : Type 0 where
+  pub a : IsNode w.a
+  pub b : IsNode w.b
+  pub a_called : IsHistory peer_tokens w.a.history
+  pub b_called : IsHistory peer_tokens w.b.history
+  pub agree : AgreeBy A w.a.history w.b.history (inboxes w.a) (inboxes w.b)
+
+abbrev pub StepsKeep : Type 0
+StepsKeep = (w v : World) (e : Event) (o : Outcome) → IsWorld w → WorldSteps w e v o → IsNode v.a → IsNode v.b → IsWorld v
+
+abbrev pub WorldsHold : Type 0
+WorldsHold = (w : World) → IsWorld w → HoldsAt w

@@ -1,0 +1,49 @@
+//! What a side broadcasts.
+
+use crate::errors::EventError;
+use crate::nodes::Node;
+use book::preimages_in;
+use publish::{signed_commitment, signed_htlc_tx};
+use std::alloc::{AllocError, Global};
+use tx::Tx;
+
+/// A side's commitment of a number with both signatures: NoSuchChannel, NoSuchTx.
+pub(crate) fn commitment(
+    alloc: Global,
+    me: &Node,
+    channel: u64,
+    number: u64,
+) -> Result<Tx, EventError> {
+    let Some(state) = me.book.channel(channel) else {
+        return Err(EventError::NoSuchChannel);
+    };
+    match signed_commitment(alloc, state, number)? {
+        Some(tx) => Ok(tx),
+        None => Err(EventError::NoSuchTx),
+    }
+}
+
+// The preimages that a side knows in a channel: those of its fulfils, and those that blocks showed it.
+fn preimages_known(alloc: Global, me: &Node, channel: u64) -> Result<Vec<[u8; 32]>, AllocError> {
+    let mut preimages = preimages_in(alloc, channel, me.book.entries())?;
+    preimages.extend_from_slice(&me.learnt)?;
+    Ok(preimages)
+}
+
+/// The HTLC transaction of the HTLC of an index among those untrimmed of a side's commitment of a number: NoSuchChannel, NoSuchTx.
+pub(crate) fn htlc_tx(
+    alloc: Global,
+    me: &Node,
+    channel: u64,
+    number: u64,
+    htlc: u64,
+) -> Result<Tx, EventError> {
+    let Some(state) = me.book.channel(channel) else {
+        return Err(EventError::NoSuchChannel);
+    };
+    let preimages = preimages_known(alloc, me, channel)?;
+    match signed_htlc_tx(alloc, state, number, htlc as usize, &preimages)? {
+        Some(tx) => Ok(tx),
+        None => Err(EventError::NoSuchTx),
+    }
+}
