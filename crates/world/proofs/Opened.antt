@@ -169,11 +169,11 @@ openings_are_taken seeds c seat t side o history h funding l same =
     let chs = replay history in
     let count : length chs ≡ c = count_fundings chs ∙ ap length same ∙ count_grants c in
     let reply : reply_of peer_tokens history (Call.Open o) ≡ opened (Ok c) =
-      ap (λ r. opened (unless (λ e. e) r (length chs))) (not_refused seeds c side t o chs h funding l same) ∙ ap (λ n. opened (Ok n)) count in
+    ap (λ r. opened (unless (λ e. e) r (length chs))) (not_refused seeds c side t o chs h funding l same) ∙ ap (λ n. opened (Ok n)) count in
     let channels : replay (history_after peer_tokens history seat (Call.Open o)) ≡ chs ++ opened_by o ∷ [] =
-      ap (λ r. replay (extended (is_accepted r) history seat (Call.Open o))) reply ∙ replay_more history (record { seat = seat; call = Call.Open o }) in (
+    ap (λ r. replay (extended (is_accepted r) history seat (Call.Open o))) reply ∙ replay_more history (record { seat = seat; call = Call.Open o }) in (
       reply,
       channels,
       ap fundings_of channels ∙ map-append (λ (ch : ChannelBook). ch.state.held.terms.funding) chs (opened_by o ∷ [])
-      ∙ ap (λ xs. xs ++ o.terms.funding ∷ []) same ∙ ap (λ p. first_grants c ++ p ∷ []) (ap (λ (u : Terms). u.funding) h.terms_is ∙ funding),
+          ∙ ap (λ xs. xs ++ o.terms.funding ∷ []) same ∙ ap (λ p. first_grants c ++ p ∷ []) (ap (λ (u : Terms). u.funding) h.terms_is ∙ funding),
     )

@@ -107,7 +107,7 @@ pub data Happens (w : World) : Event → World → Outcome → Type 0 where
   broadcasts_htlc : {s : Side} {c n k : ℕ} {t : Transaction} → htlc_tx_in n k (preimages_known c (node_of s w)) (channel_of (node_of s w) c) ≡ Ok t
       → Happens w (events.BroadcastHtlc s c n k) (with_waiting t w) Done
   mines : {k : ℕ} {m : Mined} → m ≡ mined_by k w.chain w.pool → Happens w (events.Blocks k) (with_mined m w) (blocks_outcome m)
-  looks : {s : Side} {after : Node} {count : ℕ} → Looks w.chain.blocks (node_of s w) after count → Happens w (events.Look s) (with_node s after w) (Looked count)
+  looks : {s : Side} {after : Node} {count : ℕ} → Looks (node_of s w) w.chain.blocks after count → Happens w (events.Look s) (with_node s after w) (Looked count)
   takes : {s : Side} {k : ℕ} → Happens w (events.Take s k) (with_node s (with_taken k (node_of s w)) w) Done
   releases : {s : Side} {k : ℕ} {after : Node} {t : Transaction} → IsReleased k (node_of s w) after t
       → Happens w (events.Release s k) (with_released t (with_node s after w)) Done

@@ -91,8 +91,7 @@ impl EventError {
     }
 
     /// The refusal of blocks to give way.
-    pub(crate) fn of_reorg(error: ReorgError) -> EventError
-    {
+    pub(crate) fn of_reorg(error: ReorgError) -> EventError {
         match error {
             ReorgError::NoMemory => EventError::NoMemory,
             ReorgError::TooDeep => EventError::TooDeep,

@@ -1,12 +1,16 @@
 //! What a side reads in blocks.
 
+ghost use Rattle.std.specs.Prelude.{◌≡◌, MatchResult};
+ghost use Rattle.world.specs.declared.errors.EventError.TheVariants.{NoMemory};
+ghost use Rattle.world.specs.Looking.{Looks, back_to};
+
 use crate::errors::EventError;
 use crate::jobs::Job;
 use crate::nodes::Node;
 use book::errors::KnowError;
 use chain::{Block, Coins, Index};
-use digest::sha256;
 use claim::{Claim, Slot};
+use digest::sha256;
 use lists::List;
 use resolve::Known;
 use std::alloc::{AllocError, Global};
@@ -120,7 +124,9 @@ fn read_blocks(alloc: Global, me: &mut Node, chain: &Index) -> Result<(), AllocE
 }
 
 /// The watches of a side forget the blocks above a height, which takes no memory.
-pub(crate) fn back(me: &mut Node, height: u64) {
+pub(crate) fn back(me: &mut Node, height: u64)
+    ensures { me.new ≡ back_to height me.old }
+{
     for line in me.lines.iter_mut() {
         line.watch.back(height);
     }
@@ -128,7 +134,9 @@ pub(crate) fn back(me: &mut Node, height: u64) {
 }
 
 /// A side reads all blocks that it has not read, and what is due becomes jobs, block by block and channel by channel. It gives how many.
-pub(crate) fn look(alloc: Global, me: &mut Node, chain: &Index) -> Result<u64, EventError> {
+pub(crate) fn look(alloc: Global, me: &mut Node, chain: &Index) -> Result<u64, EventError>
+    ensures { MatchResult result (λ k. Looks me.old chain.now.blocks me.new k) (λ e. (e ≡ NoMemory) × (me.new ≡ me.old)) }
+{
     let jobs = me.jobs.len();
     let learnt = me.learnt.len();
     match read_blocks(alloc, me, chain) {

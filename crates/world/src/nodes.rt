@@ -61,7 +61,7 @@ impl Node {
     ghost use Rattle.std.specs.Prelude.{◌≡◌, [], Ok, IfOk};
     ghost use Rattle.book.specs.declared.calls.Call.TheVariants.{Step as Stepping, Sign as Signing, Revoke as Revoking, Keep as Keeping, Release as Releasing};
     ghost use Rattle.book.specs.Replies.{released};
-    ghost use Rattle.world.specs.Worlds.{answer_to, after_call};
+    ghost use Rattle.world.specs.Worlds.{IsNode, answer_to, after_call};
     ghost use Rattle.world.specs.Beginning.{IsOpened};
     ghost use Rattle.world.specs.Refusing.{refusal_in, IsEvent, IsAnswered};
 
@@ -78,6 +78,11 @@ impl Node {
             taken: VecDeque::new(alloc),
         }
     }
+
+    /// What holds of it.
+    pub(crate) fn holds(&self)
+        ensures { IsNode self.now }
+    {}
 
     /// Its book opens a channel, of which it has nothing yet beside it: the refusal of the book. A refusal leaves the side as it was.
     pub(crate) fn open(&mut self, alloc: Global, opening: Opening) -> Result<(), OpenError>

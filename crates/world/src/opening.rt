@@ -9,13 +9,13 @@ ghost use Rattle.book.specs.Bounds.{IsSeedOf};
 ghost use Rattle.book.specs.Openings.{bases_of, party_of as party_with};
 ghost use Rattle.world.specs.Opening.{channel_seed as seed_for, funding_if_within, AreTermsOf, HaveKeys, IsOpeningOf};
 
-use scenario::Seeds;
 use book::Opening;
 use channel::{opening_points, opening_token};
 use digest::sha256;
 use forms::{funding, patterns};
 use keys::{Base, Key, Signer};
 use lists::ByteString;
+use scenario::Seeds;
 use sha2::{Digest, Sha256};
 use std::alloc::{AllocError, Global};
 use terms::{BaseKeys, Party, Side, Terms};

@@ -6,7 +6,8 @@ use crate::outcomes::Outcome;
 use crate::{delivering, keeping, looking, publishing, releasing};
 use chain::{Coins, Index};
 use mempool::{mine, reorganise};
-use std::alloc::{AllocError, Global};
+use std::alloc::Global;
+use std::marker::Model;
 use terms::Side;
 use texts::{Event, OwnUpdate};
 use tx::Tx;
@@ -24,9 +25,32 @@ pub(crate) struct Parts {
     pub(crate) released: Vec<Tx>,
 }
 
+impl Model for Parts {
+    ghost use Rattle.world.specs.Worlds.{World as WorldParts};
+
+    ghost Value = { WorldParts };
+
+    ghost view = { λ p. record { a = p.a; b = p.b; chain = p.chain; pool = p.pool.items; released = p.released.items } };
+}
+
 impl Parts {
+    ghost use Rattle.std.specs.Prelude.{◌≡◌};
+    ghost use Rattle.world.specs.Worlds.{IsNode, node_of};
+    ghost use Rattle.world.specs.Steps.{WorldSteps};
+
+    /// What holds of both sides.
+    pub(crate) fn hold_both(&self)
+        ensures a { IsNode self.now.a }
+        ensures b { IsNode self.now.b }
+    {
+        self.a.holds();
+        self.b.holds();
+    }
+
     /// A side.
-    pub(crate) fn node(&self, side: Side) -> &Node {
+    pub(crate) fn node(&self, side: Side) -> &Node
+        ensures { result.now ≡ node_of side self.now }
+    {
         match side {
             Side::A => &self.a,
             Side::B => &self.b,
@@ -228,7 +252,9 @@ impl Parts {
     }
 
     /// Plays one event. A refused one leaves all as it was.
-    pub(crate) fn step(&mut self, event: &Event) -> Outcome {
+    pub(crate) fn step(&mut self, event: &Event) -> Outcome
+        ensures { WorldSteps self.old event.now self.new result }
+    {
         match self.outcome_of(event) {
             Ok(outcome) => outcome,
             Err(error) => Outcome::Refused(error),

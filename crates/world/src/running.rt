@@ -1,9 +1,9 @@
 //! The program that plays a scenario.
 
 use crate::errors::WorldError;
-use scenario::{Scenario, ScenarioError};
 use crate::texts_of::text_of;
 use crate::worlds::World;
+use scenario::{Scenario, ScenarioError};
 use std::alloc::{AllocError, Global};
 use std::io::{Read, Write};
 use std::{fmt, io};
