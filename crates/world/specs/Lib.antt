@@ -1,5 +1,4 @@
 pub mod Enforcement
-pub mod Opening
 pub mod Worlds
 pub mod Refusing
 pub mod Releasing

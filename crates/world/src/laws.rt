@@ -1,7 +1,6 @@
 //! The Enforcement theorem, as laws over the definitions alone.
 
 ghost use Rattle.world.specs.Enforcement.{ClaimsOpen, LocksAreHeights};
-ghost use Rattle.world.specs.Opening.{FundingsAreSpent, OpeningsArePaired, OpeningsAreTaken};
 ghost use Rattle.world.specs.Pairing.{DeliveriesAreTaken};
 
 use channel::laws::peers_agree;
@@ -17,14 +16,6 @@ pub fn claims_open()
     // The proof takes from it what is so of each claim, without a chain.
     accepted_claims_open();
 }
-
-/// What both sides open is one channel: its commitments spend its funding output, the two books' channels are the two ends of it with nothing on its way, and neither book refuses its
-/// opening where the channels before it stand on the first grants of a chain.
-pub fn openings_agree()
-    ensures spent { FundingsAreSpent }
-    ensures paired { OpeningsArePaired }
-    ensures taken { OpeningsAreTaken }
-{}
 
 /// The books of the two sides agree: where each channel of the one and the same channel of the other are what steps of two honest peers leave of a new channel, with the
 /// messages on their way, the oldest message on its way to either is taken. So no delivery is refused for its signature.

@@ -21,18 +21,14 @@ pub mod laws;
 mod limits;
 mod looking;
 mod nodes;
-mod opening;
 mod outcomes;
 mod parts;
 mod publishing;
 mod releasing;
-mod running;
 #[cfg(test)]
 mod tests;
-mod texts_of;
 mod worlds;
 
 pub use claimed::check_claimed;
 pub use outcomes::Outcome;
-pub use running::run;
 pub use worlds::World;
