@@ -1,5 +1,5 @@
 -- What a watch of one channel has read and given, and what it gives after a block.
-use Rattle.std.specs.Prelude.{◌≡◌, ℕ, Bool, ◌&&◌, ◌==◌, if◌then◌else◌, nat_le, List, [], ◌∷◌, ◌++◌, map, filter}
+use Rattle.std.specs.Prelude.{◌≡◌, ℕ, Bool, ◌&&◌, ◌||◌, ◌==◌, if◌then◌else◌, not, nat_le, length, List, [], ◌∷◌, ◌++◌, map, filter}
 use Rattle.std.specs.List.{list_any, flat_map}
 use Rattle.tx.specs.declared.input.OutPoint.{OutPoint}
 use Rattle.tx.specs.Fields.{Transaction}
@@ -30,6 +30,10 @@ spend_at height t = record { height = height; tx = t }
 
 abbrev pub spends_in : OutPoint → ℕ → List Transaction → List Spend
 spends_in funding height txs = map (spend_at height) (filter (names funding) txs)
+
+-- a transaction that spends the output was read, or is one of these
+abbrev pub is_spent : OutPoint → Seen → List Transaction → Bool
+is_spent funding seen txs = not (length seen.spends == 0) || list_any (names funding) txs
 
 -- all that were read, once a block is
 abbrev pub spends_after : Seen → ℕ → List Transaction → Known → List Spend

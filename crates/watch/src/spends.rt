@@ -17,6 +17,21 @@ pub struct Spend {
     pub tx: Tx,
 }
 
+impl Spend {
+    ghost use Rattle.std.specs.Prelude.{◌≡◌, IfOk};
+
+    /// An equal one. The only error is that memory ran out.
+    pub fn copy(&self) -> Result<Spend, AllocError>
+        ensures { IfOk result (λ s. s ≡ self.now) }
+    {
+        let tx = self.tx.copy()?;
+        Ok(Spend {
+            height: self.height,
+            tx,
+        })
+    }
+}
+
 /// Whether two outpoints are one.
 pub(crate) fn same_outpoint(o: &OutPoint, p: &OutPoint) -> bool
     ensures { result ≡ same_outpoint o.now p.now }
@@ -31,6 +46,13 @@ fn some_input_names(inputs: &[TxIn], outpoint: &OutPoint) -> bool
     inputs
         .iter()
         .any(|input| same_outpoint(&input.outpoint, outpoint))
+}
+
+/// Whether one of the transactions spends an output.
+pub(crate) fn some_spends(funding: &OutPoint, txs: &[Confirmed]) -> bool
+    ensures { result ≡ list_any (names funding.now) txs.now }
+{
+    txs.iter().any(|confirmed| some_input_names(confirmed.tx().inputs(), funding))
 }
 
 // A transaction that spends an output goes to the end.

@@ -5,13 +5,14 @@ ghost use Rattle.watch.specs.Watching.{Extends, spends_in, claims_after, given_a
 ghost use Rattle.watch.specs.Sights.{IsSight};
 
 use crate::learning::{htlcs_by, learnt_in};
-use crate::spends::{Spend, push_spends};
+use crate::spends::{Spend, push_spends, some_spends};
 use crate::unclaimed::{Given, due_by, push_unclaimed};
 use chain::{Block, Confirmed};
 use claim::Claim;
 use resolve::Known;
 use std::alloc::{AllocError, Global};
 use std::marker::Model;
+use tx::OutPoint;
 
 /// What a watch of one channel has read that matters, and what it gave: the transactions that spend the funding output and the claims, each in order and
 /// with the height of its block.
@@ -62,9 +63,20 @@ fn read(
     Ok(Sight { claims, learnt })
 }
 
+// Equal spends. The only error is that memory ran out.
+fn copied_spends(alloc: Global, spends: &[Spend]) -> Result<Vec<Spend>, AllocError>
+    ensures { IfOk result (λ copies. copies.items ≡ spends.now) }
+{
+    let mut copies = Vec::new(alloc);
+    for spend in spends {
+        copies.push(spend.copy()?)?;
+    }
+    Ok(copies)
+}
+
 impl Watch {
     ghost use Rattle.std.specs.Prelude.{◌≡◌, reverse, IfOk, OnOk, OnErr};
-    ghost use Rattle.watch.specs.Watching.{nothing_seen, seen_after, seen_up_to};
+    ghost use Rattle.watch.specs.Watching.{nothing_seen, is_spent, seen_after, seen_up_to};
     ghost use Rattle.watch.specs.Sights.{IsSight};
 
     /// A watch that has read no block.
@@ -75,6 +87,23 @@ impl Watch {
             spends: Vec::new(alloc),
             given: Vec::new(alloc),
         }
+    }
+
+    /// A watch that has read and given the same. The only error is that memory ran out.
+    pub fn copy(&self) -> Result<Watch, AllocError>
+        ensures { IfOk result (λ w. w ≡ self.now) }
+    {
+        let alloc = *self.spends.allocator();
+        let spends = copied_spends(alloc, &self.spends)?;
+        let given = Vec::from_slice(alloc, &self.given)?;
+        Ok(Watch { spends, given })
+    }
+
+    /// Whether a transaction that spends the funding output was read or stands in this block. Where none does, a look at the block gives nothing.
+    pub fn is_spent(&self, funding: &OutPoint, block: &Block) -> bool
+        ensures { result ≡ is_spent funding.now self.now (reverse block.now.transactions) }
+    {
+        !self.spends.is_empty() || some_spends(funding, block.transactions())
     }
 
     /// Reads the block at a height, above the blocks that it read before. It gives, for each transaction read so far that spends the funding output, in
