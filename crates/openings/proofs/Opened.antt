@@ -1,10 +1,10 @@
 -- What is so of the channels that are opened.
-use Rattle.std.proofs.Common.{◌≡◌, ℕ, zero, suc, ◌+◌, ◌*◌, ◌<◌, ◌≤◌, Bool, true, false, true≢false, not, ◌&&◌, ◌||◌, nat_le, List, [], ◌∷◌, ◌++◌, length, map, Option, Some, None, refl, sym, ap, ◌∙◌, subst, arith, length-append}
-use Rattle.std.specs.Prelude.{◌==◌, nat_lt, if◌then◌else◌, Ok, Err}
+use Rattle.std.proofs.Common.{◌≡◌, ℕ, zero, suc, ◌<◌, Bool, true, false, not, ◌||◌, nat_le, List, [], ◌∷◌, ◌++◌, length, Some, None, refl, sym, ap, ◌∙◌, subst, arith, length-append}
+use Rattle.std.specs.Prelude.{nat_lt, if◌then◌else◌, Ok, Err}
 use Rattle.std.specs.Result.{result_ok}
 use Rattle.std.specs.List.{list_any}
 use Rattle.std.specs.Str.{bytes_eq}
-use Rattle.std.proofs.lemmas.Bool.{and_parts, leb-true, eqb-true}
+use Rattle.std.proofs.lemmas.Bool.{leb-true}
 use Rattle.std.proofs.lemmas.List.{reverse-append, map-append}
 use Rattle.std.proofs.lemmas.Slice.Eq.{bytes_eq-Decides}
 use Rattle.script.specs.Spelling.{spelling}
@@ -14,12 +14,9 @@ use Rattle.tx.specs.declared.errors.FieldError.TheVariants.{ValueTooLarge, OverL
 use Rattle.tx.specs.Parts.{Output}
 use Rattle.tx.specs.declared.input.OutPoint.{OutPoint}
 use Rattle.chain.specs.Blocks.{grant_outpoint}
-use Rattle.terms.specs.declared.amounts.TheConstants.{MSAT_PER_SAT}
 use Rattle.terms.specs.declared.sides.Side.{Side}
 use Rattle.terms.specs.declared.sides.Side.TheVariants.{A, B}
-use Rattle.terms.specs.declared.agreement.Party.{Party}
 use Rattle.terms.specs.declared.agreement.Terms.{Terms}
-use Rattle.terms.specs.Agreement.{CanAgree, HasFields, party}
 use Rattle.terms.specs.Sides.{other}
 use Rattle.forms.specs.Scripts.{funding}
 use Rattle.commit.specs.Outputs.{script_hash_program}
@@ -31,48 +28,18 @@ use Rattle.channel.specs.Peers.{at_opening, opened_both, IsReached}
 use Rattle.channel.specs.Playing.{placed}
 use Rattle.channel.specs.Agreeing.{IsPaired}
 use Rattle.texts.specs.declared.agreement.PlainTerms.{PlainTerms}
-use Rattle.texts.specs.Calls.{can_agree}
 use Rattle.book.specs.declared.limits.TheConstants.{MAX_CHANNELS}
 use Rattle.book.specs.declared.calls.Opening.{Opening}
 use Rattle.book.specs.declared.calls.Call.{Call}
 use Rattle.book.specs.declared.calls.Entry.{Entry}
-use Rattle.book.specs.declared.errors.OpenError.{OpenError}
 use Rattle.book.specs.declared.errors.OpenError.TheVariants.{BookFull, SameFunding, BadSignature}
-use Rattle.book.specs.Bounds.{IsSeedOf}
-use Rattle.book.specs.Openings.{bases_of, party_of, are_seeds}
 use Rattle.book.specs.Penalties.{same_outpoint}
 use Rattle.book.specs.Books.{ChannelBook, Channels, opened_by, channels_after, replayed, replay}
-use Rattle.book.specs.Replies.{Reply, opened, unless, if_so, open_refusal, is_accepted, reply_of, extended, history_after}
-use Rattle.book.proofs.SameOpenings.{agrees}
+use Rattle.book.specs.Replies.{opened, unless, if_so, open_refusal, is_accepted, reply_of, extended, history_after}
 use Rattle.scenario.specs.declared.seeds.Seeds.{Seeds}
-use Rattle.openings.specs.Opening.{seed_in, funding_output, funding_if_within, AreTermsOf, HaveKeys, point_in, token_in, IsOpeningOf}
+use Rattle.openings.specs.Opening.{seed_in, funding_output, funding_if_within, point_in, IsOpeningOf}
 use Rattle.openings.specs.Agreeing.{FundingsAreSpent, OpeningsArePaired, first_grants, fundings_of, OpeningsAreTaken}
 use Rattle.openings.proofs.Grants.{apart}
-
--- ---- terms
-
-agreed : (t : PlainTerms) → can_agree t ≡ true → CanAgree t.capacity t.a.start t.b.start
-agreed t h =
-    let parts = and_parts (nat_le t.capacity max_value) (t.a.start + t.b.start == MSAT_PER_SAT * t.capacity) h in
-    record { limited = leb-true t.capacity max_value parts.0; whole = eqb-true (t.a.start + t.b.start) (MSAT_PER_SAT * t.capacity) parts.1 }
-
--- two parties begin with what the scenario says
-abbrev CanStart : PlainTerms → Party → Party → Type 0
-CanStart p a b = CanAgree p.capacity a.start b.start
-
-pub can_agree_if : (p : PlainTerms) (a b : Party) → a.start ≡ p.a.start → b.start ≡ p.b.start → CanStart p a b → true ≡ can_agree p
-can_agree_if p a b ea eb can = sym (agrees p (subst (λ n. CanAgree p.capacity p.a.start n) eb (subst (λ n. CanAgree p.capacity n b.start) ea can)))
-
-pub can_not_agree_if : (p : PlainTerms) (a b : Party) → a.start ≡ p.a.start → b.start ≡ p.b.start → (CanStart p a b → ⊥) → false ≡ can_agree p
-can_not_agree_if p a b ea eb cannot = go (can_agree p) refl
-  where
-    go : (t : Bool) → can_agree p ≡ t → false ≡ t
-    go true h = absurd (cannot (subst (λ n. CanAgree p.capacity a.start n) (sym eb) (subst (λ n. CanAgree p.capacity n p.b.start) (sym ea) (agreed p h))))
-    go false h = refl
-
-pub have_keys : (seeds : Seeds) (c : ℕ) (o : OutPoint) (p : PlainTerms) (t : Terms) → AreTermsOf seeds c o p t → HaveKeys seeds c t
-have_keys seeds c o p t h A = subst (λ (x : Party). IsSeedOf (seed_in seeds c A) x.bases) (sym h.a_is) (are_seeds (seed_in seeds c A))
-have_keys seeds c o p t h B = subst (λ (x : Party). IsSeedOf (seed_in seeds c B) x.bases) (sym h.b_is) (are_seeds (seed_in seeds c B))
 
 -- ---- the funding output
 

@@ -1,5 +1,5 @@
 -- The seeds of signers; the hashes are from outside.
-use Rattle.std.proofs.Common.{◌≡◌, ℕ, List, [], ◌∷◌, replicate, refl}
+use Rattle.std.proofs.Common.{◌≡◌, [], ◌∷◌, replicate, refl}
 use Rattle.sha2.specs.Sha256.{sha256, digest_bytes, hash_after, compress, rounds, schedule, first_words}
 use Rattle.tx.specs.Spelling.{number}
 use Rattle.openings.specs.Opening.{channel_seed}
