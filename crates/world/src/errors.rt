@@ -2,6 +2,7 @@
 
 ghost use Rattle.std.specs.Prelude.{◌≡◌};
 ghost use Rattle.world.specs.declared.errors.EventError.TheVariants.{NoMemory};
+ghost use Rattle.world.specs.declared.errors.WorldError.TheVariants.{NoMemory as world_memory};
 
 use book::errors::{KeepError, ReleaseError, SignError, StepError};
 use filling::FillError;
@@ -129,19 +130,22 @@ impl<T: Drop> From<AllocFailed<T>> for EventError {
     }
 }
 
-/// Why a world does not begin.
+/// Why a world does not begin. It is tested for these in this order.
 #[derive(Debug, Drop, Error)]
 pub enum WorldError {
     /// Memory ran out.
     #[error("NoMemory")]
     NoMemory,
+    /// There are more than 8 channels.
+    #[error("OverLimit")]
+    OverLimit,
     /// The two sides can't agree on the terms of the channel of this index.
     #[error("BadTerms {0}")]
     BadTerms(usize),
 }
 
 impl From<AllocError> for WorldError {
-    ghost from_gives = { λ _ e. e ≡ NoMemory };
+    ghost from_gives = { λ _ e. e ≡ world_memory };
 
     fn from(_error: AllocError) -> WorldError {
         WorldError::NoMemory

@@ -12,6 +12,7 @@
 #![tactic(auto)]
 
 mod batches;
+mod beginning;
 pub mod claimed;
 mod delivering;
 pub mod errors;

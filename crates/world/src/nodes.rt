@@ -82,7 +82,9 @@ impl Node {
     /// What holds of it.
     pub(crate) fn holds(&self)
         ensures { IsNode self.now }
-    {}
+    {
+        let _ = &self.book;
+    }
 
     /// Its book opens a channel, of which it has nothing yet beside it: the refusal of the book. A refusal leaves the side as it was.
     pub(crate) fn open(&mut self, alloc: Global, opening: Opening) -> Result<(), OpenError>
