@@ -9,19 +9,17 @@ use Rattle.texts.specs.declared.events.Event.TheVariants as events
 use Rattle.texts.specs.declared.steps.OwnUpdate.{OwnUpdate}
 use Rattle.texts.specs.declared.steps.OwnUpdate.TheVariants.{Offer, Fulfil, Fail, SetFee}
 use Rattle.chain.specs.Blocks.{height_of}
-use Rattle.mempool.specs.declared.errors.ReorgError.{ReorgError}
-use Rattle.mempool.specs.declared.errors.ReorgError.TheVariants as reorgs
 use Rattle.mempool.specs.Mining.{Mined, mined_by, reorganised}
 use Rattle.mempool.specs.Reorganising.{reorg_refusal}
 use Rattle.book.specs.declared.calls.Call.{Call}
 use Rattle.book.specs.declared.calls.Call.TheVariants as calls
 use Rattle.book.specs.declared.calls.Step.TheVariants.{Own}
 use Rattle.world.specs.declared.errors.EventError.{EventError}
-use Rattle.world.specs.declared.errors.EventError.TheVariants.{NoMemory, TooDeep, NoSuchTx}
+use Rattle.world.specs.declared.errors.EventError.TheVariants.{NoMemory}
 use Rattle.world.specs.declared.outcomes.Outcome.{Outcome}
 use Rattle.world.specs.declared.outcomes.Outcome.TheVariants.{Done, Looked, Mined as MinedBlocks, Refused}
 use Rattle.world.specs.Worlds.{World, Node, node_of, with_node, with_nodes, channel_of, after_call}
-use Rattle.world.specs.Refusing.{sending_refusal, sent_by, oldest_in, delivery_refusal, delivered, answered}
+use Rattle.world.specs.Refusing.{by_reorg, sending_refusal, sent_by, oldest_in, delivery_refusal, delivered, answered}
 use Rattle.world.specs.Keeping.{keep_refusal, IsKept}
 use Rattle.world.specs.Publishing.{preimages_known, commitment_in, htlc_tx_in, refusal_by}
 use Rattle.world.specs.Releasing.{take_refusal, with_taken, release_refusal, IsReleased}
@@ -68,11 +66,6 @@ blocks_outcome m = MinedBlocks (height_of m.chain.blocks) m.txs
 -- both sides' watches go back to a height
 abbrev pub both_back : ℕ → World → World
 both_back height w = record w { a = back_to height w.a; b = back_to height w.b }
-
-abbrev pub by_reorg : ReorgError → EventError
-by_reorg reorgs.NoMemory = NoMemory
-by_reorg reorgs.TooDeep = TooDeep
-by_reorg reorgs.NoSuchTx = NoSuchTx
 
 -- ---- one event
 
