@@ -8,5 +8,6 @@ pub mod Keeping
 pub mod Pairing
 pub mod Looking
 pub mod Publishing
+pub mod Owning
 pub mod Steps
 pub mod Theorem
