@@ -1,5 +1,8 @@
 //! One side of the world.
 
+ghost use Rattle.std.specs.List.{AllByRecursion};
+ghost use Rattle.claim.specs.Claims.{IsWhole};
+
 use crate::errors::EventError;
 use crate::jobs::Job;
 use crate::limits::SEAT;
@@ -55,6 +58,15 @@ impl Model for Node {
     ghost view = { λ n. record { history = n.book; lines = n.lines.items; read = n.read; learnt = n.learnt.items; jobs = n.jobs.items; taken = n.taken.items } };
 
     ghost invariant = { λ n. IsNode (record { history = n.book; lines = n.lines.items; read = n.read; learnt = n.learnt.items; jobs = n.jobs.items; taken = n.taken.items }) };
+}
+
+// What claims are, for proofs: accepted ones.
+fn hold_whole(claims: &[Claim])
+    ensures { AllByRecursion IsWhole claims.now }
+{
+    for claim in claims {
+        let _ = claim.path();
+    }
 }
 
 impl Node {
@@ -148,6 +160,7 @@ impl Node {
     ) -> Result<(), EventError>
         ensures { let call = Keeping channel number claims in IsEvent (refusal_in (answer_to self.old call)) result self.old (after_call call self.old) self.new }
     {
+        hold_whole(claims.values());
         match self.book.keep(SEAT, channel, number, claims) {
             Ok(()) => Ok(()),
             Err(error) => Err(EventError::of_keep(error)),
@@ -159,6 +172,7 @@ impl Node {
         ensures side { let call = Releasing channel batch in IsEvent (refusal_in (answer_to self.old call)) result self.old (after_call call self.old) self.new }
         ensures filled { IfOk result (λ f. answer_to self.old (Releasing channel batch) ≡ released (Ok f)) }
     {
+        hold_whole(batch.claims.values());
         match self.book.release(SEAT, channel, batch) {
             Ok(filled) => Ok(filled),
             Err(error) => Err(EventError::of_release(error)),

@@ -4,4 +4,4 @@ use Rattle.world.proofs.Answering.{is_node}
 use Rattle.world.proofs.nodes.Node.release.Goals as goal
 
 pub invariant_of-self : goal.invariant_of-self
-invariant_of-self c = is_node _ c.release.new.self (Release c.args.channel c.args.batch) _ _ c.self.invariant c.release.ensures (λ chs. refl)
+invariant_of-self c = is_node _ c.release.new.self (Release c.args.channel c.args.batch) _ _ c.self.invariant c.release.ensures (λ chs. refl) c.hold_whole.ensures

@@ -1,0 +1,157 @@
+-- Each event keeps what holds of a world.
+use Rattle.std.proofs.Common.{◌≡◌, ℕ, ◌-◌, Bool, true, false, List, [], ◌∷◌, ◌++◌, drop, Option, Some, None, Result, Ok, Err, refl, sym, ap, ◌∙◌, subst}
+use Rattle.std.specs.Prelude.{slice_get, nat_le, is_ok}
+use Rattle.std.proofs.lemmas.Option.{none-some}
+use Rattle.terms.specs.declared.sides.Side.{Side}
+use Rattle.terms.specs.Sides.{other}
+use Rattle.texts.specs.declared.events.Event.{Event}
+use Rattle.channel.specs.declared.messages.Message.{Message}
+use Rattle.channel.specs.declared.messages.Message.TheVariants.{Updated, CommitmentSigned, RevokeAndAck}
+use Rattle.channel.specs.Tokens.{peer_tokens}
+use Rattle.tx.specs.Fields.{Transaction}
+use Rattle.book.specs.declared.calls.Call.{Call}
+use Rattle.book.specs.declared.calls.Call.TheVariants as calls
+use Rattle.book.specs.declared.calls.Entry.{Entry}
+use Rattle.book.specs.Books.{at_index}
+use Rattle.book.specs.Accepted.{IsHistory, called}
+use Rattle.book.specs.Replies.{Reply, stepped, revoked, reply_of, history_after, is_accepted, if_so}
+use Rattle.chain.specs.Blocks.{Contents}
+use Rattle.world.specs.declared.errors.EventError.{EventError}
+use Rattle.world.specs.declared.errors.EventError.TheVariants.{NoSuchChannel}
+use Rattle.world.specs.declared.limits.TheConstants.{SEAT}
+use Rattle.world.specs.declared.outcomes.Outcome.{Outcome}
+use Rattle.world.specs.Worlds.{World, Line, Node, IsNode, node_of, with_node, inboxes, answer_to, after_call, received_by}
+use Rattle.world.specs.Refusing.{refusal_in, messages_in, sending_refusal, sent_by, oldest_of, oldest_in, call_of, delivery_refusal, delivered, answered}
+use Rattle.world.specs.Keeping.{IsKept}
+use Rattle.world.specs.Releasing.{with_taken, without_taken, IsReleased}
+use Rattle.world.specs.Looking.{Looks, back_to}
+use Rattle.world.specs.Steps.{own_call, call_refusal, called as after_calling, receipt_refusal, received as after_receipt, refusal_of, Happens, offers, fulfils, fails, sets_fee, signs, receives, keeps, broadcasts, broadcasts_htlc, mines, looks, takes, releases, reorganises, WorldSteps, happens, refuses, runs_out}
+use Rattle.world.specs.Theorem.{IsWorld, StepsKeep}
+use Rattle.world.proofs.Inboxes.{inboxes_sent, inboxes_received, got_of_map, inboxes_read, inboxes_back}
+use Rattle.world.proofs.Calls.{received, filed, released_by}
+use Rattle.world.proofs.Fitting.{AreFitting, fitting_world, is_world, AgreeFrom, history_of, agree_from, both_fit, one_fits, as_before, Sends, own_sends, sign_sends}
+
+-- ---- refusals
+
+-- what does not refuse as an event is refused by no test before it
+pub none_if : {E : Type 0} (b : Bool) (e : E) (later : Option E) → if_so b e later ≡ None → later ≡ None
+none_if true e later none = absurd (none-some _ (sym none))
+none_if false e later none = none
+
+-- a message that no refusal meets is taken
+pub is_taken : (m : Message) (c : ℕ) (history : List Entry) → refusal_in (reply_of peer_tokens history (call_of c m)) ≡ None → is_accepted (reply_of peer_tokens history (call_of c m)) ≡ true
+is_taken (Updated u) c history none = by _ none
+  where
+    by : (r : Result (List Message) _) → refusal_in (stepped r) ≡ None → is_ok r ≡ true
+    by (Ok ms) none = refl
+    by (Err e) none = absurd (none-some _ (sym none))
+is_taken (CommitmentSigned tokens) c history none = by _ none
+  where
+    by : (r : Result (List Message) _) → refusal_in (stepped r) ≡ None → is_ok r ≡ true
+    by (Ok ms) none = refl
+    by (Err e) none = absurd (none-some _ (sym none))
+is_taken (RevokeAndAck secret point) c history none = by _ none
+  where
+    by : (r : Result ℕ _) → refusal_in (revoked r) ≡ None → is_ok r ≡ true
+    by (Ok n) none = refl
+    by (Err e) none = absurd (none-some _ (sym none))
+
+-- ---- calls
+
+calling : (s : Side) (c : ℕ) (call : Call) (w : World) → Sends c call → AreFitting w.a w.b → call_refusal s c call w ≡ None → AreFitting (after_calling s c call w).a (after_calling s c call w).b
+calling s c call w sends fit none =
+    let me = node_of s w in
+    let peer = node_of (other s) w in
+    let call_left = none_if (nat_le _ c) NoSuchChannel (refusal_in (answer_to me call)) none in
+    both_fit s (after_call call me) (sent_by c call me peer) w (called SEAT call (history_of s w fit)) (history_of (other s) w fit)
+    (subst (AgreeBy s (history_after peer_tokens me.history SEAT call) peer.history (inboxes me)) (sym (inboxes_sent c (messages_in (answer_to me call)) peer))
+    (sends s me.history peer.history (inboxes me) (inboxes peer) (agree_from s w fit) call_left))
+
+-- ---- deliveries
+
+receiving : (s : Side) (c : ℕ) (w : World) → AreFitting w.a w.b → receipt_refusal s c w ≡ None → AreFitting (after_receipt s c w).a (after_receipt s c w).b
+receiving s c w fit none = in_line (slice_get me.lines c) refl none
+  where
+    abbrev me : Node
+    me = node_of s w
+
+    abbrev peer : Node
+    peer = node_of (other s) w
+
+    abbrev Fit : Result Message EventError → Type 0
+    Fit o = AreFitting (with_nodes s (delivered c o me) (answered c o me peer) w).a (with_nodes s (delivered c o me) (answered c o me peer) w).b
+
+    taken : (m : Message) (rest : List Message) → slice_get (inboxes me) c ≡ Some (m ∷ rest) → refusal_in (answer_to me (call_of c m)) ≡ None → Fit (Ok m)
+    taken m rest queue none =
+        both_fit s (received_by c (after_call (call_of c m) me)) (sent_by c (call_of c m) me peer) w (called SEAT (call_of c m) (history_of s w fit)) (history_of (other s) w fit)
+        (subst (λ qs. AgreeBy s (history_after peer_tokens me.history SEAT (call_of c m)) peer.history qs (inboxes (sent_by c (call_of c m) me peer))) (sym (inboxes_received c (after_call (call_of c m) me)))
+        (subst (AgreeBy s (history_after peer_tokens me.history SEAT (call_of c m)) peer.history (at_index (drop 1) c (inboxes me))) (sym (inboxes_sent c (messages_in (answer_to me (call_of c m))) peer))
+        (received s me.history peer.history (inboxes me) (inboxes peer) SEAT c m rest (agree_from s w fit) queue (is_taken m c me.history none))))
+
+    in_queue : (queue : List Message) → slice_get (inboxes me) c ≡ Some queue → delivery_refusal c (oldest_of queue) me peer ≡ None → Fit (oldest_of queue)
+    in_queue [] there none = absurd (none-some _ (sym none))
+    in_queue (m ∷ rest) there none = taken m rest there (none_if (nat_le _ c) NoSuchChannel (refusal_in (answer_to me (call_of c m))) none)
+
+    in_line : (line : Option Line) → slice_get me.lines c ≡ line → delivery_refusal c (oldest_in line) me peer ≡ None → Fit (oldest_in line)
+    in_line None there none = absurd (none-some _ (sym none))
+    in_line (Some line) there none = in_queue line.inbox (got_of_map (λ l. l.inbox) c me.lines line there) none
+
+-- ---- penalties that are kept, and claims that are released
+
+keeping : (s : Side) (c n : ℕ) (after : Node) (w : World) → AreFitting w.a w.b → IsKept (node_of s w) c n after → AreFitting (with_node s after w).a (with_node s after w).b
+keeping s c n after w fit kept =
+    let me = node_of s w in
+    let peer = node_of (other s) w in
+    let call : Call = calls.Keep c n kept.claims in
+    subst (λ (m : Node). AreFitting (with_node s m w).a (with_node s m w).b) (sym kept.after)
+    (one_fits s (after_call call me) w fit (called SEAT call (history_of s w fit))
+    (filed s me.history peer.history (inboxes me) (inboxes peer) SEAT c n kept.claims (agree_from s w fit) (ap is_accepted kept.answer)))
+
+releasing : (s : Side) (k : ℕ) (after : Node) (t : Transaction) (w : World) → AreFitting w.a w.b → IsReleased k (node_of s w) after t → AreFitting (with_node s after w).a (with_node s after w).b
+releasing s k after t w fit done =
+    let me = node_of s w in
+    let peer = node_of (other s) w in
+    let call : Call = calls.Release done.channel done.batch in
+    subst (λ (m : Node). AreFitting (with_node s m w).a (with_node s m w).b) (sym done.after)
+    (one_fits s (without_taken k (after_call call me)) w fit (called SEAT call (history_of s w fit))
+    (released_by s me.history peer.history (inboxes me) (inboxes peer) SEAT done.channel done.batch (agree_from s w fit) (ap is_accepted done.answer)))
+
+-- ---- blocks that are read and forgotten
+
+looking : (s : Side) (blocks : List Contents) (after : Node) (count : ℕ) (w : World) → AreFitting w.a w.b → Looks (node_of s w) blocks after count
+    → AreFitting (with_node s after w).a (with_node s after w).b
+looking s blocks after count w fit l = as_before s after w fit (ap (λ n. n.history) l.after) (ap inboxes l.after ∙ inboxes_read _ l.found (node_of s w))
+
+going_back : (height : ℕ) (a b : Node) → AreFitting a b → AreFitting (back_to height a) (back_to height b)
+going_back height a b fit = record {
+  a_called = fit.a_called;
+  b_called = fit.b_called;
+  agree = subst (AgreeBy A a.history b.history (inboxes (back_to height a))) (sym (inboxes_back height b))
+      (subst (λ qs. AgreeBy A a.history b.history qs (inboxes b)) (sym (inboxes_back height a)) fit.agree);
+}
+
+-- ---- each event
+
+happening : (w v : World) (e : Event) (o : Outcome) → AreFitting w.a w.b → refusal_of w e ≡ None → Happens w e v o → AreFitting v.a v.b
+happening w v e o fit none (offers {s} {c} {amount} {hash} {expiry}) = calling s c _ w (own_sends c _) fit none
+happening w v e o fit none (fulfils {s} {c} {id} {preimage}) = calling s c _ w (own_sends c _) fit none
+happening w v e o fit none (fails {s} {c} {id}) = calling s c _ w (own_sends c _) fit none
+happening w v e o fit none (sets_fee {s} {c} {rate}) = calling s c _ w (own_sends c _) fit none
+happening w v e o fit none (signs {s} {c}) = calling s c (calls.Sign c) w (sign_sends c) fit none
+happening w v e o fit none (receives {s} {c}) = receiving s c w fit none
+happening w v e o fit none (keeps {s} {c} {n} {after} kept) = keeping s c n after w fit kept
+happening w v e o fit none (broadcasts is) = fit
+happening w v e o fit none (broadcasts_htlc is) = fit
+happening w v e o fit none (mines is) = fit
+happening w v e o fit none (looks {s} {after} {count} l) = looking s w.chain.blocks after count w fit l
+happening w v e o fit none (takes {s} {k}) = as_before s (with_taken k (node_of s w)) w fit refl refl
+happening w v e o fit none (releases {s} {k} {after} {t} done) = releasing s k after t w fit done
+happening w v e o fit none (reorganises is) = going_back _ w.a w.b fit
+
+pub fitting_after : (w v : World) (e : Event) (o : Outcome) → AreFitting w.a w.b → WorldSteps w e v o → AreFitting v.a v.b
+fitting_after w v e o fit (happens none h) = happening w v e o fit none h
+fitting_after w v e o fit (refuses some) = fit
+fitting_after w v e o fit runs_out = fit
+
+pub steps_keep : StepsKeep
+steps_keep w v e o is step a b = is_world v a b (fitting_after w v e o (fitting_world w is) step)
