@@ -81,13 +81,10 @@ Sends c call = (s : Side) (mine peers : List Entry) (to_me to_peer : List (List 
 pub own_sends : (c : ℕ) (u : OwnUpdate) → Sends c (calls.Step c (Own u))
 own_sends c u s mine peers to_me to_peer agree none = by _ refl none
   where
-    abbrev call : Call
-    call = calls.Step c (Own u)
-
-    by : (r : Result (List Message) StepError) → reply_of peer_tokens mine call ≡ stepped r → refusal_in (stepped r) ≡ None
-        → AgreeBy s (history_after peer_tokens mine SEAT call) peers to_me (at_index (λ q. q ++ messages_in (reply_of peer_tokens mine call)) c to_peer)
+    by : (r : Result (List Message) StepError) → reply_of peer_tokens mine (calls.Step c (Own u)) ≡ stepped r → refusal_in (stepped r) ≡ None
+        → AgreeBy s (history_after peer_tokens mine SEAT (calls.Step c (Own u))) peers to_me (at_index (λ q. q ++ messages_in (reply_of peer_tokens mine (calls.Step c (Own u)))) c to_peer)
     by (Ok messages) is none =
-        subst (λ sent. AgreeBy s (history_after peer_tokens mine SEAT call) peers to_me (at_index (λ q. q ++ sent) c to_peer)) (sym (ap messages_in is))
+        subst (λ sent. AgreeBy s (history_after peer_tokens mine SEAT (calls.Step c (Own u))) peers to_me (at_index (λ q. q ++ sent) c to_peer)) (sym (ap messages_in is))
         (made s mine peers to_me to_peer SEAT c u messages agree is)
     by (Err e) is none = absurd (none-some _ (sym none))
 

@@ -1,5 +1,6 @@
 -- A run goes on by one event more.
-use Rattle.std.proofs.Common.{List, [], ◌∷◌, ◌++◌}
+use Rattle.std.proofs.Common.{◌≡◌, ℕ, ◌+◌, ◌<◌, ◌≤◌, suc, add-one, List, [], ◌∷◌, ◌++◌, length, take, get_or, sym, ◌∙◌, ap, subst}
+use Rattle.std.proofs.Math.Seq.{take-suc, take-length}
 use Rattle.std.specs.List.{AllByRecursion}
 use Rattle.texts.specs.declared.events.Event.{Event}
 use Rattle.world.specs.declared.outcomes.Outcome.{Outcome}
@@ -17,10 +18,21 @@ run_on w v u es os moments e o (goes_on first rest) step = goes_on first (run_on
 pub not_begun : (w : World) → HoldsAt w → IsPlay w [] [] w
 not_begun w holds = record { moments = w ∷ []; runs = ends; holds = (holds, tt) }
 
--- one more
-pub play_on : (w v u : World) (es : List Event) (os : List Outcome) (e : Event) (o : Outcome) → IsPlay w es os v → WorldSteps v e u o → HoldsAt u → IsPlay w (es ++ e ∷ []) (os ++ o ∷ []) u
+-- one event more
+play_on : (w v u : World) (es : List Event) (os : List Outcome) (e : Event) (o : Outcome) → IsPlay w es os v → WorldSteps v e u o → HoldsAt u → IsPlay w (es ++ e ∷ []) (os ++ o ∷ []) u
 play_on w v u es os e o play step holds = record {
   moments = play.moments ++ u ∷ [];
   runs = run_on w v u es os play.moments e o play.runs step;
   holds = all_append HoldsAt play.moments (u ∷ []) play.holds (holds, tt);
 }
+
+pub play_next : (w v u : World) (es : List Event) (done new : List Outcome) (i : ℕ) (e : Event) (o : Outcome) → i < length es → IsPlay w (take i es) done v → WorldSteps v (get_or es i e) u o → HoldsAt u
+    → new ≡ done ++ o ∷ [] → IsPlay w (take (i + 1) es) new u
+play_next w v u es done new i e o within play step holds is =
+    subst (λ os. IsPlay w (take (i + 1) es) os u) (sym is)
+    (subst (λ xs. IsPlay w xs (done ++ o ∷ []) u) (sym (ap (λ n. take n es) (add-one i) ∙ take-suc es i e within))
+    (play_on w v u (take i es) done (get_or es i e) o play step holds))
+
+-- all are played
+pub all_played : (w v : World) (es : List Event) (done : List Outcome) (i : ℕ) → i ≡ length es → IsPlay w (take i es) done v → IsPlay w es done v
+all_played w v es done i whole play = subst (λ xs. IsPlay w xs done v) (ap (λ n. take n es) whole ∙ take-length es) play

@@ -25,13 +25,13 @@ all_flat_map P f [] u = tt
 all_flat_map P f (x ∷ xs) u = all_append P (f x) (flat_map f xs) u.0 (all_flat_map P f xs u.1)
 
 pub all_drop : {A : Type 0} (P : A → Type 0) (k : ℕ) (xs : List A) → AllByRecursion P xs → AllByRecursion P (drop k xs)
-all_drop P k [] u = tt
-all_drop P zero (x ∷ xs) u = u
+all_drop P zero xs u = u
+all_drop P (suc k) [] u = tt
 all_drop P (suc k) (x ∷ xs) u = all_drop P k xs u.1
 
 pub all_take : {A : Type 0} (P : A → Type 0) (k : ℕ) (xs : List A) → AllByRecursion P xs → AllByRecursion P (take k xs)
-all_take P k [] u = tt
-all_take P zero (x ∷ xs) u = tt
+all_take P zero xs u = tt
+all_take P (suc k) [] u = tt
 all_take P (suc k) (x ∷ xs) u = (u.0, all_take P k xs u.1)
 
 -- ---- the claims of the calls

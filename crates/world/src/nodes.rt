@@ -94,7 +94,10 @@ impl Node {
     /// What holds of it.
     pub(crate) fn holds(&self)
         ensures { IsNode self.now }
-    {}
+    {
+        // The proof takes the invariant where a field is used.
+        let _ = &self.book;
+    }
 
     /// Its book opens a channel, of which it has nothing yet beside it: the refusal of the book. A refusal leaves the side as it was.
     pub(crate) fn open(&mut self, alloc: Global, opening: Opening) -> Result<(), OpenError>
