@@ -2,6 +2,7 @@ mod Turns
 mod Calls
 pub mod DueClaims
 pub mod EnforcementExamples
+pub mod StepExamples
 pub mod Whole
 mod Inboxes
 mod Fitting

@@ -1,6 +1,7 @@
 -- A run goes on by one event more.
-use Rattle.std.proofs.Common.{◌≡◌, ℕ, ◌+◌, ◌<◌, ◌≤◌, suc, add-one, List, [], ◌∷◌, ◌++◌, length, take, get_or, sym, ◌∙◌, ap, subst}
-use Rattle.std.proofs.Math.Seq.{take-suc, take-length}
+use Rattle.std.proofs.Common.{◌≡◌, ℕ, ◌+◌, ◌<◌, ◌≤◌, cond, List, [], ◌∷◌, ◌++◌, length, take, get_or, Result, Ok, Err, sym, subst}
+use Rattle.std.specs.Prelude.{is_ok}
+use Rattle.std.proofs.lemmas.List.{take_more, take_all}
 use Rattle.std.specs.List.{AllByRecursion}
 use Rattle.texts.specs.declared.events.Event.{Event}
 use Rattle.world.specs.declared.outcomes.Outcome.{Outcome}
@@ -30,9 +31,14 @@ pub play_next : (w v u : World) (es : List Event) (done new : List Outcome) (i :
     → new ≡ done ++ o ∷ [] → IsPlay w (take (i + 1) es) new u
 play_next w v u es done new i e o within play step holds is =
     subst (λ os. IsPlay w (take (i + 1) es) os u) (sym is)
-    (subst (λ xs. IsPlay w xs (done ++ o ∷ []) u) (sym (ap (λ n. take n es) (add-one i) ∙ take-suc es i e within))
+    (subst (λ xs. IsPlay w xs (done ++ o ∷ []) u) (sym (take_more es i e within))
     (play_on w v u (take i es) done (get_or es i e) o play step holds))
 
 -- all are played
-pub all_played : (w v : World) (es : List Event) (done : List Outcome) (i : ℕ) → i ≡ length es → IsPlay w (take i es) done v → IsPlay w es done v
-all_played w v es done i whole play = subst (λ xs. IsPlay w xs done v) (ap (λ n. take n es) whole ∙ take-length es) play
+pub all_played : (w v : World) (es : List Event) (done : List Outcome) (i : ℕ) → length es ≤ i → IsPlay w (take i es) done v → IsPlay w es done v
+all_played w v es done i whole play = subst (λ xs. IsPlay w xs done v) (take_all i es whole) play
+
+-- what is pushed in place
+pub pushed : {T E X : Type 0} (r : Result T E) (x : T) (items a b : X) → r ≡ Ok x → items ≡ cond (is_ok r) a b → items ≡ a
+pushed (Ok y) x items a b e h = h
+pushed (Err y) x items a b e h = absurd cc
