@@ -1,6 +1,5 @@
 -- Two sides that fit: their histories are those of calls, and their books are two sides of the same channels with the messages on their way.
-use Rattle.std.proofs.Common.{◌≡◌, ℕ, true, List, ◌∷◌, ◌++◌, drop, Option, Some, None, Result, Ok, Err, refl, sym, ap, subst}
-use Rattle.std.specs.Prelude.{slice_get}
+use Rattle.std.proofs.Common.{◌≡◌, ℕ, List, ◌++◌, None, Result, Ok, Err, refl, sym, ap, subst}
 use Rattle.std.proofs.lemmas.Option.{none-some}
 use Rattle.terms.specs.declared.sides.Side.{Side}
 use Rattle.terms.specs.declared.sides.Side.TheVariants.{A, B}
@@ -15,7 +14,7 @@ use Rattle.book.specs.declared.calls.Entry.{Entry}
 use Rattle.book.specs.declared.errors.StepError.{StepError}
 use Rattle.book.specs.declared.errors.SignError.{SignError}
 use Rattle.book.specs.Books.{at_index, replay}
-use Rattle.book.specs.Accepted.{IsHistory, called}
+use Rattle.book.specs.Accepted.{IsHistory}
 use Rattle.book.specs.Replies.{stepped, signed, reply_of, history_after}
 use Rattle.world.specs.declared.limits.TheConstants.{SEAT}
 use Rattle.world.specs.Worlds.{World, Node, IsNode, node_of, with_node, with_nodes, inboxes}

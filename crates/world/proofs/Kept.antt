@@ -1,5 +1,5 @@
 -- Each event keeps what holds of a world.
-use Rattle.std.proofs.Common.{◌≡◌, ℕ, ◌-◌, Bool, true, false, List, [], ◌∷◌, ◌++◌, drop, Option, Some, None, Result, Ok, Err, refl, sym, ap, ◌∙◌, subst}
+use Rattle.std.proofs.Common.{◌≡◌, ℕ, ◌-◌, Bool, true, false, List, [], ◌∷◌, drop, Option, Some, None, Result, Ok, Err, refl, sym, ap, ◌∙◌, subst}
 use Rattle.std.specs.Prelude.{slice_get, nat_le, is_ok}
 use Rattle.std.proofs.lemmas.Option.{none-some}
 use Rattle.terms.specs.declared.sides.Side.{Side}
@@ -14,50 +14,47 @@ use Rattle.tx.specs.Fields.{Transaction}
 use Rattle.book.specs.declared.calls.Call.{Call}
 use Rattle.book.specs.declared.calls.Call.TheVariants as calls
 use Rattle.book.specs.declared.calls.Entry.{Entry}
+use Rattle.book.specs.declared.errors.StepError.{StepError}
 use Rattle.book.specs.Books.{at_index}
-use Rattle.book.specs.Accepted.{IsHistory, called}
-use Rattle.book.specs.Replies.{Reply, stepped, revoked, reply_of, history_after, is_accepted, if_so}
+use Rattle.book.specs.Accepted.{called}
+use Rattle.book.specs.Replies.{stepped, revoked, reply_of, history_after, is_accepted, if_so}
 use Rattle.chain.specs.Blocks.{Contents, height_of}
 use Rattle.world.specs.declared.errors.EventError.{EventError}
 use Rattle.world.specs.declared.errors.EventError.TheVariants.{NoSuchChannel}
 use Rattle.world.specs.declared.limits.TheConstants.{SEAT}
 use Rattle.world.specs.declared.outcomes.Outcome.{Outcome}
-use Rattle.world.specs.Worlds.{World, Line, Node, IsNode, node_of, with_node, with_nodes, inboxes, answer_to, after_call, received_by}
-use Rattle.world.specs.Refusing.{refusal_in, messages_in, sending_refusal, sent_by, oldest_of, oldest_in, call_of, delivery_refusal, delivered, answered}
+use Rattle.world.specs.Worlds.{World, Line, Node, node_of, with_node, with_nodes, inboxes, answer_to, after_call, received_by}
+use Rattle.world.specs.Refusing.{refusal_in, messages_in, sent_by, oldest_of, oldest_in, call_of, delivery_refusal, delivered, answered}
 use Rattle.world.specs.Keeping.{IsKept}
 use Rattle.world.specs.Releasing.{with_taken, without_taken, IsReleased}
 use Rattle.world.specs.Pairing.{AgreeBy}
 use Rattle.world.specs.Looking.{Looks, back_to}
 use Rattle.world.specs.Steps.{own_call, call_refusal, called as after_calling, receipt_refusal, received as after_receipt, refusal_of, Happens, offers, fulfils, fails, sets_fee, signs, receives, keeps, broadcasts, broadcasts_htlc, mines, looks, takes, releases, reorganises, WorldSteps, happens, refuses, runs_out}
-use Rattle.world.specs.Theorem.{IsWorld, StepsKeep}
+use Rattle.world.specs.Theorem.{StepsKeep}
 use Rattle.world.proofs.Inboxes.{inboxes_sent, inboxes_received, got_of_map, inboxes_read, inboxes_back}
 use Rattle.world.proofs.Calls.{received, filed, released_by}
-use Rattle.world.proofs.Fitting.{AreFitting, fitting_world, is_world, AgreeFrom, history_of, agree_from, both_fit, one_fits, as_before, Sends, own_sends, sign_sends}
+use Rattle.world.proofs.Fitting.{AreFitting, fitting_world, is_world, history_of, agree_from, both_fit, one_fits, as_before, Sends, own_sends, sign_sends}
 
 -- ---- refusals
 
--- what does not refuse as an event is refused by no test before it
+-- where nothing is refused, the later tests refuse nothing
 pub none_if : {E : Type 0} (b : Bool) (e : E) (later : Option E) → if_so b e later ≡ None → later ≡ None
 none_if true e later none = absurd (none-some _ (sym none))
 none_if false e later none = none
 
+stepped_is : (r : Result (List Message) StepError) → refusal_in (stepped r) ≡ None → is_ok r ≡ true
+stepped_is (Ok ms) none = refl
+stepped_is (Err e) none = absurd (none-some _ (sym none))
+
+revoked_is : (r : Result ℕ StepError) → refusal_in (revoked r) ≡ None → is_ok r ≡ true
+revoked_is (Ok n) none = refl
+revoked_is (Err e) none = absurd (none-some _ (sym none))
+
 -- a message that no refusal meets is taken
 pub is_taken : (m : Message) (c : ℕ) (history : List Entry) → refusal_in (reply_of peer_tokens history (call_of c m)) ≡ None → is_accepted (reply_of peer_tokens history (call_of c m)) ≡ true
-is_taken (Updated u) c history none = by _ none
-  where
-    by : (r : Result (List Message) _) → refusal_in (stepped r) ≡ None → is_ok r ≡ true
-    by (Ok ms) none = refl
-    by (Err e) none = absurd (none-some _ (sym none))
-is_taken (CommitmentSigned tokens) c history none = by _ none
-  where
-    by : (r : Result (List Message) _) → refusal_in (stepped r) ≡ None → is_ok r ≡ true
-    by (Ok ms) none = refl
-    by (Err e) none = absurd (none-some _ (sym none))
-is_taken (RevokeAndAck secret point) c history none = by _ none
-  where
-    by : (r : Result ℕ _) → refusal_in (revoked r) ≡ None → is_ok r ≡ true
-    by (Ok n) none = refl
-    by (Err e) none = absurd (none-some _ (sym none))
+is_taken (Updated u) c history none = stepped_is _ none
+is_taken (CommitmentSigned tokens) c history none = stepped_is _ none
+is_taken (RevokeAndAck secret point) c history none = revoked_is _ none
 
 -- ---- calls
 

@@ -1,12 +1,10 @@
 -- What holds of a world at a moment.
-use Rattle.std.proofs.Common.{◌≡◌, ◌⊎◌, ℕ, Bool, true, false, List, [], ◌∷◌, ◌++◌, Option, Some, None, Ok, Err, refl, sym, ap, ◌∙◌, inl, inr}
-use Rattle.std.specs.Prelude.{slice_get, nat_le}
-use Rattle.std.specs.List.{AllByRecursion}
+use Rattle.std.proofs.Common.{◌≡◌, ◌⊎◌, ℕ, Bool, true, false, List, [], ◌∷◌, Option, Some, None, Ok, Err, refl, sym, ap, ◌∙◌, inl, inr}
+use Rattle.std.specs.Prelude.{slice_get}
 use Rattle.std.proofs.lemmas.Option.{none-some, same_Some}
 use Rattle.terms.specs.declared.sides.Side.{Side}
 use Rattle.terms.specs.declared.sides.Side.TheVariants.{A, B}
 use Rattle.terms.specs.Sides.{other}
-use Rattle.claim.specs.Claims.{IsWhole}
 use Rattle.channel.specs.declared.messages.Message.{Message}
 use Rattle.channel.specs.Tokens.{peer_tokens}
 use Rattle.book.specs.Accepted.{all_accepted, AcceptedMeans}
@@ -18,10 +16,10 @@ use Rattle.world.specs.Worlds.{World, Line, Node, IsNode, node_of, inboxes, answ
 use Rattle.world.specs.Refusing.{refusal_in, call_of, oldest_of, oldest_in, delivery_refusal}
 use Rattle.world.specs.Pairing.{DeliveriesAreTaken}
 use Rattle.world.specs.Enforcement.{ClaimsOpen}
-use Rattle.world.specs.Theorem.{claims_of, HoldsAt, IsWorld, WorldsHold}
+use Rattle.world.specs.Theorem.{IsWorld, WorldsHold}
 use Rattle.world.proofs.Whole.{are_whole}
 use Rattle.world.proofs.Inboxes.{got_of_map}
-use Rattle.world.proofs.Fitting.{AreFitting, fitting_world, history_of, agree_from}
+use Rattle.world.proofs.Fitting.{fitting_world, history_of, agree_from}
 
 -- what is accepted is not refused
 unrefused : (r : Reply) → is_accepted r ≡ true → refusal_in r ≡ None

@@ -1,25 +1,21 @@
 -- Small events that were worked out by hand from what each is said to do.
-use Rattle.std.proofs.Common.{◌≡◌, ℕ, List, [], ◌∷◌, map, Option, Some, None, refl}
+use Rattle.std.proofs.Common.{◌≡◌, ℕ, List, [], ◌∷◌, map, Some, None, refl}
 use Rattle.tx.specs.Fields.{Transaction}
 use Rattle.terms.specs.declared.sides.Side.TheVariants.{A, B}
 use Rattle.claim.specs.Claims.{ClaimParts}
 use Rattle.channel.specs.declared.messages.Message.{Message}
-use Rattle.chain.specs.Blocks.{Contents, Standing}
-use Rattle.mempool.specs.Mining.{Mined, mined_by, reorganised, blocks_after}
-use Rattle.watch.specs.declared.unclaimed.Given.{Given}
+use Rattle.chain.specs.Blocks.{Contents}
+use Rattle.mempool.specs.Mining.{mined_by, reorganised, blocks_after}
 use Rattle.watch.specs.Watching.{Seen}
-use Rattle.texts.specs.declared.events.Event.{Event}
 use Rattle.texts.specs.declared.events.Event.TheVariants as events
 use Rattle.book.specs.declared.calls.Batch.{Batch}
 use Rattle.book.specs.declared.calls.Call.TheVariants.{Keep, Release}
-use Rattle.book.specs.declared.calls.Entry.{Entry}
-use Rattle.world.specs.declared.errors.EventError.{EventError}
 use Rattle.world.specs.declared.errors.EventError.TheVariants.{NoSuchChannel, NoMessage, NoSuchTx, NoJob, TooDeep}
 use Rattle.world.specs.declared.jobs.Job.{Job}
 use Rattle.world.specs.declared.outcomes.Outcome.TheVariants.{Looked, Mined as MinedBlocks, Refused}
-use Rattle.world.specs.Worlds.{World, Node, Line, node_of, inboxes, sent_to, received_by}
+use Rattle.world.specs.Worlds.{World, Node, Line, inboxes, sent_to, received_by}
 use Rattle.world.specs.Releasing.{with_taken}
-use Rattle.world.specs.Looking.{Reading, IsAfter, Looks, Reads, all_read, block, no_more, back_to}
+use Rattle.world.specs.Looking.{Reading, all_read, block, no_more}
 use Rattle.world.specs.Steps.{refusal_of, with_waiting, with_released, happens, refuses, mines, looks, reorganises, Runs, ends, goes_on}
 use Rattle.world.specs.Theorem.{claims_of}
 

@@ -5,7 +5,6 @@ use Rattle.claim.specs.Claims.{IsWhole}
 use Rattle.book.specs.declared.calls.Call.{Call}
 use Rattle.book.specs.declared.calls.Entry.{Entry}
 use Rattle.book.specs.Replies.{extended}
-use Rattle.world.specs.declared.jobs.Job.{Job}
 use Rattle.world.specs.declared.limits.TheConstants.{SEAT}
 use Rattle.world.specs.Worlds.{Node, IsNode, claims_by}
 use Rattle.world.specs.Theorem.{claims_of}
