@@ -2,6 +2,13 @@ mod Turns
 mod Calls
 pub mod DueClaims
 pub mod EnforcementExamples
+pub mod StepExamples
+pub mod Whole
+mod Inboxes
+mod Fitting
+pub mod Kept
+pub mod Moments
+pub mod Plays
 pub mod Answering
 pub mod Sending
 pub mod Releases

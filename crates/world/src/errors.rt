@@ -2,6 +2,7 @@
 
 ghost use Rattle.std.specs.Prelude.{◌≡◌};
 ghost use Rattle.world.specs.declared.errors.EventError.TheVariants.{NoMemory};
+ghost use Rattle.world.specs.declared.errors.WorldError.TheVariants.{NoMemory as world_memory};
 
 use book::errors::{KeepError, ReleaseError, SignError, StepError};
 use filling::FillError;
@@ -143,7 +144,7 @@ pub enum WorldError {
 }
 
 impl From<AllocError> for WorldError {
-    ghost from_gives = { λ _ e. e ≡ NoMemory };
+    ghost from_gives = { λ _ e. e ≡ world_memory };
 
     fn from(_error: AllocError) -> WorldError {
         WorldError::NoMemory
