@@ -6,3 +6,4 @@ pub mod Answering
 pub mod Sending
 pub mod Releases
 pub mod Keeps
+pub mod Readings

@@ -5,4 +5,6 @@ pub mod Releasing
 pub mod Acts
 pub mod Beginning
 pub mod Keeping
+pub mod Looking
+pub mod Asking
 pub mod Pairing

@@ -19,6 +19,7 @@ mod jobs;
 mod keeping;
 pub mod laws;
 mod limits;
+mod looking;
 mod nodes;
 mod releasing;
 #[cfg(test)]

@@ -1,0 +1,111 @@
+-- What a side finds in the blocks that it has not read.
+use Rattle.std.specs.Prelude.{◌≡◌, ℕ, ◌+◌, Bool, false, List, [], ◌∷◌, ◌++◌, length, map, min, max, reverse, drop, Option, Some, None, slice_get}
+use Rattle.std.specs.List.{find, filter_map}
+use Rattle.std.specs.Str.{bytes_eq}
+use Rattle.sha2.specs.Sha256.{sha256}
+use Rattle.tx.specs.Fields.{Transaction}
+use Rattle.claim.specs.declared.parts.Slot.{Slot}
+use Rattle.claim.specs.declared.parts.Slot.TheVariants.{Preimage}
+use Rattle.claim.specs.Claims.{ClaimParts}
+use Rattle.resolve.specs.declared.known.Known.{Known}
+use Rattle.chain.specs.Blocks.{Contents, height_of}
+use Rattle.watch.specs.Watching.{Seen, is_spent, seen_after, seen_up_to}
+use Rattle.watch.specs.Sights.{IsSight}
+use Rattle.book.specs.declared.calls.Entry.{Entry}
+use Rattle.book.specs.Books.{ChannelBook, is_kept, replay}
+use Rattle.book.specs.Knowing.{IsKnownOf, preimages_in}
+use Rattle.world.specs.declared.jobs.Job.{Job}
+use Rattle.world.specs.Worlds.{Line, Node}
+
+-- ---- one channel
+
+-- what a side with this history knows of a channel, where blocks showed these preimages in any channel
+pub record Knows (history : List Entry) (learnt : List (List ℕ)) (c : ℕ) (known : Known) : Type 0 where
+  pub ch : ChannelBook
+  pub there : slice_get (replay history) c ≡ Some ch
+  pub is : IsKnownOf ch.state (is_kept ch.kept) (preimages_in c history ++ learnt) known
+
+-- a transaction that spends the channel's funding output was read before, or is one of these
+abbrev pub is_closed : Option ChannelBook → Seen → List Transaction → Bool
+is_closed None seen txs = false
+is_closed (Some ch) seen txs = is_spent ch.state.held.terms.funding seen txs
+
+-- the first preimage of the hash that a slot asks for, and those of a claim's slots, in their order
+abbrev pub wanted_by : List (List ℕ) → Slot → Option (List ℕ)
+wanted_by preimages (Preimage hash) = find (λ p. bytes_eq (sha256 p) hash) preimages
+wanted_by preimages slot = None
+
+-- claims on a channel's outputs as jobs, each with the known preimages that it wants
+abbrev pub jobs_of : ℕ → List (List ℕ) → List ClaimParts → List Job
+jobs_of c preimages claims = map (λ x. record { channel = c; claim = x; preimages = filter_map (wanted_by preimages) x.slots }) claims
+
+-- what is found by what is known: what was seen of the channel then, the jobs, and the preimages that the block shows
+pub record Finds (known : Known) (height : ℕ) (txs : List Transaction) (c : ℕ) (older newer : Seen) (jobs : List Job) (shown : List (List ℕ)) : Type 0 where
+  pub claims : List ClaimParts
+  pub sight : IsSight older height txs known claims shown
+  pub seen : newer ≡ seen_after older height txs known
+  pub jobs_are : jobs ≡ jobs_of c known.preimages claims
+
+-- a side reads a block for one channel: a channel that is not closed gives nothing
+pub data ReadsChannel (history : List Entry) (learnt : List (List ℕ)) (height : ℕ) (txs : List Transaction) (c : ℕ) (older : Seen) : Seen → List Job → List (List ℕ) → Type 0 where
+  quiet : is_closed (slice_get (replay history) c) older txs ≡ false → ReadsChannel history learnt height txs c older older [] []
+  sees : {newer : Seen} {jobs : List Job} {shown : List (List ℕ)} (known : Known)
+      → Knows history learnt c known → Finds known height txs c older newer jobs shown → ReadsChannel history learnt height txs c older newer jobs shown
+
+-- ---- blocks
+
+-- a block for all channels from a number on, by what was known before it
+pub data ReadsBlock (history : List Entry) (learnt : List (List ℕ)) (height : ℕ) (txs : List Transaction) : ℕ → List Seen → List Seen → List Job → List (List ℕ) → Type 0 where
+  no_more : {c : ℕ} → ReadsBlock history learnt height txs c [] [] [] []
+  channel : {c : ℕ} {s t : Seen} {older newer : List Seen} {jobs more_jobs : List Job} {shown more_shown : List (List ℕ)}
+      → ReadsChannel history learnt height txs c s t jobs shown → ReadsBlock history learnt height txs (c + 1) older newer more_jobs more_shown
+      → ReadsBlock history learnt height txs c (s ∷ older) (t ∷ newer) (jobs ++ more_jobs) (shown ++ more_shown)
+
+-- what a side has read: what was seen of each channel, the preimages that blocks showed so far, and the jobs that they gave
+pub record Reading : Type 0 where
+  pub seen : List Seen
+  pub learnt : List (List ℕ)
+  pub jobs : List Job
+
+-- after one block more
+pub record IsAfter (history : List Entry) (height : ℕ) (txs : List Transaction) (r next : Reading) : Type 0 where
+  pub jobs : List Job
+  pub shown : List (List ℕ)
+  pub channels : ReadsBlock history r.learnt height txs 0 r.seen next.seen jobs shown
+  pub jobs_are : next.jobs ≡ r.jobs ++ jobs
+  pub learnt_is : next.learnt ≡ r.learnt ++ shown
+
+-- blocks from a height on, one after another
+pub data Reads (history : List Entry) : ℕ → List Contents → Reading → Reading → Type 0 where
+  all_read : {height : ℕ} {r : Reading} → Reads history height [] r r
+  block : {height : ℕ} {b : Contents} {blocks : List Contents} {r next done : Reading}
+      → IsAfter history height (reverse b.transactions) r next → Reads history (height + 1) blocks next done → Reads history height (b ∷ blocks) r done
+
+-- ---- a side
+
+-- what a side has read before it looks
+abbrev pub reading_of : Node → Reading
+reading_of n = record { seen = map (λ line. line.seen) n.lines; learnt = n.learnt; jobs = [] }
+
+-- what was seen of each channel is this
+abbrev pub with_seen : List Seen → List Line → List Line
+with_seen (s ∷ seen) (line ∷ lines) = record line { seen = s } ∷ with_seen seen lines
+with_seen seen lines = lines
+
+-- a side has read this, up to a height
+abbrev pub with_reading : ℕ → Reading → Node → Node
+with_reading height r n = record n { lines = with_seen r.seen n.lines; read = max n.read height; learnt = r.learnt; jobs = n.jobs ++ r.jobs }
+
+-- a side reads all blocks that it has not read, the oldest first, and so many jobs more are there
+pub record Looks (n : Node) (blocks : List Contents) (done : Node) (k : ℕ) : Type 0 where
+  pub found : Reading
+  pub reads : Reads n.history (n.read + 1) (drop (n.read + 1) (reverse blocks)) (reading_of n) found
+  pub after : done ≡ with_reading (height_of blocks) found n
+  pub count : k ≡ length found.jobs
+
+-- a side goes back to a height: its watches forget the blocks above it; what it learnt, its jobs and what it took stay
+abbrev pub seen_back_to : ℕ → Line → Line
+seen_back_to height line = record line { seen = seen_up_to height line.seen }
+
+abbrev pub back_to : ℕ → Node → Node
+back_to height n = record n { lines = map (seen_back_to height) n.lines; read = min n.read height }
