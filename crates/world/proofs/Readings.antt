@@ -1,16 +1,15 @@
 -- What a side reads in blocks, channel by channel.
-use Rattle.std.proofs.Common.{◌≡◌, ℕ, zero, suc, ◌+◌, ◌<◌, ◌≤◌, List, [], ◌∷◌, ◌++◌, map, take, drop, set, get_or, replicate, length, reverse, Option, Some, None, refl, sym, ap, subst, ◌∙◌, arith, add-one, append_assoc, append-nil}
+use Rattle.std.proofs.Common.{◌≡◌, ℕ, zero, suc, ◌+◌, ◌<◌, ◌≤◌, Bool, List, [], ◌∷◌, ◌++◌, map, take, drop, set, get_or, replicate, length, reverse, Option, Some, None, refl, sym, ap, subst, ◌∙◌, arith, add-one, append_assoc, append-nil}
 use Rattle.std.specs.Prelude.{slice_get, false}
 use Rattle.std.specs.List.{AllByRecursion}
 use Rattle.std.proofs.lemmas.List.{drop_all, drop_more, drop-set-lt, take_more_set, take_all, get_or-map, get_or-replicate, length-map, length-replicate, take-append-drop}
 use Rattle.std.proofs.lemmas.Option.{none-some, same_Some}
 use Rattle.tx.specs.Fields.{Transaction}
 use Rattle.claim.specs.Claims.{ClaimParts, IsAccepted}
-use Rattle.penalty.specs.Claimable.{Claimable}
-use Rattle.penalty.specs.Sets.{AreClaimsOn}
 use Rattle.resolve.specs.declared.known.Known.{Known}
 use Rattle.chain.specs.Blocks.{Contents}
 use Rattle.watch.specs.Watching.{Seen}
+use Rattle.watch.proofs.Giving.{accepted, all_append}
 use Rattle.channel.specs.States.{State}
 use Rattle.book.specs.declared.calls.Entry.{Entry}
 use Rattle.book.specs.Books.{ChannelBook, is_kept, replay}
@@ -155,18 +154,8 @@ past_end (x ∷ xs) (suc n) e = let l = past_end xs n e in omega arith
 
 -- ---- the side
 
-accepted : (os : List Claimable) (cs : List ClaimParts) → AreClaimsOn os cs → AllByRecursion IsAccepted cs
-accepted [] [] a = tt
-accepted [] (c ∷ cs) a = absurd a
-accepted (o ∷ os) [] a = absurd a
-accepted (o ∷ os) (c ∷ cs) (i, a) = (i.accepted, accepted os cs a)
-
 abbrev AreAccepted : List Job → Type 0
 AreAccepted jobs = AllByRecursion (λ j. IsAccepted j.claim) jobs
-
-accepted_append : (xs ys : List Job) → AreAccepted xs → AreAccepted ys → AreAccepted (xs ++ ys)
-accepted_append [] ys u v = v
-accepted_append (x ∷ xs) ys (p, u) v = (p, accepted_append xs ys u v)
 
 accepted_jobs : (c : ℕ) (preimages : List (List ℕ)) (claims : List ClaimParts) → AllByRecursion IsAccepted claims → AreAccepted (jobs_of c preimages claims)
 accepted_jobs c preimages [] u = tt
@@ -180,7 +169,7 @@ module _ {history : List Entry} {learnt : List (List ℕ)} {height : ℕ} {txs :
 
   accepted_block : {c : ℕ} {older newer : List Seen} {jobs : List Job} {shown : List (List ℕ)} → ReadsBlock history learnt height txs c older newer jobs shown → AreAccepted jobs
   accepted_block no_more = tt
-  accepted_block (channel {jobs = jobs} {more_jobs = more} one rest) = accepted_append jobs more (accepted_channel one) (accepted_block rest)
+  accepted_block (channel {jobs = jobs} {more_jobs = more} one rest) = all_append (λ (j : Job). IsAccepted j.claim) jobs more (accepted_channel one) (accepted_block rest)
 
   as_many : {c : ℕ} {older newer : List Seen} {jobs : List Job} {shown : List (List ℕ)} → ReadsBlock history learnt height txs c older newer jobs shown → length newer ≡ length older
   as_many no_more = refl
@@ -192,7 +181,7 @@ as_many_after history height txs r next after = as_many after.channels
 accepted_reads : {history : List Entry} {height : ℕ} {blocks : List Contents} {r done : Reading} → Reads history height blocks r done → AreAccepted r.jobs → AreAccepted done.jobs
 accepted_reads all_read u = u
 accepted_reads (block {r = r} after rest) u =
-    accepted_reads rest (subst AreAccepted (sym after.jobs_are) (accepted_append r.jobs after.jobs u (accepted_block after.channels)))
+    accepted_reads rest (subst AreAccepted (sym after.jobs_are) (all_append (λ (j : Job). IsAccepted j.claim) r.jobs after.jobs u (accepted_block after.channels)))
 
 as_many_reads : {history : List Entry} {height : ℕ} {blocks : List Contents} {r done : Reading} → Reads history height blocks r done → length done.seen ≡ length r.seen
 as_many_reads all_read = refl
@@ -212,7 +201,7 @@ seen_length (s ∷ seen) [] = refl
 seen_length (s ∷ seen) (line ∷ lines) = ap suc (seen_length seen lines)
 
 pub is_node_after : (n : Node) (height : ℕ) (r : Reading) → IsNode n → IsWhole n r → IsNode (with_reading height r n)
-is_node_after n height r is w = record { lines = seen_length r.seen n.lines ∙ is.lines; jobs = accepted_append n.jobs r.jobs is.jobs w.accepted; taken = is.taken }
+is_node_after n height r is w = record { lines = seen_length r.seen n.lines ∙ is.lines; jobs = all_append (λ (j : Job). IsAccepted j.claim) n.jobs r.jobs is.jobs w.accepted; taken = is.taken }
 
 -- each line in its turn
 pub put_step : (i : ℕ) (lines lines' : List Line) (line : Line) (s : Seen) (rest seen : List Seen) (whole : List Line) → i < length lines → line ≡ get_or lines i line

@@ -1,5 +1,5 @@
 -- What a side has asked its book for as it reads blocks.
-use Rattle.std.specs.Prelude.{◌≡◌, ℕ, false, List, [], ◌++◌, length, Option, Some, None, slice_get}
+use Rattle.std.specs.Prelude.{◌≡◌, ℕ, ◌<◌, false, List, [], ◌++◌, length, Option, Some, None, slice_get, slice_index_or}
 use Rattle.std.specs.List.{AllByRecursion}
 use Rattle.tx.specs.Fields.{Transaction}
 use Rattle.claim.specs.Claims.{IsAccepted}
@@ -17,7 +17,7 @@ IfKnown history learnt c None = Unit {0}
 IfKnown history learnt c (Some known) = Knows history learnt c known
 
 abbrev pub AreKnown : List Entry → List (List ℕ) → List (Option Known) → Type 0
-AreKnown history learnt knowns = (c : ℕ) (o : Option Known) → slice_get knowns c ≡ Some o → IfKnown history learnt c o
+AreKnown history learnt knowns = (c : ℕ) → c < length knowns → (d : Option Known) → IfKnown history learnt c (slice_index_or knowns c d)
 
 -- the book was asked, unless the channel is not closed
 abbrev pub IsReady : List Entry → List (List ℕ) → ℕ → Seen → List Transaction → Option Known → Type 0
