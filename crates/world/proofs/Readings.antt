@@ -1,22 +1,23 @@
 -- What a side reads in blocks, channel by channel.
 use Rattle.std.proofs.Common.{◌≡◌, ℕ, zero, suc, ◌+◌, ◌<◌, ◌≤◌, Bool, List, [], ◌∷◌, ◌++◌, map, take, drop, set, get_or, replicate, length, reverse, Option, Some, None, refl, sym, ap, subst, ◌∙◌, arith, add-one, append_assoc, append-nil}
-use Rattle.std.specs.Prelude.{slice_get, false}
+use Rattle.std.specs.Prelude.{slice_get, true, false}
 use Rattle.std.specs.List.{AllByRecursion}
 use Rattle.std.proofs.lemmas.List.{drop_all, drop_more, drop-set-lt, take_more_set, take_all, get_or-map, get_or-replicate, length-map, length-replicate, take-append-drop}
 use Rattle.std.proofs.lemmas.Option.{none-some, same_Some}
 use Rattle.tx.specs.Fields.{Transaction}
 use Rattle.claim.specs.Claims.{ClaimParts, IsAccepted}
+use Rattle.penalty.specs.Claimable.{Claimable}
+use Rattle.penalty.specs.Sets.{AreClaimsOn}
 use Rattle.resolve.specs.declared.known.Known.{Known}
 use Rattle.chain.specs.Blocks.{Contents}
 use Rattle.watch.specs.Watching.{Seen}
-use Rattle.watch.proofs.Giving.{accepted, all_append}
 use Rattle.channel.specs.States.{State}
 use Rattle.book.specs.declared.calls.Entry.{Entry}
 use Rattle.book.specs.Books.{ChannelBook, is_kept, replay}
 use Rattle.book.specs.Knowing.{IsKnownOf, IsKnownIn, preimages_in}
 use Rattle.world.specs.declared.jobs.Job.{Job}
 use Rattle.world.specs.Worlds.{Line, Node, IsNode}
-use Rattle.world.specs.Looking.{Knows, is_closed, jobs_of, wanted_by, Finds, ReadsChannel, quiet, sees, ReadsBlock, no_more, channel, Reading, IsAfter, Reads, all_read, block, reading_of, with_seen, with_reading}
+use Rattle.world.specs.Looking.{Knows, is_closed, jobs_of, wanted_by, Finds, ReadsChannel, quiet, sees, ReadsBlock, no_more, channel, Reading, IsAfter, Reads, all_read, block, reading_of, with_seen}
 use Rattle.world.specs.Asking.{IfKnown, AreKnown, IsReady, FindsIf, with_preimages, taught, IsWhole}
 
 -- ---- what is known
@@ -81,6 +82,19 @@ pub known_then : (history : List Entry) (learnt : List (List ℕ)) (knowns : Lis
     → IsReady history learnt c seen txs o → AreKnown history learnt (set knowns c o)
 known_then history learnt knowns c seen txs o are ready = set_keeps (IfKnown history learnt) knowns c o are (ready_known history learnt c seen txs o ready)
 
+-- a channel that is closed is there
+within : {A : Type 0} (xs : List A) (n : ℕ) (x : A) → slice_get xs n ≡ Some x → n < length xs
+within [] n x e = absurd (none-some x e)
+within (y ∷ xs) zero x e = omega arith
+within (y ∷ xs) (suc n) x e = let l = within xs n x e in omega arith
+
+closed_by : (chs : List ChannelBook) (c : ℕ) (seen : Seen) (txs : List Transaction) (o : Option ChannelBook) → slice_get chs c ≡ o → is_closed o seen txs ≡ true → c < length chs
+closed_by chs c seen txs None e closed = absurd (cc)
+closed_by chs c seen txs (Some ch) e closed = within chs c ch e
+
+pub closed_there : (chs : List ChannelBook) (c : ℕ) (seen : Seen) (txs : List Transaction) → is_closed (slice_get chs c) seen txs ≡ true → c < length chs
+closed_there chs c seen txs closed = closed_by chs c seen txs (slice_get chs c) refl closed
+
 -- ---- one channel
 
 pub reads_channel : (history : List Entry) (learnt : List (List ℕ)) (height : ℕ) (txs : List Transaction) (c : ℕ) (older newer : Seen) (jobs : List Job) (shown : List (List ℕ)) (o : Option Known)
@@ -126,6 +140,27 @@ module _ (history : List Entry) (learnt : List (List ℕ)) (height : ℕ) (txs :
   pub onward_start : (seen : List Seen) (jobs : List Job) (shown : List (List ℕ)) → jobs ≡ [] → shown ≡ [] → Onward history learnt height txs 0 seen seen jobs shown
   onward_start seen jobs shown j s newer more more_shown rest = rw (j, s) rest
 
+-- a block was read, and what it showed is known from then on
+pub after_block : (history : List Entry) (height : ℕ) (txs : List Transaction) (r next : Reading) (learnt : List (List ℕ)) (older newer : List Seen) (jobs : List Job) (shown : List (List ℕ))
+    → ReadsBlock history learnt height txs 0 older newer jobs shown → learnt ≡ r.learnt → older ≡ r.seen → next.seen ≡ newer → next.jobs ≡ r.jobs ++ jobs → next.learnt ≡ r.learnt ++ shown
+    → IsAfter history height txs r next
+after_block history height txs r next learnt older newer jobs shown reads l o n j s =
+    let by_learnt = subst (λ (xs : List (List ℕ)). ReadsBlock history xs height txs 0 older newer jobs shown) l reads in
+    let by_older = subst (λ (xs : List Seen). ReadsBlock history r.learnt height txs 0 xs newer jobs shown) o by_learnt in
+    record {
+      jobs = jobs;
+      shown = shown;
+      channels = subst (λ (xs : List Seen). ReadsBlock history r.learnt height txs 0 r.seen xs jobs shown) (sym n) by_older;
+      jobs_are = j;
+      learnt_is = s;
+    }
+
+pub known_after : (history : List Entry) (learnt old_learnt shown given new_learnt : List (List ℕ)) (knowns new : List (Option Known)) → AreKnown history learnt knowns → learnt ≡ old_learnt
+    → new ≡ map (taught given) knowns → given ≡ shown → new_learnt ≡ old_learnt ++ shown → AreKnown history new_learnt new
+known_after history learnt old_learnt shown given new_learnt knowns new are l k g n =
+    subst (λ (xs : List (List ℕ)). AreKnown history xs new) (ap (λ xs. xs ++ shown) l ∙ sym n)
+    (subst (λ (ks : List (Option Known)). AreKnown history (learnt ++ shown) ks) (ap (λ xs. map (taught xs) knowns) (sym g) ∙ sym k) (all_known_more history learnt shown knowns are))
+
 -- ---- blocks
 
 -- reading the blocks above a height makes what was read up to it the whole
@@ -143,6 +178,10 @@ upward_step history blocks from at r now next b upward there after done rest =
     let is : drop (at + 1) blocks ≡ b ∷ drop (at + 1 + 1) blocks = at_place blocks (at + 1) b there ∙ ap (λ n. b ∷ drop n blocks) (sym (add-one (at + 1))) in
     upward done (subst (λ (bs : List Contents). Reads history (at + 1) bs now done) (sym is) (block after rest))
 
+pub upward_start : (history : List Entry) (blocks : List Contents) (from at : ℕ) (r now : Reading) → at ≡ from → now ≡ r → Upward history blocks from r at now
+upward_start history blocks from at r now a n done rest =
+    subst (λ (k : ℕ). Reads history (k + 1) (drop (k + 1) blocks) r done) a (subst (λ (x : Reading). Reads history (at + 1) (drop (at + 1) blocks) x done) n rest)
+
 pub upward_end : (history : List Entry) (blocks : List Contents) (from at : ℕ) (r now : Reading) → Upward history blocks from r at now → length blocks ≤ at + 1
     → Reads history (from + 1) (drop (from + 1) blocks) r now
 upward_end history blocks from at r now upward l = upward now (subst (λ (bs : List Contents). Reads history (at + 1) bs now now) (sym (drop_all (at + 1) blocks l)) all_read)
@@ -154,8 +193,18 @@ past_end (x ∷ xs) (suc n) e = let l = past_end xs n e in omega arith
 
 -- ---- the side
 
+accepted : (os : List Claimable) (cs : List ClaimParts) → AreClaimsOn os cs → AllByRecursion IsAccepted cs
+accepted [] [] a = tt
+accepted [] (c ∷ cs) a = absurd a
+accepted (o ∷ os) [] a = absurd a
+accepted (o ∷ os) (c ∷ cs) (i, a) = (i.accepted, accepted os cs a)
+
 abbrev AreAccepted : List Job → Type 0
 AreAccepted jobs = AllByRecursion (λ j. IsAccepted j.claim) jobs
+
+accepted_append : (xs ys : List Job) → AreAccepted xs → AreAccepted ys → AreAccepted (xs ++ ys)
+accepted_append [] ys u v = v
+accepted_append (x ∷ xs) ys (p, u) v = (p, accepted_append xs ys u v)
 
 accepted_jobs : (c : ℕ) (preimages : List (List ℕ)) (claims : List ClaimParts) → AllByRecursion IsAccepted claims → AreAccepted (jobs_of c preimages claims)
 accepted_jobs c preimages [] u = tt
@@ -169,7 +218,7 @@ module _ {history : List Entry} {learnt : List (List ℕ)} {height : ℕ} {txs :
 
   accepted_block : {c : ℕ} {older newer : List Seen} {jobs : List Job} {shown : List (List ℕ)} → ReadsBlock history learnt height txs c older newer jobs shown → AreAccepted jobs
   accepted_block no_more = tt
-  accepted_block (channel {jobs = jobs} {more_jobs = more} one rest) = all_append (λ (j : Job). IsAccepted j.claim) jobs more (accepted_channel one) (accepted_block rest)
+  accepted_block (channel {jobs = jobs} {more_jobs = more} one rest) = accepted_append jobs more (accepted_channel one) (accepted_block rest)
 
   as_many : {c : ℕ} {older newer : List Seen} {jobs : List Job} {shown : List (List ℕ)} → ReadsBlock history learnt height txs c older newer jobs shown → length newer ≡ length older
   as_many no_more = refl
@@ -181,7 +230,7 @@ as_many_after history height txs r next after = as_many after.channels
 accepted_reads : {history : List Entry} {height : ℕ} {blocks : List Contents} {r done : Reading} → Reads history height blocks r done → AreAccepted r.jobs → AreAccepted done.jobs
 accepted_reads all_read u = u
 accepted_reads (block {r = r} after rest) u =
-    accepted_reads rest (subst AreAccepted (sym after.jobs_are) (all_append (λ (j : Job). IsAccepted j.claim) r.jobs after.jobs u (accepted_block after.channels)))
+    accepted_reads rest (subst AreAccepted (sym after.jobs_are) (accepted_append r.jobs after.jobs u (accepted_block after.channels)))
 
 as_many_reads : {history : List Entry} {height : ℕ} {blocks : List Contents} {r done : Reading} → Reads history height blocks r done → length done.seen ≡ length r.seen
 as_many_reads all_read = refl
@@ -200,8 +249,13 @@ seen_length [] lines = refl
 seen_length (s ∷ seen) [] = refl
 seen_length (s ∷ seen) (line ∷ lines) = ap suc (seen_length seen lines)
 
-pub is_node_after : (n : Node) (height : ℕ) (r : Reading) → IsNode n → IsWhole n r → IsNode (with_reading height r n)
-is_node_after n height r is w = record { lines = seen_length r.seen n.lines ∙ is.lines; jobs = all_append (λ (j : Job). IsAccepted j.claim) n.jobs r.jobs is.jobs w.accepted; taken = is.taken }
+pub is_node_after : (n : Node) (r : Reading) (lines : List Line) (read : ℕ) (learnt : List (List ℕ)) (jobs : List Job) → IsNode n → IsWhole n r → lines ≡ with_seen r.seen n.lines → jobs ≡ n.jobs ++ r.jobs
+    → IsNode (record n { lines = lines; read = read; learnt = learnt; jobs = jobs })
+is_node_after n r lines read learnt jobs is w l j = record {
+  lines = ap length l ∙ seen_length r.seen n.lines ∙ is.lines;
+  jobs = subst AreAccepted (sym j) (accepted_append n.jobs r.jobs is.jobs w.accepted);
+  taken = is.taken;
+}
 
 -- each line in its turn
 pub put_step : (i : ℕ) (lines lines' : List Line) (line : Line) (s : Seen) (rest seen : List Seen) (whole : List Line) → i < length lines → line ≡ get_or lines i line

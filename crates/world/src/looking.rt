@@ -161,7 +161,8 @@ fn asked(
 ) -> Result<Option<Known>, AllocError>
     ensures { IfOk result (IsReady book.now learnt.now channel watch.now (reverse block.now.transactions)) }
 {
-    if !is_closed(book, channel, watch, block) {
+    let closed = is_closed(book, channel, watch, block);
+    if !closed {
         return Ok(None);
     }
     Ok(Some(known_of(book, channel, learnt)?))
@@ -179,10 +180,13 @@ fn ask(
     requires { IfKnown book.now learnt.now channel known.old }
     ensures { OnOk result (IsReady book.now learnt.now channel watch.now (reverse block.now.transactions) known.new) }
 {
-    if known.is_none() {
-        *known = asked(book, channel, learnt, watch, block)?;
+    match known {
+        Some(_) => Ok(()),
+        None => {
+            *known = asked(book, channel, learnt, watch, block)?;
+            Ok(())
+        }
     }
-    Ok(())
 }
 
 // A watch reads a block by what is known of its channel. The only error is that memory ran out.
@@ -250,22 +254,10 @@ fn read_channels(
     let mut found = nothing_found(alloc);
     for index in 0..watches.len() {
         let channel = index as u64;
-        ask(
-            book,
-            channel,
-            learnt,
-            &watches[index],
-            block,
-            &mut knowns[index],
-        )?;
-        let more = read_channel(
-            alloc,
-            height,
-            block,
-            channel,
-            &knowns[index],
-            &mut watches[index],
-        )?;
+        let known = &mut knowns[index];
+        let watch = &mut watches[index];
+        ask(book, channel, learnt, watch, block, known)?;
+        let more = read_channel(alloc, height, block, channel, known, watch)?;
         add(&mut found, more)?;
     }
     Ok(found)
@@ -371,6 +363,13 @@ fn read_blocks(alloc: Global, me: &Node, chain: &Index) -> Result<Reading, Alloc
     Ok(reading)
 }
 
+// A channel has this watch.
+fn put_watch(line: &mut Line, watch: Watch)
+    ensures { line.new ≡ record line.old { seen = watch } }
+{
+    line.watch = watch;
+}
+
 // Each channel has the watch of its place, of which there are as many.
 fn put_watches(lines: &mut [Line], watches: Vec<Watch>)
     requires { length watches.items ≡ length lines.old }
@@ -378,7 +377,7 @@ fn put_watches(lines: &mut [Line], watches: Vec<Watch>)
 {
     let mut index = 0;
     for watch in watches {
-        lines[index].watch = watch;
+        put_watch(&mut lines[index], watch);
         index += 1;
     }
 }
@@ -415,12 +414,19 @@ pub(crate) fn look(alloc: Global, me: &mut Node, chain: &Index) -> Result<u64, E
     Ok(count)
 }
 
-// The watches of a side forget the blocks above a height.
+// The watch of a channel forgets the blocks above a height.
+fn back_on(line: &mut Line, height: u64)
+    ensures { line.new ≡ seen_back_to height line.old }
+{
+    line.watch.back(height);
+}
+
+// The watches of all channels do.
 fn back_all(lines: &mut [Line], height: u64)
     ensures { lines.new ≡ map (seen_back_to height) lines.old }
 {
     for index in 0..lines.len() {
-        lines[index].watch.back(height);
+        back_on(&mut lines[index], height);
     }
 }
 
