@@ -1,6 +1,6 @@
 -- What a side reads in blocks, channel by channel.
 use Rattle.std.proofs.Common.{◌≡◌, ℕ, zero, suc, ◌+◌, ◌<◌, ◌≤◌, Bool, List, [], ◌∷◌, ◌++◌, map, take, drop, set, get_or, replicate, length, reverse, Option, Some, None, refl, sym, ap, subst, ◌∙◌, arith, add-one, append_assoc, append-nil}
-use Rattle.std.specs.Prelude.{slice_get, true, false}
+use Rattle.std.specs.Prelude.{slice_get, true}
 use Rattle.std.specs.List.{AllByRecursion}
 use Rattle.std.proofs.lemmas.List.{drop_all, drop_more, drop-set-lt, take_more_set, take_all, get_or-map, get_or-replicate, length-map, length-replicate, take-append-drop}
 use Rattle.std.proofs.lemmas.Option.{none-some, same_Some}
@@ -17,7 +17,7 @@ use Rattle.book.specs.Books.{ChannelBook, is_kept, replay}
 use Rattle.book.specs.Knowing.{IsKnownOf, IsKnownIn, preimages_in}
 use Rattle.world.specs.declared.jobs.Job.{Job}
 use Rattle.world.specs.Worlds.{Line, Node, IsNode}
-use Rattle.world.specs.Looking.{Knows, is_closed, jobs_of, wanted_by, Finds, ReadsChannel, quiet, sees, ReadsBlock, no_more, channel, Reading, IsAfter, Reads, all_read, block, reading_of, with_seen}
+use Rattle.world.specs.Looking.{Knows, is_closed, jobs_of, ReadsChannel, quiet, sees, ReadsBlock, no_more, channel, Reading, IsAfter, Reads, all_read, block, reading_of, with_seen}
 use Rattle.world.specs.Asking.{IfKnown, AreKnown, IsReady, FindsIf, with_preimages, taught, IsWhole}
 
 -- ---- what is known
@@ -73,10 +73,6 @@ set_keeps P (x ∷ xs) (suc i) y each here (suc c) l d = set_keeps (λ n. P (suc
 ready_known : (history : List Entry) (learnt : List (List ℕ)) (c : ℕ) (seen : Seen) (txs : List Transaction) (o : Option Known) → IsReady history learnt c seen txs o → IfKnown history learnt c o
 ready_known history learnt c seen txs None is = tt
 ready_known history learnt c seen txs (Some k) is = is
-
-pub known_at : (history : List Entry) (learnt : List (List ℕ)) (knowns : List (Option Known)) (c : ℕ) (o : Option Known) → AreKnown history learnt knowns → c < length knowns → o ≡ get_or knowns c o
-    → IfKnown history learnt c o
-known_at history learnt knowns c o are l e = subst (IfKnown history learnt c) (sym e) (are c l o)
 
 pub known_then : (history : List Entry) (learnt : List (List ℕ)) (knowns : List (Option Known)) (c : ℕ) (seen : Seen) (txs : List Transaction) (o : Option Known) → AreKnown history learnt knowns
     → IsReady history learnt c seen txs o → AreKnown history learnt (set knowns c o)

@@ -1,5 +1,4 @@
-use Rattle.std.proofs.Common.{◌≡◌, ◌+◌, ℕ, List, Option, None, length, reverse, sym, ap, subst, arith}
-use Rattle.std.specs.Vec.{with_items}
+use Rattle.std.proofs.Common.{◌≡◌, ◌+◌, List, Option, None, length, reverse, sym, ap, subst, arith}
 use Rattle.std.proofs.lemmas.List.{with_items_is, length-replicate, length-reverse}
 use Rattle.resolve.specs.declared.known.Known.{Known}
 use Rattle.book.specs.declared.calls.Entry.{Entry}
@@ -17,8 +16,14 @@ loop-read-init c =
       upward = upward_start me.history (reverse c.args.chain.now.blocks) me.read c.me.inside.read (reading_of me) r (ap (λ (n : Node). n.read) c.me.view_is) c.in_ok-reading.ensures;
       known = subst (λ (ks : List (Option Known)). AreKnown me.history r.learnt ks) (sym c.in_ok-knowns.ensures) (none_known me.history r.learnt c.len.result);
       same =
-          omega (arith, ap length c.in_ok-knowns.ensures, length-replicate {A = Option Known} c.len.result None, ap (λ (x : Reading). length x.seen) c.reading.view_is, c.len.ensures,
-          c.reading.inside.watches.ok.0);
+          omega (
+            arith,
+            ap length c.in_ok-knowns.ensures,
+            length-replicate {A = Option Known} c.len.result None,
+            ap (λ (x : Reading). length x.seen) c.reading.view_is,
+            c.len.ensures,
+            c.reading.inside.watches.ok.0,
+          );
     }
 
 pub loop-read-preserved : goal.loop-read-preserved
@@ -38,8 +43,13 @@ loop-read-preserved c =
           subst (λ (ks : List (Option Known)). AreKnown me.history next.learnt ks) (sym knowns)
           (subst (λ (h : List Entry). AreKnown h next.learnt c.read_block.new.knowns) history c.in_ok-read_block.ensures.known);
       same =
-          omega (arith, ap length knowns, as_many_after me.history (at + 1) (reverse c.in-Some.block.now.transactions) c.loop-read.reading next after, c.loop-read.invariant.same,
-          c.loop-read.knowns.ok.0);
+          omega (
+            arith,
+            ap length knowns,
+            as_many_after me.history (at + 1) (reverse c.in-Some.block.now.transactions) c.loop-read.reading next after,
+            c.loop-read.invariant.same,
+            c.loop-read.knowns.ok.0,
+          );
     }
 
 pub returns : goal.returns

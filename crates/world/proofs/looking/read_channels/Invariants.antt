@@ -1,4 +1,4 @@
-use Rattle.std.proofs.Common.{◌≡◌, reverse, length}
+use Rattle.std.proofs.Common.{reverse}
 use Rattle.world.specs.Asking.{AreKnown}
 use Rattle.world.proofs.Readings.{Onward}
 use Rattle.world.proofs.looking.read_channels.Given as goal
