@@ -256,7 +256,7 @@ fn delivers_no_message(rt: HostRuntime) {
     assert!(rt; matches!(sign(&mut a, &mut b, 1), Err(EventError::NoSuchChannel)));
 }
 
-// The program of the funding output of the two sides: B's key is the lesser one.
+// The program of the funding output of the two sides (BOLT 3), the lesser key first.
 fn funding_program(rt: &impl Abort, alloc: Global) -> ByteString {
     let a = Signer::new(alloc, &[10; 32]).base(Base::Funding);
     let b = Signer::new(alloc, &[11; 32]).base(Base::Funding);
