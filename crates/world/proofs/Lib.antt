@@ -14,3 +14,4 @@ pub mod Sending
 pub mod Releases
 pub mod Keeps
 pub mod Played
+pub mod Readings

@@ -5,6 +5,8 @@ pub mod Releasing
 pub mod Acts
 pub mod Beginning
 pub mod Keeping
+pub mod Looking
+pub mod Asking
 pub mod Pairing
 pub mod Looking
 pub mod Publishing
