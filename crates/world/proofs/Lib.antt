@@ -3,7 +3,16 @@ mod Calls
 mod Begun
 pub mod DueClaims
 pub mod EnforcementExamples
+pub mod StepExamples
+pub mod Whole
+mod Inboxes
+mod Fitting
+pub mod Kept
+pub mod Moments
+pub mod Plays
 pub mod Answering
 pub mod Sending
 pub mod Releases
 pub mod Keeps
+pub mod Played
+pub mod Readings

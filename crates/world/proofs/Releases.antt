@@ -1,5 +1,5 @@
 -- Why claims are not released together, and by which batch they are.
-use Rattle.std.proofs.Common.{◌≡◌, ℕ, ◌≤◌, true, false, List, [], ◌∷◌, map, take, length, Option, Some, None, Ok, refl, sym, ap, subst, ◌∙◌, arith}
+use Rattle.std.proofs.Common.{◌≡◌, ◌↔◌, ℕ, ◌≤◌, true, false, List, [], ◌∷◌, map, take, length, Option, Some, None, Ok, Err, refl, sym, ap, subst, ◌∙◌, arith}
 use Rattle.std.specs.Prelude.{slice_get, option_map, nat_lt, not}
 use Rattle.std.proofs.lemmas.Bool.Decides.{nat_tests}
 use Rattle.std.proofs.lemmas.Option.{none-some, same_Some}
@@ -7,19 +7,28 @@ use Rattle.tx.specs.Parts.{Output}
 use Rattle.tx.specs.Fields.{Transaction}
 use Rattle.tx.specs.Limits.{max_value}
 use Rattle.claim.specs.Claims.{ClaimParts}
-use Rattle.filling.specs.Filled.{Filling}
+use Rattle.keys.specs.Rights.{Rights, MaySign}
+use Rattle.filling.specs.declared.errors.FillError.{FillError}
+use Rattle.filling.specs.declared.errors.FillError.TheVariants as fills
+use Rattle.filling.specs.Filling.{filling_of}
+use Rattle.filling.specs.Filled.{Filling, IsFillingOf}
+use Rattle.filling.specs.Refusals.{IsFirstRefusal}
 use Rattle.channel.specs.States.{State}
+use Rattle.channel.specs.Rights.{rights_of}
 use Rattle.book.specs.declared.calls.Batch.{Batch}
 use Rattle.book.specs.declared.calls.Call.TheVariants.{Release}
-use Rattle.book.specs.declared.errors.ReleaseError.TheVariants.{NoSuchChannel}
+use Rattle.book.specs.declared.errors.ReleaseError.TheVariants.{NoSuchChannel, Unfilled}
 use Rattle.book.specs.Calls.{IsBatchOf}
+use Rattle.book.specs.Calling.{IsFillRefusal, filling_by}
+use Rattle.book.specs.Signers.{fill_refusal}
 use Rattle.book.specs.Books.{ChannelBook}
-use Rattle.book.specs.Replies.{released, asked, fill_answer, if_so}
+use Rattle.book.specs.Replies.{released, asked, unless, fill_answer, if_so}
+use Rattle.book.proofs.Released.{tested_by}
 use Rattle.world.specs.declared.errors.EventError.{EventError}
 use Rattle.world.specs.declared.errors.EventError.TheVariants as errors
 use Rattle.world.specs.declared.jobs.Job.{Job}
 use Rattle.world.specs.Worlds.{Node, channel_of, answer_to, after_call}
-use Rattle.world.specs.Refusing.{refusal_in}
+use Rattle.world.specs.Refusing.{by_release, refusal_in, IsRefusal}
 use Rattle.world.specs.Releasing.{are_of, value_of, claims_in, output_for, preimages_for, release_answer, refusal_of, is_no_count, release_refusal, without_taken, IsReady, IsReleased}
 
 pub first_of_map : {A B : Type 0} (f : A → B) (xs : List A) (x : A) → slice_get xs 0 ≡ Some x → slice_get (map f xs) 0 ≡ Some (f x)
@@ -82,20 +91,73 @@ is_ready jobs n j s batch found all little there is =
       left = by_book jobs n j found all little ∙ same_answer (channel_of n j.channel) t.ch (λ x. output_for x jobs ∷ []) (claims_in jobs) (preimages_for jobs) batch t.there batch_is;
     }
 
+-- ---- the filling
+
+-- claims and outputs that are those of the batch give its filling
+pub is_filled : (b : Batch) (claims : List ClaimParts) (outputs : List Output) (r s : Rights) (f : Filling) → ((key : List ℕ) → MaySign r key ↔ MaySign s key) → claims ≡ b.claims → outputs ≡ b.outputs
+    → IsFillingOf claims outputs r b.preimages f → (fill_refusal b.claims b.outputs s b.preimages ≡ None) × (f.tx ≡ (filling_by b).tx)
+is_filled b claims outputs r s f same its own is =
+    let of_batch = subst (λ (os : List Output). IsFillingOf b.claims os r b.preimages f) own (subst (λ (cs : List ClaimParts). IsFillingOf cs outputs r b.preimages f) its is) in
+    (tested_by b r s (Ok f) same of_batch, of_batch.tx)
+
+-- or its refusal
+pub is_unfilled : (b : Batch) (claims : List ClaimParts) (outputs : List Output) (r s : Rights) (e : FillError) → ((key : List ℕ) → MaySign r key ↔ MaySign s key) → claims ≡ b.claims → outputs ≡ b.outputs
+    → IsFirstRefusal claims outputs r b.preimages e → IsFillRefusal (fill_refusal b.claims b.outputs s b.preimages) e
+is_unfilled b claims outputs r s e same its own is =
+    tested_by b r s (Err e) same (subst (λ (os : List Output). IsFirstRefusal b.claims os r b.preimages e) own (subst (λ (cs : List ClaimParts). IsFirstRefusal cs outputs r b.preimages e) its is))
+
+-- the refusal of the filling is that of the release
+answer_refused : (o : Option ChannelBook) (ch : ChannelBook) (b : Batch) (e : FillError) → o ≡ Some ch → fill_refusal b.claims b.outputs (rights_of ch.state) b.preimages ≡ Some e
+    → refusal_in (released (asked NoSuchChannel o (λ c. fill_answer c.state b.claims b.outputs b.preimages))) ≡ Some (by_release (Unfilled e))
+answer_refused o ch b e there is =
+    ap (λ p. refusal_in (released (asked NoSuchChannel p (λ c. fill_answer c.state b.claims b.outputs b.preimages)))) there ∙ ap (λ r. refusal_in (released (unless Unfilled r (filling_by b)))) is
+
+pub refused_by : (jobs : List Job) (n : Node) (channel : ℕ) (batch : Batch) (s : State) (e : FillError) (x : EventError) → IsReady jobs n channel batch → Some s ≡ option_map (λ ch. ch.state) (channel_of n channel)
+    → IsFillRefusal (fill_refusal batch.claims batch.outputs (rights_of s) batch.preimages) e → x ≡ by_release (Unfilled e) → IsRefusal (refusal_of jobs n) x
+refused_by jobs n channel batch s e x ready there is by = subst (λ (y : EventError). IsRefusal (refusal_of jobs n) y) (sym by) (of_fill e is)
+  where
+    t : IsThere (channel_of n channel) s
+    t = is_there (channel_of n channel) s there
+
+    first : (e : FillError) → fill_refusal batch.claims batch.outputs (rights_of s) batch.preimages ≡ Some e → refusal_of jobs n ≡ Some (by_release (Unfilled e))
+    first e is = ready.left ∙ answer_refused (channel_of n channel) t.ch batch e t.there (ap (λ (y : State). fill_refusal batch.claims batch.outputs (rights_of y) batch.preimages) t.state ∙ is)
+
+    of_fill : (e : FillError) → IsFillRefusal (fill_refusal batch.claims batch.outputs (rights_of s) batch.preimages) e → IsRefusal (refusal_of jobs n) (by_release (Unfilled e))
+    of_fill fills.NoMemory is = tt
+    of_fill fills.NoRight is = first fills.NoRight is
+    of_fill fills.NoPreimage is = first fills.NoPreimage is
+    of_fill fills.OutputsExceed is = first fills.OutputsExceed is
+    of_fill fills.MixedShells is = first fills.MixedShells is
+    of_fill fills.SameOutpoint is = first fills.SameOutpoint is
+
 -- ---- what is left
 
 unrefused : (k : ℕ) (n : Node) (channel : ℕ) (batch : Batch) → is_no_count k (length n.taken) ≡ false → IsReady (take k n.taken) n channel batch
     → release_refusal k n ≡ refusal_in (answer_to n (Release channel batch))
 unrefused k n channel batch counted ready = ap (λ b. if_so b errors.NoJob (refusal_of (take k n.taken) n)) counted ∙ ready.left
 
-pub record IsWhole (k : ℕ) (n new : Node) (t : Transaction) : Type 0 where
+-- the filling that the book answers is that of the batch
+same_filling : (o : Option ChannelBook) (b : Batch) (f : Filling) → released (asked NoSuchChannel o (λ ch. fill_answer ch.state b.claims b.outputs b.preimages)) ≡ released (Ok f)
+    → f.tx ≡ filling_of b.claims b.outputs b.preimages
+same_filling None b f e = absurd cc
+same_filling (Some ch) b f e = by (fill_refusal b.claims b.outputs (rights_of ch.state) b.preimages) e
+  where
+    by : (r : Option FillError) → released (unless Unfilled r (filling_by b)) ≡ released (Ok f) → f.tx ≡ filling_of b.claims b.outputs b.preimages
+    by None e =
+        let same : filling_by b ≡ f = cc in
+        ap (λ (x : Filling). x.tx) (sym same)
+    by (Some r) e = absurd cc
+
+pub record IsWhole (k : ℕ) (n new : Node) (t copy : Transaction) : Type 0 where
   pub first : release_refusal k n ≡ None
   pub done : IsReleased k n new t
+  pub same : copy ≡ t
 
-pub whole : (k : ℕ) (n mid new : Node) (channel : ℕ) (batch : Batch) (f : Filling) (t : Transaction) → is_no_count k (length n.taken) ≡ false → IsReady (take k n.taken) n channel batch
+pub whole : (k : ℕ) (n mid new : Node) (channel : ℕ) (batch : Batch) (f : Filling) (t copy : Transaction) → copy ≡ (filling_by batch).tx → is_no_count k (length n.taken) ≡ false → IsReady (take k n.taken) n channel batch
     → refusal_in (answer_to n (Release channel batch)) ≡ None → mid ≡ after_call (Release channel batch) n → answer_to n (Release channel batch) ≡ released (Ok f) → t ≡ f.tx → new ≡ without_taken k mid
-    → IsWhole k n new t
-whole k n mid new channel batch f t counted ready none after answer tx without = record {
+    → IsWhole k n new t copy
+whole k n mid new channel batch f t copy made counted ready none after answer tx without = record {
   first = unrefused k n channel batch counted ready ∙ none;
   done = record { channel = channel; batch = batch; filling = f; ready = ready; answer = answer; tx = tx; after = without ∙ ap (without_taken k) after };
+  same = made ∙ sym (same_filling (channel_of n channel) batch f answer) ∙ sym tx;
 }

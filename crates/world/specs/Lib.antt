@@ -5,8 +5,11 @@ pub mod Releasing
 pub mod Acts
 pub mod Beginning
 pub mod Keeping
+pub mod Looking
+pub mod Asking
 pub mod Pairing
 pub mod Looking
 pub mod Publishing
+pub mod Owning
 pub mod Steps
 pub mod Theorem

@@ -5,6 +5,8 @@ use Rattle.channel.specs.declared.messages.Message.{Message}
 use Rattle.channel.specs.declared.messages.Message.TheVariants.{Updated, CommitmentSigned, RevokeAndAck}
 use Rattle.updates.specs.declared.refusals.Refusal.TheVariants.{NoMemory as refusal_memory}
 use Rattle.filling.specs.declared.errors.FillError.TheVariants.{NoMemory as fill_memory}
+use Rattle.mempool.specs.declared.errors.ReorgError.{ReorgError}
+use Rattle.mempool.specs.declared.errors.ReorgError.TheVariants.{NoMemory as reorg_memory, TooDeep as reorg_depth, NoSuchTx as reorg_txs}
 use Rattle.book.specs.declared.calls.Call.{Call}
 use Rattle.book.specs.declared.calls.Call.TheVariants as calls
 use Rattle.book.specs.declared.calls.Step.TheVariants.{Updated as UpdatedStep, Signed}
@@ -18,7 +20,7 @@ use Rattle.book.specs.declared.errors.ReleaseError.{ReleaseError}
 use Rattle.book.specs.declared.errors.ReleaseError.TheVariants.{Unfilled, NoSuchChannel as NoChannelToRelease}
 use Rattle.book.specs.Replies.{Reply, if_so, stepped, signed, revoked, kept, released}
 use Rattle.world.specs.declared.errors.EventError.{EventError}
-use Rattle.world.specs.declared.errors.EventError.TheVariants.{NoMemory, NoSuchChannel, NoMessage, Channel, Sign, Keep, Fill}
+use Rattle.world.specs.declared.errors.EventError.TheVariants.{NoMemory, NoSuchChannel, NoMessage, NoSuchTx, TooDeep, Channel, Sign, Keep, Fill}
 use Rattle.world.specs.Worlds.{Line, Node, answer_to, after_call, sent_to, received_by}
 
 -- ---- refusals
@@ -44,6 +46,13 @@ by_release (Unfilled fill_memory) = NoMemory
 by_release (Unfilled refusal) = Fill refusal
 by_release NoChannelToRelease = NoSuchChannel
 
+-- and those of blocks to give way
+abbrev pub by_reorg : ReorgError → EventError
+by_reorg reorg_memory = NoMemory
+by_reorg reorg_depth = TooDeep
+by_reorg reorg_txs = NoSuchTx
+
+-- the refusal in an answer of a book
 abbrev pub refusal_in : Reply → Option EventError
 refusal_in (stepped (Err e)) = Some (by_step e)
 refusal_in (signed (Err e)) = Some (by_sign e)

@@ -102,3 +102,10 @@ pub record IsReleased (k : ℕ) (n done : Node) (t : Transaction) : Type 0 where
   pub answer : answer_to n (Release channel batch) ≡ released (Ok filling)
   pub tx : t ≡ filling.tx
   pub after : done ≡ without_taken k (after_call (Release channel batch) n)
+
+-- and the transaction waits behind the others, and is the newest of those that were ever released
+pub record IsReleasedTo (k : ℕ) (n done : Node) (pool released waiting fillings : List Transaction) : Type 0 where
+  pub tx : Transaction
+  pub is : IsReleased k n done tx
+  pub waits : waiting ≡ pool ++ tx ∷ []
+  pub stays : fillings ≡ released ++ tx ∷ []

@@ -1,5 +1,5 @@
 -- One event of the world, by cases; and a run of events.
-use Rattle.std.specs.Prelude.{◌≡◌, ℕ, ◌-◌, List, [], ◌∷◌, ◌++◌, length, option_map, Option, Some, None, Ok, slice_get}
+use Rattle.std.specs.Prelude.{◌≡◌, ℕ, ◌-◌, List, [], ◌∷◌, ◌++◌, length, option_map, Option, Some, None, Result, Ok, Err, slice_get}
 use Rattle.tx.specs.Fields.{Transaction}
 use Rattle.terms.specs.declared.sides.Side.{Side}
 use Rattle.terms.specs.declared.sides.Side.TheVariants.{A, B}
@@ -9,19 +9,17 @@ use Rattle.texts.specs.declared.events.Event.TheVariants as events
 use Rattle.texts.specs.declared.steps.OwnUpdate.{OwnUpdate}
 use Rattle.texts.specs.declared.steps.OwnUpdate.TheVariants.{Offer, Fulfil, Fail, SetFee}
 use Rattle.chain.specs.Blocks.{height_of}
-use Rattle.mempool.specs.declared.errors.ReorgError.{ReorgError}
-use Rattle.mempool.specs.declared.errors.ReorgError.TheVariants as reorgs
 use Rattle.mempool.specs.Mining.{Mined, mined_by, reorganised}
 use Rattle.mempool.specs.Reorganising.{reorg_refusal}
 use Rattle.book.specs.declared.calls.Call.{Call}
 use Rattle.book.specs.declared.calls.Call.TheVariants as calls
 use Rattle.book.specs.declared.calls.Step.TheVariants.{Own}
 use Rattle.world.specs.declared.errors.EventError.{EventError}
-use Rattle.world.specs.declared.errors.EventError.TheVariants.{NoMemory, TooDeep, NoSuchTx}
+use Rattle.world.specs.declared.errors.EventError.TheVariants.{NoMemory}
 use Rattle.world.specs.declared.outcomes.Outcome.{Outcome}
 use Rattle.world.specs.declared.outcomes.Outcome.TheVariants.{Done, Looked, Mined as MinedBlocks, Refused}
 use Rattle.world.specs.Worlds.{World, Node, node_of, with_node, with_nodes, channel_of, after_call}
-use Rattle.world.specs.Refusing.{sending_refusal, sent_by, oldest_in, delivery_refusal, delivered, answered}
+use Rattle.world.specs.Refusing.{IsRefusal, by_reorg, sending_refusal, sent_by, oldest_in, delivery_refusal, delivered, answered}
 use Rattle.world.specs.Keeping.{keep_refusal, IsKept}
 use Rattle.world.specs.Publishing.{preimages_known, commitment_in, htlc_tx_in, refusal_by}
 use Rattle.world.specs.Releasing.{take_refusal, with_taken, release_refusal, IsReleased}
@@ -62,17 +60,13 @@ with_released t w = record w { pool = w.pool ++ t ∷ []; released = w.released 
 abbrev pub with_mined : Mined → World → World
 with_mined m w = record w { chain = m.chain; pool = m.waiting }
 
+-- which height the chain has, and how many transactions the new blocks
 abbrev pub blocks_outcome : Mined → Outcome
 blocks_outcome m = MinedBlocks (height_of m.chain.blocks) m.txs
 
 -- both sides' watches go back to a height
 abbrev pub both_back : ℕ → World → World
 both_back height w = record w { a = back_to height w.a; b = back_to height w.b }
-
-abbrev pub by_reorg : ReorgError → EventError
-by_reorg reorgs.NoMemory = NoMemory
-by_reorg reorgs.TooDeep = TooDeep
-by_reorg reorgs.NoSuchTx = NoSuchTx
 
 -- ---- one event
 
@@ -113,6 +107,20 @@ pub data Happens (w : World) : Event → World → Outcome → Type 0 where
       → Happens w (events.Release s k) (with_released t (with_node s after w)) Done
   reorganises : {depth forgotten : ℕ} {m : Mined} → m ≡ reorganised depth forgotten w.chain w.pool w.released
       → Happens w (events.Reorg depth forgotten) (both_back (height_of w.chain.blocks - depth) (with_mined m w)) (blocks_outcome m)
+
+-- what an event leaves, by its answer: it happens where nothing refuses it, and a refused one changes nothing
+abbrev pub IsPlayed : World → Event → Result Outcome EventError → World → Type 0
+IsPlayed w e (Ok o) new = (refusal_of w e ≡ None) × Happens w e new o
+IsPlayed w e (Err r) new = IsRefusal (refusal_of w e) r × (new ≡ w)
+
+-- the answer of an event of which nothing more is said, and of a look
+abbrev pub done_by : Result (Unit {0}) EventError → Result Outcome EventError
+done_by (Ok x) = Ok Done
+done_by (Err r) = Err r
+
+abbrev pub looked_by : Result ℕ EventError → Result Outcome EventError
+looked_by (Ok k) = Ok (Looked k)
+looked_by (Err r) = Err r
 
 -- one event: it happens where nothing refuses it; a refused one leaves the world as it was and, memory aside, names the first condition that holds
 pub data WorldSteps (w : World) (e : Event) : World → Outcome → Type 0 where

@@ -4,7 +4,7 @@
 -- Over every interleaving of channel steps, blocks, reorganisations, broadcasts, looks and releases: every filling of an accepted claim, once its output is unspent and its height and age are
 -- reached, passes the chain's test of its input and runs to one true value with no missing operand, failed check or open branch, within 201 counted opcodes and 1,000 entries; and after a
 -- received revocation no commitment is signed until verified penalties for every claimable output are kept.
-use Rattle.std.specs.Prelude.{◌≡◌, ◌⊎◌, ℕ, true, List, [], ◌∷◌, ◌++◌, length, map, Some, slice_get}
+use Rattle.std.specs.Prelude.{◌≡◌, ◌⊎◌, ℕ, true, List, ◌∷◌, ◌++◌, length, map, Some, slice_get}
 use Rattle.std.specs.List.{AllByRecursion, flat_map}
 use Rattle.tx.specs.declared.input.TxIn.{TxIn}
 use Rattle.tx.specs.Fields.{Transaction}
@@ -15,14 +15,12 @@ use Rattle.channel.specs.declared.messages.Message.{Message}
 use Rattle.channel.specs.Tokens.{peer_tokens}
 use Rattle.texts.specs.declared.events.Event.{Event}
 use Rattle.texts.specs.declared.events.Event.TheVariants.{Deliver}
-use Rattle.book.specs.declared.calls.Entry.{Entry}
 use Rattle.book.specs.Accepted.{all_accepted, IsHistory}
 use Rattle.book.specs.Guarding.{is_guarded}
 use Rattle.book.specs.Replies.{is_accepted}
 use Rattle.world.specs.declared.errors.EventError.{EventError}
 use Rattle.world.specs.declared.errors.EventError.TheVariants.{NoSuchChannel, NoMessage}
 use Rattle.world.specs.declared.outcomes.Outcome.{Outcome}
-use Rattle.world.specs.declared.jobs.Job.{Job}
 use Rattle.world.specs.Worlds.{World, Node, IsNode, claims_by, node_of, inboxes, answer_to}
 use Rattle.world.specs.Refusing.{call_of}
 use Rattle.world.specs.Pairing.{AgreeBy}

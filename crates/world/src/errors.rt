@@ -54,7 +54,7 @@ pub enum EventError {
 
 impl EventError {
     ghost use Rattle.std.specs.Prelude.{◌≡◌};
-    ghost use Rattle.world.specs.Refusing.{by_step, by_sign, by_keep, by_release};
+    ghost use Rattle.world.specs.Refusing.{by_step, by_sign, by_keep, by_release, by_reorg};
 
     /// The refusal of a step or of a revocation.
     pub(crate) fn of_step(error: StepError) -> EventError
@@ -92,7 +92,9 @@ impl EventError {
     }
 
     /// The refusal of blocks to give way.
-    pub(crate) fn of_reorg(error: ReorgError) -> EventError {
+    pub(crate) fn of_reorg(error: ReorgError) -> EventError
+        ensures { result ≡ by_reorg error }
+    {
         match error {
             ReorgError::NoMemory => EventError::NoMemory,
             ReorgError::TooDeep => EventError::TooDeep,

@@ -2,7 +2,9 @@
 
 ghost use Rattle.world.specs.Enforcement.{ClaimsOpen, LocksAreHeights};
 ghost use Rattle.world.specs.Pairing.{DeliveriesAreTaken};
+ghost use Rattle.world.specs.Theorem.{StepsKeep, WorldsHold};
 
+use book::laws::{accepted_is_called, signing_is_guarded};
 use channel::laws::peers_agree;
 use claim::laws::accepted_claims_open;
 
@@ -23,4 +25,21 @@ pub fn deliveries_are_taken()
     ensures { DeliveriesAreTaken }
 {
     peers_agree();
+}
+
+/// Each event keeps what holds of a world: that the histories of both books are those of calls, and that the books agree, with the messages on their way.
+pub fn steps_keep()
+    ensures { StepsKeep }
+{}
+
+/// The Enforcement theorem at a moment: in any world that events lead to, each call in both books was accepted, no signature stands after a revocation without the penalties kept
+/// between them, every claim that a side has is an accepted one, whatever fits an accepted claim passes and runs clean once it is due, and no delivery is refused for its message.
+pub fn worlds_hold()
+    ensures { WorldsHold }
+{
+    // The proof takes from these what is so of histories, of claims and of books that agree.
+    accepted_is_called();
+    signing_is_guarded();
+    claims_open();
+    deliveries_are_taken();
 }

@@ -23,6 +23,7 @@ mod limits;
 mod looking;
 mod nodes;
 mod outcomes;
+mod own;
 mod parts;
 mod publishing;
 mod releasing;

@@ -1,5 +1,8 @@
 //! One side of the world.
 
+ghost use Rattle.std.specs.List.{AllByRecursion};
+ghost use Rattle.claim.specs.Claims.{IsWhole};
+
 use crate::errors::EventError;
 use crate::jobs::Job;
 use crate::limits::SEAT;
@@ -57,6 +60,15 @@ impl Model for Node {
     ghost invariant = { λ n. IsNode (record { history = n.book; lines = n.lines.items; read = n.read; learnt = n.learnt.items; jobs = n.jobs.items; taken = n.taken.items }) };
 }
 
+// What claims are, for proofs: accepted ones.
+fn hold_whole(claims: &[Claim])
+    ensures { AllByRecursion IsWhole claims.now }
+{
+    for claim in claims {
+        let _ = claim.path();
+    }
+}
+
 impl Node {
     ghost use Rattle.std.specs.Prelude.{◌≡◌, [], Ok, IfOk};
     ghost use Rattle.book.specs.declared.calls.Call.TheVariants.{Step as Stepping, Sign as Signing, Revoke as Revoking, Keep as Keeping, Release as Releasing};
@@ -83,6 +95,7 @@ impl Node {
     pub(crate) fn holds(&self)
         ensures { IsNode self.now }
     {
+        // The proof takes the invariant where a field is used.
         let _ = &self.book;
     }
 
@@ -150,6 +163,7 @@ impl Node {
     ) -> Result<(), EventError>
         ensures { let call = Keeping channel number claims in IsEvent (refusal_in (answer_to self.old call)) result self.old (after_call call self.old) self.new }
     {
+        hold_whole(claims.values());
         match self.book.keep(SEAT, channel, number, claims) {
             Ok(()) => Ok(()),
             Err(error) => Err(EventError::of_keep(error)),
@@ -161,6 +175,7 @@ impl Node {
         ensures side { let call = Releasing channel batch in IsEvent (refusal_in (answer_to self.old call)) result self.old (after_call call self.old) self.new }
         ensures filled { IfOk result (λ f. answer_to self.old (Releasing channel batch) ≡ released (Ok f)) }
     {
+        hold_whole(batch.claims.values());
         match self.book.release(SEAT, channel, batch) {
             Ok(filled) => Ok(filled),
             Err(error) => Err(EventError::of_release(error)),

@@ -1,15 +1,21 @@
 //! What a world consists of, and what each event does to it.
 
+ghost use Rattle.std.specs.Prelude.{◌≡◌, None, MatchResult};
+ghost use Rattle.world.specs.Refusing.{IsRefusal};
+ghost use Rattle.world.specs.Releasing.{release_refusal, IsReleasedTo};
+ghost use Rattle.world.specs.Steps.{done_by, looked_by};
+
 use crate::errors::EventError;
 use crate::nodes::Node;
 use crate::outcomes::Outcome;
+use crate::own::{Own, own_of};
 use crate::{delivering, keeping, looking, publishing, releasing};
 use chain::{Coins, Index};
-use mempool::{mine, reorganise};
+use mempool::{Reorganised, mine, reorganise};
 use std::alloc::Global;
 use std::marker::Model;
 use terms::Side;
-use texts::{Event, OwnUpdate};
+use texts::Event;
 use tx::Tx;
 
 /// The two sides, and the chain with its pool.
@@ -33,10 +39,54 @@ impl Model for Parts {
     ghost view = { λ p. record { a = p.a; b = p.b; chain = p.chain; pool = p.pool.items; released = p.released.items } };
 }
 
+// The answer of an event of which nothing more is said.
+fn done(acted: Result<(), EventError>) -> Result<Outcome, EventError>
+    ensures { result ≡ done_by acted }
+{
+    match acted {
+        Ok(()) => Ok(Outcome::Done),
+        Err(error) => Err(error),
+    }
+}
+
+// The answer of a look.
+fn looked(found: Result<u64, EventError>) -> Result<Outcome, EventError>
+    ensures { result ≡ looked_by found }
+{
+    match found {
+        Ok(claims) => Ok(Outcome::Looked { claims }),
+        Err(error) => Err(error),
+    }
+}
+
+// A side releases claims into a pool, and the transaction stays among those that were ever released. A refusal leaves all as it was.
+fn release(
+    alloc: Global,
+    me: &mut Node,
+    pool: &mut Vec<Tx>,
+    released: &mut Vec<Tx>,
+    count: u64,
+) -> Result<Outcome, EventError>
+    ensures side { let first = release_refusal count me.old in
+        MatchResult result (λ o. (first ≡ None) × (o ≡ Outcome.Done) × IsReleasedTo count me.old me.new pool.old.items released.old.items pool.new.items released.new.items) (λ e. IsRefusal first e × (me.new ≡ me.old) × (pool.new.items ≡ pool.old.items) × (released.new.items ≡ released.old.items)) }
+{
+    pool.reserve(1)?;
+    released.reserve(1)?;
+    let filling = releasing::release(alloc, me, count)?;
+    pool.push(filling.tx).unwrap();
+    released.push(filling.copy).unwrap();
+    Ok(Outcome::Done)
+}
+
 impl Parts {
-    ghost use Rattle.std.specs.Prelude.{◌≡◌};
+    ghost use Rattle.std.specs.Prelude.{◌≡◌, ◌≤◌, ◌-◌, None, MatchResult};
+    ghost use Rattle.chain.specs.Blocks.{height_of};
+    ghost use Rattle.mempool.specs.Mining.{Mined as MinedParts};
+    ghost use Rattle.world.specs.declared.errors.EventError.TheVariants.{NoMemory};
     ghost use Rattle.world.specs.Worlds.{IsNode, node_of};
-    ghost use Rattle.world.specs.Steps.{WorldSteps};
+    ghost use Rattle.world.specs.Refusing.{IsEvent};
+    ghost use Rattle.world.specs.Owning.{own_of as update_asked};
+    ghost use Rattle.world.specs.Steps.{own_call, call_refusal, called, with_waiting, with_mined, blocks_outcome, both_back, IsPlayed, WorldSteps};
 
     /// What holds of both sides.
     pub(crate) fn hold_both(&self)
@@ -57,15 +107,12 @@ impl Parts {
         }
     }
 
-    fn node_mut(&mut self, side: Side) -> &mut Node {
-        match side {
-            Side::A => &mut self.a,
-            Side::B => &mut self.b,
-        }
-    }
-
-    // A side makes an update.
-    fn update(&mut self, side: Side, channel: u64, update: OwnUpdate) -> Result<(), EventError> {
+    // A side makes an update, and its peer is to hear of it: NoSuchChannel, else the refusal of the book.
+    fn update(&mut self, own: Own) -> Result<(), EventError>
+        ensures { let call = own_call own.channel own.update in
+            IsEvent (call_refusal own.side own.channel call self.old) result self.old (called own.side own.channel call self.old) self.new }
+    {
+        let Own { side, channel, update } = own;
         match side {
             Side::A => delivering::update(&mut self.a, &mut self.b, channel, update),
             Side::B => delivering::update(&mut self.b, &mut self.a, channel, update),
@@ -73,37 +120,52 @@ impl Parts {
     }
 
     // A side signs.
-    fn sign(&mut self, side: Side, channel: u64) -> Result<(), EventError> {
+    fn sign(&mut self, side: Side, channel: u64) -> Result<Outcome, EventError>
+        ensures { IsPlayed self.old (Event.Sign side channel) result self.new }
+    {
         match side {
-            Side::A => delivering::sign(&mut self.a, &mut self.b, channel),
-            Side::B => delivering::sign(&mut self.b, &mut self.a, channel),
+            Side::A => done(delivering::sign(&mut self.a, &mut self.b, channel)),
+            Side::B => done(delivering::sign(&mut self.b, &mut self.a, channel)),
         }
     }
 
     // A side receives its oldest message.
-    fn deliver(&mut self, side: Side, channel: u64) -> Result<(), EventError> {
+    fn deliver(&mut self, side: Side, channel: u64) -> Result<Outcome, EventError>
+        ensures { IsPlayed self.old (Event.Deliver side channel) result self.new }
+    {
+        let alloc = self.alloc;
         match side {
-            Side::A => delivering::deliver(self.alloc, &mut self.a, &mut self.b, channel),
-            Side::B => delivering::deliver(self.alloc, &mut self.b, &mut self.a, channel),
+            Side::A => done(delivering::deliver(alloc, &mut self.a, &mut self.b, channel)),
+            Side::B => done(delivering::deliver(alloc, &mut self.b, &mut self.a, channel)),
         }
     }
 
     // A side keeps penalties.
-    fn keep(&mut self, side: Side, channel: u64, number: u64) -> Result<(), EventError> {
-        let alloc = self.alloc;
-        keeping::keep(alloc, self.node_mut(side), channel, number)
+    fn keep(&mut self, side: Side, channel: u64, number: u64) -> Result<Outcome, EventError>
+        ensures { IsPlayed self.old (Event.Keep side channel number) result self.new }
+    {
+        match side {
+            Side::A => done(keeping::keep(self.alloc, &mut self.a, channel, number)),
+            Side::B => done(keeping::keep(self.alloc, &mut self.b, channel, number)),
+        }
     }
 
-    // A transaction waits for a block.
-    fn publish(&mut self, tx: Tx) -> Result<(), EventError> {
+    // A transaction waits for a block. The only error is that memory ran out, which changes nothing.
+    fn publish(&mut self, tx: Tx) -> Result<Outcome, EventError>
+        ensures { MatchResult result (λ o. (o ≡ Outcome.Done) × (self.new ≡ with_waiting tx self.old)) (λ e. (e ≡ NoMemory) × (self.new ≡ self.old)) }
+    {
         self.pool.push(tx)?;
-        Ok(())
+        Ok(Outcome::Done)
     }
 
     // A side broadcasts a commitment: NoSuchChannel, NoSuchTx.
-    fn broadcast(&mut self, side: Side, channel: u64, number: u64) -> Result<(), EventError> {
-        let tx = publishing::commitment(self.alloc, self.node(side), channel, number)?;
-        self.publish(tx)
+    fn broadcast(&mut self, side: Side, channel: u64, number: u64) -> Result<Outcome, EventError>
+        ensures { IsPlayed self.old (Event.Broadcast side channel number) result self.new }
+    {
+        match publishing::commitment(self.alloc, self.node(side), channel, number) {
+            Ok(tx) => self.publish(tx),
+            Err(error) => Err(error),
+        }
     }
 
     // A side broadcasts an HTLC transaction: NoSuchChannel, NoSuchTx.
@@ -113,13 +175,19 @@ impl Parts {
         channel: u64,
         number: u64,
         htlc: u64,
-    ) -> Result<(), EventError> {
-        let tx = publishing::htlc_tx(self.alloc, self.node(side), channel, number, htlc)?;
-        self.publish(tx)
+    ) -> Result<Outcome, EventError>
+        ensures { IsPlayed self.old (Event.BroadcastHtlc side channel number htlc) result self.new }
+    {
+        match publishing::htlc_tx(self.alloc, self.node(side), channel, number, htlc) {
+            Ok(tx) => self.publish(tx),
+            Err(error) => Err(error),
+        }
     }
 
     // The chain grows.
-    fn mine(&mut self, count: u64) -> Result<Outcome, EventError> {
+    fn mine(&mut self, count: u64) -> Result<Outcome, EventError>
+        ensures { IsPlayed self.old (Event.Blocks count) result self.new }
+    {
         let mined = mine(self.alloc, &mut self.chain, &self.pool, count)?;
         self.pool = mined.waiting;
         Ok(Outcome::Mined {
@@ -129,34 +197,58 @@ impl Parts {
     }
 
     // A side reads the blocks that it has not read.
-    fn look(&mut self, side: Side) -> Result<Outcome, EventError> {
-        let claims = match side {
-            Side::A => looking::look(self.alloc, &mut self.a, &self.chain)?,
-            Side::B => looking::look(self.alloc, &mut self.b, &self.chain)?,
-        };
-        Ok(Outcome::Looked { claims })
+    fn look(&mut self, side: Side) -> Result<Outcome, EventError>
+        ensures { IsPlayed self.old (Event.Look side) result self.new }
+    {
+        match side {
+            Side::A => looked(looking::look(self.alloc, &mut self.a, &self.chain)),
+            Side::B => looked(looking::look(self.alloc, &mut self.b, &self.chain)),
+        }
     }
 
     // A side takes jobs.
-    fn take(&mut self, side: Side, count: u64) -> Result<(), EventError> {
-        releasing::take(self.node_mut(side), count)
+    fn take(&mut self, side: Side, count: u64) -> Result<Outcome, EventError>
+        ensures { IsPlayed self.old (Event.Take side count) result self.new }
+    {
+        match side {
+            Side::A => done(releasing::take(&mut self.a, count)),
+            Side::B => done(releasing::take(&mut self.b, count)),
+        }
     }
 
     // A side releases claims.
-    fn release(&mut self, side: Side, count: u64) -> Result<(), EventError> {
+    fn release(&mut self, side: Side, count: u64) -> Result<Outcome, EventError>
+        ensures { IsPlayed self.old (Event.Release side count) result self.new }
+    {
         let alloc = self.alloc;
-        self.released.reserve(1)?;
-        self.pool.reserve(1)?;
-        let tx = releasing::release(alloc, self.node_mut(side), count)?;
-        let copy = tx.copy()?;
-        self.released.push(copy).unwrap();
-        self.pool.push(tx).unwrap();
-        Ok(())
+        match side {
+            Side::A => release(alloc, &mut self.a, &mut self.pool, &mut self.released, count),
+            Side::B => release(alloc, &mut self.b, &mut self.pool, &mut self.released, count),
+        }
+    }
+
+    // The chain and its pool are these, and both sides go back to the block below those that gave way.
+    fn settle(&mut self, done: Reorganised, depth: u64) -> Outcome
+        requires { depth ≤ height_of self.old.chain.blocks }
+        ensures world { self.new ≡ both_back (height_of self.old.chain.blocks - depth) (with_mined (record { chain = done.chain; waiting = done.pool.items; txs = done.txs }) self.old) }
+        ensures outcome { result ≡ blocks_outcome (record { chain = done.chain; waiting = done.pool.items; txs = done.txs }) }
+    {
+        let fork = self.chain.height() - depth;
+        looking::back(&mut self.a, fork);
+        looking::back(&mut self.b, fork);
+        self.chain = done.chain;
+        self.pool = done.pool;
+        Outcome::Mined {
+            height: self.chain.height(),
+            txs: done.txs,
+        }
     }
 
     // The newest blocks give way to others.
-    fn reorganise(&mut self, depth: u64, forgotten: u64) -> Result<Outcome, EventError> {
-        let done = match reorganise(
+    fn reorganise(&mut self, depth: u64, forgotten: u64) -> Result<Outcome, EventError>
+        ensures { IsPlayed self.old (Event.Reorg depth forgotten) result self.new }
+    {
+        match reorganise(
             self.alloc,
             &self.chain,
             &self.pool,
@@ -164,55 +256,16 @@ impl Parts {
             depth,
             forgotten,
         ) {
-            Ok(done) => done,
-            Err(error) => return Err(EventError::of_reorg(error)),
-        };
-        let fork = self.chain.height() - depth;
-        looking::back(&mut self.a, fork);
-        looking::back(&mut self.b, fork);
-        self.chain = done.chain;
-        self.pool = done.pool;
-        Ok(Outcome::Mined {
-            height: self.chain.height(),
-            txs: done.txs,
-        })
-    }
-
-    // A side makes an update, or another call in a channel.
-    fn act(&mut self, event: &Event) -> Result<(), EventError> {
-        match *event {
-            Event::Offer {
-                side,
-                channel,
-                amount,
-                hash,
-                expiry,
-            } => {
-                let update = OwnUpdate::Offer {
-                    amount,
-                    hash,
-                    expiry,
-                };
-                self.update(side, channel, update)
-            }
-            Event::Fulfil {
-                side,
-                channel,
-                id,
-                preimage,
-            } => self.update(side, channel, OwnUpdate::Fulfil { id, preimage }),
-            Event::Fail { side, channel, id } => self.update(side, channel, OwnUpdate::Fail { id }),
-            Event::Fee {
-                side,
-                channel,
-                rate,
-            } => self.update(side, channel, OwnUpdate::SetFee { rate }),
-            _ => self.act_alone(event),
+            Ok(done) => Ok(self.settle(done, depth)),
+            Err(error) => Err(EventError::of_reorg(error)),
         }
     }
 
-    // A side acts otherwise than by an update.
-    fn act_alone(&mut self, event: &Event) -> Result<(), EventError> {
+    // What becomes of an event that asks for no update.
+    fn act(&mut self, event: &Event) -> Result<Outcome, EventError>
+        requires { update_asked event.now ≡ None }
+        ensures { IsPlayed self.old event.now result self.new }
+    {
         match *event {
             Event::Sign { side, channel } => self.sign(side, channel),
             Event::Deliver { side, channel } => self.deliver(side, channel),
@@ -232,22 +285,24 @@ impl Parts {
                 number,
                 htlc,
             } => self.broadcast_htlc(side, channel, number, htlc),
+            Event::Blocks { count } => self.mine(count),
+            Event::Look { side } => self.look(side),
             Event::Take { side, count } => self.take(side, count),
             Event::Release { side, count } => self.release(side, count),
-            _ => Ok(()),
+            Event::Reorg { depth, forgotten } => self.reorganise(depth, forgotten),
+            Event::Offer { .. } | Event::Fulfil { .. } | Event::Fail { .. } | Event::Fee { .. } => {
+                unreachable!()
+            }
         }
     }
 
     // What becomes of an event, or why it is refused.
-    fn outcome_of(&mut self, event: &Event) -> Result<Outcome, EventError> {
-        match *event {
-            Event::Blocks { count } => self.mine(count),
-            Event::Look { side } => self.look(side),
-            Event::Reorg { depth, forgotten } => self.reorganise(depth, forgotten),
-            _ => {
-                self.act(event)?;
-                Ok(Outcome::Done)
-            }
+    fn play(&mut self, event: &Event) -> Result<Outcome, EventError>
+        ensures { IsPlayed self.old event.now result self.new }
+    {
+        match own_of(event) {
+            Some(own) => done(self.update(own)),
+            None => self.act(event),
         }
     }
 
@@ -255,7 +310,7 @@ impl Parts {
     pub(crate) fn step(&mut self, event: &Event) -> Outcome
         ensures { WorldSteps self.old event.now self.new result }
     {
-        match self.outcome_of(event) {
+        match self.play(event) {
             Ok(outcome) => outcome,
             Err(error) => Outcome::Refused(error),
         }

@@ -1,5 +1,9 @@
 //! What a side broadcasts.
 
+ghost use Rattle.std.specs.Prelude.{◌≡◌, IfOk};
+ghost use Rattle.world.specs.Worlds.{channel_of};
+ghost use Rattle.world.specs.Publishing.{preimages_known, commitment_in, htlc_tx_in, IsAnswer};
+
 use crate::errors::EventError;
 use crate::nodes::Node;
 use book::preimages_in;
@@ -13,7 +17,9 @@ pub(crate) fn commitment(
     me: &Node,
     channel: u64,
     number: u64,
-) -> Result<Tx, EventError> {
+) -> Result<Tx, EventError>
+    ensures { IsAnswer (commitment_in number (channel_of me.now channel)) result }
+{
     let Some(state) = me.book.channel(channel) else {
         return Err(EventError::NoSuchChannel);
     };
@@ -24,7 +30,9 @@ pub(crate) fn commitment(
 }
 
 // The preimages that a side knows in a channel: those of its fulfils, and those that blocks showed it.
-fn preimages_known(alloc: Global, me: &Node, channel: u64) -> Result<Vec<[u8; 32]>, AllocError> {
+fn preimages_known(alloc: Global, me: &Node, channel: u64) -> Result<Vec<[u8; 32]>, AllocError>
+    ensures { IfOk result (λ preimages. preimages.items ≡ preimages_known channel me.now) }
+{
     let mut preimages = preimages_in(alloc, channel, me.book.entries())?;
     preimages.extend_from_slice(&me.learnt)?;
     Ok(preimages)
@@ -37,7 +45,9 @@ pub(crate) fn htlc_tx(
     channel: u64,
     number: u64,
     htlc: u64,
-) -> Result<Tx, EventError> {
+) -> Result<Tx, EventError>
+    ensures { IsAnswer (htlc_tx_in number htlc (preimages_known channel me.now) (channel_of me.now channel)) result }
+{
     let Some(state) = me.book.channel(channel) else {
         return Err(EventError::NoSuchChannel);
     };

@@ -165,14 +165,24 @@ fn drop_taken(me: &mut Node, count: u64)
     pop_oldest(&mut me.taken, count as usize);
 }
 
+/// The transaction that a release gives, twice.
+#[derive(Drop)]
+pub(crate) struct Released {
+    pub(crate) tx: Tx,
+    pub(crate) copy: Tx,
+}
+
 /// A side fills so many of the oldest claims that it took, in one transaction that pays their whole value to the hash of its payment key in their channel: NoJob,
 /// MixedChannels, OverValue, else the refusal of the book. A refusal leaves the side as it was.
-pub(crate) fn release(alloc: Global, me: &mut Node, count: u64) -> Result<Tx, EventError>
+pub(crate) fn release(alloc: Global, me: &mut Node, count: u64) -> Result<Released, EventError>
     ensures { let first = release_refusal count me.old in
-        MatchResult result (λ t. (first ≡ None) × IsReleased count me.old me.new t) (λ e. IsRefusal first e × (me.new ≡ me.old)) }
+        MatchResult result (λ r. (first ≡ None) × IsReleased count me.old me.new r.tx × (r.copy ≡ r.tx)) (λ e. IsRefusal first e × (me.new ≡ me.old)) }
 {
     let release = release_of(alloc, me, count)?;
     let filled = me.release(release.channel, release.batch)?;
     drop_taken(me, count);
-    Ok(filled.into_tx())
+    Ok(Released {
+        tx: filled.into_tx(),
+        copy: release.tx,
+    })
 }

@@ -2,6 +2,7 @@
 
 use crate::beginning::{begin_all, first_bad_terms};
 use crate::errors::WorldError;
+use crate::laws::{steps_keep, worlds_hold};
 use crate::outcomes::Outcome;
 use crate::parts::Parts;
 use book::Book;
@@ -33,7 +34,8 @@ impl World {
     ghost use Rattle.std.specs.Prelude.{◌≡◌, None, MatchResult};
     ghost use Rattle.world.specs.Worlds.{node_of};
     ghost use Rattle.world.specs.Beginning.{beginning_refusal, IsBeginning, IsBeginningRefusal};
-    ghost use Rattle.world.specs.Theorem.{IsPlay};
+    ghost use Rattle.world.specs.Steps.{WorldSteps};
+    ghost use Rattle.world.specs.Theorem.{HoldsAt, IsPlay};
 
     /// The world in which the funding outputs of these channels are granted in the first block and both sides opened them, with the tokens on both commitments 0, by the number of the first
     /// seat: OverLimit for more than 8 channels, and BadTerms with the first one on whose terms the two sides can't agree.
@@ -64,14 +66,36 @@ impl World {
         &self.parts.chain
     }
 
+    // The Enforcement theorem at this moment, for proofs.
+    fn holds(&self)
+        ensures { HoldsAt self.now }
+    {
+        // The proof takes the invariant where a field is used.
+        let _ = &self.parts;
+        worlds_hold();
+    }
+
+    // Plays one event. A refused one leaves the world as it was.
+    fn step(&mut self, event: &Event) -> Outcome
+        ensures { WorldSteps self.old event.now self.new result }
+    {
+        // The proof takes from the law that what holds of a world is kept.
+        steps_keep();
+        let outcome = self.parts.step(event);
+        self.parts.hold_both();
+        outcome
+    }
+
     /// Plays events in turn, and gives what became of each. A refused event leaves the world as it was, and the next one is played. The only error is that no memory was
     /// there for the outcomes: then no event was played.
     pub fn play(&mut self, events: &[Event]) -> Result<Vec<Outcome>, AllocError>
         ensures { MatchResult result (λ outcomes. IsPlay self.old events.now outcomes.items self.new) (λ _. self.new ≡ self.old) }
     {
         let mut outcomes = Vec::with_capacity(self.parts.alloc, events.len())?;
+        self.holds();
         for event in events {
-            let outcome = self.parts.step(event);
+            let outcome = self.step(event);
+            self.holds();
             outcomes.push(outcome).unwrap();
         }
         Ok(outcomes)

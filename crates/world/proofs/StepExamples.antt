@@ -1,0 +1,118 @@
+-- Small events that were worked out by hand from what each is said to do.
+use Rattle.std.proofs.Common.{◌≡◌, ℕ, List, [], ◌∷◌, map, Some, None, refl}
+use Rattle.tx.specs.Fields.{Transaction}
+use Rattle.terms.specs.declared.sides.Side.TheVariants.{A, B}
+use Rattle.claim.specs.Claims.{ClaimParts}
+use Rattle.channel.specs.declared.messages.Message.{Message}
+use Rattle.chain.specs.Blocks.{Contents}
+use Rattle.mempool.specs.Mining.{mined_by, reorganised, blocks_after}
+use Rattle.watch.specs.Watching.{Seen}
+use Rattle.texts.specs.declared.events.Event.TheVariants as events
+use Rattle.book.specs.declared.calls.Batch.{Batch}
+use Rattle.book.specs.declared.calls.Call.TheVariants.{Keep, Release}
+use Rattle.world.specs.declared.errors.EventError.TheVariants.{NoSuchChannel, NoMessage, NoSuchTx, NoJob, TooDeep}
+use Rattle.world.specs.declared.jobs.Job.{Job}
+use Rattle.world.specs.declared.outcomes.Outcome.TheVariants.{Looked, Mined as MinedBlocks, Refused}
+use Rattle.world.specs.Worlds.{World, Node, Line, inboxes, sent_to, received_by}
+use Rattle.world.specs.Releasing.{with_taken}
+use Rattle.world.specs.Looking.{Reading, all_read, block, no_more}
+use Rattle.world.specs.Steps.{refusal_of, with_waiting, with_released, happens, refuses, mines, looks, reorganises, Runs, ends, goes_on}
+use Rattle.world.specs.Theorem.{claims_of}
+
+-- ---- worlds without channels
+
+abbrev nobody : Node
+nobody = record { history = []; lines = []; read = 0; learnt = []; jobs = []; taken = [] }
+
+abbrev nothing : Contents
+nothing = record { transactions = []; granted = [] }
+
+-- a chain of empty blocks, of which side A has read those up to a height
+abbrev world_at : List Contents → ℕ → ℕ → World
+world_at blocks greatest read = record { a = record nobody { read = read }; b = nobody; chain = record { blocks = blocks; greatest = greatest }; pool = []; released = [] }
+
+abbrev beginning : World
+beginning = world_at (nothing ∷ []) 0 0
+
+abbrev grown : World
+grown = world_at (nothing ∷ nothing ∷ []) 1 0
+
+abbrev seen : World
+seen = world_at (nothing ∷ nothing ∷ []) 1 1
+
+-- what is read in a world without channels
+abbrev nothing_found : Reading
+nothing_found = record { seen = []; learnt = []; jobs = [] }
+
+-- each channel is missing, no job is there, and the first block stays
+none_there : map (refusal_of beginning)
+    (events.Offer A 0 1000 [] 9 ∷ events.Fulfil B 0 0 [] ∷ events.Fail A 0 0 ∷ events.Fee B 0 253 ∷ events.Sign A 0 ∷ events.Deliver B 0 ∷ events.Keep A 0 0 ∷ events.Broadcast B 0 0
+    ∷ events.BroadcastHtlc A 0 0 0 ∷ [])
+    ≡ Some NoSuchChannel ∷ Some NoSuchChannel ∷ Some NoSuchChannel ∷ Some NoSuchChannel ∷ Some NoSuchChannel ∷ Some NoSuchChannel ∷ Some NoSuchChannel ∷ Some NoSuchChannel ∷ Some NoSuchChannel ∷ []
+none_there = refl
+
+jobs_there : map (refusal_of beginning) (events.Take A 0 ∷ events.Take A 1 ∷ events.Release B 0 ∷ events.Release B 1 ∷ []) ≡ None ∷ Some NoJob ∷ Some NoJob ∷ Some NoJob ∷ []
+jobs_there = refl
+
+blocks_there : map (refusal_of beginning) (events.Blocks 0 ∷ events.Blocks 9 ∷ events.Look A ∷ events.Reorg 0 0 ∷ events.Reorg 1 0 ∷ []) ≡ None ∷ None ∷ None ∷ Some TooDeep ∷ Some TooDeep ∷ []
+blocks_there = refl
+
+-- 6 blocks below the greatest height, and 7; none of them has a transaction to forget
+deep : map (refusal_of (world_at (nothing ∷ nothing ∷ nothing ∷ nothing ∷ nothing ∷ nothing ∷ nothing ∷ nothing ∷ nothing ∷ []) 9 0))
+    (events.Reorg 0 0 ∷ events.Reorg 5 0 ∷ events.Reorg 5 1 ∷ events.Reorg 6 0 ∷ events.Reorg 6 1 ∷ [])
+    ≡ Some TooDeep ∷ None ∷ Some NoSuchTx ∷ Some TooDeep ∷ Some TooDeep ∷ []
+deep = refl
+
+-- a block comes, side A reads it, a delivery is refused, and two blocks come for the one that goes
+played : Runs beginning (events.Blocks 1 ∷ events.Look A ∷ events.Deliver A 0 ∷ events.Reorg 1 0 ∷ []) (MinedBlocks 1 0 ∷ Looked 0 ∷ Refused NoSuchChannel ∷ MinedBlocks 2 0 ∷ [])
+    (beginning ∷ grown ∷ seen ∷ seen ∷ world_at (nothing ∷ nothing ∷ nothing ∷ []) 2 0 ∷ []) (world_at (nothing ∷ nothing ∷ nothing ∷ []) 2 0)
+unfolding blocks_after
+played =
+    goes_on (happens refl (mines {m = mined_by 1 beginning.chain beginning.pool} refl))
+    (goes_on (happens refl (looks (record { found = nothing_found; reads = block (record { jobs = []; shown = []; channels = no_more; jobs_are = refl; learnt_is = refl }) all_read; after = refl; count = refl })))
+    (goes_on (refuses refl)
+    (goes_on (happens refl (reorganises {m = reorganised 1 0 seen.chain seen.pool seen.released} refl)) ends)))
+
+-- ---- queues
+
+module _ (nothing_seen : Seen) (m1 m2 m3 m4 : Message) where
+  abbrev line_of : List Message → Line
+  line_of inbox = record { inbox = inbox; seen = nothing_seen }
+
+  abbrev listening : Node
+  listening = record nobody { lines = line_of (m1 ∷ []) ∷ line_of (m2 ∷ m3 ∷ []) ∷ line_of [] ∷ [] }
+
+  -- what is sent comes last, and the oldest is received
+  sent : inboxes (sent_to 1 (m4 ∷ []) listening) ≡ (m1 ∷ []) ∷ (m2 ∷ m3 ∷ m4 ∷ []) ∷ [] ∷ []
+  sent = refl
+
+  came : inboxes (received_by 1 listening) ≡ (m1 ∷ []) ∷ (m3 ∷ []) ∷ [] ∷ []
+  came = refl
+
+  -- nothing is on its way in the last channel, and there is no other
+  nothing_came : map (refusal_of (record beginning { b = listening })) (events.Deliver B 2 ∷ events.Deliver B 3 ∷ events.Deliver A 0 ∷ []) ≡ Some NoMessage ∷ Some NoSuchChannel ∷ Some NoSuchChannel ∷ []
+  nothing_came = refl
+
+module _ (j1 j2 j3 j4 : Job) where
+  abbrev busy : Node
+  busy = record nobody { jobs = j2 ∷ j3 ∷ j4 ∷ []; taken = j1 ∷ [] }
+
+  -- the oldest are taken, behind those that were taken before
+  taken : with_taken 2 busy ≡ record nobody { jobs = j4 ∷ []; taken = j1 ∷ j2 ∷ j3 ∷ [] }
+  taken = refl
+
+  takes : map (refusal_of (record beginning { b = busy })) (events.Take B 3 ∷ events.Take B 4 ∷ events.Take A 1 ∷ events.Release B 2 ∷ []) ≡ None ∷ Some NoJob ∷ Some NoJob ∷ Some NoJob ∷ []
+  takes = refl
+
+  -- the claims that are kept and released, those of jobs, and those that were taken
+  claims : (seat : ℕ) (x y : ClaimParts) (batch : Batch) → batch.claims ≡ y ∷ x ∷ []
+      → claims_of (record busy { history = record { seat = seat; call = Keep 0 3 (x ∷ y ∷ []) } ∷ record { seat = seat; call = Release 1 batch } ∷ [] })
+      ≡ x ∷ y ∷ y ∷ x ∷ j2.claim ∷ j3.claim ∷ j4.claim ∷ j1.claim ∷ []
+  claims seat x y batch is = rw is refl
+
+-- what waits comes last in the pool, and a filling is also the newest of those that were ever released
+waiting : (t u v : Transaction) (w : World) → (with_waiting v (record w { pool = t ∷ u ∷ [] })).pool ≡ t ∷ u ∷ v ∷ []
+waiting t u v w = refl
+
+released : (t u v : Transaction) (w : World) → (with_released v (record w { pool = t ∷ []; released = u ∷ [] }) ≡ record w { pool = t ∷ v ∷ []; released = u ∷ v ∷ [] })
+released t u v w = refl

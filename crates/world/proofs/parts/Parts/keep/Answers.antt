@@ -1,0 +1,21 @@
+use Rattle.std.proofs.Common.{subst}
+use Rattle.terms.specs.declared.sides.Side.TheVariants.{A, B}
+use Rattle.texts.specs.declared.events.Event.TheVariants as events
+use Rattle.world.specs.Worlds.{World, with_node}
+use Rattle.world.specs.Steps.{IsPlayed}
+use Rattle.world.proofs.Played.{is_kept}
+use Rattle.world.proofs.parts.Parts.keep.Goals as goal
+
+pub returns-in-A : goal.returns-in-A
+returns-in-A c =
+    let i = c.self.inside in
+    let w : World = record { a = i.a; b = i.b; chain = i.chain; pool = i.pool.items; released = i.released.items } in
+    subst (λ (v : World). IsPlayed v (events.Keep A c.args.channel c.args.number) c.done.result (with_node A c.keep.new.me w)) c.self.view_is
+    (is_kept w A c.args.channel c.args.number c.keep.result c.done.result c.keep.new.me c.done.ensures c.keep.ensures)
+
+pub returns-in-B : goal.returns-in-B
+returns-in-B c =
+    let i = c.self.inside in
+    let w : World = record { a = i.a; b = i.b; chain = i.chain; pool = i.pool.items; released = i.released.items } in
+    subst (λ (v : World). IsPlayed v (events.Keep B c.args.channel c.args.number) c.done.result (with_node B c.keep.new.me w)) c.self.view_is
+    (is_kept w B c.args.channel c.args.number c.keep.result c.done.result c.keep.new.me c.done.ensures c.keep.ensures)
