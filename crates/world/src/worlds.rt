@@ -37,8 +37,8 @@ impl World {
     ghost use Rattle.world.specs.Steps.{WorldSteps};
     ghost use Rattle.world.specs.Theorem.{HoldsAt, IsPlay};
 
-    /// The world in which the funding outputs of these channels are granted in the first block and both sides opened them, with the tokens on both commitments 0, by the number of the first
-    /// seat: OverLimit for more than 8 channels, and BadTerms with the first one on whose terms the two sides can't agree.
+    /// The world in which the funding outputs of these channels are granted in the first block and both sides opened them from seat 0, with the peer's token on commitment 0: OverLimit for
+    /// more than 8 channels, and BadTerms with the first one on whose terms the two sides can't agree.
     pub fn new(alloc: Global, seeds: &Seeds, terms: &[PlainTerms]) -> Result<World, WorldError>
         ensures { let first = beginning_refusal terms.now in MatchResult result (λ w. (first ≡ None) × IsBeginning seeds.now terms.now w) (IsBeginningRefusal first) }
     {
