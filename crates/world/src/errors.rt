@@ -135,6 +135,9 @@ pub enum WorldError {
     /// Memory ran out.
     #[error("NoMemory")]
     NoMemory,
+    /// There are more than 8 channels.
+    #[error("OverLimit")]
+    OverLimit,
     /// The two sides can't agree on the terms of the channel of this index.
     #[error("BadTerms {0}")]
     BadTerms(usize),

@@ -26,13 +26,10 @@ mod outcomes;
 mod parts;
 mod publishing;
 mod releasing;
-mod running;
 #[cfg(test)]
 mod tests;
-mod texts_of;
 mod worlds;
 
 pub use claimed::check_claimed;
 pub use outcomes::Outcome;
-pub use running::run;
 pub use worlds::World;
