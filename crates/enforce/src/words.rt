@@ -7,7 +7,7 @@ use std::alloc::Global;
 use std::io::{Read, Write};
 
 /// The line that wrong words get.
-pub const USAGE: &str = "usage: enforce ripemd HEX | paths HEX | run\n";
+pub const USAGE: &str = "usage: enforce ripemd HEX | paths HEX | run | node N\n";
 
 /// Runs the program on its words (without its name) and answers its status: 0 when done, 1 for refused input or a failed write, 2 for
 /// wrong words, which are found before any input is read. All text is made before its first byte is written.

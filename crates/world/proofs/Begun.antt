@@ -96,8 +96,8 @@ after paired taken seeds c plain w both few begun are =
       a_called = called SEAT (Open both.a) begun.a_called;
       b_called = called SEAT (Open both.b) begun.b_called;
       agree = agree_on w both.a both.b c a b begun.agree
-        (opened_more A (opened_by both.a) (opened_by both.b) (replay w.a.history) (replay w.b.history) (inboxes w.a) (inboxes w.b)
-        (paired seeds c are.terms A both.a both.b are.by_a are.by_b) begun.agree);
+          (opened_more A (opened_by both.a) (opened_by both.b) (replay w.a.history) (replay w.b.history) (inboxes w.a) (inboxes w.b)
+          (paired seeds c are.terms A both.a both.b are.by_a are.by_b) begun.agree);
     }
 
 pub has_begun : OpeningsArePaired → OpeningsAreTaken → (seeds : Seeds) (c : ℕ) (plain : PlainTerms) (w v : World) → c < 8 → HasBegun c w → Begins seeds c plain w v → HasBegun (c + 1) v

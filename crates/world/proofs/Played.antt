@@ -114,7 +114,7 @@ pub is_received : (w : World) (s : Side) (c : ℕ) (r : Result (Unit {0}) EventE
 is_received w s c r o me peer by is peers =
     let message = oldest_in (slice_get (node_of s w).lines c) in
     let event =
-      of_both (λ m p. with_nodes s m p w) (receipt_refusal s c w) r (node_of s w) (delivered c message (node_of s w)) me (node_of (other s) w) (answered c message (node_of s w) (node_of (other s) w)) peer is peers
+    of_both (λ m p. with_nodes s m p w) (receipt_refusal s c w) r (node_of s w) (delivered c message (node_of s w)) me (node_of (other s) w) (answered c message (node_of s w) (node_of (other s) w)) peer is peers
     in
     acted w (received s c w) (with_nodes s me peer w) (events.Deliver s c) r o by receives
     (subst (λ (v : World). IsEvent (receipt_refusal s c w) r v (received s c w) (with_nodes s me peer w)) (same_sides s w) event)
@@ -229,12 +229,11 @@ is_mined w k m height is tip = (refl, subst (λ (h : ℕ). Happens w (events.Blo
 
 pub is_reorganised : (w v : World) (depth forgotten : ℕ) (m : Mined) (o : Outcome) → IsReorganised w.chain w.pool w.released depth forgotten m.chain m.waiting m.txs
     → v ≡ both_back (height_of w.chain.blocks - depth) (with_mined m w) → o ≡ blocks_outcome m → IsPlayed w (events.Reorg depth forgotten) (Ok o) v
-is_reorganised w v depth forgotten m o is world outcome =
-    (
-      ap (option_map by_reorg) is.lawful,
-      subst (λ (x : Outcome). Happens w (events.Reorg depth forgotten) v x) (sym outcome)
+is_reorganised w v depth forgotten m o is world outcome = (
+  ap (option_map by_reorg) is.lawful,
+  subst (λ (x : Outcome). Happens w (events.Reorg depth forgotten) v x) (sym outcome)
       (subst (λ (x : World). Happens w (events.Reorg depth forgotten) x (blocks_outcome m)) (sym world) (reorganises (sym is.mined))),
-    )
+)
 
 pub not_reorganised : (w : World) (depth forgotten : ℕ) (e : ReorgError) (x : EventError) → IsReorgRefusal (reorg_refusal w.chain depth forgotten) e → x ≡ by_reorg e → IsPlayed w (events.Reorg depth forgotten) (Err x) w
 not_reorganised w depth forgotten reorgs.NoMemory x is by = (subst (λ (y : EventError). IsRefusal (refusal_of w (events.Reorg depth forgotten)) y) (sym by) tt, refl)

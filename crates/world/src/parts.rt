@@ -112,7 +112,11 @@ impl Parts {
         ensures { let call = own_call own.channel own.update in
             IsEvent (call_refusal own.side own.channel call self.old) result self.old (called own.side own.channel call self.old) self.new }
     {
-        let Own { side, channel, update } = own;
+        let Own {
+            side,
+            channel,
+            update,
+        } = own;
         match side {
             Side::A => delivering::update(&mut self.a, &mut self.b, channel, update),
             Side::B => delivering::update(&mut self.b, &mut self.a, channel, update),
@@ -222,8 +226,20 @@ impl Parts {
     {
         let alloc = self.alloc;
         match side {
-            Side::A => release(alloc, &mut self.a, &mut self.pool, &mut self.released, count),
-            Side::B => release(alloc, &mut self.b, &mut self.pool, &mut self.released, count),
+            Side::A => release(
+                alloc,
+                &mut self.a,
+                &mut self.pool,
+                &mut self.released,
+                count,
+            ),
+            Side::B => release(
+                alloc,
+                &mut self.b,
+                &mut self.pool,
+                &mut self.released,
+                count,
+            ),
         }
     }
 

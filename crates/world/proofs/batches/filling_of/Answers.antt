@@ -11,7 +11,7 @@ returns-in-Ok c =
     let s = c.args.channel.now in
     let its : map (λ x. x.now) c.in_ok-claims.claims.items ≡ b.claims = c.in_ok-claims.ensures ∙ sym c.requires.batch.claims_is in
     let own : c.in_ok-outputs.outputs.items ≡ b.outputs =
-      c.in_ok-outputs.ensures ∙ ap (λ v. record { value = v; script = payment_program s } ∷ []) c.requires.value ∙ sym c.requires.batch.outputs_is
+    c.in_ok-outputs.ensures ∙ ap (λ v. record { value = v; script = payment_program s } ∷ []) c.requires.value ∙ sym c.requires.batch.outputs_is
     in
     let filled = is_filled b _ _ c.signer.result.now (rights_of s) c.in-Ok.filled c.signer.ensures.rights its own c.in-Ok.ensures in
     (filled.0, c.into_tx.ensures.value ∙ filled.1)
@@ -22,6 +22,6 @@ returns-in-Err c =
     let s = c.args.channel.now in
     let its : map (λ x. x.now) c.in_ok-claims.claims.items ≡ b.claims = c.in_ok-claims.ensures ∙ sym c.requires.batch.claims_is in
     let own : c.in_ok-outputs.outputs.items ≡ b.outputs =
-      c.in_ok-outputs.ensures ∙ ap (λ v. record { value = v; script = payment_program s } ∷ []) c.requires.value ∙ sym c.requires.batch.outputs_is
+    c.in_ok-outputs.ensures ∙ ap (λ v. record { value = v; script = payment_program s } ∷ []) c.requires.value ∙ sym c.requires.batch.outputs_is
     in
     is_unfilled b _ _ c.signer.result.now (rights_of s) c.in-Err.refusal c.signer.ensures.rights its own c.in-Err.ensures

@@ -18,6 +18,6 @@ returns c =
     let p = c.parts.inside in
     on_ok c.open-2.result
     (λ of_b. begun_from c.args.seeds.now c.args.channel c.args.plain.now c.args.parts.now (record { a = p.a; b = p.b; chain = p.chain; pool = p.pool.items; released = p.released.items })
-      c.in_ok-outpoint.outpoint c.in_ok-both.both c.grant_funding.new.chain c.open.new.node c.open-2.new.node c.parts.view_is c.requires.begun c.in_ok-outpoint.ensures.outpoint
-      c.in_ok-outpoint.ensures.chain c.in_ok-both.ensures c.in_ok-open.ensures of_b)
+    c.in_ok-outpoint.outpoint c.in_ok-both.both c.grant_funding.new.chain c.open.new.node c.open-2.new.node c.parts.view_is c.requires.begun c.in_ok-outpoint.ensures.outpoint
+    c.in_ok-outpoint.ensures.chain c.in_ok-both.ensures c.in_ok-open.ensures of_b)
     c.open-2.ensures

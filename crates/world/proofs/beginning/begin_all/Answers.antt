@@ -18,9 +18,9 @@ loop-channel-preserved c =
     let few = c.requires.few in
     let below = c.loop-channel-test.true in (
       begin_next c.args.seeds.now c.args.terms.now c.loop-channel.channel _ c.loop-channel.parts c.begin.new.parts (slice_get-get_or c.args.terms.now c.loop-channel.channel _ below) c.in_ok-begin.ensures
-      c.loop-channel.invariant.0,
+          c.loop-channel.invariant.0,
       has_begun c.openings_agree.ensures.paired c.openings_agree.ensures.taken c.args.seeds.now c.loop-channel.channel _ c.loop-channel.parts c.begin.new.parts (omega (arith, few, below))
-      c.loop-channel.invariant.1 c.in_ok-begin.ensures,
+          c.loop-channel.invariant.1 c.in_ok-begin.ensures,
     )
 
 pub returns-clause-begins : goal.returns-clause-begins
