@@ -1,6 +1,7 @@
 -- What is so of a world whose channels have begun.
-use Rattle.std.proofs.Common.{◌≡◌, ℕ, zero, suc, ◌+◌, ◌<◌, ◌≤◌, Bool, true, false, true≢false, ◌||◌, List, [], ◌∷◌, ◌++◌, length, map, refl, sym, ap, ◌∙◌, subst, arith}
+use Rattle.std.proofs.Common.{◌≡◌, ℕ, zero, suc, ◌+◌, ◌<◌, ◌≤◌, Bool, true, false, true≢false, not, cond, ◌||◌, List, [], ◌∷◌, ◌++◌, length, map, refl, sym, ap, ◌∙◌, subst, arith}
 use Rattle.std.specs.Prelude.{drop, slice_get, nat_lt, if◌then◌else◌, Option, Some, None, Result, Ok, Err, OnOk}
+use Rattle.std.specs.List.{position_from}
 use Rattle.sha2.specs.Sha256.{sha256}
 use Rattle.sha2.proofs.Facts256.{length-sha256}
 use Rattle.std.proofs.lemmas.Bool.{and_from, eq-eqb}
@@ -19,6 +20,7 @@ use Rattle.terms.specs.declared.agreement.Terms.{Terms}
 use Rattle.channel.specs.declared.messages.Message.{Message}
 use Rattle.channel.specs.Tokens.{peer_tokens}
 use Rattle.texts.specs.declared.agreement.PlainTerms.{PlainTerms}
+use Rattle.texts.specs.Calls.{can_agree}
 use Rattle.scenario.specs.declared.seeds.Seeds.{Seeds}
 use Rattle.book.specs.declared.calls.Opening.{Opening}
 use Rattle.book.specs.declared.calls.Call.TheVariants.{Open}
@@ -192,3 +194,19 @@ begun_from seeds c plain old w o both chain a b same begun is grown are of_a of_
 pub on_ok : {X E : Type 0} {P Q : Type 0} (r : Result X E) → (P → Q) → OnOk r P → OnOk r Q
 on_ok (Ok x) f p = f p
 on_ok (Err e) f p = p
+
+-- ---- terms
+
+abbrev bad_from : ℕ → List PlainTerms → Option ℕ
+bad_from i terms = position_from (λ t. not (can_agree t)) i terms
+
+-- where no terms are bad, each can be agreed on
+pub agreed_each : (i : ℕ) (terms : List PlainTerms) → bad_from i terms ≡ None → (k : ℕ) (plain : PlainTerms) → slice_get terms k ≡ Some plain → can_agree plain ≡ true
+agreed_each i [] none k plain there = absurd (none-some plain there)
+agreed_each i (t ∷ ts) none k plain there = go (agreed_each (i + 1) ts) (can_agree t) refl none k there
+  where
+    go : (bad_from (i + 1) ts ≡ None → (n : ℕ) (p : PlainTerms) → slice_get ts n ≡ Some p → can_agree p ≡ true) → (good : Bool) → can_agree t ≡ good
+        → cond (not good) (Some i) (bad_from (i + 1) ts) ≡ None → (n : ℕ) → slice_get (t ∷ ts) n ≡ Some plain → can_agree plain ≡ true
+    go later true is left zero here = ap can_agree (sym (same_Some t plain here)) ∙ is
+    go later true is left (suc n) here = later left n plain here
+    go later false is left n here = absurd cc

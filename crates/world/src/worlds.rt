@@ -45,8 +45,9 @@ impl World {
         if terms.len() > MAX_CHANNELS {
             return Err(WorldError::OverLimit);
         }
-        if let Some(channel) = first_bad_terms(terms) {
-            return Err(WorldError::BadTerms(channel));
+        match first_bad_terms(terms) {
+            Some(channel) => return Err(WorldError::BadTerms(channel)),
+            None => {}
         }
         let parts = begin_all(alloc, seeds, terms)?;
         Ok(World { parts })
