@@ -67,7 +67,7 @@ fn release(
     released: &mut Vec<Tx>,
     count: u64,
 ) -> Result<Outcome, EventError>
-    ensures side { let first = release_refusal count me.old in
+    ensures { let first = release_refusal count me.old in
         MatchResult result (λ o. (first ≡ None) × (o ≡ Outcome.Done) × IsReleasedTo count me.old me.new pool.old.items released.old.items pool.new.items released.new.items) (λ e. IsRefusal first e × (me.new ≡ me.old) × (pool.new.items ≡ pool.old.items) × (released.new.items ≡ released.old.items)) }
 {
     pool.reserve(1)?;

@@ -1,15 +1,13 @@
-use Rattle.std.proofs.Common.{subst, arith}
+use Rattle.std.proofs.Common.{Ok, Err, subst}
 use Rattle.mempool.specs.Mining.{Mined}
-use Rattle.mempool.proofs.Deep.{above_first}
 use Rattle.texts.specs.declared.events.Event.TheVariants as events
-use Rattle.std.specs.Prelude.{Ok, Err}
 use Rattle.world.specs.Worlds.{World}
 use Rattle.world.specs.Steps.{IsPlayed}
-use Rattle.world.proofs.Played.{is_reorganised, not_reorganised}
+use Rattle.world.proofs.Played.{not_deep, is_reorganised, not_reorganised}
 use Rattle.world.proofs.parts.Parts.reorganise.Goals as goal
 
 pub settle-requires : goal.settle-requires
-settle-requires c = omega (arith, above_first c.self.inside.chain c.args.depth c.args.forgotten c.in-Ok.ensures.lawful)
+settle-requires c = not_deep c.self.inside.chain c.args.depth c.args.forgotten c.in-Ok.ensures.lawful
 
 pub returns-in-Ok : goal.returns-in-Ok
 returns-in-Ok c =
