@@ -1,5 +1,5 @@
 -- What is so of a world whose channels have begun.
-use Rattle.std.proofs.Common.{◌≡◌, ℕ, zero, suc, ◌+◌, ◌<◌, ◌≤◌, Bool, true, false, true≢false, not, cond, ◌||◌, List, [], ◌∷◌, ◌++◌, length, map, refl, sym, ap, ◌∙◌, subst, arith}
+use Rattle.std.proofs.Common.{◌≡◌, ℕ, zero, suc, ◌+◌, ◌<◌, ◌≤◌, Bool, true, false, true≢false, not, cond, ◌||◌, List, [], ◌∷◌, ◌++◌, length, refl, sym, ap, ◌∙◌, subst, arith}
 use Rattle.std.specs.Prelude.{drop, slice_get, nat_lt, if◌then◌else◌, Option, Some, None, Result, Ok, Err, OnOk}
 use Rattle.std.specs.List.{position_from}
 use Rattle.sha2.specs.Sha256.{sha256}
@@ -17,23 +17,20 @@ use Rattle.chain.specs.Connecting.{with_grant, is_program}
 use Rattle.terms.specs.declared.sides.Side.{Side}
 use Rattle.terms.specs.declared.sides.Side.TheVariants.{A, B}
 use Rattle.terms.specs.declared.agreement.Terms.{Terms}
-use Rattle.channel.specs.declared.messages.Message.{Message}
-use Rattle.channel.specs.Tokens.{peer_tokens}
 use Rattle.texts.specs.declared.agreement.PlainTerms.{PlainTerms}
 use Rattle.texts.specs.Calls.{can_agree}
 use Rattle.scenario.specs.declared.seeds.Seeds.{Seeds}
 use Rattle.book.specs.declared.calls.Opening.{Opening}
 use Rattle.book.specs.declared.calls.Call.TheVariants.{Open}
-use Rattle.book.specs.declared.calls.Entry.{Entry}
-use Rattle.book.specs.Accepted.{IsHistory, begins as no_call, called}
-use Rattle.book.specs.Books.{Channels, opened_by, replay}
-use Rattle.book.specs.Replies.{is_accepted, reply_of, opened, history_after}
+use Rattle.book.specs.Accepted.{begins as no_call, called}
+use Rattle.book.specs.Books.{opened_by, replay}
+use Rattle.book.specs.Replies.{is_accepted}
 use Rattle.openings.specs.declared.sides.Both.{Both}
 use Rattle.openings.specs.Opening.{funding_output, funding_if_within, AreTermsOf, IsOpeningOf, AreOpeningsOf}
 use Rattle.openings.specs.Agreeing.{OpeningsArePaired, OpeningsAreTaken, first_grants, fundings_of}
 use Rattle.world.specs.declared.limits.TheConstants.{SEAT}
 use Rattle.world.specs.Worlds.{World, Node, Line, inboxes, answer_to, after_call, with_line}
-use Rattle.world.specs.Pairing.{ArePaired, AgreeBy}
+use Rattle.world.specs.Pairing.{ArePaired}
 use Rattle.world.specs.Beginning.{empty_world, with_opened, granted, Begins, AllBegin, HasBegun}
 use Rattle.world.proofs.Turns.{opened_more}
 

@@ -21,7 +21,7 @@ use Rattle.book.specs.declared.calls.Call.TheVariants as calls
 use Rattle.world.specs.declared.errors.EventError.{EventError}
 use Rattle.world.specs.declared.errors.EventError.TheVariants as errors
 use Rattle.world.specs.declared.outcomes.Outcome.{Outcome}
-use Rattle.world.specs.declared.outcomes.Outcome.TheVariants.{Done, Looked, Mined as MinedBlocks, Refused}
+use Rattle.world.specs.declared.outcomes.Outcome.TheVariants.{Done, Mined as MinedBlocks, Refused}
 use Rattle.world.specs.declared.own.Own.{Own}
 use Rattle.world.specs.Worlds.{World, Node, node_of, with_node, with_nodes, channel_of, after_call}
 use Rattle.world.specs.Refusing.{by_reorg, sent_by, oldest_in, delivered, answered, IsRefusal, IsEvent}

@@ -6,8 +6,6 @@ use Rattle.std.proofs.lemmas.List.{drop_all, drop_more, drop-set-lt, take_more_s
 use Rattle.std.proofs.lemmas.Option.{none-some, same_Some}
 use Rattle.tx.specs.Fields.{Transaction}
 use Rattle.claim.specs.Claims.{IsWhole}
-use Rattle.penalty.specs.Claimable.{Claimable}
-use Rattle.penalty.specs.Sets.{AreClaimsOn}
 use Rattle.resolve.specs.declared.known.Known.{Known}
 use Rattle.chain.specs.Blocks.{Contents}
 use Rattle.watch.specs.Watching.{Seen}
@@ -17,7 +15,7 @@ use Rattle.book.specs.Books.{ChannelBook, is_kept, replay}
 use Rattle.book.specs.Knowing.{IsKnownOf, IsKnownIn, preimages_in}
 use Rattle.world.specs.declared.jobs.Job.{Job}
 use Rattle.world.specs.Worlds.{Line, Node, IsNode}
-use Rattle.world.specs.Looking.{Knows, is_closed, jobs_of, ReadsChannel, quiet, sees, ReadsBlock, no_more, channel, Reading, IsAfter, Reads, all_read, block, reading_of, with_seen}
+use Rattle.world.specs.Looking.{Knows, is_closed, ReadsChannel, quiet, sees, ReadsBlock, no_more, channel, Reading, IsAfter, Reads, all_read, block, reading_of, with_seen}
 use Rattle.world.proofs.Whole.{all_append}
 use Rattle.world.specs.Asking.{IfKnown, AreKnown, IsReady, FindsIf, with_preimages, taught}
 

@@ -1,14 +1,12 @@
 -- What a side has asked its book for as it reads blocks.
 use Rattle.std.specs.Prelude.{◌≡◌, ℕ, ◌<◌, false, List, [], ◌++◌, length, Option, Some, None, slice_get, slice_index_or}
-use Rattle.std.specs.List.{AllByRecursion}
 use Rattle.tx.specs.Fields.{Transaction}
 use Rattle.resolve.specs.declared.known.Known.{Known}
 use Rattle.watch.specs.Watching.{Seen}
 use Rattle.book.specs.declared.calls.Entry.{Entry}
 use Rattle.book.specs.Books.{replay}
 use Rattle.world.specs.declared.jobs.Job.{Job}
-use Rattle.world.specs.Worlds.{Node}
-use Rattle.world.specs.Looking.{is_closed, Knows, Finds, Reading}
+use Rattle.world.specs.Looking.{is_closed, Knows, Finds}
 
 -- what is known of a channel is what the side knows, where it was asked; and of each channel
 abbrev pub IfKnown : List Entry → List (List ℕ) → ℕ → Option Known → Type 0

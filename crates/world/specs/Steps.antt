@@ -1,8 +1,7 @@
 -- One event of the world, by cases; and a run of events.
-use Rattle.std.specs.Prelude.{◌≡◌, ℕ, ◌-◌, List, [], ◌∷◌, ◌++◌, length, option_map, Option, Some, None, Result, Ok, Err, slice_get}
+use Rattle.std.specs.Prelude.{◌≡◌, ℕ, ◌-◌, List, [], ◌∷◌, ◌++◌, option_map, Option, Some, None, Result, Ok, Err, slice_get}
 use Rattle.tx.specs.Fields.{Transaction}
 use Rattle.terms.specs.declared.sides.Side.{Side}
-use Rattle.terms.specs.declared.sides.Side.TheVariants.{A, B}
 use Rattle.terms.specs.Sides.{other}
 use Rattle.texts.specs.declared.events.Event.{Event}
 use Rattle.texts.specs.declared.events.Event.TheVariants as events

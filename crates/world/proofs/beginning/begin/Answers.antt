@@ -1,5 +1,5 @@
-use Rattle.std.proofs.Common.{◌≡◌, sym, subst}
-use Rattle.world.specs.Beginning.{HasBegun, Begins}
+use Rattle.std.proofs.Common.{sym, subst}
+use Rattle.world.specs.Beginning.{HasBegun}
 use Rattle.world.proofs.Begun.{a_takes, b_takes, begun_from, on_ok}
 use Rattle.world.proofs.beginning.begin.Goals as goal
 

@@ -1,7 +1,5 @@
-use Rattle.std.proofs.Common.{◌≡◌, ◌<◌, ◌≤◌, length, sym, subst, arith}
-use Rattle.std.specs.Prelude.{slice_get}
+use Rattle.std.proofs.Common.{sym, subst, arith}
 use Rattle.std.proofs.lemmas.Option.{slice_get-get_or}
-use Rattle.texts.specs.declared.agreement.PlainTerms.{PlainTerms}
 use Rattle.world.specs.Worlds.{World}
 use Rattle.world.specs.Beginning.{HasBegun}
 use Rattle.world.proofs.Begun.{IsLeft, nothing_begun, begin_next, has_begun, all_left}

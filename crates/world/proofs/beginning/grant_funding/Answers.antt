@@ -1,4 +1,4 @@
-use Rattle.std.proofs.Common.{◌≡◌, false, refl, ap, sym, subst}
+use Rattle.std.proofs.Common.{◌≡◌, false, refl, subst}
 use Rattle.std.specs.Prelude.{Result, Err}
 use Rattle.tx.specs.declared.input.OutPoint.{OutPoint}
 use Rattle.tx.specs.Parts.{Output}
@@ -6,7 +6,6 @@ use Rattle.chain.specs.declared.refusal.Refusal.{Refusal}
 use Rattle.chain.specs.declared.refusal.Refusal.TheVariants as refusals
 use Rattle.chain.specs.Blocks.{Standing}
 use Rattle.chain.specs.Connecting.{Grants, is_program}
-use Rattle.chain.specs.Refusals.{UnlessMemory}
 use Rattle.world.proofs.Begun.{funded_by, is_granted}
 use Rattle.world.proofs.beginning.grant_funding.Goals as goal
 
