@@ -1,12 +1,15 @@
 -- What an event makes of the world, by what it makes of the sides.
-use Rattle.std.proofs.Common.{◌≡◌, ℕ, ◌-◌, ◌≤◌, List, [], ◌∷◌, ◌++◌, Option, Some, None, Result, Ok, Err, refl, sym, ap, subst, ◌∙◌, arith}
-use Rattle.std.specs.Prelude.{MatchResult, slice_get, option_map}
+use Rattle.std.proofs.Common.{◌≡◌, ℕ, ◌-◌, ◌+◌, ◌≤◌, ◌==◌, ◌||◌, Bool, true, false, List, [], ◌∷◌, ◌++◌, length, take, Option, Some, None, Result, Ok, Err, refl, sym, ap, subst, ◌∙◌, arith}
+use Rattle.std.specs.Prelude.{nat_lt, if◌then◌else◌, MatchResult, IfOk, IfErr, OnErr, slice_get, option_map}
+use Rattle.std.specs.List.{list_any}
+use Rattle.std.proofs.lemmas.Bool.Decides.{nat_tests}
 use Rattle.std.proofs.lemmas.Option.{none-some, same_Some}
 use Rattle.tx.specs.Fields.{Transaction}
 use Rattle.terms.specs.declared.sides.Side.{Side}
 use Rattle.terms.specs.declared.sides.Side.TheVariants.{A, B}
 use Rattle.terms.specs.Sides.{other}
-use Rattle.chain.specs.Blocks.{height_of}
+use Rattle.chain.specs.Blocks.{Standing, height_of, transactions_of}
+use Rattle.chain.specs.Connecting.{has_grant}
 use Rattle.mempool.specs.declared.errors.ReorgError.{ReorgError}
 use Rattle.mempool.specs.declared.errors.ReorgError.TheVariants as reorgs
 use Rattle.mempool.specs.Mining.{Mined, mined_by}
@@ -114,7 +117,7 @@ pub is_received : (w : World) (s : Side) (c : ℕ) (r : Result (Unit {0}) EventE
 is_received w s c r o me peer by is peers =
     let message = oldest_in (slice_get (node_of s w).lines c) in
     let event =
-      of_both (λ m p. with_nodes s m p w) (receipt_refusal s c w) r (node_of s w) (delivered c message (node_of s w)) me (node_of (other s) w) (answered c message (node_of s w) (node_of (other s) w)) peer is peers
+    of_both (λ m p. with_nodes s m p w) (receipt_refusal s c w) r (node_of s w) (delivered c message (node_of s w)) me (node_of (other s) w) (answered c message (node_of s w) (node_of (other s) w)) peer is peers
     in
     acted w (received s c w) (with_nodes s me peer w) (events.Deliver s c) r o by receives
     (subst (λ (v : World). IsEvent (receipt_refusal s c w) r v (received s c w) (with_nodes s me peer w)) (same_sides s w) event)
@@ -154,12 +157,11 @@ is_kept w s c n (Ok x) o me by is = subst (λ (y : Result Outcome EventError). I
 is_kept w s c n (Err e) o me by is = subst (λ (y : Result Outcome EventError). IsPlayed w (events.Keep s c n) y (with_node s me w)) (sym by) (is.0, ap (λ m. with_node s m w) is.1 ∙ same_side s w)
 
 pub is_looked : (w : World) (s : Side) (r : Result ℕ EventError) (o : Result Outcome EventError) (me : Node) → o ≡ looked_by r
-    → MatchResult r (λ k. Looks (node_of s w) w.chain.blocks me k) (λ e. (e ≡ errors.NoMemory) × (me ≡ node_of s w))
-    → IsPlayed w (events.Look s) o (with_node s me w)
-is_looked w s (Ok k) o me by is = subst (λ (y : Result Outcome EventError). IsPlayed w (events.Look s) y (with_node s me w)) (sym by) (refl, looks is)
-is_looked w s (Err e) o me by is =
+    → IfOk r (Looks (node_of s w) w.chain.blocks me) → IfErr r (λ e. e ≡ errors.NoMemory) → OnErr r (me ≡ node_of s w) → IsPlayed w (events.Look s) o (with_node s me w)
+is_looked w s (Ok k) o me by is none same = subst (λ (y : Result Outcome EventError). IsPlayed w (events.Look s) y (with_node s me w)) (sym by) (refl, looks is)
+is_looked w s (Err e) o me by is none same =
     subst (λ (y : Result Outcome EventError). IsPlayed w (events.Look s) y (with_node s me w)) (sym by)
-    (subst (λ (x : EventError). IsRefusal None x) (sym is.0) tt, ap (λ m. with_node s m w) is.1 ∙ same_side s w)
+    (subst (λ (x : EventError). IsRefusal None x) (sym none) tt, ap (λ m. with_node s m w) same ∙ same_side s w)
 
 pub is_taken : (w : World) (s : Side) (k : ℕ) (r : Result (Unit {0}) EventError) (o : Result Outcome EventError) (me : Node) → o ≡ done_by r
     → IsEvent (take_refusal k (node_of s w)) r (node_of s w) (with_taken k (node_of s w)) me → IsPlayed w (events.Take s k) o (with_node s me w)
@@ -227,14 +229,25 @@ pub is_mined : (w : World) (k : ℕ) (m : Mined) (height : ℕ) → mined_by k w
     → IsPlayed w (events.Blocks k) (Ok (MinedBlocks height m.txs)) (with_mined m w)
 is_mined w k m height is tip = (refl, subst (λ (h : ℕ). Happens w (events.Blocks k) (with_mined m w) (MinedBlocks h m.txs)) (sym tip) (mines (sym is)))
 
+-- as many blocks as give way stand above the first
+pub not_deep : (s : Standing) (depth forgotten : ℕ) → reorg_refusal s depth forgotten ≡ None → depth ≤ height_of s.blocks
+not_deep s depth forgotten none =
+    by (depth == 0) (nat_lt (height_of s.blocks) depth) (nat_lt (height_of s.blocks - depth + 6) s.greatest) (list_any has_grant (take depth s.blocks))
+    (if nat_lt (length (transactions_of (take depth s.blocks))) forgotten then Some reorgs.NoSuchTx else None) refl none
+  where
+    by : (none low over granted : Bool) (later : Option ReorgError) → nat_lt (height_of s.blocks) depth ≡ low → (if none || ((low || over) || granted) then Some reorgs.TooDeep else later) ≡ None
+        → depth ≤ height_of s.blocks
+    by true low over granted later above e = absurd cc
+    by false true over granted later above e = absurd cc
+    by false false over granted later above e = grind (arith, nat_tests)
+
 pub is_reorganised : (w v : World) (depth forgotten : ℕ) (m : Mined) (o : Outcome) → IsReorganised w.chain w.pool w.released depth forgotten m.chain m.waiting m.txs
     → v ≡ both_back (height_of w.chain.blocks - depth) (with_mined m w) → o ≡ blocks_outcome m → IsPlayed w (events.Reorg depth forgotten) (Ok o) v
-is_reorganised w v depth forgotten m o is world outcome =
-    (
-      ap (option_map by_reorg) is.lawful,
-      subst (λ (x : Outcome). Happens w (events.Reorg depth forgotten) v x) (sym outcome)
+is_reorganised w v depth forgotten m o is world outcome = (
+  ap (option_map by_reorg) is.lawful,
+  subst (λ (x : Outcome). Happens w (events.Reorg depth forgotten) v x) (sym outcome)
       (subst (λ (x : World). Happens w (events.Reorg depth forgotten) x (blocks_outcome m)) (sym world) (reorganises (sym is.mined))),
-    )
+)
 
 pub not_reorganised : (w : World) (depth forgotten : ℕ) (e : ReorgError) (x : EventError) → IsReorgRefusal (reorg_refusal w.chain depth forgotten) e → x ≡ by_reorg e → IsPlayed w (events.Reorg depth forgotten) (Err x) w
 not_reorganised w depth forgotten reorgs.NoMemory x is by = (subst (λ (y : EventError). IsRefusal (refusal_of w (events.Reorg depth forgotten)) y) (sym by) tt, refl)

@@ -94,17 +94,23 @@ is_ready jobs n j s batch found all little there is =
 -- ---- the filling
 
 -- claims and outputs that are those of the batch give its filling
-pub is_filled : (b : Batch) (claims : List ClaimParts) (outputs : List Output) (r s : Rights) (f : Filling) → ((key : List ℕ) → MaySign r key ↔ MaySign s key) → claims ≡ b.claims → outputs ≡ b.outputs
-    → IsFillingOf claims outputs r b.preimages f → (fill_refusal b.claims b.outputs s b.preimages ≡ None) × (f.tx ≡ (filling_by b).tx)
-is_filled b claims outputs r s f same its own is =
-    let of_batch = subst (λ (os : List Output). IsFillingOf b.claims os r b.preimages f) own (subst (λ (cs : List ClaimParts). IsFillingOf cs outputs r b.preimages f) its is) in
+pub is_filled : (b : Batch) (claims : List ClaimParts) (outputs : List Output) (preimages : List (List ℕ)) (r s : Rights) (f : Filling) → IsFillingOf claims outputs r preimages f
+    → ((key : List ℕ) → MaySign r key ↔ MaySign s key) → claims ≡ b.claims → outputs ≡ b.outputs → preimages ≡ b.preimages
+    → (fill_refusal b.claims b.outputs s b.preimages ≡ None) × (f.tx ≡ (filling_by b).tx)
+is_filled b claims outputs preimages r s f is same its own known =
+    let of_batch : IsFillingOf b.claims b.outputs r b.preimages f =
+    subst (λ (ps : List (List ℕ)). IsFillingOf b.claims b.outputs r ps f) known
+    (subst (λ (os : List Output). IsFillingOf b.claims os r preimages f) own (subst (λ (cs : List ClaimParts). IsFillingOf cs outputs r preimages f) its is))
+    in
     (tested_by b r s (Ok f) same of_batch, of_batch.tx)
 
 -- or its refusal
-pub is_unfilled : (b : Batch) (claims : List ClaimParts) (outputs : List Output) (r s : Rights) (e : FillError) → ((key : List ℕ) → MaySign r key ↔ MaySign s key) → claims ≡ b.claims → outputs ≡ b.outputs
-    → IsFirstRefusal claims outputs r b.preimages e → IsFillRefusal (fill_refusal b.claims b.outputs s b.preimages) e
-is_unfilled b claims outputs r s e same its own is =
-    tested_by b r s (Err e) same (subst (λ (os : List Output). IsFirstRefusal b.claims os r b.preimages e) own (subst (λ (cs : List ClaimParts). IsFirstRefusal cs outputs r b.preimages e) its is))
+pub is_unfilled : (b : Batch) (claims : List ClaimParts) (outputs : List Output) (preimages : List (List ℕ)) (r s : Rights) (e : FillError) → IsFirstRefusal claims outputs r preimages e
+    → ((key : List ℕ) → MaySign r key ↔ MaySign s key) → claims ≡ b.claims → outputs ≡ b.outputs → preimages ≡ b.preimages → IsFillRefusal (fill_refusal b.claims b.outputs s b.preimages) e
+is_unfilled b claims outputs preimages r s e is same its own known =
+    tested_by b r s (Err e) same
+    (subst (λ (ps : List (List ℕ)). IsFirstRefusal b.claims b.outputs r ps e) known
+    (subst (λ (os : List Output). IsFirstRefusal b.claims os r preimages e) own (subst (λ (cs : List ClaimParts). IsFirstRefusal cs outputs r preimages e) its is)))
 
 -- the refusal of the filling is that of the release
 answer_refused : (o : Option ChannelBook) (ch : ChannelBook) (b : Batch) (e : FillError) → o ≡ Some ch → fill_refusal b.claims b.outputs (rights_of ch.state) b.preimages ≡ Some e

@@ -8,7 +8,6 @@ pub mod Keeping
 pub mod Looking
 pub mod Asking
 pub mod Pairing
-pub mod Looking
 pub mod Publishing
 pub mod Owning
 pub mod Steps

@@ -67,7 +67,7 @@ fn release(
     released: &mut Vec<Tx>,
     count: u64,
 ) -> Result<Outcome, EventError>
-    ensures side { let first = release_refusal count me.old in
+    ensures { let first = release_refusal count me.old in
         MatchResult result (λ o. (first ≡ None) × (o ≡ Outcome.Done) × IsReleasedTo count me.old me.new pool.old.items released.old.items pool.new.items released.new.items) (λ e. IsRefusal first e × (me.new ≡ me.old) × (pool.new.items ≡ pool.old.items) × (released.new.items ≡ released.old.items)) }
 {
     pool.reserve(1)?;
@@ -112,7 +112,11 @@ impl Parts {
         ensures { let call = own_call own.channel own.update in
             IsEvent (call_refusal own.side own.channel call self.old) result self.old (called own.side own.channel call self.old) self.new }
     {
-        let Own { side, channel, update } = own;
+        let Own {
+            side,
+            channel,
+            update,
+        } = own;
         match side {
             Side::A => delivering::update(&mut self.a, &mut self.b, channel, update),
             Side::B => delivering::update(&mut self.b, &mut self.a, channel, update),
@@ -222,8 +226,20 @@ impl Parts {
     {
         let alloc = self.alloc;
         match side {
-            Side::A => release(alloc, &mut self.a, &mut self.pool, &mut self.released, count),
-            Side::B => release(alloc, &mut self.b, &mut self.pool, &mut self.released, count),
+            Side::A => release(
+                alloc,
+                &mut self.a,
+                &mut self.pool,
+                &mut self.released,
+                count,
+            ),
+            Side::B => release(
+                alloc,
+                &mut self.b,
+                &mut self.pool,
+                &mut self.released,
+                count,
+            ),
         }
     }
 

@@ -14,10 +14,9 @@ returns-in-Ok c =
     let jobs = map (λ r. r.now) c.args.jobs.now in
     let found = first_of_map (λ r. r.now) c.args.jobs.now c.in-Some.first.now (sym c.in-Some.ensures.value) in
     let all : are_of j.channel jobs ≡ true = search rules in
-    let small : value_of jobs ≤ max_value = search rules in
-    (
+    let small : value_of jobs ≤ max_value = search rules in (
       subst (λ (m : Node). IsReady jobs m j.channel c.in_ok-batch.batch) c.me.view_is
-      (is_ready jobs n j c.in-Some-channel.state.now c.in_ok-batch.batch found all (not_over _ _ small) c.in-Some-channel.ensures c.in_ok-batch.ensures),
+          (is_ready jobs n j c.in-Some-channel.state.now c.in_ok-batch.batch found all (not_over _ _ small) c.in-Some-channel.ensures c.in_ok-batch.ensures),
       c.in-Ok.ensures.1,
     )
 
