@@ -1,14 +1,16 @@
 // What each program answers.
 
+use crate::playing::play;
+use crate::refusals::Refusal;
 use crate::texts::paths_text;
 use digest::ripemd160;
 use facts::texts::Hex;
 use hex::FromHexError;
-use paths::{CheckError, check};
-use script::{ParseError, Script};
-use std::alloc::{AllocError, Global};
-use std::fmt;
+use paths::check;
+use script::Script;
+use std::alloc::Global;
 use std::fmt::Write;
+use std::io::Read;
 
 /// A program with its words.
 #[derive(Drop)]
@@ -17,6 +19,8 @@ pub enum Command<'a> {
     Ripemd(&'a str),
     /// `paths HEX`: the ways through a script.
     Paths(&'a str),
+    /// `run`: what becomes of the events of a scenario, which is read.
+    Run,
 }
 
 impl<'a> Command<'a> {
@@ -25,63 +29,38 @@ impl<'a> Command<'a> {
         match words {
             [name, text] if name.as_str() == "ripemd" => Some(Command::Ripemd(text.as_str())),
             [name, text] if name.as_str() == "paths" => Some(Command::Paths(text.as_str())),
+            [name] if name.as_str() == "run" => Some(Command::Run),
             _ => None,
         }
     }
 }
 
-/// Why input is refused.
-#[derive(Debug, Drop)]
-pub enum Refusal {
-    /// Memory ran out.
-    NoMemory,
-    /// A text is not hexadecimal.
-    BadHex,
-    /// The bytes are no script.
-    Parse(ParseError),
-    /// The script is not listed.
-    Check(CheckError),
-}
-
-impl fmt::Display for Refusal {
-    fn fmt<W: fmt::Write>(&self, f: &mut fmt::Formatter<W>) -> fmt::Result {
-        match self {
-            Refusal::NoMemory => write!(f, "NoMemory"),
-            Refusal::BadHex => write!(f, "BadHex"),
-            Refusal::Parse(error) => write!(f, "{error}"),
-            Refusal::Check(error) => write!(f, "{error}"),
-        }
-    }
-}
-
-impl Refusal {
-    /// The line that is printed.
-    pub fn line(&self, alloc: Global) -> Result<String, AllocError> {
-        format!(in alloc; "refused {self}\n")
-    }
-}
-
-impl From<AllocError> for Refusal {
-    fn from(_error: AllocError) -> Refusal {
-        Refusal::NoMemory
-    }
-}
-
-/// The text that a program prints.
-pub fn answer(alloc: Global, command: &Command<'_>) -> Result<String, Refusal> {
+/// The text that a program prints. `run` alone reads the input.
+pub fn answer<R: Read>(
+    alloc: Global,
+    command: &Command<'_>,
+    input: &mut R,
+) -> Result<String, Refusal> {
     match command {
-        Command::Ripemd(text) => {
-            let message = bytes_of(alloc, text)?;
-            let hash = ripemd160(message.as_slice());
-            Ok(format!(in alloc; "{}\n", Hex(&hash))?)
-        }
-        Command::Paths(text) => {
-            let bytes = bytes_of(alloc, text)?;
-            let script = Script::parse(alloc, bytes.as_slice()).map_err(Refusal::Parse)?;
-            let checked = check(alloc, script).map_err(Refusal::Check)?;
-            Ok(paths_text(alloc, checked.paths())?)
-        }
+        Command::Ripemd(text) => hash_text(alloc, text),
+        Command::Paths(text) => listing(alloc, text),
+        Command::Run => play(alloc, input),
     }
+}
+
+// The hash of a message that is written in hexadecimal.
+fn hash_text(alloc: Global, text: &str) -> Result<String, Refusal> {
+    let message = bytes_of(alloc, text)?;
+    let hash = ripemd160(message.as_slice());
+    Ok(format!(in alloc; "{}\n", Hex(&hash))?)
+}
+
+// The ways through a script that is written in hexadecimal.
+fn listing(alloc: Global, text: &str) -> Result<String, Refusal> {
+    let bytes = bytes_of(alloc, text)?;
+    let script = Script::parse(alloc, bytes.as_slice()).map_err(Refusal::Parse)?;
+    let checked = check(alloc, script).map_err(Refusal::Check)?;
+    Ok(paths_text(alloc, checked.paths())?)
 }
 
 // The bytes of a hexadecimal text, in either letter case.

@@ -1,9 +1,13 @@
-//! The programs of a node operator: `enforce ripemd HEX` hashes a message, `enforce paths HEX` lists the ways through a script.
+//! The programs of a node operator: `enforce ripemd HEX` hashes a message, `enforce paths HEX` lists the ways through a script, and `enforce run` plays the scenario
+//! on standard input.
 //!
 //! `words::run_words` answers a status of at most 2; its tests hold the programs' rows.
 #![tactic(auto)]
 
 mod answers;
+mod endings;
+mod playing;
+mod refusals;
 #[cfg(test)]
 mod tests;
 mod texts;

@@ -1,6 +1,8 @@
 // The programs' rows, as texts and statuses.
 
+mod readers;
 mod rows;
+mod scenarios;
 
 use crate::words::{USAGE, run_words};
 use std::alloc::Global;
@@ -31,7 +33,7 @@ fn words_of(alloc: Global, words: &[&str]) -> Result<Vec<String>, Fail> {
     Ok(all)
 }
 
-// Asserts what a call prints, and its status.
+// Asserts what a call without input prints, and its status.
 fn prints(
     rt: &impl Abort,
     alloc: Global,
@@ -40,17 +42,24 @@ fn prints(
     err: &str,
     status: u8,
 ) -> Result<(), Fail> {
-    let all = words_of(alloc, words)?;
     let mut input: &[u8] = &[];
+    prints_of(rt, alloc, words, &mut input, out, err, status)
+}
+
+// Asserts what a call that may read this input prints, and its status.
+fn prints_of<R: io::Read>(
+    rt: &impl Abort,
+    alloc: Global,
+    words: &[&str],
+    input: &mut R,
+    out: &str,
+    err: &str,
+    status: u8,
+) -> Result<(), Fail> {
+    let all = words_of(alloc, words)?;
     let mut printed: Vec<u8> = Vec::new(alloc);
     let mut complained: Vec<u8> = Vec::new(alloc);
-    let answered = run_words(
-        alloc,
-        all.as_slice(),
-        &mut input,
-        &mut printed,
-        &mut complained,
-    );
+    let answered = run_words(alloc, all.as_slice(), input, &mut printed, &mut complained);
     assert_eq!(rt; printed.as_slice(), out.as_bytes());
     assert_eq!(rt; complained.as_slice(), err.as_bytes());
     assert_eq!(rt; answered, status);

@@ -10,7 +10,7 @@ use std::io::{Read, Write};
 pub const USAGE: &str = "usage: enforce ripemd HEX | paths HEX | run | node N\n";
 
 /// Runs the program on its words (without its name) and answers its status: 0 when done, 1 for refused input or a failed write, 2 for
-/// wrong words. All text is made before its first byte is written.
+/// wrong words, which are found before any input is read. All text is made before its first byte is written.
 pub fn run_words<R: Read, W: Write, E: Write>(
     alloc: Global,
     words: &[String],
@@ -20,12 +20,10 @@ pub fn run_words<R: Read, W: Write, E: Write>(
 ) -> u8
     ensures { result ≤ 2 }
 {
-    // No program of today reads its input.
-    let _ = input;
     let Some(command) = Command::read(words) else {
         return refuse_words(err);
     };
-    match answer(alloc, &command) {
+    match answer(alloc, &command, input) {
         Ok(text) => written(out, text.as_str(), 0),
         Err(refusal) => match refusal.line(alloc) {
             Ok(text) => written(out, text.as_str(), 1),

@@ -1,5 +1,6 @@
 mod Turns
 mod Calls
+mod Begun
 pub mod DueClaims
 pub mod EnforcementExamples
 pub mod StepExamples

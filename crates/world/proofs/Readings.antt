@@ -5,7 +5,7 @@ use Rattle.std.specs.List.{AllByRecursion}
 use Rattle.std.proofs.lemmas.List.{drop_all, drop_more, drop-set-lt, take_more_set, take_all, get_or-map, get_or-replicate, length-map, length-replicate, take-append-drop}
 use Rattle.std.proofs.lemmas.Option.{none-some, same_Some}
 use Rattle.tx.specs.Fields.{Transaction}
-use Rattle.claim.specs.Claims.{ClaimParts, IsAccepted}
+use Rattle.claim.specs.Claims.{IsWhole}
 use Rattle.penalty.specs.Claimable.{Claimable}
 use Rattle.penalty.specs.Sets.{AreClaimsOn}
 use Rattle.resolve.specs.declared.known.Known.{Known}
@@ -18,7 +18,8 @@ use Rattle.book.specs.Knowing.{IsKnownOf, IsKnownIn, preimages_in}
 use Rattle.world.specs.declared.jobs.Job.{Job}
 use Rattle.world.specs.Worlds.{Line, Node, IsNode}
 use Rattle.world.specs.Looking.{Knows, is_closed, jobs_of, ReadsChannel, quiet, sees, ReadsBlock, no_more, channel, Reading, IsAfter, Reads, all_read, block, reading_of, with_seen}
-use Rattle.world.specs.Asking.{IfKnown, AreKnown, IsReady, FindsIf, with_preimages, taught, IsWhole}
+use Rattle.world.proofs.Whole.{all_append}
+use Rattle.world.specs.Asking.{IfKnown, AreKnown, IsReady, FindsIf, with_preimages, taught}
 
 -- ---- what is known
 
@@ -189,33 +190,7 @@ past_end (x ∷ xs) (suc n) e = let l = past_end xs n e in omega arith
 
 -- ---- the side
 
-accepted : (os : List Claimable) (cs : List ClaimParts) → AreClaimsOn os cs → AllByRecursion IsAccepted cs
-accepted [] [] a = tt
-accepted [] (c ∷ cs) a = absurd a
-accepted (o ∷ os) [] a = absurd a
-accepted (o ∷ os) (c ∷ cs) (i, a) = (i.accepted, accepted os cs a)
-
-abbrev AreAccepted : List Job → Type 0
-AreAccepted jobs = AllByRecursion (λ j. IsAccepted j.claim) jobs
-
-accepted_append : (xs ys : List Job) → AreAccepted xs → AreAccepted ys → AreAccepted (xs ++ ys)
-accepted_append [] ys u v = v
-accepted_append (x ∷ xs) ys (p, u) v = (p, accepted_append xs ys u v)
-
-accepted_jobs : (c : ℕ) (preimages : List (List ℕ)) (claims : List ClaimParts) → AllByRecursion IsAccepted claims → AreAccepted (jobs_of c preimages claims)
-accepted_jobs c preimages [] u = tt
-accepted_jobs c preimages (x ∷ claims) (p, u) = (p, accepted_jobs c preimages claims u)
-
 module _ {history : List Entry} {learnt : List (List ℕ)} {height : ℕ} {txs : List Transaction} where
-  accepted_channel : {c : ℕ} {older newer : Seen} {jobs : List Job} {shown : List (List ℕ)} → ReadsChannel history learnt height txs c older newer jobs shown → AreAccepted jobs
-  accepted_channel (quiet e) = tt
-  accepted_channel {c = c} (sees known k finds) =
-      subst AreAccepted (sym finds.jobs_are) (accepted_jobs c known.preimages finds.claims (accepted _ finds.claims finds.sight.due))
-
-  accepted_block : {c : ℕ} {older newer : List Seen} {jobs : List Job} {shown : List (List ℕ)} → ReadsBlock history learnt height txs c older newer jobs shown → AreAccepted jobs
-  accepted_block no_more = tt
-  accepted_block (channel {jobs = jobs} {more_jobs = more} one rest) = accepted_append jobs more (accepted_channel one) (accepted_block rest)
-
   as_many : {c : ℕ} {older newer : List Seen} {jobs : List Job} {shown : List (List ℕ)} → ReadsBlock history learnt height txs c older newer jobs shown → length newer ≡ length older
   as_many no_more = refl
   as_many (channel one rest) = ap suc (as_many rest)
@@ -223,21 +198,13 @@ module _ {history : List Entry} {learnt : List (List ℕ)} {height : ℕ} {txs :
 pub as_many_after : (history : List Entry) (height : ℕ) (txs : List Transaction) (r next : Reading) → IsAfter history height txs r next → length next.seen ≡ length r.seen
 as_many_after history height txs r next after = as_many after.channels
 
-accepted_reads : {history : List Entry} {height : ℕ} {blocks : List Contents} {r done : Reading} → Reads history height blocks r done → AreAccepted r.jobs → AreAccepted done.jobs
-accepted_reads all_read u = u
-accepted_reads (block {r = r} after rest) u =
-    accepted_reads rest (subst AreAccepted (sym after.jobs_are) (accepted_append r.jobs after.jobs u (accepted_block after.channels)))
-
 as_many_reads : {history : List Entry} {height : ℕ} {blocks : List Contents} {r done : Reading} → Reads history height blocks r done → length done.seen ≡ length r.seen
 as_many_reads all_read = refl
 as_many_reads (block after rest) = as_many_reads rest ∙ as_many after.channels
 
--- what was read from a side on can be taken over by it
-pub whole : (n : Node) (height : ℕ) (blocks : List Contents) (r : Reading) → Reads n.history height blocks (reading_of n) r → IsWhole n r
-whole n height blocks r reads = record {
-  channels = as_many_reads reads ∙ length-map n.lines (λ line. line.seen);
-  accepted = accepted_reads reads tt;
-}
+-- what was read from a side on is of each of its channels
+pub each_line : (n : Node) (height : ℕ) (blocks : List Contents) (r : Reading) → Reads n.history height blocks (reading_of n) r → length r.seen ≡ length n.lines
+each_line n height blocks r reads = as_many_reads reads ∙ length-map n.lines (λ line. line.seen)
 
 -- a side that took it over, and its invariant
 seen_length : (seen : List Seen) (lines : List Line) → length (with_seen seen lines) ≡ length lines
@@ -245,13 +212,25 @@ seen_length [] lines = refl
 seen_length (s ∷ seen) [] = refl
 seen_length (s ∷ seen) (line ∷ lines) = ap suc (seen_length seen lines)
 
-pub is_node_after : (n : Node) (r : Reading) (lines : List Line) (read : ℕ) (learnt : List (List ℕ)) (jobs : List Job) → IsNode n → IsWhole n r → lines ≡ with_seen r.seen n.lines → jobs ≡ n.jobs ++ r.jobs
-    → IsNode (record n { lines = lines; read = read; learnt = learnt; jobs = jobs })
-is_node_after n r lines read learnt jobs is w l j = record {
-  lines = ap length l ∙ seen_length r.seen n.lines ∙ is.lines;
-  jobs = subst AreAccepted (sym j) (accepted_append n.jobs r.jobs is.jobs w.accepted);
-  taken = is.taken;
-}
+take_front : {A : Type 0} (xs ys : List A) → take (length xs) (xs ++ ys) ≡ xs
+take_front [] ys = refl
+take_front (x ∷ xs) ys = ap (λ zs. x ∷ zs) (take_front xs ys)
+
+abbrev pub AreWhole : List Job → Type 0
+AreWhole jobs = AllByRecursion (λ j. IsWhole j.claim) jobs
+
+pub is_node_after : (n : Node) (more jobs : List Job) (new items : List Line) (seen : List Seen) (len read : ℕ) (learnt : List (List ℕ)) → IsNode n → AreWhole more → jobs ≡ n.jobs ++ more
+    → items ≡ n.lines → length items ≡ len → new ≡ with_seen seen items → IsNode (record n { lines = take len (new ++ drop (length new) n.lines); read = read; learnt = learnt; jobs = jobs })
+is_node_after n more jobs new items seen len read learnt is w j same long l =
+    let as_long : length new ≡ length items = ap length l ∙ seen_length seen items in
+    let back : take len (new ++ drop (length new) n.lines) ≡ new
+    = ap (λ k. take k (new ++ drop (length new) n.lines)) (sym (as_long ∙ long)) ∙ take_front new (drop (length new) n.lines) in
+    record {
+      lines = ap length back ∙ as_long ∙ ap length same ∙ is.lines;
+      called = is.called;
+      jobs = subst AreWhole (sym j) (all_append (λ x. IsWhole x.claim) n.jobs more is.jobs w);
+      taken = is.taken;
+    }
 
 -- each line in its turn
 pub put_step : (i : ℕ) (lines lines' : List Line) (line : Line) (s : Seen) (rest seen : List Seen) (whole : List Line) → i < length lines → line ≡ get_or lines i line

@@ -2,7 +2,6 @@
 use Rattle.std.specs.Prelude.{◌≡◌, ℕ, ◌<◌, false, List, [], ◌++◌, length, Option, Some, None, slice_get, slice_index_or}
 use Rattle.std.specs.List.{AllByRecursion}
 use Rattle.tx.specs.Fields.{Transaction}
-use Rattle.claim.specs.Claims.{IsAccepted}
 use Rattle.resolve.specs.declared.known.Known.{Known}
 use Rattle.watch.specs.Watching.{Seen}
 use Rattle.book.specs.declared.calls.Entry.{Entry}
@@ -36,8 +35,3 @@ with_preimages shown known = record known { preimages = known.preimages ++ shown
 abbrev pub taught : List (List ℕ) → Option Known → Option Known
 taught shown None = None
 taught shown (Some known) = Some (with_preimages shown known)
-
--- what was read can be taken over: something was seen of each channel, and the claims were accepted
-pub record IsWhole (n : Node) (r : Reading) : Type 0 where
-  pub channels : length r.seen ≡ length n.lines
-  pub accepted : AllByRecursion (λ j. IsAccepted j.claim) r.jobs

@@ -132,12 +132,15 @@ impl<T: Drop> From<AllocFailed<T>> for EventError {
     }
 }
 
-/// Why a world does not begin.
+/// Why a world does not begin. It is tested for these in this order.
 #[derive(Debug, Drop, Error)]
 pub enum WorldError {
     /// Memory ran out.
     #[error("NoMemory")]
     NoMemory,
+    /// There are more than 8 channels.
+    #[error("OverLimit")]
+    OverLimit,
     /// The two sides can't agree on the terms of the channel of this index.
     #[error("BadTerms {0}")]
     BadTerms(usize),

@@ -1,17 +1,20 @@
-//! What holds of two sides on one chain, at every moment: the Enforcement theorem, so far as it stands.
+//! The world of two sides on one chain, and the Enforcement theorem over every run of it.
 //!
-//! [`laws::claims_open`]: whatever fits an accepted claim passes the chain's test and runs clean, once it is due. [`laws::deliveries_are_taken`]: of two books that agree, the oldest
-//! message on its way to either is taken. [`check_claimed`] tests an input by the first law.
+//! [`World::new`] grants the funding outputs of channels and opens them in both sides' books, and [`World::play`] plays events: offers, fulfils, fails, fees, signatures, deliveries, kept
+//! penalties, broadcasts, blocks, looks, takes, releases and reorganisations. What `play` ensures is the theorem (`specs/Theorem.antt`, which a stranger reads first): it is a run of the
+//! relation `WorldSteps`, one case for each event, and at each moment of it both books are guarded, each claim that a side has is an accepted one, whatever fits an accepted claim passes
+//! and runs clean once it is due, and the oldest message on its way to a side is taken.
 //!
 //! ```rust
-//! /// Whether the next block's test of a claim's input finds nothing: of a due one, unless memory runs out.
-//! fn passes(chain: &Index, claim: &Claim, tx: &Tx) -> bool {
-//!     check_claimed(chain, claim, tx, 0).is_ok()
+//! let mut world = World::new(alloc, &scenario.seeds, scenario.channels.values())?;
+//! for outcome in world.play(scenario.events.values())? {
+//!     println!("{outcome}");
 //! }
 //! ```
 #![tactic(auto)]
 
 mod batches;
+mod beginning;
 pub mod claimed;
 mod delivering;
 pub mod errors;

@@ -1,11 +1,12 @@
 //! What a side reads in blocks.
 
 ghost use Rattle.std.specs.Prelude.{◌≡◌, ◌<◌, ◌+◌, ◌++◌, [], map, replicate, length, reverse, drop, slice_get, None, IfOk, IfErr, OnOk, OnErr};
-ghost use Rattle.std.specs.List.{cons_option, filter_map};
+ghost use Rattle.std.specs.List.{AllByRecursion, cons_option, filter_map};
+ghost use Rattle.claim.specs.Claims.{IsWhole};
 ghost use Rattle.book.specs.Books.{replay};
 ghost use Rattle.world.specs.declared.errors.EventError.TheVariants.{NoMemory};
 ghost use Rattle.world.specs.Looking.{is_closed, wanted_by, jobs_of, Knows, Finds, ReadsBlock, IsAfter, Reads, reading_of, with_seen, with_reading, Looks, seen_back_to, back_to};
-ghost use Rattle.world.specs.Asking.{IfKnown, AreKnown, IsReady, FindsIf, taught, IsWhole};
+ghost use Rattle.world.specs.Asking.{IfKnown, AreKnown, IsReady, FindsIf, taught};
 
 use crate::errors::EventError;
 use crate::jobs::Job;
@@ -382,9 +383,19 @@ fn put_watches(lines: &mut [Line], watches: Vec<Watch>)
     }
 }
 
+// What the claims of jobs are, for proofs: accepted ones.
+fn hold_whole_jobs(jobs: &VecDeque<Job>)
+    ensures { AllByRecursion (λ j. IsWhole j.claim) jobs.now.items }
+{
+    for index in 0..jobs.len() {
+        let _ = jobs[index].claim.path();
+    }
+}
+
 // A side takes over what it has read up to a height. The only error is that memory ran out, which leaves it as it was.
 fn take_over(me: &mut Node, height: u64, reading: Reading) -> Result<(), AllocError>
-    requires { IsWhole me.old reading }
+    requires lines { length reading.seen ≡ length me.old.lines }
+    requires jobs { AllByRecursion (λ j. IsWhole j.claim) reading.jobs }
     ensures ok { OnOk result (me.new ≡ with_reading height reading me.old) }
     ensures err { OnErr result (me.new ≡ me.old) }
 {
@@ -410,6 +421,7 @@ pub(crate) fn look(alloc: Global, me: &mut Node, chain: &Index) -> Result<u64, E
 {
     let reading = read_blocks(alloc, me, chain)?;
     let count = reading.jobs.len() as u64;
+    hold_whole_jobs(&reading.jobs);
     take_over(me, chain.height(), reading)?;
     Ok(count)
 }

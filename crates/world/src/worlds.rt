@@ -1,14 +1,17 @@
 //! The world of two sides.
 
+use crate::beginning::{begin_all, first_bad_terms};
+use crate::errors::WorldError;
 use crate::laws::{steps_keep, worlds_hold};
 use crate::outcomes::Outcome;
 use crate::parts::Parts;
 use book::Book;
 use chain::Index;
-use std::alloc::AllocError;
+use scenario::{MAX_CHANNELS, Seeds};
+use std::alloc::{AllocError, Global};
 use std::marker::Model;
 use terms::Side;
-use texts::Event;
+use texts::{Event, PlainTerms};
 
 /// The world of two sides: their books and watches, the messages on their way, and the chain with its pool.
 #[derive(Drop)]
@@ -28,10 +31,27 @@ impl Model for World {
 }
 
 impl World {
-    ghost use Rattle.std.specs.Prelude.{◌≡◌, MatchResult};
+    ghost use Rattle.std.specs.Prelude.{◌≡◌, None, MatchResult};
     ghost use Rattle.world.specs.Worlds.{node_of};
+    ghost use Rattle.world.specs.Beginning.{beginning_refusal, IsBeginning, IsBeginningRefusal};
     ghost use Rattle.world.specs.Steps.{WorldSteps};
     ghost use Rattle.world.specs.Theorem.{HoldsAt, IsPlay};
+
+    /// The world in which the funding outputs of these channels are granted in the first block and both sides opened them from seat 0, with the peer's token on commitment 0: OverLimit for
+    /// more than 8 channels, and BadTerms with the first one on whose terms the two sides can't agree.
+    pub fn new(alloc: Global, seeds: &Seeds, terms: &[PlainTerms]) -> Result<World, WorldError>
+        ensures { let first = beginning_refusal terms.now in MatchResult result (λ w. (first ≡ None) × IsBeginning seeds.now terms.now w) (IsBeginningRefusal first) }
+    {
+        if terms.len() > MAX_CHANNELS {
+            return Err(WorldError::OverLimit);
+        }
+        match first_bad_terms(terms) {
+            Some(channel) => return Err(WorldError::BadTerms(channel)),
+            None => {}
+        }
+        let parts = begin_all(alloc, seeds, terms)?;
+        Ok(World { parts })
+    }
 
     /// The book of a side.
     pub fn book(&self, side: Side) -> &Book

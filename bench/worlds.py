@@ -1,0 +1,142 @@
+#!/usr/bin/env python3
+"""Times `enforce run` of scenarios of 1,000 and of 10,000 events over 8 channels beside SHA-256 of 1 MiB, in processor seconds.
+
+  bench/worlds.py                     proves and builds what it runs; wants the toolchain's `rt`
+  bench/worlds.py PROGRAM HASHES      times these builds of crates/enforce and of crates/commitment_costs
+  bench/worlds.py --scenario EVENTS   prints the scenario of that length
+"""
+
+import hashlib
+import json
+import os
+import resource
+import subprocess
+import sys
+import tempfile
+
+TOP = os.path.dirname(os.path.dirname(os.path.abspath(__file__)))
+CHANNELS = 8
+ROUNDS = 7
+HASHES = 40
+TERMS = {
+    "capacity": 10_000_000,
+    "opener": "A",
+    "feerate": 1000,
+    "dust": [546, 546],
+    "delay": [144, 144],
+    "minimum": [1000, 1000],
+    "start": [5_000_000_000, 5_000_000_000],
+}
+
+
+def payment(payer, channel, number):
+    """The events of one payment, the number-th of its channel, from the offer to the last penalties that are kept."""
+    payee = "AB"[payer == "A"]
+    preimage = hashlib.sha256(b"%d %d" % (channel, number)).digest()
+    # the commitments of each side that are revoked: by the offer, and by the fulfilment
+    first, second = 2 * number, 2 * number + 1
+    # an id counts those of its own direction
+    identity = number // 2
+    return [
+        ["offer", payer, channel, 10_000_000 + number, hashlib.sha256(preimage).hexdigest(), 400_000],
+        *signed(payer, payee, channel),
+        *[["keep", side, channel, first] for side in (payer, payee)],
+        ["fulfil", payee, channel, identity, preimage.hex()],
+        *signed(payee, payer, channel),
+        *[["keep", side, channel, second] for side in (payer, payee)],
+    ]
+
+
+def signed(updater, other, channel):
+    """An update is delivered, and both sides sign and revoke."""
+    return [
+        ["deliver", other, channel],
+        ["sign", updater, channel],
+        ["deliver", other, channel],
+        ["deliver", updater, channel],
+        ["sign", other, channel],
+        ["deliver", updater, channel],
+        ["deliver", other, channel],
+    ]
+
+
+def closes(payments):
+    """Every channel is closed by one of its sides, and what is due is claimed."""
+    events = [["broadcast", "AB"[channel % 2], channel, 2 * payments[channel]] for channel in range(CHANNELS)]
+    events += [["blocks", 1], ["look", "A"], ["look", "B"]]
+    for side in "AB":
+        events += [["take", side, CHANNELS], *CHANNELS * [["release", side, 1]]]
+    return [*events, ["blocks", 144], ["look", "A"], ["look", "B"]]
+
+
+def scenario(length):
+    """A scenario of so many events: payments in turn over the channels, with a block that both sides read after every eight of them, and closes at the end."""
+    payments = CHANNELS * [0]
+    events, turn = [], 0
+    end = len(closes(payments))
+    while len(events) + 18 + 3 + end <= length:
+        channel = turn % CHANNELS
+        events += payment("AB"[payments[channel] % 2], channel, payments[channel])
+        payments[channel] += 1
+        turn += 1
+        if turn % CHANNELS == 0:
+            events += [["blocks", 1], ["look", "A"], ["look", "B"]]
+    events += closes(payments)
+    events += (length - len(events)) * [["blocks", 0]]
+    return {"seeds": ["0a" * 32, "0b" * 32], "channels": CHANNELS * [TERMS], "events": events}
+
+
+def timed(words, text):
+    """What a program prints for a text, and the processor seconds that it takes."""
+    with tempfile.TemporaryFile() as given:
+        given.write(text.encode())
+        given.seek(0)
+        before = resource.getrusage(resource.RUSAGE_CHILDREN)
+        done = subprocess.run(words, stdin=given, capture_output=True, text=True, check=True)
+        after = resource.getrusage(resource.RUSAGE_CHILDREN)
+    return done.stdout, after.ru_utime + after.ru_stime - before.ru_utime - before.ru_stime
+
+
+def fastest(words, text):
+    return min(timed(words, text)[1] for _ in range(ROUNDS))
+
+
+def built(name):
+    """The program of a crate."""
+    crate = os.path.join(TOP, "crates", name)
+    done = subprocess.run(["rt", "run"], cwd=crate, capture_output=True, text=True)
+    if done.returncode:
+        raise SystemExit(done.stdout + done.stderr)
+    return os.path.join(crate, "out", name)
+
+
+def hashing(program):
+    """The processor seconds of SHA-256 of 1 MiB, without the start of the program."""
+    many, one = (fastest([program], f"hash {times}\n") for times in (HASHES + 1, 1))
+    return (many - one) / HASHES
+
+
+def play(program, length):
+    """The processor seconds of a scenario, all of whose events succeed."""
+    text = json.dumps(scenario(length))
+    printed, _ = timed([program, "run"], text)
+    refused = [line for line in printed.splitlines() if " refused " in line]
+    if refused:
+        raise SystemExit(f"{len(refused)} events are refused, the first: {refused[0]}")
+    return fastest([program, "run"], text)
+
+
+def main(words):
+    if words[:1] == ["--scenario"]:
+        return print(json.dumps(scenario(int(words[1]))))
+    enforce, hashes = words if words else (built("enforce"), built("commitment_costs"))
+    hashed = hashing(hashes)
+    print(f"SHA-256 of 1 MiB: {hashed * 1e3:.2f} ms")
+    few, many = play(enforce, 1000), play(enforce, 10_000)
+    print(f"1,000 events: {few * 1e3:.0f} ms")
+    print(f"10,000 events: {many * 1e3:.0f} ms, {many / hashed:.0f} times a SHA-256 of 1 MiB (at most 400)")
+    print(f"an event of 10,000 to one of 1,000: {many / few / 10:.2f} (at most 1.2)")
+
+
+if __name__ == "__main__":
+    main(sys.argv[1:])

@@ -1,0 +1,67 @@
+// The lines of a scenario that was played.
+
+use book::Book;
+use chain::{Coins, Index};
+use std::alloc::{AllocError, Global};
+use std::fmt::Write;
+use terms::Side;
+use world::{Outcome, World};
+
+/// A line for each event, then those of the world in which they end: the chain, the penalties that each side keeps, and how long their histories are.
+pub fn text_of(alloc: Global, outcomes: &[Outcome], world: &World) -> Result<String, AllocError> {
+    let mut text = String::new(alloc);
+    let (a, b) = (world.book(Side::A), world.book(Side::B));
+    push_outcomes(&mut text, outcomes)?;
+    push_chain(&mut text, world.chain())?;
+    push_all_kept(&mut text, "A", a)?;
+    push_all_kept(&mut text, "B", b)?;
+    push_history(&mut text, "A", a)?;
+    push_history(&mut text, "B", b)?;
+    Ok(text)
+}
+
+// What became of each event, counted from 0.
+fn push_outcomes(text: &mut String, outcomes: &[Outcome]) -> Result<(), AllocError> {
+    for (event, outcome) in outcomes.iter().enumerate() {
+        writeln!(text, "{event} {outcome}")?;
+    }
+    Ok(())
+}
+
+// The chain's height, its unspent outputs and its fees.
+fn push_chain(text: &mut String, chain: &Index) -> Result<(), AllocError> {
+    let height = chain.height();
+    let unspent = chain.unspent()?;
+    let fees = chain.fees()?;
+    let (count, value) = (unspent.count, unspent.value);
+    writeln!(text, "height {height}")?;
+    writeln!(text, "unspent {count} value {value} fees {fees}")?;
+    Ok(())
+}
+
+// The revoked commitments whose penalties a book keeps, by channel and number.
+fn push_all_kept(text: &mut String, side: &str, book: &Book) -> Result<(), AllocError> {
+    for channel in 0..book.channel_count() {
+        push_kept(text, side, book, channel)?;
+    }
+    Ok(())
+}
+
+// Those of a channel. A commitment that is not revoked ends them.
+fn push_kept(text: &mut String, side: &str, book: &Book, channel: u64) -> Result<(), AllocError> {
+    for number in 0..u64::MAX {
+        match book.keeps(channel, number) {
+            Some(true) => writeln!(text, "{side} kept {channel} {number}")?,
+            Some(false) => {}
+            None => return Ok(()),
+        }
+    }
+    Ok(())
+}
+
+// How many entries the history of a book has.
+fn push_history(text: &mut String, side: &str, book: &Book) -> Result<(), AllocError> {
+    let entries = book.entries().len();
+    writeln!(text, "{side} history {entries}")?;
+    Ok(())
+}

@@ -1,0 +1,42 @@
+// A scenario that is read and played.
+
+use crate::endings::text_of;
+use crate::refusals::Refusal;
+use scenario::Scenario;
+use std::alloc::{AllocError, Global};
+use std::io;
+use std::io::Read;
+use world::World;
+
+// The greatest number of bytes of a scenario.
+const MAX_INPUT: usize = 4_194_304;
+
+/// Plays the scenario that the input is, and gives the lines of its events and of the world in which they end. Refused are, in this order, input that can't be read
+/// (`ReadFailed`), input that is too long (`TooLong`), what is no scenario, and what the limits or the two sides don't allow.
+pub fn play<R: Read>(alloc: Global, input: &mut R) -> Result<String, Refusal> {
+    let text = read_all(alloc, input)?;
+    let scenario = Scenario::read(alloc, text.as_slice()).map_err(Refusal::Scenario)?;
+    let world = World::new(alloc, &scenario.seeds, scenario.channels.values());
+    let mut world = world.map_err(Refusal::World)?;
+    Ok(lines_of(alloc, &mut world, &scenario)?)
+}
+
+// The bytes of the input. No more than one above the limit is read.
+fn read_all<R: Read>(alloc: Global, input: &mut R) -> Result<Vec<u8>, Refusal> {
+    let mut bytes = Vec::new(alloc);
+    match input.take(MAX_INPUT as u64 + 1).read_to_end(&mut bytes) {
+        Ok(_) => {}
+        Err(error) if error.kind() == io::ErrorKind::OutOfMemory => return Err(Refusal::NoMemory),
+        Err(_) => return Err(Refusal::ReadFailed),
+    }
+    if bytes.len() > MAX_INPUT {
+        return Err(Refusal::TooLong);
+    }
+    Ok(bytes)
+}
+
+// Plays the events of a scenario, and gives the lines. The only error is that memory ran out.
+fn lines_of(alloc: Global, world: &mut World, scenario: &Scenario) -> Result<String, AllocError> {
+    let outcomes = world.play(scenario.events.values())?;
+    text_of(alloc, outcomes.as_slice(), world)
+}

@@ -1,0 +1,145 @@
+//! How a world begins.
+
+ghost use Rattle.std.specs.Prelude.{◌≡◌, ◌<◌, ◌≤◌, ◌+◌, ℕ, true, length, drop, slice_get, Some, IfOk, OnOk};
+ghost use Rattle.texts.specs.Calls.{can_agree};
+ghost use Rattle.texts.specs.declared.agreement.PlainTerms.{PlainTerms as Plain};
+ghost use Rattle.chain.specs.Blocks.{grants_in, grant_outpoint};
+ghost use Rattle.book.specs.declared.calls.Call.TheVariants.{Open};
+ghost use Rattle.book.specs.Replies.{is_accepted};
+ghost use Rattle.openings.specs.Opening.{funding_output as funding_output_of, AreOpeningsOf};
+ghost use Rattle.scenario.specs.Limits.{max_channels};
+ghost use Rattle.scenario.specs.Testing.{first_bad_terms};
+ghost use Rattle.world.specs.Worlds.{answer_to};
+ghost use Rattle.world.specs.Beginning.{empty_world, with_opened, granted, Begins, AllBegin, HasBegun, IsBeginning};
+ghost use Rattle.world.specs.Theorem.{IsWorld};
+
+use crate::nodes::Node;
+use crate::parts::Parts;
+use book::Opening;
+use book::errors::OpenError;
+use chain::{Coins, Index, Refusal};
+use openings::laws::openings_agree;
+use openings::{Both, funding_output, open_both};
+use scenario::Seeds;
+use std::alloc::{AllocError, Global};
+use texts::PlainTerms;
+use tx::OutPoint;
+
+/// The first channel on whose terms the two sides can't agree.
+pub(crate) fn first_bad_terms(terms: &[PlainTerms]) -> Option<usize>
+    ensures { result ≡ first_bad_terms terms.now }
+{
+    terms.iter().position(|plain| !plain.can_agree())
+}
+
+// A side opens a channel, which its book does not refuse. The only error is that memory ran out.
+fn open(alloc: Global, node: &mut Node, opening: Opening) -> Result<(), AllocError>
+    requires { is_accepted (answer_to node.old (Open opening)) ≡ true }
+    ensures { OnOk result (node.new ≡ with_opened opening node.old) }
+{
+    match node.open(alloc, opening) {
+        Ok(()) => Ok(()),
+        Err(error) => match error {
+            OpenError::NoMemory => Err(AllocError),
+            _ => unreachable!(),
+        },
+    }
+}
+
+// Grants the funding output of a channel, on whose terms the two sides can agree, and gives its outpoint. The only error is that memory ran out.
+fn grant_funding(
+    alloc: Global,
+    chain: &mut Index,
+    seeds: &Seeds,
+    channel: u32,
+    plain: &PlainTerms,
+) -> Result<OutPoint, AllocError>
+    requires { can_agree plain.now ≡ true }
+    ensures outpoint { IfOk result (λ o. o ≡ grant_outpoint (grants_in chain.old.blocks)) }
+    ensures chain { OnOk result (chain.new ≡ granted (funding_output_of seeds.now channel plain.now) chain.old) }
+{
+    let Some(output) = funding_output(alloc, seeds, channel, plain)? else {
+        unreachable!()
+    };
+    match chain.grant(output) {
+        Ok(outpoint) => Ok(outpoint),
+        Err(error) => match error {
+            Refusal::NoMemory => Err(AllocError),
+            _ => unreachable!(),
+        },
+    }
+}
+
+// How both sides open a channel at an outpoint. The only error is that memory ran out.
+fn both_of(
+    alloc: Global,
+    seeds: &Seeds,
+    channel: u32,
+    outpoint: OutPoint,
+    plain: &PlainTerms,
+) -> Result<Both, AllocError>
+    requires { can_agree plain.now ≡ true }
+    ensures { IfOk result (AreOpeningsOf seeds.now channel outpoint plain.now) }
+{
+    match open_both(alloc, seeds, channel, outpoint, plain)? {
+        Some(both) => Ok(both),
+        None => unreachable!(),
+    }
+}
+
+// A channel begins. The only error is that memory ran out.
+fn begin(
+    alloc: Global,
+    parts: &mut Parts,
+    seeds: &Seeds,
+    channel: u32,
+    plain: &PlainTerms,
+) -> Result<(), AllocError>
+    requires agreed { can_agree plain.now ≡ true }
+    requires begun { HasBegun channel parts.old }
+    requires few { channel < max_channels }
+    ensures { OnOk result (Begins seeds.now channel plain.now parts.old parts.new) }
+{
+    // The proof takes from it that both books take the openings.
+    openings_agree();
+    let outpoint = grant_funding(alloc, &mut parts.chain, seeds, channel, plain)?;
+    let both = both_of(alloc, seeds, channel, outpoint, plain)?;
+    open(alloc, &mut parts.a, both.a)?;
+    open(alloc, &mut parts.b, both.b)
+}
+
+// Both sides without channels, and a chain of one empty block. The only error is that memory ran out.
+fn empty(alloc: Global) -> Result<Parts, AllocError>
+    ensures { IfOk result (λ p. p ≡ empty_world) }
+{
+    let chain = Index::new(alloc)?;
+    Ok(Parts {
+        alloc,
+        a: Node::new(alloc),
+        b: Node::new(alloc),
+        chain,
+        pool: Vec::new(alloc),
+        released: Vec::new(alloc),
+    })
+}
+
+/// All channels begin. The only error is that memory ran out.
+pub(crate) fn begin_all(
+    alloc: Global,
+    seeds: &Seeds,
+    terms: &[PlainTerms],
+) -> Result<Parts, AllocError>
+    requires few { length terms.now ≤ max_channels }
+    requires agreed { (i : ℕ) (plain : Plain) → slice_get terms.now i ≡ Some plain → can_agree plain ≡ true }
+    ensures begins { IfOk result (IsBeginning seeds.now terms.now) }
+    ensures world { IfOk result IsWorld }
+{
+    // The proof takes from it that the channels of both sides agree.
+    openings_agree();
+    let mut parts = empty(alloc)?;
+    for channel in 0..terms.len() {
+        begin(alloc, &mut parts, seeds, channel as u32, &terms[channel])?;
+    }
+    parts.hold_both();
+    Ok(parts)
+}
