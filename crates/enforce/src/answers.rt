@@ -1,8 +1,8 @@
 // What each program answers.
 
+use crate::listings::paths_text;
 use crate::playing::play;
 use crate::refusals::Refusal;
-use crate::texts::paths_text;
 use digest::ripemd160;
 use facts::texts::Hex;
 use hex::FromHexError;

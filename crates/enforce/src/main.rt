@@ -6,11 +6,11 @@
 
 mod answers;
 mod endings;
+mod listings;
 mod playing;
 mod refusals;
 #[cfg(test)]
 mod tests;
-mod texts;
 mod words;
 
 use std::process::ExitCode;

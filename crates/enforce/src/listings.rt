@@ -1,4 +1,4 @@
-// The printed texts.
+// The ways through a script, as text.
 
 use paths::Path;
 use std::alloc::{AllocError, Global};
