@@ -31,6 +31,8 @@ mod publishing;
 mod releasing;
 #[cfg(test)]
 mod tests;
+#[cfg(test)]
+mod world_tests;
 mod worlds;
 
 pub use claimed::check_claimed;
