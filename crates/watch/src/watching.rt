@@ -99,7 +99,7 @@ impl Watch {
         Ok(Watch { spends, given })
     }
 
-    /// Whether a transaction that spends the funding output was read or stands in this block. Where none does, a look at the block gives nothing.
+    /// Whether a transaction that spends the funding output was read or stands in this block.
     pub fn is_spent(&self, funding: &OutPoint, block: &Block) -> bool
         ensures { result ≡ is_spent funding.now self.now (reverse block.now.transactions) }
     {

@@ -49,7 +49,8 @@ with_new xs x = if list_any (λ y. bytes_eq y x) xs then xs else xs ++ x ∷ []
 abbrev pub each_once : List (List ℕ) → List (List ℕ)
 each_once xs = fold with_new [] xs
 
--- what the claims are filled by: one output of their whole value to the hash of the side's payment key in the channel, and the preimages that they want
+-- what the claims are filled by: one output of their whole value to the hash of the side's payment key in the channel (which a fixed transaction, that keeps its own, does not read), and the preimages
+-- that they want
 abbrev pub claims_in : List Job → List ClaimParts
 claims_in jobs = map (λ j. j.claim) jobs
 

@@ -34,7 +34,7 @@ claims_of n = flat_map (λ e. claims_by e.call) n.history ++ map (λ j. j.claim)
 -- at a moment
 pub record HoldsAt (w : World) : Type 0 where
   -- each call in both books was accepted after those before it, and no signature stands after a revocation in its channel without the penalties kept between them (what that means, entry by
-  -- entry, is `GuardedMeans` of `book/specs/Guarding.antt`)
+  -- entry, is `GuardedMeans` of `book/specs/Guarding.antt`; that the kept claims are then exactly the accepted ones on all that is claimable is `PenaltySetsAreExact` of `book/specs/Penalties.antt`)
   pub accepted : (s : Side) → all_accepted peer_tokens (node_of s w).history ≡ true
   pub guarded : (s : Side) → is_guarded (node_of s w).history ≡ true
   -- each claim that a side has is an accepted one
@@ -42,7 +42,7 @@ pub record HoldsAt (w : World) : Type 0 where
   -- whatever fits an accepted claim passes the chain's test for the next block and runs clean, once it is due
   pub opens : (x : ClaimParts) (t : Transaction) (input : TxIn) → IsWhole x → (due : IsDue w.chain.blocks (length w.chain.blocks) x t input)
       → Passes w.chain.blocks (length w.chain.blocks) x t input due
-  -- the oldest message on its way to a side is taken by its book, so a delivery is refused only where there is no channel or no message
+  -- the oldest message on its way to a side is taken by its book, so memory aside a delivery is refused only where there is no channel or no message
   pub takes : (s : Side) (c : ℕ) (m : Message) (rest : List Message) → slice_get (inboxes (node_of s w)) c ≡ Some (m ∷ rest) → is_accepted (answer_to (node_of s w) (call_of c m)) ≡ true
   pub delivers : (s : Side) (c : ℕ) (r : EventError) → refusal_of w (Deliver s c) ≡ Some r → (r ≡ NoSuchChannel) ⊎ (r ≡ NoMessage)
 

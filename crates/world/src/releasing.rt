@@ -172,8 +172,8 @@ pub(crate) struct Released {
     pub(crate) copy: Tx,
 }
 
-/// A side fills so many of the oldest claims that it took, in one transaction that pays their whole value to the hash of its payment key in their channel: NoJob,
-/// MixedChannels, OverValue, else the refusal of the book. A refusal leaves the side as it was.
+/// A side fills so many of the oldest claims that it took, in one transaction that pays their whole value to the hash of its payment key in their channel (an HTLC transaction, which stands alone, keeps
+/// its own output): NoJob, MixedChannels, OverValue, else the refusal of the book. A refusal leaves the side as it was.
 pub(crate) fn release(alloc: Global, me: &mut Node, count: u64) -> Result<Released, EventError>
     ensures { let first = release_refusal count me.old in
         MatchResult result (λ r. (first ≡ None) × IsReleased count me.old me.new r.tx × (r.copy ≡ r.tx)) (λ e. IsRefusal first e × (me.new ≡ me.old)) }
