@@ -1,7 +1,7 @@
 #!/usr/bin/env python3
 """Times a signature and the keeping of penalties behind 100 and behind 10,000 entries of a history, and the load of dumps of several lengths; and loads hostile texts of 4 MiB.
 
-Wants the toolchain's `rt`, which proves and builds crates/book_costs.
+Wants the toolchain's `rt`: `.ci/program` proves and builds bench/programs/book_costs in a copy of the repository.
 """
 
 import os
@@ -9,8 +9,6 @@ import subprocess
 import tempfile
 
 TOP = os.path.dirname(os.path.dirname(os.path.abspath(__file__)))
-CRATE = os.path.join(TOP, "crates", "book_costs")
-PROGRAM = os.path.join(CRATE, "out", "book_costs")
 SIZE = 4 << 20
 TURNS = 5
 
@@ -44,65 +42,65 @@ def hostile(before, middle, after):
     return before + times * middle + after
 
 
-def run(line):
+def run(program, line):
     """What the program prints for a line, the processor seconds that it takes, and the most memory that it has, in MiB."""
     with tempfile.TemporaryFile("w+") as given:
         given.write(line)
         given.seek(0)
-        program = subprocess.Popen([PROGRAM], stdin=given, stdout=subprocess.PIPE, text=True)
-    with program.stdout as printed:
+        started = subprocess.Popen([program], stdin=given, stdout=subprocess.PIPE, text=True)
+    with started.stdout as printed:
         text = printed.read().strip()
-    _, status, usage = os.wait4(program.pid, 0)
+    _, status, usage = os.wait4(started.pid, 0)
     if status != 0:
         text = f"status {status}"
     return text, usage.ru_utime + usage.ru_stime, usage.ru_maxrss / 1024
 
 
-def fastest(line):
+def fastest(program, line):
     """The least of each number that the line prints."""
     best = None
     for _ in range(TURNS):
-        numbers = [int(word) for word in run(line)[0].split() if word.isdigit()]
+        numbers = [int(word) for word in run(program, line)[0].split() if word.isdigit()]
         best = numbers if best is None else [min(pair) for pair in zip(best, numbers)]
     return best
 
 
-def time_calls():
-    few, many = fastest("calls 100\n"), fastest("calls 10000\n")
+def time_calls(program):
+    few, many = fastest(program, "calls 100\n"), fastest(program, "calls 10000\n")
     for name, of_few, of_many in zip(("sign", "keep"), few, many):
         print(f"{name}: {of_few / 1e3:.1f} us behind 100 entries, {of_many / 1e3:.1f} us behind 10,000, ratio {of_many / of_few:.2f} (at most 1.2)")
 
 
-def load_cost(entries):
+def load_cost(program, entries):
     """The bytes of the dump of n entries, and the processor seconds of its load: those of the line that loads it five times, less those of the one that loads it once."""
-    five = [run(f"loads {entries}\n") for _ in range(TURNS)]
-    one = min(run(f"play {entries}\n")[1] for _ in range(TURNS))
+    five = [run(program, f"loads {entries}\n") for _ in range(TURNS)]
+    one = min(run(program, f"play {entries}\n")[1] for _ in range(TURNS))
     length = int(five[0][0].split()[1])
     return length, (min(took for _, took, _ in five) - one) / 4
 
 
-def time_loads():
+def time_loads(program):
     costs = []
     for entries in (1000, 4000, 16_000):
-        length, took = load_cost(entries)
+        length, took = load_cost(program, entries)
         costs.append(took / length)
         print(f"load of {entries} entries: {length} bytes, {took * 1e3:.1f} ms, {costs[-1] * 1e9:.0f} ns a byte")
     print(f"a byte of the longest dump to one of the shortest: {costs[-1] / costs[0]:.2f} (at most 1.5)")
 
 
-def load_hostile():
+def load_hostile(program):
     for name, (before, middle, after, wanted) in HOSTILE.items():
-        answer, took, memory = run("load " + hostile(before, middle, after) + "\n")
+        answer, took, memory = run(program, "load " + hostile(before, middle, after) + "\n")
         good = answer == wanted and took <= 2 and memory <= 256
         print(f"{name}: {answer}, {took:.2f} s, {memory:.0f} MiB{'' if good else '  FAILED'}")
 
 
 def main():
-    with open(os.path.join(CRATE, "stdin")) as given:
-        subprocess.run(["rt", "run"], cwd=CRATE, stdin=given, stdout=subprocess.DEVNULL, check=True)
-    time_calls()
-    time_loads()
-    load_hostile()
+    built = subprocess.run([os.path.join(TOP, ".ci", "program"), "book_costs"], stdout=subprocess.PIPE, text=True, check=True)
+    program = built.stdout.strip()
+    time_calls(program)
+    time_loads(program)
+    load_hostile(program)
 
 
 if __name__ == "__main__":

@@ -1,13 +1,11 @@
 #!/usr/bin/env python3
-"""Times rounds of a channel beside SHA-256 of 1 MiB, in one run, in processor seconds. Wants the toolchain's `rt`, which proves and builds crates/channel_costs."""
+"""Times rounds of a channel beside SHA-256 of 1 MiB, in one run, in processor seconds. Wants the toolchain's `rt`: `.ci/program` proves and builds bench/programs/channel_costs in a copy of the repository."""
 
 import os
 import resource
 import subprocess
 
 TOP = os.path.dirname(os.path.dirname(os.path.abspath(__file__)))
-CRATE = os.path.join(TOP, "crates", "channel_costs")
-PROGRAM = os.path.join(CRATE, "out", "channel_costs")
 TURNS = 9
 
 # what a line does, from which round to which
@@ -25,21 +23,20 @@ def used():
     return usage.ru_utime + usage.ru_stime
 
 
-def seconds(line):
+def seconds(program, line):
     start = used()
-    subprocess.run([PROGRAM], input=line, capture_output=True, text=True, check=True)
+    subprocess.run([program], input=line, capture_output=True, text=True, check=True)
     return used() - start
 
 
 def main():
-    done = subprocess.run(["rt", "run"], cwd=CRATE, stdin=subprocess.DEVNULL, capture_output=True, text=True)
-    if done.returncode:
-        raise SystemExit(done.stdout + done.stderr)
+    built = subprocess.run([os.path.join(TOP, ".ci", "program"), "channel_costs"], stdout=subprocess.PIPE, text=True, check=True)
+    program = built.stdout.strip()
     # the median of the turns, without what goes before the first of the rounds
     cost = {name: [] for name in WORK}
     for _ in range(TURNS):
         for name, (line, first, last) in WORK.items():
-            took = seconds(f"{line} {last}\n") - seconds(f"{line} {first}\n")
+            took = seconds(program, f"{line} {last}\n") - seconds(program, f"{line} {first}\n")
             cost[name].append(took / (last - first))
     cost = {name: sorted(times)[TURNS // 2] for name, times in cost.items()}
     for name, took in cost.items():

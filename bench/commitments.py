@@ -1,13 +1,11 @@
 #!/usr/bin/env python3
-"""Times commitments of few and of many HTLCs beside SHA-256 of 1 MiB, in one run, in processor seconds. Wants the toolchain's `rt`, which proves and builds crates/commitment_costs."""
+"""Times commitments of few and of many HTLCs beside SHA-256 of 1 MiB, in one run, in processor seconds. Wants the toolchain's `rt`: `.ci/program` proves and builds bench/programs/commitment_costs in a copy of the repository."""
 
 import os
 import resource
 import subprocess
 
 TOP = os.path.dirname(os.path.dirname(os.path.abspath(__file__)))
-CRATE = os.path.join(TOP, "crates", "commitment_costs")
-PROGRAM = os.path.join(CRATE, "out", "commitment_costs")
 ROUNDS = 15
 
 # what a line does, and how often
@@ -20,21 +18,20 @@ def used():
     return usage.ru_utime + usage.ru_stime
 
 
-def seconds(line):
+def seconds(program, line):
     start = used()
-    subprocess.run([PROGRAM], input=line, capture_output=True, text=True, check=True)
+    subprocess.run([program], input=line, capture_output=True, text=True, check=True)
     return used() - start
 
 
 def main():
-    done = subprocess.run(["rt", "run"], cwd=CRATE, capture_output=True, text=True)
-    if done.returncode:
-        raise SystemExit(done.stdout + done.stderr)
+    built = subprocess.run([os.path.join(TOP, ".ci", "program"), "commitment_costs"], stdout=subprocess.PIPE, text=True, check=True)
+    program = built.stdout.strip()
     # the fastest of the rounds, without what the program takes to start and to make its view
     cost = {}
     for _ in range(ROUNDS):
         for name, (line, times) in WORK.items():
-            took = seconds(f"{line} {times + 1}\n") - seconds(f"{line} 1\n")
+            took = seconds(program, f"{line} {times + 1}\n") - seconds(program, f"{line} 1\n")
             cost[name] = min(cost.get(name, took / times), took / times)
     for name, took in cost.items():
         print(f"{name}: {took * 1e3:.3f} ms")

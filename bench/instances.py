@@ -2,7 +2,7 @@
 """Times instances of patterns beside checks of the same scripts, in one run, and counts the bytes that each asks of malloc.
 
 For the to_local and the received HTLC script of BOLT 3: an instance fills the pattern, which was listed once; a check parses the script's bytes and lists its paths.
-Wants the toolchain's `rt`, which proves and builds crates/pattern_vectors, and a C compiler.
+Wants the toolchain's `rt` and a C compiler: `.ci/program` proves and builds bench/programs/pattern_costs in a copy of the repository.
 """
 
 import os
@@ -11,7 +11,6 @@ import tempfile
 import time
 
 TOP = os.path.dirname(os.path.dirname(os.path.abspath(__file__)))
-CRATE = os.path.join(TOP, "crates", "pattern_vectors")
 TIMES, ROUNDS = 100_000, 7
 
 KEYS = ["02" + byte * 32 for byte in ("11", "22")]
@@ -65,9 +64,8 @@ def asked(program, form, work, preload):
 
 
 def main():
-    with open(os.path.join(CRATE, "stdin")) as given:
-        subprocess.run(["rt", "run"], cwd=CRATE, stdin=given, stdout=subprocess.DEVNULL, check=True)
-    program = os.path.join(CRATE, "out", "pattern_vectors")
+    built = subprocess.run([os.path.join(TOP, ".ci", "program"), "pattern_costs"], stdout=subprocess.PIPE, text=True, check=True)
+    program = built.stdout.strip()
     with tempfile.TemporaryDirectory() as work:
         preload = os.path.join(work, "allocated.so")
         source = os.path.join(TOP, "bench", "allocated.c")

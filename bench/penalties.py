@@ -1,7 +1,7 @@
 #!/usr/bin/env python3
 """Times the penalty set of a state with many HTLCs beside SHA-256 of 1 MiB, in one run, and prints both and their ratio; and that of a state with half as many.
 
-Wants the toolchain's `rt`, which proves and builds crates/penalty_vectors.
+Wants the toolchain's `rt`: `.ci/program` proves and builds bench/programs/penalty_costs in a copy of the repository.
 """
 
 import os
@@ -9,7 +9,6 @@ import resource
 import subprocess
 
 TOP = os.path.dirname(os.path.dirname(os.path.abspath(__file__)))
-CRATE = os.path.join(TOP, "crates", "penalty_vectors")
 SETS, HASHES, ROUNDS = 10, 40, 7
 
 
@@ -37,9 +36,8 @@ def state(htlcs):
 
 
 def main():
-    with open(os.path.join(CRATE, "stdin")) as given:
-        subprocess.run(["rt", "run"], cwd=CRATE, stdin=given, stdout=subprocess.DEVNULL, check=True)
-    program = os.path.join(CRATE, "out", "penalty_vectors")
+    built = subprocess.run([os.path.join(TOP, ".ci", "program"), "penalty_costs"], stdout=subprocess.PIPE, text=True, check=True)
+    program = built.stdout.strip()
     hashing = each(program, "hash {}\n", HASHES)
     print(f"SHA-256 of 1 MiB      {hashing:8.2f} ms")
     for htlcs in (483, 966):

@@ -2,7 +2,7 @@
 """Times `enforce run` of scenarios of 1,000 and of 10,000 events over 8 channels beside SHA-256 of 1 MiB, in processor seconds.
 
   bench/worlds.py                     proves and builds what it runs; wants the toolchain's `rt`
-  bench/worlds.py PROGRAM HASHES      times these builds of crates/enforce and of crates/commitment_costs
+  bench/worlds.py PROGRAM HASHES      times these builds of crates/enforce and of bench/programs/commitment_costs
   bench/worlds.py --scenario EVENTS   prints the scenario of that length
 """
 
@@ -102,12 +102,9 @@ def fastest(words, text):
 
 
 def built(name):
-    """The program of a crate."""
-    crate = os.path.join(TOP, "crates", name)
-    done = subprocess.run(["rt", "run"], cwd=crate, capture_output=True, text=True)
-    if done.returncode:
-        raise SystemExit(done.stdout + done.stderr)
-    return os.path.join(crate, "out", name)
+    """A program that is proved and built in a copy of the repository."""
+    done = subprocess.run([os.path.join(TOP, ".ci", "program"), name], stdout=subprocess.PIPE, text=True, check=True)
+    return done.stdout.strip()
 
 
 def hashing(program):

@@ -17,13 +17,13 @@
 //! assert_eq!(rt; board.draw(&mut chain)?, 0);
 //! assert_eq!(rt; board.draw(&mut watcher)?, 1);
 //! ```
+//!
+//! Tested in `thread_tests`.
 #![tactic(auto)]
 
 mod board;
 mod marks;
 mod rule;
-#[cfg(test)]
-mod tests;
 
 pub use board::{Board, DrawError, Seat};
 pub use marks::Mark;

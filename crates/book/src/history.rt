@@ -110,18 +110,21 @@ impl Book {
         if self.channels.contains_key(&opening.terms.funding) {
             return Err(OpenError::SameFunding);
         }
-        let open = match OpenChannel::open(self.alloc, &opening) {
-            Ok(open) => open,
-            Err(error) => return Err(error),
-        };
         match self.entries.reserve(1) {
             Ok(()) => {}
             Err(_) => return Err(OpenError::NoMemory),
         }
+        let open = match OpenChannel::open(self.alloc, &opening) {
+            Ok(open) => open,
+            Err(error) => return Err(error),
+        };
         let index = self.channels.len() as u64;
         match self.channels.insert(opening.terms.funding, open) {
-            Ok(_) => {}
-            Err(_) => return Err(OpenError::NoMemory),
+            Ok(old) => drop(old),
+            Err(refused) => {
+                drop(refused);
+                return Err(OpenError::NoMemory);
+            }
         }
         let call = Call::Open(opening);
         self.entries.push(Entry { seat, call }).unwrap();

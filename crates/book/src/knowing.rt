@@ -1,7 +1,9 @@
 // What a side knows of its channel.
 
-ghost use Rattle.std.specs.Prelude.{◌≡◌, ◌≤◌, ◌<◌, ◌∷◌, ◌++◌, [], ℕ, None, Some, true, false, map, length, slice_get, unwrap_or, IfOk, IfSome, IsSome, OnOk};
+ghost use Rattle.std.specs.Prelude.{◌≡◌, ◌↔◌, ◌≤◌, ◌<◌, ◌+◌, ◌∷◌, ◌++◌, [], ℕ, List as Values, None, Some, true, false, map, length, slice_get, unwrap_or, IfOk, IfSome, IsSome, OnOk};
 ghost use Rattle.std.specs.List.{cons_option};
+ghost use Rattle.keys.specs.Rights.{MaySign};
+ghost use Rattle.channel.specs.Rights.{rights_of};
 ghost use Rattle.channel.specs.Tokens.{contents_of, peer_tokens};
 ghost use Rattle.penalty.specs.Paying.{refusal_of as view_refusal_of};
 ghost use Rattle.resolve.specs.Known.{refusal_of};
@@ -10,6 +12,7 @@ ghost use Rattle.book.specs.Knowing.{below, signed_parts, signed_by_peer, own_at
 
 use crate::calls::{Call, Entry, Step};
 use channel::{Channel, CommitmentState, Tokens};
+use keys::Signer;
 use lists::List;
 use penalty::RevokedState;
 use resolve::{
@@ -272,6 +275,70 @@ pub fn preimages_in(
     Ok(preimages)
 }
 
+// What the side knows of its own commitments, with what it may sign with.
+#[derive(Drop)]
+struct OwnCommitments {
+    signer: Signer,
+    newest: SignedCommitment,
+    older: List<SignedCommitment>,
+}
+
+// What it knows of the peer's.
+#[derive(Drop)]
+struct PeersCommitments {
+    newest: KnownCommitment,
+    next: Option<KnownCommitment>,
+    revoked: RevokedCommitments,
+}
+
+// Its own ones.
+fn own_of(alloc: Global, channel: &Channel) -> Result<OwnCommitments, AllocError>
+    ensures seed { IfOk result (λ o. o.signer.seed ≡ channel.now.seed) }
+    ensures rights { IfOk result (λ o. (key : Values ℕ) → MaySign o.signer key ↔ MaySign (rights_of channel.now) key) }
+    ensures newest { IfOk result (λ o. Some (signed_parts o.newest) ≡ own_at channel.now channel.now.number) }
+    ensures older { IfOk result (λ o. map signed_parts o.older ≡ below (own_at channel.now) channel.now.number) }
+{
+    let older = older_commitments(alloc, channel)?;
+    let signer = channel.signer().copy()?;
+    let newest = own_commitment(alloc, channel, channel.number())?;
+    Ok(OwnCommitments {
+        signer,
+        newest,
+        older: List::from_vec(older),
+    })
+}
+
+// The peer's newest commitment.
+fn peers_newest(alloc: Global, channel: &Channel) -> Result<KnownCommitment, AllocError>
+    ensures { IfOk result (λ k. Some k ≡ theirs_at channel.now channel.now.peer_number) }
+{
+    match peers_commitment(alloc, channel, channel.peer_number())? {
+        Some(newest) => Ok(newest),
+        None => unreachable!(),
+    }
+}
+
+// The peer's ones, where a flag says for each revoked one whether its penalties are kept.
+fn peers_of(
+    alloc: Global,
+    channel: &Channel,
+    flags: &[bool],
+) -> Result<PeersCommitments, AllocError>
+    ensures newest { IfOk result (λ p. Some p.newest ≡ theirs_at channel.now channel.now.peer_number) }
+    ensures next { IfOk result (λ p. p.next ≡ theirs_at channel.now (channel.now.peer_number + 1)) }
+    ensures revoked { IfOk result (λ p. map revoked_parts p.revoked ≡ below (revoked_at channel.now (flag_at flags.now)) (length channel.now.secrets)) }
+{
+    let number = channel.peer_number();
+    let revoked = revoked_commitments(alloc, channel, flags)?;
+    let newest = peers_newest(alloc, channel)?;
+    let next = peers_commitment(alloc, channel, number + 1)?;
+    Ok(PeersCommitments {
+        newest,
+        next,
+        revoked,
+    })
+}
+
 /// What the side knows of its channel, where a flag says for each revoked commitment of the peer whether its penalties are kept, and these preimages came. The only
 /// error is that memory ran out.
 pub(crate) fn known_of(
@@ -282,24 +349,17 @@ pub(crate) fn known_of(
 ) -> Result<Known, AllocError>
     ensures { IfOk result (IsKnownOf channel.now (flag_at flags.now) preimages.items) }
 {
-    let signer = channel.signer().copy()?;
-    let own = own_commitment(alloc, channel, channel.number())?;
-    let older = older_commitments(alloc, channel)?;
-    let newest = channel.peer_number();
-    let Some(theirs) = peers_commitment(alloc, channel, newest)? else {
-        unreachable!()
-    };
-    let next = peers_commitment(alloc, channel, newest + 1)?;
-    let revoked = revoked_commitments(alloc, channel, flags)?;
+    let own = own_of(alloc, channel)?;
+    let peers = peers_of(alloc, channel, flags)?;
     Ok(Known {
         terms: *channel.terms(),
         side: channel.side(),
-        signer,
-        own,
-        older: List::from_vec(older),
-        theirs,
-        next,
-        revoked,
+        signer: own.signer,
+        own: own.newest,
+        older: own.older,
+        theirs: peers.newest,
+        next: peers.next,
+        revoked: peers.revoked,
         preimages: List::from_vec(preimages),
     })
 }

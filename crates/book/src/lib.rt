@@ -12,13 +12,9 @@
 //! assert!(rt; a.sign(0, 0).is_ok());
 //! ```
 //!
-//! The test `signs_once_penalties_are_kept` has these lines; an update of one's own stands before the first signature.
+//! The test `signs_once_penalties_are_kept` of `book_tests` has these lines; an update of one's own stands before the first signature.
 #![tactic(auto)]
 
-#[cfg(test)]
-mod book_tests;
-#[cfg(test)]
-mod call_tests;
 pub mod calls;
 pub mod dumping;
 pub mod errors;
@@ -26,12 +22,8 @@ mod flags;
 pub mod history;
 mod judging;
 mod knowing;
-#[cfg(test)]
-mod known_tests;
 pub mod laws;
 mod limits;
-#[cfg(test)]
-mod load_tests;
 pub mod loading;
 pub mod matching;
 mod open_channel;

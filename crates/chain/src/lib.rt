@@ -30,8 +30,6 @@ mod refusal;
 mod scan;
 mod store;
 mod testing;
-#[cfg(test)]
-mod tests;
 mod totals;
 
 pub use blocks::{Block, Confirmed};

@@ -3,7 +3,7 @@
 use crate::commitments::CommitmentState;
 use crate::limits::LAST_NUMBER;
 use crate::messages::{Message, Tokens};
-use crate::opening::{FIRST_INDEX, first_commitment, own_point, own_secret, with_opening_points};
+use crate::opening::{FIRST_INDEX, first_commitments, own_point, own_secret, with_opening_points};
 use crate::tokens::{peer_tokens, same_tokens, sign_tokens};
 use keys::{Key, Signer, point};
 use secrets::Store;
@@ -101,27 +101,11 @@ impl Channel {
         ensures tested { let first = first_refusal (opening_tests terms side signer.seed token.now)
             in MatchResult result (λ _. first ≡ None) (IsRefusal first) }
     {
-        let own = own_point(&signer, 0);
-        let first = match first_commitment(alloc, terms, side, own) {
+        let first = match first_commitments(alloc, terms, side, &signer, first_point, token) {
             Ok(first) => first,
-            Err(_) => return Err(Refusal::NoMemory),
-        };
-        let expected = match peer_tokens(alloc, &terms, &first) {
-            Ok(tokens) => tokens,
-            Err(_) => return Err(Refusal::NoMemory),
-        };
-        if token.bytes() != expected.commitment.bytes() {
-            return Err(Refusal::BadSignature);
-        }
-        let peers = match first_commitment(alloc, terms, side.other(), first_point) {
-            Ok(peers) => peers,
-            Err(_) => return Err(Refusal::NoMemory),
+            Err(refusal) => return Err(refusal),
         };
         let signer = with_opening_points(signer, &first_point, &next_point)?;
-        let mut mine = Vec::new(alloc);
-        mine.push(first)?;
-        let mut signed = Vec::new(alloc);
-        signed.push(peers)?;
         Ok(Channel {
             ledger: Ledger::new(alloc, terms, side),
             signer,
@@ -131,8 +115,8 @@ impl Channel {
             point: first_point,
             next_point,
             secrets: Store::new(),
-            mine,
-            signed,
+            mine: first.mine,
+            signed: first.signed,
         })
     }
 

@@ -28,8 +28,6 @@ mod messages;
 mod opening;
 mod pair;
 mod plays;
-#[cfg(test)]
-mod tests;
 mod tokens;
 
 pub use channel::Channel;

@@ -1,17 +1,19 @@
 //! What a side hands to its peer as a channel opens.
 
-ghost use Rattle.std.specs.Prelude.{◌≡◌, ◌^◌, ◌<◌, [], ◌∷◌, IfOk, IfErr};
-ghost use Rattle.updates.specs.declared.refusals.Refusal.TheVariants.{NoMemory};
+ghost use Rattle.std.specs.Prelude.{◌≡◌, ◌^◌, ◌<◌, [], ◌∷◌, None, IfOk, IfErr, MatchResult, not};
+ghost use Rattle.std.specs.Str.{bytes_eq};
+ghost use Rattle.updates.specs.declared.refusals.Refusal.TheVariants.{NoMemory, BadSignature};
 ghost use Rattle.terms.specs.Sides.{other};
 ghost use Rattle.channel.specs.Points.{secret_at, point_at};
 ghost use Rattle.channel.specs.States.{first_of};
-ghost use Rattle.channel.specs.Tokens.{peer_tokens, IsBuilt};
+ghost use Rattle.updates.specs.Refusals.{first_refusal, IsRefusal};
+ghost use Rattle.channel.specs.Tokens.{peer_tokens, opening_tests, IsBuilt};
 ghost use Rattle.terms.specs.Agreement.{party};
 ghost use Rattle.keys.specs.declared.bases.Base.TheVariants.{Funding};
 ghost use Rattle.keys.specs.Derivation.{base_key};
 
 use crate::commitments::CommitmentState;
-use crate::tokens::sign_commitment;
+use crate::tokens::{peer_tokens, sign_commitment};
 use keys::{Key, Signer, point};
 use secrets::from_seed;
 use sighash::Token;
@@ -120,4 +122,102 @@ pub(crate) fn first_commitment(
         }),
         Err(_) => Err(Refusal::NoMemory),
     }
+}
+
+// Commitment 0 of each side, as a channel's lists begin.
+#[derive(Drop)]
+pub(crate) struct FirstCommitments {
+    pub(crate) mine: Vec<CommitmentState>,
+    pub(crate) signed: Vec<CommitmentState>,
+}
+
+// Tests a token on a commitment: BadSignature where it is not its owner's peer's.
+fn test_token(
+    alloc: Global,
+    terms: &Terms,
+    commitment: &CommitmentState,
+    token: &Token,
+) -> Result<(), Refusal>
+    requires { IsBuilt terms.now commitment.now }
+    ensures { let first = first_refusal ((not (bytes_eq token.now (peer_tokens terms.now commitment.now).commitment), BadSignature) ∷ [])
+        in MatchResult result (λ _. first ≡ None) (IsRefusal first) }
+{
+    match peer_tokens(alloc, terms, commitment) {
+        Ok(expected) => {
+            if token.bytes() == expected.commitment.bytes() {
+                Ok(())
+            } else {
+                Err(Refusal::BadSignature)
+            }
+        }
+        Err(_) => Err(Refusal::NoMemory),
+    }
+}
+
+// A list of this commitment alone.
+fn alone(alloc: Global, commitment: CommitmentState) -> Result<Vec<CommitmentState>, AllocError>
+    ensures { IfOk result (λ v. v.items ≡ commitment ∷ []) }
+{
+    let mut list = Vec::new(alloc);
+    list.push(commitment)?;
+    Ok(list)
+}
+
+// The list of a side's own commitment 0, on which the token has to be the peer's.
+fn first_of_own(
+    alloc: Global,
+    terms: Terms,
+    side: Side,
+    signer: &Signer,
+    token: &Token,
+) -> Result<Vec<CommitmentState>, Refusal>
+    ensures ok { IfOk result (λ v. v.items ≡ first_of terms side (point_at signer.now.seed 0) ∷ []) }
+    ensures tested { let first = first_refusal (opening_tests terms side signer.now.seed token.now)
+        in MatchResult result (λ _. first ≡ None) (IsRefusal first) }
+{
+    let first = match first_commitment(alloc, terms, side, own_point(signer, 0)) {
+        Ok(first) => first,
+        Err(_) => return Err(Refusal::NoMemory),
+    };
+    match test_token(alloc, &terms, &first, token) {
+        Ok(()) => Ok(alone(alloc, first)?),
+        Err(refusal) => Err(refusal),
+    }
+}
+
+// The list of the peer's commitment 0.
+fn first_of_peer(
+    alloc: Global,
+    terms: Terms,
+    peer: Side,
+    point: Key,
+) -> Result<Vec<CommitmentState>, AllocError>
+    ensures { IfOk result (λ v. v.items ≡ first_of terms peer point ∷ []) }
+{
+    match first_commitment(alloc, terms, peer, point) {
+        Ok(first) => alone(alloc, first),
+        Err(_) => Err(AllocError),
+    }
+}
+
+/// Commitment 0 of the signer's side, and of the peer by its point, where the token is the peer's on the first: BadSignature where it is another.
+pub(crate) fn first_commitments(
+    alloc: Global,
+    terms: Terms,
+    side: Side,
+    signer: &Signer,
+    peers: Key,
+    token: &Token,
+) -> Result<FirstCommitments, Refusal>
+    ensures mine { IfOk result (λ f. f.mine.items ≡ first_of terms side (point_at signer.now.seed 0) ∷ []) }
+    ensures signed { IfOk result (λ f. f.signed.items ≡ first_of terms (other side) peers ∷ []) }
+    ensures tested { let first = first_refusal (opening_tests terms side signer.now.seed token.now)
+        in MatchResult result (λ _. first ≡ None) (IsRefusal first) }
+{
+    let mine = match first_of_own(alloc, terms, side, signer, token) {
+        Ok(mine) => mine,
+        Err(refusal) => return Err(refusal),
+    };
+    let signed = first_of_peer(alloc, terms, side.other(), peers)?;
+    Ok(FirstCommitments { mine, signed })
 }

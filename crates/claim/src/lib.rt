@@ -20,8 +20,6 @@ mod evidence;
 mod judgement;
 pub mod laws;
 pub mod parts;
-#[cfg(test)]
-mod tests;
 
 pub use accepting::accept;
 pub use claims::Claim;

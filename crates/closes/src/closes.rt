@@ -107,17 +107,33 @@ fn published(alloc: Global, close: &Close, owner: &Known) -> Result<Vec<Publishe
     Ok(published)
 }
 
-/// The close, of which nothing is on the chain.
-fn prepared(alloc: Global, close: &Close, setting: &Setting) -> Result<Play> {
+/// What the owner of the commitment publishes.
+fn owners(alloc: Global, close: &Close, setting: &Setting) -> Result<Vec<Published>> {
     let owner = known(alloc, setting, close.owner, close.number, &[PREIMAGE])?;
-    let published = published(alloc, close, &owner)?;
+    published(alloc, close, &owner)
+}
+
+/// What A knows at the start.
+fn known_at_first(alloc: Global, close: &Close, setting: &Setting) -> Result<Known> {
     let preimages: &[[u8; 32]] = if close.knows_preimage {
         &[PREIMAGE]
     } else {
         &[]
     };
-    let known = known(alloc, setting, Side::A, 1, preimages)?;
+    known(alloc, setting, Side::A, 1, preimages)
+}
+
+/// The close, of which nothing is on the chain.
+fn prepared(alloc: Global, close: &Close, setting: &Setting) -> Result<Play> {
+    let published = owners(alloc, close, setting)?;
+    let known = known_at_first(alloc, close, setting)?;
     Ok(Play::new(alloc, known, published))
+}
+
+/// The close in a channel that is opened on a chain.
+fn opened(alloc: Global, close: &Close, chain: &mut Chain) -> Result<Play> {
+    let setting = open(alloc, chain)?;
+    prepared(alloc, close, &setting)
 }
 
 /// Plays a close to its end.
@@ -136,6 +152,17 @@ fn play_through<R: Print + AllocGlobal>(
     show_end(rt, chain, play)
 }
 
+/// Opens a channel on a chain, and plays a close of it.
+fn play_on<R: Print + AllocGlobal>(
+    rt: &R,
+    close: &Close,
+    is_reorganised: bool,
+    chain: &mut Chain,
+) -> Result<()> {
+    let mut play = opened(rt.alloc(), close, chain)?;
+    play_through(rt, close, is_reorganised, chain, &mut play)
+}
+
 /// Plays a close on a new chain.
 pub fn play_close<R: Print + AllocGlobal>(
     rt: &R,
@@ -143,7 +170,5 @@ pub fn play_close<R: Print + AllocGlobal>(
     is_reorganised: bool,
 ) -> Result<()> {
     let mut chain = Chain::new(rt.alloc())?;
-    let setting = open(rt.alloc(), &mut chain)?;
-    let mut play = prepared(rt.alloc(), close, &setting)?;
-    play_through(rt, close, is_reorganised, &mut chain, &mut play)
+    play_on(rt, close, is_reorganised, &mut chain)
 }

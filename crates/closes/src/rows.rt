@@ -71,6 +71,12 @@ fn show_counts<R: Print + AllocGlobal>(rt: &R, what: &str, known: &Known) -> Res
     Ok(())
 }
 
+/// A channel with these HTLCs of A and of B, opened on a chain of its own.
+fn setting_of(alloc: Global, of_a: &[Offer], of_b: &[Offer]) -> Result<Setting> {
+    let mut chain = Chain::new(alloc)?;
+    open_channel(alloc, DELAYS, of_a, of_b, &mut chain)
+}
+
 /// What A knows of a new channel with these HTLCs of A and of B.
 fn known_to_a(
     alloc: Global,
@@ -78,38 +84,8 @@ fn known_to_a(
     of_b: &[Offer],
     preimages: &[[u8; 32]],
 ) -> Result<Known> {
-    let mut chain = Chain::new(alloc)?;
-    let setting = open_channel(alloc, DELAYS, of_a, of_b, &mut chain)?;
+    let setting = setting_of(alloc, of_a, of_b)?;
     known(alloc, &setting, Side::A, 1, preimages)
-}
-
-/// What is due with an HTLC each way and a preimage.
-fn show_both_ways<R: Print + AllocGlobal>(rt: &R, what: &str, preimage: [u8; 32]) -> Result<()> {
-    let known = known_to_a(rt.alloc(), &OF_A, &OF_B, &[preimage])?;
-    show_counts(rt, what, &known)
-}
-
-/// What A knows of a new channel with three HTLCs of A.
-fn known_of_three(alloc: Global) -> Result<Known> {
-    known_to_a(alloc, &THREE, &[], &[])
-}
-
-/// What is due with three HTLCs of A and no preimage.
-fn show_one_way<R: Print + AllocGlobal>(rt: &R) -> Result<()> {
-    let known = known_of_three(rt.alloc())?;
-    show_counts(rt, "three HTLCs", &known)
-}
-
-/// The next commitment of B is forgotten.
-fn forget_next(known: &mut Known) {
-    known.next = None;
-}
-
-/// The same without a next commitment of B.
-fn show_without_next<R: Print + AllocGlobal>(rt: &R) -> Result<()> {
-    let mut known = known_of_three(rt.alloc())?;
-    forget_next(&mut known);
-    show_counts(rt, "no next commitment", &known)
 }
 
 /// Prints a field of a transaction.
@@ -154,14 +130,85 @@ fn show_answer<R: Print + AllocGlobal>(
     }
 }
 
-/// The first two claims by a verdict in one transaction, where there are three HTLCs of A.
-fn show_two<R: Print + AllocGlobal>(rt: &R, what: &str, verdict: Verdict) -> Result<Option<Tx>> {
-    let known = known_of_three(rt.alloc())?;
-    let claims = due_claims(rt.alloc(), &known, verdict)?;
-    match claims.as_slice() {
-        [first, second, ..] => show_answer(rt, what, &[first, second], 11_000, &known),
+/// The first two of three claims or more in one transaction.
+fn show_first_two<R: Print + AllocGlobal>(
+    rt: &R,
+    what: &str,
+    claims: &[Claim],
+    known: &Known,
+) -> Result<()> {
+    match claims {
+        [first, second, ..] => {
+            show_answer(rt, what, &[first, second], 11_000, known)?;
+            Ok(())
+        }
         _ => bail!("three HTLCs time out"),
     }
+}
+
+/// The first two claims by a verdict in one transaction, where there are three HTLCs of A.
+fn show_two<R: Print + AllocGlobal>(
+    rt: &R,
+    what: &str,
+    known: &Known,
+    verdict: Verdict,
+) -> Result<()> {
+    let claims = due_claims(rt.alloc(), known, verdict)?;
+    show_first_two(rt, what, claims.as_slice(), known)
+}
+
+/// What is shown of what A knows.
+#[derive(Clone, Copy)]
+enum Shown {
+    Counts,
+    /// Once the next commitment of B is forgotten.
+    CountsWithoutNext,
+    FirstTwo(Verdict),
+}
+
+/// The next commitment of B is forgotten.
+fn forget_next(known: &mut Known) {
+    known.next = None;
+}
+
+/// Shows what A knows.
+fn show_known<R: Print + AllocGlobal>(
+    rt: &R,
+    what: &str,
+    known: &mut Known,
+    shown: Shown,
+) -> Result<()> {
+    match shown {
+        Shown::Counts => show_counts(rt, what, known),
+        Shown::CountsWithoutNext => {
+            forget_next(known);
+            show_counts(rt, what, known)
+        }
+        Shown::FirstTwo(verdict) => show_two(rt, what, known, verdict),
+    }
+}
+
+/// Shows what A knows of a new channel with these HTLCs of A and of B.
+fn show_channel<R: Print + AllocGlobal>(
+    rt: &R,
+    what: &str,
+    of_a: &[Offer],
+    of_b: &[Offer],
+    preimages: &[[u8; 32]],
+    shown: Shown,
+) -> Result<()> {
+    let mut known = known_to_a(rt.alloc(), of_a, of_b, preimages)?;
+    show_known(rt, what, &mut known, shown)
+}
+
+/// What is due with an HTLC each way and a preimage.
+fn show_both_ways<R: Print + AllocGlobal>(rt: &R, what: &str, preimage: [u8; 32]) -> Result<()> {
+    show_channel(rt, what, &OF_A, &OF_B, &[preimage], Shown::Counts)
+}
+
+/// What is shown with three HTLCs of A and no preimage.
+fn show_three_htlcs<R: Print + AllocGlobal>(rt: &R, what: &str, shown: Shown) -> Result<()> {
+    show_channel(rt, what, &THREE, &[], &[], shown)
 }
 
 /// Connects a block that holds a transaction, and gives its height.
@@ -228,31 +275,54 @@ fn show_penalties<R: Print + AllocGlobal>(
     show_three(rt, "three penalties", claims, 99_104, known)
 }
 
+/// What claims the outputs of A's revoked commitment 1 together, by what B knows.
+fn show_revoked_by<R: Print + AllocGlobal>(rt: &R, known: &Known) -> Result<Option<Tx>> {
+    let claims = due_claims(rt.alloc(), known, Verdict::Revoked(1))?;
+    show_penalties(rt, claims.as_slice(), known)
+}
+
 /// What claims the outputs of A's revoked commitment 1 together.
 fn show_revoked<R: Print + AllocGlobal>(rt: &R, setting: &Setting) -> Result<Option<Tx>> {
     let known = known(rt.alloc(), setting, Side::B, 2, &[])?;
-    let claims = due_claims(rt.alloc(), &known, Verdict::Revoked(1))?;
-    show_penalties(rt, claims.as_slice(), &known)
+    show_revoked_by(rt, &known)
+}
+
+/// The penalties in a block, where they are filled.
+fn show_penalised<R: Print + AllocGlobal>(
+    rt: &R,
+    setting: &Setting,
+    chain: &mut Chain,
+) -> Result<()> {
+    match show_revoked(rt, setting)? {
+        Some(tx) => show_height(rt, "three penalties", connect(rt.alloc(), tx, chain)?),
+        None => bail!("the penalties are filled"),
+    }
+}
+
+/// A's revoked commitment 1 on a chain, and then the penalties.
+fn show_scenario_on<R: Print + AllocGlobal>(rt: &R, chain: &mut Chain) -> Result<()> {
+    let setting = open_channel(rt.alloc(), DELAYS, &SCENARIO, &[], chain)?;
+    close(rt, &setting, chain)?;
+    show_penalised(rt, &setting, chain)
 }
 
 /// The second scenario: A's revoked commitment 1.
 fn show_scenario<R: Print + AllocGlobal>(rt: &R) -> Result<()> {
     let mut chain = Chain::new(rt.alloc())?;
-    let setting = open_channel(rt.alloc(), DELAYS, &SCENARIO, &[], &mut chain)?;
-    close(rt, &setting, &mut chain)?;
-    match show_revoked(rt, &setting)? {
-        Some(tx) => show_height(rt, "three penalties", connect(rt.alloc(), tx, &mut chain)?),
-        None => bail!("the penalties are filled"),
-    }
+    show_scenario_on(rt, &mut chain)
 }
 
 /// Prints all of this.
 pub fn show_all<R: Print + AllocGlobal>(rt: &R) -> Result<()> {
     show_both_ways(rt, "the preimage", PREIMAGE)?;
     show_both_ways(rt, "another preimage", [1; 32])?;
-    show_one_way(rt)?;
-    show_without_next(rt)?;
-    show_two(rt, "two direct timeouts", Verdict::Theirs)?;
-    show_two(rt, "an HTLC-timeout and another claim", Verdict::Ours)?;
+    show_three_htlcs(rt, "three HTLCs", Shown::Counts)?;
+    show_three_htlcs(rt, "no next commitment", Shown::CountsWithoutNext)?;
+    show_three_htlcs(rt, "two direct timeouts", Shown::FirstTwo(Verdict::Theirs))?;
+    show_three_htlcs(
+        rt,
+        "an HTLC-timeout and another claim",
+        Shown::FirstTwo(Verdict::Ours),
+    )?;
     show_scenario(rt)
 }

@@ -10,3 +10,4 @@ pub mod Limited
 pub mod Built
 pub mod Shared
 pub mod OrderExamples
+pub mod RefusalExamples

@@ -3,6 +3,8 @@
 ghost use Rattle.std.specs.Prelude.{◌≡◌, ◌≤◌, ◌++◌, [], map, length, IfOk, OnOk};
 ghost use Rattle.std.specs.List.{All, cons_option};
 ghost use Rattle.tx.specs.Limits.{max_outputs};
+ghost use Rattle.commit.specs.Keys.{bytes_of};
+ghost use Rattle.commit.specs.Outputs.{script_hash_program as script_hash_program_of, to_local_script as to_local_script_of};
 ghost use Rattle.commit.specs.Commitments.{IsTxOutput, tx_output, spending, htlc_at, htlcs_from, lock_time_of, htlc_transaction_of};
 
 use crate::derived::CommitmentKeys;
@@ -101,6 +103,38 @@ fn spending(
     }
 }
 
+// The transaction of a commitment, which is not signed.
+fn commitment_tx(
+    alloc: Global,
+    funding: OutPoint,
+    hidden: Obscured,
+    outputs: &[CommitmentOutput],
+) -> Result<Tx, AllocError>
+    requires few { length outputs.now ≤ max_outputs }
+    requires limited { All (λ o. IsTxOutput o) outputs.now }
+    ensures { IfOk result (λ t. t ≡ spending funding hidden.sequence (map tx_output outputs.now) hidden.lock_time) }
+{
+    spending(
+        alloc,
+        funding,
+        hidden.sequence,
+        tx_outputs(alloc, outputs)?,
+        hidden.lock_time,
+    )
+}
+
+// The program of each HTLC transaction's output, which its owner waits for as for to_local.
+fn delayed_program(
+    alloc: Global,
+    delay: u16,
+    keys: &CommitmentKeys,
+) -> Result<ByteString, AllocError>
+    ensures { IfOk result (λ p. p ≡ script_hash_program_of (to_local_script_of delay (bytes_of keys.now))) }
+{
+    let script = to_local_script(alloc, delay, keys)?;
+    script_hash_program(alloc, script.bytes())
+}
+
 // The HTLC of an output, where it is to one.
 pub(crate) fn htlc_at(index: u32, kind: &OutputKind) -> Option<HtlcOutput>
     ensures { result ≡ htlc_at index kind.now }
@@ -181,17 +215,10 @@ impl Commitment {
           outputs = outputs;
         }) }
     {
-        let tx = spending(
-            alloc,
-            funding,
-            hidden.sequence,
-            tx_outputs(alloc, outputs.values())?,
-            hidden.lock_time,
-        )?;
+        let tx = commitment_tx(alloc, funding, hidden, outputs.values())?;
         let id = txid(&tx);
         let htlcs = htlc_outputs(alloc, outputs.values())?;
-        let script = to_local_script(alloc, delay, &keys)?;
-        let second_stage_program = script_hash_program(alloc, script.bytes())?;
+        let second_stage_program = delayed_program(alloc, delay, &keys)?;
         Ok(Commitment {
             funding,
             hidden,

@@ -22,8 +22,6 @@ mod ordering;
 mod outputs;
 mod scripts;
 mod signing;
-#[cfg(test)]
-mod tests;
 
 pub use amounts::{Amounts, commitment_amounts};
 pub use building::build;

@@ -1,6 +1,8 @@
 //! The hashes of Bitcoin: SHA-256, SHA-256 twice, RIPEMD-160, and RIPEMD-160 of SHA-256.
 //!
 //! None of them takes memory or refuses a message, whatever its length.
+//!
+//! Tested in `script_tests`.
 #![tactic(auto)]
 
 ghost use Rattle.std.specs.Prelude.{◌≡◌, map};
@@ -14,8 +16,6 @@ use sha2::{Digest, Sha256};
 
 mod block;
 mod hasher;
-#[cfg(test)]
-mod tests;
 
 /// SHA-256 of a message, 32 bytes, high byte of each word first (FIPS 180-4, section 6.2).
 pub fn sha256(message: &[u8]) -> [u8; 32]

@@ -1,18 +1,10 @@
 //! The programs of a node operator: `enforce ripemd HEX` hashes a message, `enforce paths HEX` lists the ways through a script, and `enforce run` plays the scenario
 //! on standard input.
 //!
-//! `words::run_words` answers a status of at most 2; its tests hold the programs' rows.
+//! `enforce_words::run_words` does what the words say, and answers a status of at most 2.
 #![tactic(auto)]
 
-mod answers;
-mod endings;
-mod listings;
-mod playing;
-mod refusals;
-#[cfg(test)]
-mod tests;
-mod words;
-
+use enforce_words::{refuse_memory, refuse_words, run_words};
 use std::process::ExitCode;
 use std::{env, io};
 
@@ -22,16 +14,16 @@ fn main(rt: HostRuntime) -> ExitCode {
     let all = match env::args(&rt) {
         Ok(all) => all,
         Err(error) if error.kind() == io::ErrorKind::OutOfMemory => {
-            return ExitCode::from(words::refuse_memory(&mut rt.stdout()));
+            return ExitCode::from(refuse_memory(&mut rt.stdout()));
         }
-        Err(_) => return ExitCode::from(words::refuse_words(&mut rt.stderr())),
+        Err(_) => return ExitCode::from(refuse_words(&mut rt.stderr())),
     };
     for word in all.skip(1) {
         if words.push(word).is_err() {
-            return ExitCode::from(words::refuse_memory(&mut rt.stdout()));
+            return ExitCode::from(refuse_memory(&mut rt.stdout()));
         }
     }
-    let status = words::run_words(
+    let status = run_words(
         rt.alloc(),
         words.as_slice(),
         &mut rt.stdin(),

@@ -7,12 +7,12 @@
 //! let truth = Stated { fact: Fact::Truth(0), holds: true };
 //! assert_eq!(rt; format!(in alloc; "{truth}")?.as_str(), "truth 0 yes");
 //! ```
+//!
+//! Tested in `script_tests`.
 #![tactic(auto)]
 
 pub mod sameness;
 pub mod symbols;
-#[cfg(test)]
-mod tests;
 pub mod texts;
 
 pub use symbols::{Fact, FactOver, KeySource, KeySourceOver, Stated, StatedOver, Sym, SymOver};

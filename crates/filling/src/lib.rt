@@ -13,8 +13,6 @@ mod exclusions;
 pub mod filled;
 pub mod filling;
 mod preimages;
-#[cfg(test)]
-mod tests;
 mod unsigned;
 mod witnesses;
 

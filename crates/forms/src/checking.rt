@@ -12,13 +12,92 @@ use std::alloc::{AllocError, Global};
 
 /// Checks the patterns of all scripts. The only error is that memory ran out.
 pub fn patterns(alloc: Global) -> Result<Patterns, AllocError> {
+    let paying = payment_patterns(alloc)?;
+    let htlcs = htlc_patterns(alloc)?;
     Ok(Patterns {
-        two_of_two: listed(alloc, two_of_two(alloc)?)?,
-        to_local: listed(alloc, to_local(alloc)?)?,
-        key_hash: listed(alloc, key_hash(alloc)?)?,
-        offered: listed(alloc, offered(alloc)?)?,
-        received: listed(alloc, received(alloc)?)?,
+        two_of_two: paying.two_of_two,
+        to_local: paying.to_local,
+        key_hash: paying.key_hash,
+        offered: htlcs.offered,
+        received: htlcs.received,
     })
+}
+
+// Those of the funding output's script, and of the outputs that pay one side.
+#[derive(Drop)]
+struct PaymentPatterns {
+    two_of_two: CheckedPattern,
+    to_local: CheckedPattern,
+    key_hash: CheckedPattern,
+    ghost of_two_of_two: { two_of_two.pieces ≡ two_of_two_pieces },
+    ghost of_to_local: { to_local.pieces ≡ to_local_pieces },
+    ghost of_key_hash: { key_hash.pieces ≡ key_hash_pieces },
+}
+
+// Those of the scripts of HTLCs.
+#[derive(Drop)]
+struct HtlcPatterns {
+    offered: CheckedPattern,
+    received: CheckedPattern,
+    ghost of_offered: { offered.pieces ≡ offered_pieces },
+    ghost of_received: { received.pieces ≡ received_pieces },
+}
+
+// Checks them. The only error is that memory ran out.
+fn payment_patterns(alloc: Global) -> Result<PaymentPatterns, AllocError> {
+    Ok(PaymentPatterns {
+        two_of_two: checked_two_of_two(alloc)?,
+        to_local: checked_to_local(alloc)?,
+        key_hash: checked_key_hash(alloc)?,
+    })
+}
+
+// Checks them. The only error is that memory ran out.
+fn htlc_patterns(alloc: Global) -> Result<HtlcPatterns, AllocError> {
+    Ok(HtlcPatterns {
+        offered: checked_offered(alloc)?,
+        received: checked_received(alloc)?,
+    })
+}
+
+// The pattern of `two_of_two`. The only error is that memory ran out.
+#[tactic(auto, using(crate::proofs::Forms::two_of_two_is_listed))]
+fn checked_two_of_two(alloc: Global) -> Result<CheckedPattern, AllocError>
+    ensures { IfOk result (λ p. p.pieces ≡ two_of_two_pieces) }
+{
+    listed(alloc, two_of_two(alloc)?)
+}
+
+// The pattern of `to_local`. The only error is that memory ran out.
+#[tactic(auto, using(crate::proofs::Forms::to_local_is_listed))]
+fn checked_to_local(alloc: Global) -> Result<CheckedPattern, AllocError>
+    ensures { IfOk result (λ p. p.pieces ≡ to_local_pieces) }
+{
+    listed(alloc, to_local(alloc)?)
+}
+
+// The pattern of `key_hash`. The only error is that memory ran out.
+#[tactic(auto, using(crate::proofs::Forms::key_hash_is_listed))]
+fn checked_key_hash(alloc: Global) -> Result<CheckedPattern, AllocError>
+    ensures { IfOk result (λ p. p.pieces ≡ key_hash_pieces) }
+{
+    listed(alloc, key_hash(alloc)?)
+}
+
+// The pattern of `offered`. The only error is that memory ran out.
+#[tactic(auto, using(crate::proofs::Forms::offered_is_listed))]
+fn checked_offered(alloc: Global) -> Result<CheckedPattern, AllocError>
+    ensures { IfOk result (λ p. p.pieces ≡ offered_pieces) }
+{
+    listed(alloc, offered(alloc)?)
+}
+
+// The pattern of `received`. The only error is that memory ran out.
+#[tactic(auto, using(crate::proofs::Forms::received_is_listed))]
+fn checked_received(alloc: Global) -> Result<CheckedPattern, AllocError>
+    ensures { IfOk result (λ p. p.pieces ≡ received_pieces) }
+{
+    listed(alloc, received(alloc)?)
 }
 
 // The pattern of pieces whose ways are listed. The only error is that memory ran out.

@@ -21,8 +21,6 @@ mod kinds;
 mod parameters;
 mod pattern_set;
 mod scripts;
-#[cfg(test)]
-mod tests;
 
 pub use checking::patterns;
 pub use htlc_scripts::{offered, received};

@@ -18,12 +18,12 @@
 //! assert_eq!(rt; taker.take(&rt, &mut theirs), Some(5));
 //! assert_eq!(rt; taker.take(&rt, &mut theirs), None);
 //! ```
+//!
+//! Tested in `thread_tests`.
 #![tactic(auto)]
 
 mod queue;
 mod rule;
-#[cfg(test)]
-mod tests;
 
 pub use queue::{CAPACITY, JobSender, JobTaker, Pass, job_queue};
 pub use rule::Hand;

@@ -28,8 +28,6 @@ mod compressed;
 mod derivation;
 mod indexing;
 mod signing;
-#[cfg(test)]
-mod tests;
 
 pub use bases::Base;
 pub use compressed::Key;

@@ -1,5 +1,7 @@
 //! Runs a script of Bitcoin on a witness: the stack machine of version 0 witness scripts (BIP 141), with the lock times of BIP 65 and
 //! BIP 112 and the empty extra item of BIP 147.
+//!
+//! Tested in `script_tests`.
 #![tactic(auto)]
 
 mod acts;
@@ -10,8 +12,6 @@ mod multisig;
 mod progress;
 mod runner;
 mod skips;
-#[cfg(test)]
-mod tests;
 
 pub use ends::{Run, Stop};
 pub use runner::run;

@@ -15,8 +15,6 @@
 mod errors;
 mod mining;
 mod reorganising;
-#[cfg(test)]
-mod tests;
 
 pub use errors::ReorgError;
 pub use mining::{Mined, mine};

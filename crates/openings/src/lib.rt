@@ -10,7 +10,7 @@
 //! let both = open_both(alloc, &SEEDS, 0, outpoint, &terms).expect(rt, "memory");
 //! ```
 //!
-//! The test `opens_the_first_channel` has these lines.
+//! The test `opens_the_first_channel` of `book_tests` has these lines.
 #![tactic(auto)]
 
 mod funding;
@@ -18,8 +18,6 @@ pub mod laws;
 mod opening;
 mod sides;
 mod signers;
-#[cfg(test)]
-mod tests;
 
 pub use funding::funding_output;
 pub use opening::open_both;

@@ -31,8 +31,6 @@ mod rules;
 mod signature_opcodes;
 mod stack_opcodes;
 mod state;
-#[cfg(test)]
-mod tests;
 mod walking;
 
 pub use errors::CheckError;

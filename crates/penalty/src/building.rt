@@ -71,19 +71,22 @@ fn push_claims_on(
     }
 }
 
-// The claims on all outputs.
-fn claims_of(alloc: Global, commitment: &Commitment) -> Result<List<Claim>, AllocError>
+// The claims on all outputs, with the patterns of the scripts.
+fn claims_with(
+    alloc: Global,
+    patterns: &Patterns,
+    commitment: &Commitment,
+) -> Result<List<Claim>, AllocError>
     requires { AreOutputs commitment.now }
     ensures { IfOk result (AreClaimsOn (claims_from commitment.now 0 commitment.now.outputs)) }
 {
-    let patterns = patterns(alloc)?;
     let mut claims = Vec::new(alloc);
     let mut htlcs = 0;
     let outputs = commitment.outputs();
     for (index, output) in outputs.iter().enumerate() {
         push_claims_on(
             alloc,
-            &patterns,
+            patterns,
             commitment,
             index as u32,
             htlcs,
@@ -93,6 +96,15 @@ fn claims_of(alloc: Global, commitment: &Commitment) -> Result<List<Claim>, Allo
         htlcs += htlc_count(&output.kind);
     }
     Ok(List::from_vec(claims))
+}
+
+// The claims on all outputs.
+fn claims_of(alloc: Global, commitment: &Commitment) -> Result<List<Claim>, AllocError>
+    requires { AreOutputs commitment.now }
+    ensures { IfOk result (AreClaimsOn (claims_from commitment.now 0 commitment.now.outputs)) }
+{
+    let patterns = patterns(alloc)?;
+    claims_with(alloc, &patterns, commitment)
 }
 
 /// The owner's commitment of a view that the terms can pay, as `commit::build` gives it. The only error is that memory ran out.
@@ -134,16 +146,23 @@ pub fn revoked_commitment(alloc: Global, state: &RevokedState) -> Result<Commitm
     )
 }
 
+// The claims on all outputs of the commitment that was revoked.
+#[tactic(auto, unfolding(crate::specs::Claimable::claimable_of))]
+fn revoked_claims(alloc: Global, state: &RevokedState) -> Result<List<Claim>, AllocError>
+    ensures { IfOk result (AreClaimsOn (claimable_of state.now)) }
+{
+    let commitment = revoked_commitment(alloc, state)?;
+    claims_of(alloc, &commitment)
+}
+
 /// All that a revoked state lets the owner's peer claim (BOLT 5, "Revoked Transaction Close Handling"): accepted claims on to_local and to_remote where they are
 /// outputs, on each HTLC that isn't trimmed, and on the output of the HTLC transaction that the peer signed for it, HTLC-timeout where the owner offered the
 /// HTLC and HTLC-success where it was offered to the owner. They stand by output, each HTLC's followed by that of its HTLC transaction. The only
 /// error is that memory ran out.
-#[tactic(auto, unfolding(crate::specs::Claimable::claimable_of))]
 pub fn penalties(alloc: Global, state: &RevokedState) -> Result<PenaltySet, AllocError>
     ensures state { IfOk result (λ p. p.state ≡ state.now) }
     ensures claims { IfOk result (λ p. AreClaimsOn (claimable_of state.now) p.claims) }
 {
-    let commitment = revoked_commitment(alloc, state)?;
-    let claims = claims_of(alloc, &commitment)?;
+    let claims = revoked_claims(alloc, state)?;
     Ok(PenaltySet::new(state.copy()?, claims))
 }

@@ -18,8 +18,6 @@ pub mod laws;
 pub mod places;
 mod sets;
 mod states;
-#[cfg(test)]
-mod tests;
 
 pub use building::{payable_commitment, penalties, revoked_commitment};
 pub use errors::StateError;

@@ -52,6 +52,23 @@ fn with_witness(tx: Tx, witness: Witness) -> Tx
     tx
 }
 
+// A commitment of this side as it was recorded, with both signatures.
+fn recorded_by_both(
+    alloc: Global,
+    channel: &Channel,
+    number: u64,
+    state: &CommitmentState,
+    recorded: &Recorded,
+) -> Result<Tx, AllocError>
+    requires state { slice_get channel.now.mine number ≡ Some state.now }
+    requires recorded { recorded.now ≡ recorded_of channel.now.held.terms state.now }
+    ensures { IfOk result (λ t. t ≡ signed_transaction channel.now.held.terms (contents_of channel.now.held.terms state.now)) }
+{
+    let tx = recorded.commitment.tx().copy()?;
+    let witness = commitment_witness(alloc, channel, number, state, recorded)?;
+    Ok(with_witness(tx, witness))
+}
+
 // A commitment of this side, with both signatures.
 fn signed_by_both(
     alloc: Global,
@@ -63,8 +80,7 @@ fn signed_by_both(
     ensures { IfOk result (λ t. t ≡ signed_transaction channel.now.held.terms (contents_of channel.now.held.terms state.now)) }
 {
     let recorded = recorded_commitment(alloc, channel, number, state)?;
-    let witness = commitment_witness(alloc, channel, number, state, &recorded)?;
-    Ok(with_witness(recorded.commitment.tx().copy()?, witness))
+    recorded_by_both(alloc, channel, number, state, &recorded)
 }
 
 /// This side's commitment of a number with both signatures, ready to be broadcast (BOLT 3, "Commitment Transaction"): `None` exactly where this side has no commitment of that

@@ -1,19 +1,20 @@
 // The witnesses that spend what both sides sign for.
 
-ghost use Rattle.std.specs.Prelude.{◌≡◌, ◌<◌, ◌≤◌, [], ◌∷◌, ◌++◌, length, IfOk, OnOk};
-ghost use Rattle.script.specs.Spelling.{spelling};
+ghost use Rattle.std.specs.Prelude.{◌≡◌, ◌<◌, ◌≤◌, [], ◌∷◌, ◌++◌, length, IfOk};
 ghost use Rattle.script.specs.Limits.{locktime_threshold};
-ghost use Rattle.tx.specs.Limits.{max_items};
+ghost use Rattle.tx.specs.Limits.{max_bytes};
+ghost use Rattle.forms.specs.Forms.{funding_form};
 ghost use Rattle.commit.specs.Keys.{bytes_of};
 ghost use Rattle.commit.specs.Signing.{funding_script};
 ghost use Rattle.commit.specs.Outputs.{htlc_script as htlc_script_of};
+ghost use Rattle.penalty.specs.Claimable.{htlc_form};
 ghost use Rattle.publish.specs.Published.{in_key_order};
 
 use commit::{CommitmentKeys, HtlcOutput};
 use forms::{funding, patterns};
 use lists::ByteString;
+use paths::Checked;
 use penalty::claiming::htlc_script;
-use script::Script;
 use sighash::Token;
 use std::alloc::{AllocError, Global};
 use std::cmp::Ordering;
@@ -29,14 +30,6 @@ fn two_tokens(alloc: Global, lower: &Token, upper: &Token) -> Result<Witness, Al
     witness.push_within_limit(ByteString::from_slice(alloc, lower.bytes())?)?;
     witness.push_within_limit(ByteString::from_slice(alloc, upper.bytes())?)?;
     Ok(witness)
-}
-
-// Puts the witness script on top (BIP 141).
-fn push_script(alloc: Global, witness: &mut Witness, script: &Script) -> Result<(), AllocError>
-    requires { length witness.old < max_items }
-    ensures { OnOk result (witness.new ≡ witness.old ++ spelling script.now ∷ []) }
-{
-    witness.push_within_limit(ByteString::from_slice(alloc, script.bytes())?)
 }
 
 // The empty item and the tokens of both funding keys, that of the lesser key first.
@@ -57,8 +50,30 @@ fn funding_tokens(
     }
 }
 
-/// The witness that spends the funding output, with the token of each side. The only error is that memory ran out.
+// The funding script, checked. The only error is that memory ran out.
+fn checked_funding(alloc: Global, terms: &Terms) -> Result<Checked, AllocError>
+    ensures { IfOk result (λ c. c ≡ funding_form terms.now.a.bases.funding.bytes terms.now.b.bases.funding.bytes) }
+{
+    let patterns = patterns(alloc)?;
+    funding(
+        alloc,
+        &patterns,
+        &terms.a.bases.funding,
+        &terms.b.bases.funding,
+    )
+}
+
+// Its bytes, which stand on top of the witness (BIP 141).
 #[tactic(auto, unfolding(commit::specs::Signing::funding_script))]
+fn funding_item(alloc: Global, terms: &Terms) -> Result<ByteString, AllocError>
+    ensures value { IfOk result (λ s. s ≡ funding_script terms.now) }
+    ensures short { IfOk result (λ s. length s ≤ max_bytes) }
+{
+    let checked = checked_funding(alloc, terms)?;
+    ByteString::from_slice(alloc, checked.script().bytes())
+}
+
+/// The witness that spends the funding output, with the token of each side. The only error is that memory ran out.
 pub(crate) fn funding_witness(
     alloc: Global,
     terms: &Terms,
@@ -67,20 +82,41 @@ pub(crate) fn funding_witness(
 ) -> Result<Witness, AllocError>
     ensures { IfOk result (λ w. w ≡ ([] ∷ in_key_order terms.now.a.bases.funding.bytes of_a.now terms.now.b.bases.funding.bytes of_b.now) ++ funding_script terms.now ∷ []) }
 {
-    let patterns = patterns(alloc)?;
-    let checked = funding(
-        alloc,
-        &patterns,
-        &terms.a.bases.funding,
-        &terms.b.bases.funding,
-    )?;
+    let script = funding_item(alloc, terms)?;
     let mut witness = funding_tokens(alloc, terms, of_a, of_b)?;
-    push_script(alloc, &mut witness, checked.script())?;
+    witness.push_within_limit(script)?;
     Ok(witness)
 }
 
+// The script of an HTLC's output, checked. The only error is that memory ran out.
+fn checked_htlc(
+    alloc: Global,
+    keys: &CommitmentKeys,
+    htlc: &HtlcOutput,
+) -> Result<Checked, AllocError>
+    requires { htlc.now.htlc.expiry < locktime_threshold }
+    ensures { IfOk result (λ c. c ≡ htlc_form (bytes_of keys.now) htlc.now.direction htlc.now.htlc) }
+{
+    let patterns = patterns(alloc)?;
+    htlc_script(alloc, &patterns, keys, htlc.direction, &htlc.htlc)
+}
+
+// Its bytes, which stand on top of the witness (BIP 141).
+#[tactic(auto, using(crate::proofs::Witnessed::spelt))]
+fn htlc_item(
+    alloc: Global,
+    keys: &CommitmentKeys,
+    htlc: &HtlcOutput,
+) -> Result<ByteString, AllocError>
+    requires { htlc.now.htlc.expiry < locktime_threshold }
+    ensures value { IfOk result (λ s. s ≡ htlc_script_of (bytes_of keys.now) htlc.now.direction htlc.now.htlc) }
+    ensures short { IfOk result (λ s. length s ≤ max_bytes) }
+{
+    let checked = checked_htlc(alloc, keys, htlc)?;
+    ByteString::from_slice(alloc, checked.script().bytes())
+}
+
 /// The witness of an HTLC transaction: both tokens, what its branch takes, and the script. The only error is that memory ran out.
-#[tactic(auto, unfolding(commit::specs::Outputs::htlc_script))]
 pub(crate) fn htlc_witness(
     alloc: Global,
     keys: &CommitmentKeys,
@@ -93,10 +129,8 @@ pub(crate) fn htlc_witness(
     requires short { length item ≤ 32 }
     ensures { IfOk result (λ w. w ≡ [] ∷ remote.now ∷ local.now ∷ item ∷ htlc_script_of (bytes_of keys.now) htlc.now.direction htlc.now.htlc ∷ []) }
 {
-    let patterns = patterns(alloc)?;
-    let checked = htlc_script(alloc, &patterns, keys, htlc.direction, &htlc.htlc)?;
     let mut witness = two_tokens(alloc, remote, local)?;
     witness.push_within_limit(item)?;
-    push_script(alloc, &mut witness, checked.script())?;
+    witness.push_within_limit(htlc_item(alloc, keys, htlc)?)?;
     Ok(witness)
 }

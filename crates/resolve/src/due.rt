@@ -194,6 +194,30 @@ fn revoked_due(alloc: Global, known: &Known, n: u64) -> Result<Vec<Claim>, Alloc
     }
 }
 
+// What is due by a verdict, where these are the known preimages.
+#[tactic(auto, unfolding(crate::specs::Due::due_of))]
+fn due_by(
+    alloc: Global,
+    patterns: &Patterns,
+    known: &Known,
+    hashes: &KnownHashes<'_>,
+    verdict: Verdict,
+) -> Result<Vec<Claim>, AllocError>
+    requires { hashes.now ≡ known.now.preimages }
+    ensures { IfOk result (λ v. AreClaimsOn (due_of known.now verdict) v.items) }
+{
+    match verdict {
+        Verdict::Ours => owners_due(alloc, patterns, &known.own, hashes),
+        Verdict::Theirs => peers_due(alloc, patterns, &known.theirs, hashes),
+        Verdict::TheirsNext => match &known.next {
+            None => Ok(Vec::new(alloc)),
+            Some(next) => peers_due(alloc, patterns, next, hashes),
+        },
+        Verdict::Revoked(n) => revoked_due(alloc, known, n),
+        Verdict::Unknown => Ok(Vec::new(alloc)),
+    }
+}
+
 /// What is due by a verdict, each claim accepted, in the order of the commitment's outputs (BOLT 5). `Ours`: the delayed claim on to_local; the HTLC-timeout
 /// transaction of each HTLC that was offered, and the HTLC-success transaction of each received one whose preimage is known, each followed by the delayed claim
 /// on its output. `Theirs` and `TheirsNext`: the key hash claim on to_remote, the direct timeout of each HTLC that one offered oneself, and the direct preimage
@@ -201,20 +225,10 @@ fn revoked_due(alloc: Global, known: &Known, n: u64) -> Result<Vec<Claim>, Alloc
 ///
 /// The two claims that `accept` refuses are not due, nor is the delayed claim behind one: a timeout where the revocation key's HASH160 is that of the empty
 /// item, and a preimage where it is the RIPEMD-160 of the payment hash. The only error is that memory ran out.
-#[tactic(auto, unfolding(crate::specs::Due::due_of))]
 pub fn due_claims(alloc: Global, known: &Known, verdict: Verdict) -> Result<Vec<Claim>, AllocError>
     ensures { IfOk result (λ v. AreClaimsOn (due_of known.now verdict) v.items) }
 {
-    let patterns = patterns(alloc)?;
     let hashes = KnownHashes::new(alloc, known.preimages.values())?;
-    match verdict {
-        Verdict::Ours => owners_due(alloc, &patterns, &known.own, &hashes),
-        Verdict::Theirs => peers_due(alloc, &patterns, &known.theirs, &hashes),
-        Verdict::TheirsNext => match &known.next {
-            None => Ok(Vec::new(alloc)),
-            Some(next) => peers_due(alloc, &patterns, next, &hashes),
-        },
-        Verdict::Revoked(n) => revoked_due(alloc, known, n),
-        Verdict::Unknown => Ok(Vec::new(alloc)),
-    }
+    let patterns = patterns(alloc)?;
+    due_by(alloc, &patterns, known, &hashes, verdict)
 }

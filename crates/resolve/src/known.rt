@@ -1,6 +1,6 @@
 //! What one side knows of a channel.
 
-ghost use Rattle.std.specs.Prelude.{◌≡◌, IfOk};
+ghost use Rattle.std.specs.Prelude.{◌≡◌, ◌↔◌, IsTrue, IfOk};
 ghost use Rattle.commit.specs.Commitments.{id_of};
 ghost use Rattle.penalty.specs.Claimable.{commitment_in};
 ghost use Rattle.resolve.specs.Signed.{IsCommitmentToken, AreHtlcTokens};
@@ -100,6 +100,26 @@ pub struct SignedCommitment {
     pub ghost signed: { AreHtlcTokens commitment htlc_tokens },
 }
 
+// Whether tokens are those of the owner's peer on a commitment and on its HTLC transactions. The only error is that memory ran out.
+fn is_signed_by_peer(
+    alloc: Global,
+    terms: &Terms,
+    owner: Side,
+    commitment: &Commitment,
+    token: &Token,
+    htlc_tokens: &[Token],
+) -> Result<bool, AllocError>
+    ensures { IfOk result (λ is. IsTrue is ↔ (IsCommitmentToken terms.now owner commitment.now token.now × AreHtlcTokens commitment.now htlc_tokens.now)) }
+{
+    let digests = signing_digests(alloc, terms, commitment)?;
+    let funding = terms.party(owner.other()).bases.funding;
+    let key = commitment.keys().remote_htlc;
+    Ok(
+        is_token(&funding, &digests.commitment, token)
+            && are_tokens(&key, digests.htlcs.values(), htlc_tokens),
+    )
+}
+
 impl SignedCommitment {
     ghost use Rattle.std.specs.Prelude.{◌≡◌, IfOk, IfErr};
     ghost use Rattle.resolve.specs.Known.{HasTokens, IsTokenRefusal};
@@ -117,13 +137,15 @@ impl SignedCommitment {
         ensures parts { IfOk result (HasTokens terms.now owner commitment token htlc_tokens) }
         ensures err { IfErr result (IsTokenRefusal terms.now owner commitment token htlc_tokens) }
     {
-        let digests = signing_digests(alloc, terms, commitment.commitment())?;
-        let funding = terms.party(owner.other()).bases.funding;
-        if !is_token(&funding, &digests.commitment, &token) {
-            return Err(KnownError::BadSignature);
-        }
-        let key = commitment.commitment().keys().remote_htlc;
-        if !are_tokens(&key, digests.htlcs.values(), htlc_tokens.values()) {
+        let is_signed = is_signed_by_peer(
+            alloc,
+            terms,
+            owner,
+            commitment.commitment(),
+            &token,
+            htlc_tokens.values(),
+        )?;
+        if !is_signed {
             return Err(KnownError::BadSignature);
         }
         Ok(SignedCommitment {
@@ -246,6 +268,50 @@ fn copied_next(next: &Option<KnownCommitment>) -> Result<Option<KnownCommitment>
     }
 }
 
+// What it knows of its own commitments, with what it may sign with.
+#[derive(Drop)]
+struct OwnCommitments {
+    signer: Signer,
+    newest: SignedCommitment,
+    older: List<SignedCommitment>,
+}
+
+// What it knows of the peer's.
+#[derive(Drop)]
+struct PeersCommitments {
+    newest: KnownCommitment,
+    next: Option<KnownCommitment>,
+    revoked: RevokedCommitments,
+}
+
+// Equal ones of its own. The only error is that memory ran out.
+fn copied_own(known: &Known) -> Result<OwnCommitments, AllocError>
+    ensures { IfOk result (λ o. o ≡ record { signer = known.now.signer; newest = known.now.own; older = known.now.older }) }
+{
+    let older = copied_signed(known.older.allocator(), known.older.values())?;
+    let signer = known.signer.copy()?;
+    let newest = known.own.copy()?;
+    Ok(OwnCommitments {
+        signer,
+        newest,
+        older: List::from_vec(older),
+    })
+}
+
+// Equal ones of the peer. The only error is that memory ran out.
+fn copied_peers(known: &Known) -> Result<PeersCommitments, AllocError>
+    ensures { IfOk result (λ p. p ≡ record { newest = known.now.theirs; next = known.now.next; revoked = known.now.revoked }) }
+{
+    let revoked = known.revoked.copy()?;
+    let newest = known.theirs.copy()?;
+    let next = copied_next(&known.next)?;
+    Ok(PeersCommitments {
+        newest,
+        next,
+        revoked,
+    })
+}
+
 impl Known {
     ghost use Rattle.std.specs.Prelude.{◌≡◌, IfOk};
 
@@ -253,23 +319,18 @@ impl Known {
     pub fn copy(&self) -> Result<Known, AllocError>
         ensures { IfOk result (λ k. k ≡ self.now) }
     {
-        let alloc = self.preimages.allocator();
-        let signer = self.signer.copy()?;
-        let own = self.own.copy()?;
-        let older = copied_signed(alloc, self.older.values())?;
-        let theirs = self.theirs.copy()?;
-        let next = copied_next(&self.next)?;
-        let revoked = self.revoked.copy()?;
-        let preimages = Vec::from_slice(alloc, self.preimages.values())?;
+        let preimages = Vec::from_slice(self.preimages.allocator(), self.preimages.values())?;
+        let own = copied_own(self)?;
+        let peers = copied_peers(self)?;
         Ok(Known {
             terms: self.terms,
             side: self.side,
-            signer,
-            own,
-            older: List::from_vec(older),
-            theirs,
-            next,
-            revoked,
+            signer: own.signer,
+            own: own.newest,
+            older: own.older,
+            theirs: peers.newest,
+            next: peers.next,
+            revoked: peers.revoked,
             preimages: List::from_vec(preimages),
         })
     }

@@ -21,8 +21,6 @@ mod known;
 mod numbers;
 mod preimages;
 mod revoked;
-#[cfg(test)]
-mod tests;
 mod tokens;
 mod verdicts;
 

@@ -16,8 +16,6 @@ mod limits;
 mod reading;
 mod scenarios;
 mod seeds;
-#[cfg(test)]
-mod tests;
 
 pub use errors::ScenarioError;
 pub use limits::{MAX_BLOCKS, MAX_CHANNELS, MAX_EVENTS};

@@ -11,6 +11,8 @@
 //! assert_eq!(rt; script.counted(), 2);
 //! assert!(rt; Script::parse(alloc, &[0xff]).is_err()); // no opcode has this byte
 //! ```
+//!
+//! Tested in `script_tests`.
 #![tactic(auto)]
 
 pub mod branches;
@@ -22,8 +24,6 @@ pub mod opcode;
 pub mod parse;
 pub mod spending;
 pub mod stops;
-#[cfg(test)]
-mod tests;
 pub mod tokens;
 pub mod truths;
 

@@ -209,26 +209,3 @@ impl<T: Drop> From<AllocFailed<T>> for ParseError {
         ParseError::NoMemory
     }
 }
-
-#[cfg(test)]
-mod tests {
-    use super::*;
-
-    const LONG: [u8; 10_001] = [0x50; 10_001];
-
-    #[test]
-    fn names_the_first_fault(rt: HostRuntime) {
-        for (bytes, wanted) in [
-            (&[0x50][..], ParseError::BadOpcode(0)),
-            (&[0x51, 0xb3], ParseError::BadOpcode(1)),
-            (&[0x02, 0xff], ParseError::Truncated(0)),
-            (&[0x51, 0x4b], ParseError::Truncated(1)),
-            (&[0x4c, 0x01, 0xff], ParseError::BadOpcode(0)),
-            (&LONG, ParseError::TooLong),
-            (&LONG[1..], ParseError::BadOpcode(0)),
-        ] {
-            let refusal = Script::parse(rt.alloc(), bytes).err();
-            assert_eq!(rt; refusal, Some(wanted));
-        }
-    }
-}

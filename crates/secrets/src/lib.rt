@@ -14,6 +14,8 @@
 //!     Ok(store)
 //! }
 //! ```
+//!
+//! Tested in `script_tests`.
 #![tactic(auto)]
 
 mod derivation;
@@ -23,6 +25,3 @@ mod store;
 pub use derivation::from_seed;
 pub use errors::StoreError;
 pub use store::Store;
-
-#[cfg(test)]
-mod tests;

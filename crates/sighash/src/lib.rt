@@ -32,6 +32,3 @@ mod token;
 pub use errors::DigestError;
 pub use signing::{SighashCache, digest_of};
 pub use token::Token;
-
-#[cfg(test)]
-mod tests;

@@ -21,8 +21,6 @@ mod htlcs;
 pub mod laws;
 mod numbers;
 mod sides;
-#[cfg(test)]
-mod tests;
 mod views;
 
 pub use agreement::{BaseKeys, Party, Terms};

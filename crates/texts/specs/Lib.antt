@@ -8,6 +8,7 @@ pub mod Events
 pub mod Messages
 pub mod Outputs
 pub mod Claims
+pub mod ClaimEnds
 pub mod Scenarios
 pub mod Writing
 pub mod Compound

@@ -4,6 +4,7 @@ ghost use Rattle.std.specs.Prelude.{◌≡◌};
 ghost use Rattle.serde_json.specs.View.{view};
 ghost use Rattle.texts.specs.Values.{Gives};
 ghost use Rattle.texts.specs.Claims.{sig_of, preimage_of, exact_of};
+ghost use Rattle.texts.specs.ClaimEnds.{Ends};
 
 use crate::allocating::{ReadValue, bytes_of, read_item, read_member};
 use crate::errors::ShapeError;
@@ -110,13 +111,32 @@ impl ReadValue for Shell {
     }
 }
 
+// The members of a claim that are read last.
+#[derive(Drop)]
+struct ClaimEnd {
+    script: ByteString,
+    slots: List<Slot>,
+    shell: Shell,
+}
+
+#[tactic(auto, unfolding(crate::specs::ClaimEnds::claim_from))]
+fn read_end(alloc: Global, form: &Value) -> Result<ClaimEnd, ShapeError>
+    ensures { Ends result (view form.now) }
+{
+    Ok(ClaimEnd {
+        script: read_member(alloc, form, "script")?,
+        slots: read_member(alloc, form, "slots")?,
+        shell: read_member(alloc, form, "shell")?,
+    })
+}
+
 /// An object of seven members: `outpoint`, `path`, `program`, `script`, `shell`, `slots` and `value`.
 impl ReadValue for PlainClaim {
     ghost use Rattle.texts.specs.Claims.{claim_of};
 
     ghost reads = { claim_of };
 
-    #[tactic(auto, unfolding(crate::specs::Claims::claim_of))]
+    #[tactic(auto, unfolding(crate::specs::Claims::claim_of, crate::specs::ClaimEnds::claim_from))]
     fn read_value(alloc: Global, value: &Value) -> Result<PlainClaim, ShapeError> {
         let form = object_of(value, 7).ok_or(ShapeError::BadShape)?;
         let outpoint = member(form, "outpoint").ok_or(ShapeError::BadShape)?;
@@ -128,12 +148,13 @@ impl ReadValue for PlainClaim {
             value: satoshis,
             program,
         };
+        let end = read_end(alloc, form)?;
         Ok(PlainClaim {
-            script: read_member(alloc, form, "script")?,
+            script: end.script,
             path: path as usize,
-            slots: read_member(alloc, form, "slots")?,
+            slots: end.slots,
             place,
-            shell: read_member(alloc, form, "shell")?,
+            shell: end.shell,
         })
     }
 }

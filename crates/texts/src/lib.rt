@@ -12,8 +12,6 @@
 
 mod agreement;
 mod allocating;
-#[cfg(test)]
-mod call_tests;
 mod call_writing;
 mod calls;
 mod claim_writing;
@@ -28,8 +26,6 @@ mod outpoints;
 mod outputs;
 mod scenarios;
 mod steps;
-#[cfg(test)]
-mod tests;
 mod values;
 mod writing;
 

@@ -37,6 +37,3 @@ pub use reading::{decode, decode_stripped};
 pub use transaction::{Tx, TxParts};
 pub use witness::Witness;
 pub use writing::{encode, encode_stripped};
-
-#[cfg(test)]
-mod tests;

@@ -32,8 +32,6 @@ mod pending;
 mod refusals;
 mod shares;
 mod stages;
-#[cfg(test)]
-mod tests;
 
 pub use changes::Update;
 pub use ledger::Ledger;

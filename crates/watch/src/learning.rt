@@ -4,6 +4,7 @@ ghost use Rattle.std.specs.Prelude.{◌≡◌, ◌++◌, ◌∷◌, [], IfOk, On
 ghost use Rattle.std.specs.List.{list_any};
 ghost use Rattle.std.specs.Str.{bytes_eq};
 ghost use Rattle.sha2.specs.Sha256.{sha256};
+ghost use Rattle.penalty.specs.Claimable.{commitment_in};
 ghost use Rattle.watch.specs.Learning.{commitment_by, htlcs_in, htlcs_by, is_paid_by, learnt_by, learnt_from, learnt_in};
 
 use crate::spends::Spend;
@@ -12,7 +13,7 @@ use chain::Confirmed;
 use commit::{Commitment, HtlcOutput};
 use digest::sha256;
 use lists::List;
-use penalty::revoked_commitment;
+use penalty::{RevokedState, revoked_commitment};
 use resolve::{Known, Verdict, preimage_in, revoked_at};
 use std::alloc::{AllocError, Global};
 use tx::{OutPoint, Tx, TxIn};
@@ -36,6 +37,24 @@ fn htlcs_in(alloc: Global, commitment: &Commitment) -> Result<CommitmentHtlcs, A
     })
 }
 
+// Those of a commitment that there is.
+fn some_htlcs_in(
+    alloc: Global,
+    commitment: &Commitment,
+) -> Result<Option<CommitmentHtlcs>, AllocError>
+    ensures { IfOk result (λ h. h ≡ Some (htlcs_in commitment.now)) }
+{
+    Ok(Some(htlcs_in(alloc, commitment)?))
+}
+
+// Those of a commitment that was revoked.
+fn some_htlcs_of(alloc: Global, state: &RevokedState) -> Result<Option<CommitmentHtlcs>, AllocError>
+    ensures { IfOk result (λ h. h ≡ Some (htlcs_in (commitment_in state.now))) }
+{
+    let commitment = revoked_commitment(alloc, state)?;
+    some_htlcs_in(alloc, &commitment)
+}
+
 // Those of the commitment that a verdict names.
 fn htlcs_of_verdict(
     alloc: Global,
@@ -45,18 +64,15 @@ fn htlcs_of_verdict(
     ensures { IfOk result (λ h. h ≡ option_map htlcs_in (commitment_by known.now verdict)) }
 {
     match verdict {
-        Verdict::Ours => Ok(Some(htlcs_in(alloc, known.own.commitment.commitment())?)),
-        Verdict::Theirs => Ok(Some(htlcs_in(alloc, known.theirs.commitment())?)),
+        Verdict::Ours => some_htlcs_in(alloc, known.own.commitment.commitment()),
+        Verdict::Theirs => some_htlcs_in(alloc, known.theirs.commitment()),
         Verdict::TheirsNext => match &known.next {
             None => Ok(None),
-            Some(next) => Ok(Some(htlcs_in(alloc, next.commitment())?)),
+            Some(next) => some_htlcs_in(alloc, next.commitment()),
         },
         Verdict::Revoked(n) => match revoked_at(known, n) {
             None => Ok(None),
-            Some(revoked) => {
-                let commitment = revoked_commitment(alloc, &revoked.state)?;
-                Ok(Some(htlcs_in(alloc, &commitment)?))
-            }
+            Some(revoked) => some_htlcs_of(alloc, &revoked.state),
         },
         Verdict::Unknown => Ok(None),
     }

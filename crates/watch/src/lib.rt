@@ -20,8 +20,6 @@
 pub mod laws;
 mod learning;
 mod spends;
-#[cfg(test)]
-mod tests;
 mod unclaimed;
 mod verdicts;
 mod watching;

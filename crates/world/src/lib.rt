@@ -29,10 +29,6 @@ mod own;
 mod parts;
 mod publishing;
 mod releasing;
-#[cfg(test)]
-mod tests;
-#[cfg(test)]
-mod world_tests;
 mod worlds;
 
 pub use claimed::check_claimed;

@@ -4,6 +4,7 @@ ghost use Rattle.std.specs.Prelude.{◌≡◌, ◌<◌, ◌+◌, ◌++◌, [], m
 ghost use Rattle.std.specs.List.{AllByRecursion, cons_option, filter_map};
 ghost use Rattle.claim.specs.Claims.{IsWhole};
 ghost use Rattle.book.specs.Books.{replay};
+ghost use Rattle.book.specs.Knowing.{IsKnownIn};
 ghost use Rattle.world.specs.declared.errors.EventError.TheVariants.{NoMemory};
 ghost use Rattle.world.specs.Looking.{is_closed, wanted_by, jobs_of, Knows, Finds, ReadsBlock, IsAfter, Reads, reading_of, with_seen, with_reading, Looks, seen_back_to, back_to};
 ghost use Rattle.world.specs.Asking.{IfKnown, AreKnown, IsReady, FindsIf, taught};
@@ -138,35 +139,47 @@ fn push_all(preimages: &mut List<[u8; 32]>, more: &[[u8; 32]]) -> Result<(), All
     Ok(())
 }
 
-// What is known of a channel, with the preimages that blocks showed. The only error is that memory ran out.
-fn known_of(book: &Book, channel: u64, learnt: &[[u8; 32]]) -> Result<Known, AllocError>
+// What the book knows of a channel that it has. The only error is that memory ran out.
+fn known_by(book: &Book, channel: u64) -> Result<Known, AllocError>
     requires { channel < length (replay book.now) }
-    ensures { IfOk result (Knows book.now learnt.now channel) }
+    ensures { IfOk result (IsKnownIn book.now channel (slice_get (replay book.now) channel)) }
 {
-    let mut known = match book.known(channel) {
-        Ok(known) => known,
-        Err(KnowError::NoMemory) => return Err(AllocError),
+    match book.known(channel) {
+        Ok(known) => Ok(known),
+        Err(KnowError::NoMemory) => Err(AllocError),
         Err(KnowError::NoSuchChannel) => unreachable!(),
-    };
-    push_all(&mut known.preimages, learnt)?;
-    Ok(known)
+    }
 }
 
-// What is known of a channel, where it is closed. The only error is that memory ran out.
-fn asked(
+// What is known of a channel has these preimages too, where it was asked. The only error is that memory ran out.
+fn teach(known: &mut Option<Known>, shown: &[[u8; 32]]) -> Result<(), AllocError>
+    ensures { OnOk result (known.new ≡ taught shown.now known.old) }
+{
+    if let Some(known) = known {
+        push_all(&mut known.preimages, shown)?;
+    }
+    Ok(())
+}
+
+// The book is asked what is known of a channel, where it is closed, and the preimages that blocks showed go to that. The only error is that memory ran out.
+fn ask_where_closed(
     book: &Book,
     channel: u64,
     learnt: &[[u8; 32]],
     watch: &Watch,
     block: &Block,
-) -> Result<Option<Known>, AllocError>
-    ensures { IfOk result (IsReady book.now learnt.now channel watch.now (reverse block.now.transactions)) }
+    known: &mut Option<Known>,
+) -> Result<(), AllocError>
+    requires { known.old ≡ None }
+    ensures { OnOk result (IsReady book.now learnt.now channel watch.now (reverse block.now.transactions) known.new) }
 {
     let closed = is_closed(book, channel, watch, block);
     if !closed {
-        return Ok(None);
+        return Ok(());
     }
-    Ok(Some(known_of(book, channel, learnt)?))
+    drop(known.replace(known_by(book, channel)?));
+    teach(known, learnt)?;
+    Ok(())
 }
 
 // The book is asked what is known of a channel, where it wasn't yet and the channel is closed. The only error is that memory ran out.
@@ -183,10 +196,7 @@ fn ask(
 {
     match known {
         Some(_) => Ok(()),
-        None => {
-            *known = asked(book, channel, learnt, watch, block)?;
-            Ok(())
-        }
+        None => ask_where_closed(book, channel, learnt, watch, block, known),
     }
 }
 
@@ -262,16 +272,6 @@ fn read_channels(
         add(&mut found, more)?;
     }
     Ok(found)
-}
-
-// What is known of a channel has these preimages too, where it was asked. The only error is that memory ran out.
-fn teach(known: &mut Option<Known>, shown: &[[u8; 32]]) -> Result<(), AllocError>
-    ensures { OnOk result (known.new ≡ taught shown.now known.old) }
-{
-    if let Some(known) = known {
-        push_all(&mut known.preimages, shown)?;
-    }
-    Ok(())
 }
 
 // What is known of each channel has these preimages too. The only error is that memory ran out.

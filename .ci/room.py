@@ -1,0 +1,121 @@
+"""A copy of the repository outside of it, in which programs and edits are tried that the gate leaves out.
+
+The copy has the sources as they stand, uncommitted ones too. It keeps the libraries that were proved in it from one call to the next, and takes over those that stand
+finished in the repository (crates/*/out/rlib), so that a call proves only what has changed since. It lies in the folder that ROOM names, or else in one of its own below
+the system's folder for temporary files.
+"""
+import fcntl
+import glob
+import hashlib
+import os
+import re
+import shutil
+import subprocess
+import sys
+import tempfile
+
+TOP = os.path.dirname(os.path.dirname(os.path.abspath(__file__)))
+# A check takes up to 5 GiB.
+MEMORY = 5 << 30
+
+
+def lines_of(command):
+    """What a command that must not fail prints, in lines."""
+    return subprocess.run(command, cwd=TOP, check=True, capture_output=True, text=True).stdout.splitlines()
+
+
+def graph(root=TOP):
+    """Each crate of crates.txt, lowest first, with the crates that it stands on."""
+    uses = {}
+    with open(f"{root}/crates.txt", encoding="utf-8") as file:
+        for line in file:
+            found = re.match(r"(\w+)[^:#]*:([^#]*)", line)
+            if found:
+                uses[found[1]] = found[2].split()
+    uses = {name: [it for it in below if it in uses] for name, below in uses.items()}
+    found = {}
+
+    def visit(name):
+        if name not in found:
+            for it in uses[name]:
+                visit(it)
+            found[name] = uses[name]
+
+    for name in uses:
+        visit(name)
+    return found
+
+
+def below(uses, names):
+    """The crates that these stand on, lowest first."""
+    wanted = set()
+    for name in reversed(uses):
+        if name in names or name in wanted:
+            wanted.update(uses[name])
+    return [it for it in uses if it in wanted]
+
+
+def at_once():
+    """How many checks run side by side: as many as there are processors, and at most one for each 5 GiB."""
+    memory = os.sysconf("SC_PAGE_SIZE") * os.sysconf("SC_PHYS_PAGES")
+    return max(1, min(len(os.sched_getaffinity(0)), memory // MEMORY))
+
+
+def stamp(folder):
+    """What the toolchain wrote of the library that stands finished there."""
+    try:
+        with open(f"{folder}/out/rlib/stamp", encoding="utf-8") as file:
+            return file.read()
+    except OSError:
+        return None
+
+
+def refreshed(room):
+    """Lays the sources of the repository into the room, in place of those of an earlier call, and the libraries that stand finished in it."""
+    for place in glob.glob(f"{room}/crates/*/*"):
+        if not place.endswith("/out"):
+            shutil.rmtree(place) if os.path.isdir(place) else os.remove(place)
+    for file in lines_of(["git", "ls-files", "--cached", "--others", "--exclude-standard", "crates", "crates.txt", "HANDLES"]):
+        if os.path.isfile(f"{TOP}/{file}"):
+            os.makedirs(os.path.dirname(f"{room}/{file}"), exist_ok=True)
+            shutil.copyfile(f"{TOP}/{file}", f"{room}/{file}")
+    for name in graph(room):
+        given, place = f"{TOP}/crates/{name}", f"{room}/crates/{name}"
+        if stamp(given) not in (None, stamp(place)):
+            shutil.rmtree(f"{place}/out/rlib", ignore_errors=True)
+            shutil.copytree(f"{given}/out/rlib", f"{place}/out/rlib")
+
+
+def entered():
+    """The room, which no other call enters until this process has ended."""
+    own = hashlib.sha256(TOP.encode()).hexdigest()[:16]
+    room = os.path.abspath(os.environ.get("ROOM") or f"{tempfile.gettempdir()}/enforce-{own}")
+    if f"{room}/".startswith(f"{TOP}/"):
+        raise SystemExit("the room must lie outside of the repository")
+    os.makedirs(f"{room}/.git", exist_ok=True)
+    lock = os.open(f"{room}/.git", os.O_RDONLY)
+    fcntl.flock(lock, fcntl.LOCK_EX)
+    refreshed(room)
+    return room
+
+
+def finish(room, names):
+    """Proves these libraries where they have changed, lowest first: the checks above them, side by side, then find each one finished."""
+    for name in names:
+        print(f"{name}: proving the library, where it has changed", file=sys.stderr, flush=True)
+        done = subprocess.run(["rt", "lib"], cwd=f"{room}/crates/{name}", stdin=subprocess.DEVNULL, stdout=subprocess.PIPE, stderr=subprocess.STDOUT, text=True)
+        if done.returncode != 0:
+            raise SystemExit(f"{done.stdout[-4000:]}\n{name} is not proved")
+
+
+def add(room, name):
+    """Lays a program of bench/programs into the room, as a crate."""
+    given, place = f"{TOP}/bench/programs/{name}", f"{room}/crates/{name}"
+    os.makedirs(f"{place}/src", exist_ok=True)
+    for file in glob.glob(f"{given}/src/*.rt.txt"):
+        shutil.copyfile(file, f"{place}/src/{os.path.basename(file).removesuffix('.txt')}")
+    for file in ("stdin", "stdout", "args"):
+        if os.path.isfile(f"{given}/{file}"):
+            shutil.copyfile(f"{given}/{file}", f"{place}/{file}")
+    with open(f"{given}/uses", encoding="utf-8") as file, open(f"{room}/crates.txt", "a", encoding="utf-8") as crates:
+        crates.write(f"{name}: {file.read().strip()}\n")

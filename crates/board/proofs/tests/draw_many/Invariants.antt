@@ -1,5 +1,0 @@
-use Rattle.board.specs.Seats.{IsSeatOf}
-use Rattle.board.proofs.tests.draw_many.Given as goal
-
-abbrev pub invariant-loop : goal.invariant-loop
-invariant-loop l = IsSeatOf l.board l.seat

@@ -1,0 +1,23 @@
+//! Tests of the libraries `texts`, `scenario`, `book` and `openings`.
+//!
+//! They stand in a crate of their own, so that each of these libraries is proved once. The examples of the libraries' pages are among them.
+#![tactic(auto)]
+
+#[cfg(test)]
+mod book_calls;
+#[cfg(test)]
+mod known_states;
+#[cfg(test)]
+mod loaded_dumps;
+#[cfg(test)]
+mod opened_sides;
+#[cfg(test)]
+mod plain;
+#[cfg(test)]
+mod plain_calls;
+#[cfg(test)]
+mod plain_forms;
+#[cfg(test)]
+mod scenario_texts;
+#[cfg(test)]
+mod two_books;

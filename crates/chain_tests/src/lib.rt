@@ -1,0 +1,18 @@
+//! Tests of the simulated chain and of what waits for its blocks: `chain` and `mempool`. They stand apart so that each library is proved without
+//! them.
+#![tactic(auto)]
+
+#[cfg(test)]
+mod calls;
+#[cfg(test)]
+mod fixtures;
+#[cfg(test)]
+mod offers;
+#[cfg(test)]
+mod rows;
+#[cfg(test)]
+mod shown;
+#[cfg(test)]
+mod steps;
+#[cfg(test)]
+mod waiting;

@@ -1,0 +1,100 @@
+//! What an index does beside the calls that every chain has: blocks of what passes, marks and copies.
+
+use crate::steps::{Cast, Source, Step, play_with};
+use chain::{Index, Refusal};
+use std::process::Abort;
+use tx::Tx;
+
+// A transaction of two outputs, a spend of the second one, another spend of the grant, and one that waits for block 10.
+const SPENDS: [Step; 5] = [
+    Step::Grant(1000),
+    Step::Make(2, &[(Source::Granted(0), 0)], &[600, 300], 0),
+    Step::Make(2, &[(Source::Made(0, 1), 0)], &[250], 0),
+    Step::Make(2, &[(Source::Granted(0), 0)], &[1000], 0),
+    Step::Make(2, &[(Source::Made(0, 0), 0)], &[1], 9),
+];
+
+// They are offered with the spend first, and once more behind what it spends.
+const OFFERED: [usize; 5] = [1, 0, 1, 2, 3];
+
+const REFUSALS: [Option<Refusal>; 5] = [
+    Some(Refusal::Unknown),
+    None,
+    None,
+    Some(Refusal::Spent),
+    Some(Refusal::NotFinal),
+];
+
+// Whether a transaction stands on a chain, by its id.
+fn stands(rt: &impl Abort, cast: &Cast, chain: &Index, place: usize) -> bool {
+    chain.has_id(&tx::txid(cast.made(rt, place)))
+}
+
+// How many transactions stand in the block of a height.
+fn count_at(chain: &Index, height: u64) -> Option<usize> {
+    let block = chain.block_at(height)?;
+    Some(block.transactions().len())
+}
+
+#[test]
+fn takes_what_passes(rt: HostRuntime) {
+    let mut chain = Index::new(rt.alloc()).expect(&rt, "memory");
+    let mut cast = Cast::new(rt.alloc());
+    play_with(&rt, &mut cast, &mut chain, &SPENDS);
+    let txs = cast.block(&rt, &OFFERED);
+    let refusals = chain.connect_some(txs).expect(&rt, "memory");
+    assert_eq!(rt; refusals.as_slice(), REFUSALS.as_slice());
+    assert_eq!(rt; count_at(&chain, 1), Some(2));
+    assert_eq!(rt; count_at(&chain, 2), None);
+    assert!(rt; stands(&rt, &cast, &chain, 1));
+    assert!(rt; !stands(&rt, &cast, &chain, 2));
+    play_with(&rt, &mut cast, &mut chain, &[Step::Hold(2, 850, 150)]);
+}
+
+// Makes a block of what passes, and goes back to before it.
+fn offer_and_undo(rt: &impl Abort, chain: &mut Index, txs: Vec<Tx>) {
+    let mark = chain.mark();
+    chain.connect_some(txs).expect(rt, "memory");
+    chain.undo(mark);
+}
+
+// Once a block is undone, what it spent is unspent, and six blocks may still be taken off.
+#[test]
+fn goes_back_to_a_mark(rt: HostRuntime) {
+    let mut chain = Index::new(rt.alloc()).expect(&rt, "memory");
+    let mut cast = Cast::new(rt.alloc());
+    play_with(&rt, &mut cast, &mut chain, &SPENDS);
+    play_with(&rt, &mut cast, &mut chain, &[Step::Raise(6)]);
+    offer_and_undo(&rt, &mut chain, cast.block(&rt, &OFFERED));
+    let after = [
+        Step::Hold(1, 1000, 0),
+        Step::Check(0, 0, Ok(())),
+        Step::Check(1, 0, Err(Refusal::Unknown)),
+        Step::Disconnect(6, &[]),
+    ];
+    play_with(&rt, &mut cast, &mut chain, &after);
+}
+
+const OF_COPY: [Step; 4] = [
+    Step::Connect(&[1], 2),
+    Step::Hold(2, 850, 150),
+    Step::Disconnect(2, &[0, 1]),
+    Step::Hold(1, 1000, 0),
+];
+
+const OF_CHAIN: [Step; 2] = [
+    Step::Hold(2, 900, 100),
+    Step::Check(0, 0, Err(Refusal::Spent)),
+];
+
+// A copy goes its own way.
+#[test]
+fn copies_a_chain(rt: HostRuntime) {
+    let mut chain = Index::new(rt.alloc()).expect(&rt, "memory");
+    let mut cast = Cast::new(rt.alloc());
+    play_with(&rt, &mut cast, &mut chain, &SPENDS);
+    play_with(&rt, &mut cast, &mut chain, &[Step::Connect(&[0], 1)]);
+    let mut copy = chain.copy().expect(&rt, "memory");
+    play_with(&rt, &mut cast, &mut copy, &OF_COPY);
+    play_with(&rt, &mut cast, &mut chain, &OF_CHAIN);
+}

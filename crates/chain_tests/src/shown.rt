@@ -1,0 +1,53 @@
+//! Values from outside, the blocks as they are shown, and printed text.
+
+use crate::fixtures::{GRANTED, KEY_PROGRAM, output};
+use chain::{BlockError, Coins, Refusal, Scan};
+use script::{Cause, Kind};
+use std::alloc::Global;
+use std::process::Abort;
+use tx::OutPoint;
+
+// Grants an output, which has this outpoint, and adds an empty block.
+fn grant(rt: &impl Abort, alloc: Global, chain: &mut Scan, wanted: OutPoint) {
+    let outpoint = chain.grant(output(rt, alloc, 1, &KEY_PROGRAM));
+    assert_eq!(rt; outpoint, Ok(wanted));
+    chain.connect(Vec::new(alloc)).expect(rt, "a block");
+}
+
+// Grants are numbered over the whole chain, and stand in the block that was the newest.
+#[test]
+fn grants_have_their_ids(rt: HostRuntime) {
+    let mut chain = Scan::new(rt.alloc()).expect(&rt, "memory");
+    for outpoint in GRANTED {
+        grant(&rt, rt.alloc(), &mut chain, outpoint);
+    }
+    for (block, count) in chain.blocks().iter().zip([1, 1, 0]) {
+        assert_eq!(rt; block.granted().len(), count);
+        assert_eq!(rt; block.transactions().len(), 0);
+    }
+}
+
+#[test]
+fn prints_its_refusals(rt: HostRuntime) {
+    for (refusal, printed, number) in [
+        (Refusal::NoMemory, "NoMemory 7", 0),
+        (Refusal::Spent, "Spent 7", 1),
+        (Refusal::Unknown, "Unknown 7", 2),
+        (Refusal::NotFinal, "NotFinal 7", 3),
+        (Refusal::TooYoung, "TooYoung 7", 4),
+        (
+            Refusal::Script(Cause::FailedCheck(Kind::Extra), 4),
+            "Script FailedCheck Extra 4 7",
+            5,
+        ),
+        (Refusal::BadProgram, "BadProgram 7", 6),
+        (Refusal::OutputsExceed, "OutputsExceed 7", 7),
+        (Refusal::Twice, "Twice 7", 8),
+        (Refusal::TooDeep, "TooDeep 7", 9),
+    ] {
+        let error = BlockError { index: 7, refusal };
+        let text = format!(in rt.alloc(); "{error}").expect(&rt, "memory");
+        assert_eq!(rt; text.as_str(), printed);
+        assert_eq!(rt; refusal.number(), number);
+    }
+}

@@ -1,0 +1,129 @@
+//! Blocks that take what waits in a pool, and blocks that give way to others.
+
+use crate::fixtures::{GRANTED, TRUE_PROGRAM, output, transaction};
+use chain::{Coins, Index};
+use mempool::{ReorgError, mine, reorganise};
+use std::alloc::{AllocError, Global};
+use std::process::Abort;
+use tx::{OutPoint, Tx, txid};
+
+// A chain with two grants of 1,000 satoshis at height 0.
+fn granted_chain(rt: &impl Abort, alloc: Global) -> Index {
+    let mut chain = Index::new(alloc).expect(rt, "memory");
+    for _grant in 0..2 {
+        let granted = chain.grant(output(rt, alloc, 1000, &TRUE_PROGRAM));
+        granted.expect(rt, "a grant");
+    }
+    chain
+}
+
+// A transaction that spends an output whole into one of a value, from a lock time on.
+fn spend(rt: &impl Abort, alloc: Global, outpoint: OutPoint, value: u64, lock_time: u32) -> Tx {
+    transaction(rt, alloc, 2, &[(outpoint, 0)], &[value], lock_time)
+}
+
+// A spend of the first grant.
+fn parent(rt: &impl Abort, alloc: Global) -> Tx {
+    spend(rt, alloc, GRANTED[0], 900, 0)
+}
+
+// A spend of what that one creates.
+fn child(rt: &impl Abort, alloc: Global) -> Tx {
+    let txid = txid(&parent(rt, alloc));
+    spend(rt, alloc, OutPoint { txid, index: 0 }, 800, 0)
+}
+
+// A spend of the second grant from block 3 on.
+fn locked(rt: &impl Abort, alloc: Global) -> Tx {
+    spend(rt, alloc, GRANTED[1], 600, 2)
+}
+
+// What waits: the child, the parent, a second spend of the first grant, and the locked one.
+fn waiting(rt: &impl Abort, alloc: Global) -> Vec<Tx> {
+    let mut pool = Vec::new(alloc);
+    pool.push(child(rt, alloc)).expect(rt, "memory");
+    pool.push(parent(rt, alloc)).expect(rt, "memory");
+    let second = spend(rt, alloc, GRANTED[0], 700, 0);
+    pool.push(second).expect(rt, "memory");
+    pool.push(locked(rt, alloc)).expect(rt, "memory");
+    pool
+}
+
+// Makes so many blocks of what waits: how many transactions they have, and how many wait then.
+fn mine_on(
+    rt: &impl Abort,
+    alloc: Global,
+    chain: &mut Index,
+    pool: &mut Vec<Tx>,
+    count: u64,
+) -> (u64, usize) {
+    let mined = mine(alloc, chain, pool, count).expect(rt, "memory");
+    *pool = mined.waiting;
+    (mined.txs, pool.len())
+}
+
+// Block 1 has the parent: the child came before it and waits, the second spend is dropped, the locked one waits. Block 2 has the child, block 3 the locked one.
+#[test]
+fn blocks_take_what_waits(rt: HostRuntime) {
+    let alloc = rt.alloc();
+    let mut chain = granted_chain(&rt, alloc);
+    let mut pool = waiting(&rt, alloc);
+    assert_eq!(rt; mine_on(&rt, alloc, &mut chain, &mut pool, 1), (1, 2));
+    assert_eq!(rt; mine_on(&rt, alloc, &mut chain, &mut pool, 1), (1, 1));
+    assert_eq!(rt; mine_on(&rt, alloc, &mut chain, &mut pool, 2), (1, 0));
+    assert_eq!(rt; chain.height(), 4);
+    assert_eq!(rt; chain.fees().expect(&rt, "memory"), 600);
+}
+
+// How a reorganisation ends: the height, how many transactions the new blocks have, and how many wait then.
+fn ended(
+    alloc: Global,
+    chain: &Index,
+    released: &[Tx],
+    depth: u64,
+    forgotten: u64,
+) -> Result<(u64, u64, usize), ReorgError> {
+    let new = reorganise(alloc, chain, &[], released, depth, forgotten)?;
+    Ok((new.chain.height(), new.txs, new.pool.len()))
+}
+
+// How it ends where the last of the transactions that stand in the newest three blocks is forgotten, and was released.
+fn ended_with_released(
+    rt: &impl Abort,
+    alloc: Global,
+    chain: &Index,
+) -> Result<(u64, u64, usize), ReorgError> {
+    let mut released = Vec::new(alloc);
+    released.push(locked(rt, alloc)).expect(rt, "memory");
+    ended(alloc, chain, &released, 3, 1)
+}
+
+// Three blocks with one transaction each give way to four: with the last one forgotten the others alone come back, and where the last one was released all do.
+#[test]
+fn blocks_give_way(rt: HostRuntime) {
+    let alloc = rt.alloc();
+    let mut chain = granted_chain(&rt, alloc);
+    let mined = mine_on(&rt, alloc, &mut chain, &mut waiting(&rt, alloc), 3);
+    assert_eq!(rt; mined, (3, 0));
+    assert_eq!(rt; ended(alloc, &chain, &[], 3, 0), Ok((4, 3, 0)));
+    assert_eq!(rt; ended(alloc, &chain, &[], 3, 1), Ok((4, 2, 0)));
+    assert_eq!(rt; ended(alloc, &chain, &[], 3, 4), Err(ReorgError::NoSuchTx));
+    assert_eq!(rt; ended(alloc, &chain, &[], 0, 0), Err(ReorgError::TooDeep));
+    assert_eq!(rt; ended(alloc, &chain, &[], 4, 0), Err(ReorgError::TooDeep));
+    assert_eq!(rt; ended_with_released(&rt, alloc, &chain), Ok((4, 3, 0)));
+    assert_eq!(rt; chain.height(), 3);
+}
+
+// The example of the page of `mempool`.
+fn taken_by_the_next(alloc: Global, chain: &mut Index, pool: &[Tx]) -> Result<u64, AllocError> {
+    let mined = mine(alloc, chain, pool, 1)?;
+    Ok(mined.txs)
+}
+
+#[test]
+fn the_next_block_takes_one(rt: HostRuntime) {
+    let alloc = rt.alloc();
+    let mut chain = granted_chain(&rt, alloc);
+    let taken = taken_by_the_next(alloc, &mut chain, &waiting(&rt, alloc));
+    assert_eq!(rt; taken.expect(&rt, "memory"), 1);
+}

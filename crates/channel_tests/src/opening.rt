@@ -1,0 +1,118 @@
+//! The sides of a new channel, and how messages come from one to the other.
+
+ghost use Rattle.std.specs.Prelude.{◌≡◌};
+ghost use Rattle.keys.specs.declared.bases.Base.TheVariants.{Funding as FundingBase, Htlc as HtlcBase};
+ghost use Rattle.keys.specs.Derivation.{base_key};
+ghost use Rattle.terms.specs.Sides.{other};
+ghost use Rattle.channel.specs.Keeping.{HasBases, CanOpen};
+
+use channel::{Channel, Message, opening_points, opening_token};
+use keys::{Base, Signer};
+use std::alloc::Global;
+use std::process::Abort;
+use terms::{BaseKeys, Party, Side, Terms};
+use tx::OutPoint;
+use updates::Refusal;
+
+// What a side brings to the terms, by its signer.
+fn party(signer: &Signer, start: u64) -> Party
+    ensures funding { result.bases.funding.bytes ≡ base_key signer.now.seed FundingBase }
+    ensures htlc { result.bases.htlc.bytes ≡ base_key signer.now.seed HtlcBase }
+{
+    Party {
+        dust: 546,
+        delay: 144,
+        minimum: 1000,
+        start,
+        bases: BaseKeys {
+            funding: signer.base(Base::Funding),
+            payment: signer.base(Base::Payment),
+            delayed: signer.base(Base::Delayed),
+            htlc: signer.base(Base::Htlc),
+            revocation: signer.base(Base::Revocation),
+        },
+    }
+}
+
+// The terms of a channel of 100,000 satoshis, of which A has 80,000.
+fn terms_of(rt: &impl Abort, a: Party, b: Party) -> Terms
+    ensures a { result.a ≡ a }
+    ensures b { result.b ≡ b }
+{
+    let funding = OutPoint {
+        txid: [7; 32],
+        index: 0,
+    };
+    Terms::new(funding, 100_000, Side::A, 1000, a, b).expect(rt, "terms")
+}
+
+// A side of this channel, to which its peer gives a token for the commitment of this number.
+pub fn open(rt: &impl Abort, alloc: Global, side: Side, number: u64) -> Result<Channel, Refusal> {
+    let (a, b) = (Signer::new(alloc, &[1; 32]), Signer::new(alloc, &[2; 32]));
+    let terms = terms_of(rt, party(&a, 80_000_000), party(&b, 20_000_000));
+    match side {
+        Side::A => open_with(rt, alloc, terms, side, a, &b, number),
+        Side::B => open_with(rt, alloc, terms, side, b, &a, number),
+    }
+}
+
+fn open_with(
+    rt: &impl Abort,
+    alloc: Global,
+    terms: Terms,
+    side: Side,
+    signer: Signer,
+    peer: &Signer,
+    number: u64,
+) -> Result<Channel, Refusal>
+    requires own { CanOpen terms side signer }
+    requires peers { HasBases terms (other side) peer.now.seed }
+{
+    let own = opening_points(&signer);
+    let point = if number == 0 { own.first } else { own.second };
+    let token = opening_token(alloc, &terms, side.other(), peer, &point).expect(rt, "a token");
+    let points = opening_points(peer);
+    Channel::new(
+        alloc,
+        terms,
+        side,
+        signer,
+        points.first,
+        points.second,
+        &token,
+    )
+}
+
+// A side of a new channel.
+pub fn opened(rt: &impl Abort, alloc: Global, side: Side) -> Channel {
+    open(rt, alloc, side, 0).expect(rt, "a channel")
+}
+
+/// The example of the page of `channel`.
+fn offer_and_sign(
+    channel: &mut Channel,
+    amount: u64,
+    hash: [u8; 32],
+    expiry: u32,
+) -> Result<(Message, Message), Refusal> {
+    let offer = channel.offer(amount, hash, expiry)?;
+    let signature = channel.signed()?;
+    Ok((offer, signature))
+}
+
+// Messages that one side sends are received by the other, with what answers them.
+pub fn deliver(rt: &impl Abort, from: &mut Channel, to: &mut Channel, message: &Message) {
+    let answer = to.receive(message).expect(rt, "a message");
+    if let Some(answer) = answer {
+        assert!(rt; matches!(from.receive(&answer), Ok(None)));
+    }
+}
+
+// A offers an HTLC of 20,000 satoshis to B, and signs B's commitment with it.
+pub fn offered(rt: &impl Abort, a: &mut Channel, b: &mut Channel) -> Message {
+    let sent = offer_and_sign(a, 20_000_000, [9; 32], 500);
+    let (offer, tokens) = sent.expect(rt, "an offer and tokens");
+    deliver(rt, a, b, &offer);
+    deliver(rt, a, b, &tokens);
+    tokens
+}

@@ -1,0 +1,88 @@
+//! The penalty set of a small state. What sets have in them stands with the vectors of penalties.
+
+use crate::fixtures::{key, one_key_party};
+use lists::List;
+use penalty::{
+    Htlc, PenaltySet, RevokedState, Side, StateError, Terms, View, payable_commitment, penalties,
+    refusal,
+};
+use std::alloc::Global;
+use std::process::Abort;
+use terms::Share;
+use tx::OutPoint;
+
+fn terms(rt: &impl Abort) -> Terms {
+    let funding = OutPoint {
+        txid: [7; 32],
+        index: 1,
+    };
+    let (a, b) = (one_key_party(rt, 80_000_000), one_key_party(rt, 20_000_000));
+    Terms::new(funding, 100_000, Side::A, 1000, a, b).expect(rt, "terms")
+}
+
+// A view with an HTLC that A offered.
+fn view(rt: &impl Abort, alloc: Global) -> View {
+    let mut offered = List::new(alloc);
+    let htlc = Htlc {
+        id: 0,
+        amount: 10_000_000,
+        hash: [9; 32],
+        expiry: 500,
+    };
+    offered.push(htlc).expect(rt, "memory");
+    let a = Share {
+        balance: 70_000_000,
+        offered,
+    };
+    let b = Share {
+        balance: 20_000_000,
+        offered: List::new(alloc),
+    };
+    View {
+        a,
+        b,
+        feerate: 1000,
+    }
+}
+
+// The penalties of A's commitment 7 of this view.
+fn set_of_a(rt: &impl Abort, alloc: Global) -> PenaltySet {
+    let view = view(rt, alloc);
+    let state = RevokedState::new(terms(rt), view, Side::A, 7, [5; 32]).expect(rt, "a state");
+    penalties(alloc, &state).expect(rt, "memory")
+}
+
+// How many outputs that commitment has.
+fn outputs_of_a(rt: &impl Abort, alloc: Global) -> usize {
+    let (terms, view) = (terms(rt), view(rt, alloc));
+    assert!(rt; refusal(&terms, &view).is_none());
+    let built = payable_commitment(alloc, &terms, &view, Side::A, 7, &key(rt, 0xcc));
+    built.expect(rt, "memory").outputs().len()
+}
+
+// The example of the crate's page: to_local, to_remote and the HTLC, and the HTLC transaction's output.
+#[test]
+fn claims_all_that_a_commitment_pays(rt: HostRuntime) {
+    assert_eq!(rt; outputs_of_a(&rt, rt.alloc()), 3);
+    let set = set_of_a(&rt, rt.alloc());
+    assert_eq!(rt; set.claims().len(), 4);
+    assert_eq!(rt; set.state().number, 7);
+}
+
+#[test]
+fn copies_a_set(rt: HostRuntime) {
+    let set = set_of_a(&rt, rt.alloc());
+    assert!(rt; set.copy().is_ok());
+}
+
+#[test]
+fn prints_every_refusal(rt: HostRuntime) {
+    for (refusal, text) in [
+        (StateError::TooManyHtlcs, "TooManyHtlcs"),
+        (StateError::ExpiryTooLarge, "ExpiryTooLarge"),
+        (StateError::WrongTotal, "WrongTotal"),
+    ] {
+        let printed = format!(in rt.alloc(); "{refusal}").expect(&rt, "memory");
+        assert_eq!(rt; printed.as_str(), text);
+    }
+}

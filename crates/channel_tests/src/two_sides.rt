@@ -1,0 +1,118 @@
+//! The calls of a channel on their happy path, where memory that is there must be found; what each refuses is said by its contract.
+
+use crate::opening::{deliver, offered, open, opened};
+use channel::{Channel, Message, Tokens, opening_points};
+use keys::{Base, Signer, point, revocation};
+use std::process::Abort;
+use terms::Side;
+use updates::Refusal;
+
+// A new channel wants the peer's token on its commitment 0.
+#[test]
+fn opens_with_the_peers_token(rt: HostRuntime) {
+    assert!(rt; open(&rt, rt.alloc(), Side::A, 0).is_ok());
+    let refusal = open(&rt, rt.alloc(), Side::A, 1).err();
+    assert!(rt; matches!(&refusal, Some(Refusal::BadSignature)));
+}
+
+// How many tokens on HTLC transactions a message has, where it is a `commitment_signed`.
+fn htlc_tokens(message: &Message) -> Option<usize> {
+    match message {
+        Message::CommitmentSigned(tokens) => Some(tokens.htlcs.values().len()),
+        _ => None,
+    }
+}
+
+// A side that has nothing to sign, and not so much to offer, is refused both.
+fn refuses(rt: &impl Abort, channel: &mut Channel) {
+    assert_eq!(rt; channel.signed().err(), Some(Refusal::NoUpdates));
+    let refusal = channel.offer(80_000_001, [9; 32], 500).err();
+    assert_eq!(rt; refusal, Some(Refusal::OverBalance));
+}
+
+// An offer is signed once.
+#[test]
+fn offers_and_signs(rt: HostRuntime) {
+    let mut channel = opened(&rt, rt.alloc(), Side::A);
+    refuses(&rt, &mut channel);
+    let offered = channel.offer(80_000_000, [9; 32], 500).is_ok();
+    let next = channel.ready().expect(&rt, "a commitment");
+    assert_eq!(rt; (offered, next.number, next.view.a.balance), (true, 1, 0));
+    let message = channel.signed().expect(&rt, "tokens");
+    assert_eq!(rt; htlc_tokens(&message), Some(1));
+    assert_eq!(rt; channel.signed().err(), Some(Refusal::NotYourTurn));
+}
+
+// Each other update of one's own finds memory.
+#[test]
+fn changes_the_feerate(rt: HostRuntime) {
+    let mut channel = opened(&rt, rt.alloc(), Side::A);
+    assert!(rt; channel.set_fee(2000).is_ok());
+    let next = channel.ready().expect(&rt, "a commitment");
+    assert_eq!(rt; next.view.feerate, 2000);
+}
+
+// B signs A's commitment with the HTLC, and fails it.
+fn sign_and_fail(rt: &impl Abort, b: &mut Channel, a: &mut Channel) {
+    let tokens = b.signed().expect(rt, "tokens");
+    assert_eq!(rt; htlc_tokens(&tokens), Some(1));
+    deliver(rt, b, a, &tokens);
+    let failure = b.fail(0).expect(rt, "a failure");
+    deliver(rt, b, a, &failure);
+}
+
+// An offer and its failure, signed by both sides.
+#[test]
+fn two_sides_agree(rt: HostRuntime) {
+    let mut a = opened(&rt, rt.alloc(), Side::A);
+    let mut b = opened(&rt, rt.alloc(), Side::B);
+    offered(&rt, &mut a, &mut b);
+    sign_and_fail(&rt, &mut b, &mut a);
+    let next = b.ready().expect(&rt, "a commitment");
+    assert_eq!(rt; (next.number, next.view.a.balance), (2, 80_000_000));
+    assert!(rt; b.signed().is_ok());
+}
+
+// A sets a feerate and signs it, upon which B revokes its commitment 0.
+fn set_a_feerate(rt: &impl Abort, a: &mut Channel, b: &mut Channel) {
+    let rate = a.set_fee(2000).expect(rt, "a feerate");
+    let tokens = a.signed().expect(rt, "tokens");
+    assert!(rt; a.waits_to_sign() && a.peers_secret(0).is_none());
+    deliver(rt, a, b, &rate);
+    deliver(rt, a, b, &tokens);
+}
+
+// Once B revoked its commitment 0, A shows its secret, and may sign for what the commitment would pay B.
+#[test]
+fn learns_the_secret_of_a_revocation(rt: HostRuntime) {
+    let mut a = opened(&rt, rt.alloc(), Side::A);
+    let mut b = opened(&rt, rt.alloc(), Side::B);
+    let first = opening_points(&Signer::new(rt.alloc(), &[2; 32])).first;
+    let key = revocation(&a.signer().base(Base::Revocation), &first);
+    let before = a.signer().can_sign(&key);
+    set_a_feerate(&rt, &mut a, &mut b);
+    assert_eq!(rt; (before, a.signer().can_sign(&key)), (false, true));
+    let secret = a.peers_secret(0).expect(&rt, "a secret");
+    assert!(rt; point(&secret) == first && !a.waits_to_sign());
+}
+
+// Whether these are the tokens of a message.
+fn has_tokens(message: &Message, tokens: &Tokens) -> bool {
+    match message {
+        Message::CommitmentSigned(sent) => {
+            sent.commitment == tokens.commitment && sent.htlcs.values() == tokens.htlcs.values()
+        }
+        _ => false,
+    }
+}
+
+// The tokens on an own commitment are those that came.
+#[test]
+fn finds_the_tokens_on_its_own_commitment(rt: HostRuntime) {
+    let mut a = opened(&rt, rt.alloc(), Side::A);
+    let mut b = opened(&rt, rt.alloc(), Side::B);
+    let signature = offered(&rt, &mut a, &mut b);
+    let tokens = b.own_tokens(1).expect(&rt, "memory");
+    assert!(rt; has_tokens(&signature, &tokens.expect(&rt, "tokens")));
+    assert!(rt; b.own_tokens(2).expect(&rt, "memory").is_none());
+}

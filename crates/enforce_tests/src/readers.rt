@@ -1,0 +1,58 @@
+//! Input that ends otherwise than it should.
+
+use crate::fixtures::prints_of;
+use enforce_words::USAGE;
+use std::io;
+use std::test::Fail;
+
+// A reader that gives zero bytes without an end.
+#[derive(Drop)]
+struct Endless;
+
+impl io::Read for Endless {
+    fn read(&mut self, bytes: &mut [u8]) -> io::Result<usize> {
+        bytes.fill(0);
+        Ok(bytes.len())
+    }
+}
+
+// A reader that gives a byte so many times, and fails from then on.
+#[derive(Drop)]
+struct Failing {
+    left: u8,
+}
+
+impl io::Read for Failing {
+    fn read(&mut self, bytes: &mut [u8]) -> io::Result<usize> {
+        if self.left == 0 || bytes.is_empty() {
+            return Err(io::Error::from(io::ErrorKind::BrokenPipe));
+        }
+        self.left -= 1;
+        bytes[0] = b'{';
+        Ok(1)
+    }
+}
+
+#[test]
+fn reads_no_more_than_the_limit(rt: HostRuntime) -> Result<(), Fail> {
+    let line = "refused TooLong\n";
+    prints_of(&rt, rt.alloc(), &["run"], &mut Endless, line, "", 1)
+}
+
+#[test]
+fn tells_a_failed_read(rt: HostRuntime) -> Result<(), Fail> {
+    let line = "refused ReadFailed\n";
+    let mut input = Failing { left: 0 };
+    prints_of(&rt, rt.alloc(), &["run"], &mut input, line, "", 1)?;
+    input.left = 3;
+    prints_of(&rt, rt.alloc(), &["run"], &mut input, line, "", 1)
+}
+
+// Wrong words are found before any input is read.
+#[test]
+fn reads_nothing_after_wrong_words(rt: HostRuntime) -> Result<(), Fail> {
+    let mut input = Failing { left: 3 };
+    prints_of(&rt, rt.alloc(), &["run", "1"], &mut input, "", USAGE, 2)?;
+    assert_eq!(rt; input.left, 3);
+    Ok(())
+}

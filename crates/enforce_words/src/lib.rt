@@ -1,0 +1,76 @@
+//! The words of the program `enforce`, from which come a status and text.
+//!
+//! `enforce ripemd HEX` hashes a message, `enforce paths HEX` lists the ways through a script, and `enforce run` plays the scenario on standard input.
+//! [`run_words`] does what the words say, over any reader and writers, and answers a status of at most 2.
+//!
+//! ```rust
+//! let status = run_words(alloc, words, &mut input, &mut out, &mut err);
+//! ```
+//!
+//! The program's rows are the tests of `enforce_tests`.
+#![tactic(auto)]
+
+ghost use Rattle.std.specs.Prelude.{◌≡◌, ◌≤◌, ◌⊎◌};
+
+mod answers;
+mod endings;
+mod listings;
+mod playing;
+mod refusals;
+
+use crate::answers::{Command, answer};
+use std::alloc::Global;
+use std::io::{Read, Write};
+
+/// The line that wrong words get.
+pub const USAGE: &str = "usage: enforce ripemd HEX | paths HEX | run | node N\n";
+
+/// Runs the program on its words (without its name) and answers its status: 0 when done, 1 for refused input or a failed write, 2 for
+/// wrong words, which are found before any input is read. All text is made before its first byte is written.
+pub fn run_words<R: Read, W: Write, E: Write>(
+    alloc: Global,
+    words: &[String],
+    input: &mut R,
+    out: &mut W,
+    err: &mut E,
+) -> u8
+    ensures { result ≤ 2 }
+{
+    let Some(command) = Command::read(words) else {
+        return refuse_words(err);
+    };
+    match answer(alloc, &command, input) {
+        Ok(text) => written(out, text.as_str(), 0),
+        Err(refusal) => match refusal.line(alloc) {
+            Ok(text) => written(out, text.as_str(), 1),
+            Err(_) => refuse_memory(out),
+        },
+    }
+}
+
+/// Answers wrong words.
+pub fn refuse_words<E: Write>(err: &mut E) -> u8
+    ensures { result ≤ 2 }
+{
+    written(err, USAGE, 2)
+}
+
+/// Answers that memory ran out.
+pub fn refuse_memory<W: Write>(out: &mut W) -> u8
+    ensures { result ≤ 2 }
+{
+    written(out, "refused NoMemory\n", 1)
+}
+
+// Writes a text, and answers the status, or 1 where the write fails.
+fn written<W: Write>(out: &mut W, text: &str, status: u8) -> u8
+    ensures { (result ≡ status) ⊎ (result ≡ 1) }
+{
+    match out.write_all(text.as_bytes()) {
+        Ok(()) => match out.flush() {
+            Ok(()) => status,
+            Err(_) => 1,
+        },
+        Err(_) => 1,
+    }
+}

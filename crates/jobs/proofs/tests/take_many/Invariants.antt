@@ -1,5 +1,0 @@
-use Rattle.jobs.specs.Ends.{TakesWith}
-use Rattle.jobs.proofs.tests.take_many.Given as goal
-
-abbrev pub invariant-loop : goal.invariant-loop
-invariant-loop g l = TakesWith l.taker l.pass

@@ -1,0 +1,138 @@
+//! What is known of a small channel.
+
+use commit::signing_digests;
+use keys::{Key, Signer};
+use lists::List;
+use penalty::RevokedState;
+use resolve::{Known, KnownCommitment, RevokedCommitment, RevokedCommitments, SignedCommitment};
+use sighash::Token;
+use std::alloc::Global;
+use std::process::Abort;
+use terms::{BaseKeys, Htlc, Party, Share, Side, Terms, View};
+use tx::OutPoint;
+
+// A key of one byte over and over, behind 02.
+fn key(rt: &impl Abort, fill: u8) -> Key {
+    let mut bytes = [fill; 33];
+    bytes[0] = 2;
+    Key::read(&bytes).expect(rt, "a key")
+}
+
+// A side whose funding key has this byte, and whose other keys have the next one.
+fn party(rt: &impl Abort, start: u64, fill: u8) -> Party {
+    let other = key(rt, fill ^ 1);
+    Party {
+        dust: 546,
+        delay: 144,
+        minimum: 0,
+        start,
+        bases: BaseKeys {
+            funding: key(rt, fill),
+            payment: other,
+            delayed: other,
+            htlc: other,
+            revocation: other,
+        },
+    }
+}
+
+pub fn terms(rt: &impl Abort) -> Terms {
+    let funding = OutPoint {
+        txid: [7; 32],
+        index: 1,
+    };
+    let (a, b) = (party(rt, 80_000_000, 0xa0), party(rt, 20_000_000, 0xb0));
+    Terms::new(funding, 100_000, Side::A, 1000, a, b).expect(rt, "terms")
+}
+
+// A view with an HTLC that A offered.
+fn view(rt: &impl Abort, alloc: Global) -> View {
+    let mut offered = List::new(alloc);
+    let htlc = Htlc {
+        id: 0,
+        amount: 10_000_000,
+        hash: [9; 32],
+        expiry: 500,
+    };
+    offered.push(htlc).expect(rt, "memory");
+    let a = Share {
+        balance: 70_000_000,
+        offered,
+    };
+    let b = Share {
+        balance: 20_000_000,
+        offered: List::new(alloc),
+    };
+    View {
+        a,
+        b,
+        feerate: 1000,
+    }
+}
+
+// The owner's commitment of a number.
+pub fn numbered(rt: &impl Abort, alloc: Global, owner: Side, number: u64) -> KnownCommitment {
+    let view = view(rt, alloc);
+    let built = KnownCommitment::new(alloc, &terms(rt), &view, owner, number, &key(rt, 0xcc));
+    built.expect(rt, "a commitment")
+}
+
+// B's tokens on the HTLC transactions of a commitment.
+fn tokens_on(rt: &impl Abort, alloc: Global, remote: &Key, digests: &[[u8; 32]]) -> List<Token> {
+    let mut tokens = List::new(alloc);
+    for digest in digests {
+        let on_htlc = Token::new(&remote.bytes, digest);
+        tokens.push(on_htlc).expect(rt, "memory");
+    }
+    tokens
+}
+
+// A's commitment 3, with the tokens of B.
+pub fn signed(rt: &impl Abort, alloc: Global) -> SignedCommitment {
+    let terms = terms(rt);
+    let known = numbered(rt, alloc, Side::A, 3);
+    let digests = signing_digests(alloc, &terms, known.commitment()).expect(rt, "memory");
+    let token = Token::new(&terms.b.bases.funding.bytes, &digests.commitment);
+    let remote = known.commitment().keys().remote_htlc;
+    let tokens = tokens_on(rt, alloc, &remote, digests.htlcs.values());
+    let own = SignedCommitment::new(alloc, &terms, Side::A, known, token, tokens);
+    own.expect(rt, "the peer's tokens")
+}
+
+// B's revoked commitment of a number.
+pub fn revoked(rt: &impl Abort, alloc: Global, number: u64) -> RevokedCommitment {
+    let view = view(rt, alloc);
+    let state = RevokedState::new(terms(rt), view, Side::B, number, [5; 32]).expect(rt, "a state");
+    RevokedCommitment::new(alloc, state, false).expect(rt, "memory")
+}
+
+// Those of numbers 0 and 1, of which the penalties of 1 are kept.
+pub fn two_revoked(rt: &impl Abort, alloc: Global) -> RevokedCommitments {
+    let mut list = RevokedCommitments::new(alloc);
+    list.push(revoked(rt, alloc, 0)).expect(rt, "number 0");
+    list.push(revoked(rt, alloc, 1)).expect(rt, "number 1");
+    assert!(rt; list.keep(1));
+    list
+}
+
+// A's own older commitment.
+fn older(rt: &impl Abort, alloc: Global) -> List<SignedCommitment> {
+    let mut older = List::new(alloc);
+    older.push(signed(rt, alloc)).expect(rt, "memory");
+    older
+}
+
+// What A knows, with two revoked commitments of B.
+pub fn known(rt: &impl Abort, alloc: Global) -> Known {
+    Known {
+        terms: terms(rt),
+        side: Side::A,
+        signer: Signer::new(alloc, &[1; 32]),
+        own: signed(rt, alloc),
+        older: older(rt, alloc),
+        theirs: numbered(rt, alloc, Side::B, 2),
+        next: Some(numbered(rt, alloc, Side::B, 3)),
+        revoked: two_revoked(rt, alloc),
+        preimages: List::new(alloc),
+    }
+}

@@ -1,0 +1,10 @@
+//! Tests of what is due on the chain and of the watch that finds it: `resolve` and `watch`. They stand apart so that each library is proved
+//! without them.
+#![tactic(auto)]
+
+#[cfg(test)]
+mod fixtures;
+#[cfg(test)]
+mod knowledge;
+#[cfg(test)]
+mod watches;

@@ -1,0 +1,208 @@
+//! What no clause of `jobs` says: that calls succeed and return, in one thread and in many.
+
+ghost use Rattle.jobs.specs.Ends.{PutsWith, TakesWith, IsOneQueue};
+
+use jobs::{JobSender, JobTaker, Pass, job_queue};
+use std::alloc::{AllocError, Global};
+use std::sync::Wait;
+use std::test::Fail;
+use std::thread;
+use std::thread::{JoinHandle, Threads};
+
+// Puts so many jobs from `first` on, each one more, and says how many were put before one came back.
+fn put_many<R: Wait>(
+    rt: &R,
+    sender: &JobSender<u32>,
+    pass: &mut Pass<u32>,
+    first: u32,
+    count: u32,
+) -> u32
+    requires { PutsWith sender.now pass.old }
+    ensures { PutsWith sender.now pass.new }
+{
+    for k in 0..count {
+        if sender.put(rt, pass, first.wrapping_add(k)).is_err() {
+            return k;
+        }
+    }
+    count
+}
+
+// Takes so many jobs, or all that there are until the queue is closed and empty.
+fn take_many<R: Wait>(
+    rt: &R,
+    alloc: Global,
+    taker: &JobTaker<u32>,
+    pass: &mut Pass<u32>,
+    most: u32,
+) -> Result<Vec<u32>, AllocError>
+    requires { TakesWith taker.now pass.old }
+    ensures { TakesWith taker.now pass.new }
+{
+    let mut taken = Vec::new(alloc);
+    for _ in 0..most {
+        let Some(job) = taker.take(rt, pass) else {
+            break;
+        };
+        taken.push(job)?;
+    }
+    Ok(taken)
+}
+
+// The example of the page of `jobs`.
+#[test]
+fn first_in_first_out(rt: HostRuntime) -> Result<(), Fail> {
+    let (sender, taker, mut mine) = job_queue(rt.alloc())?;
+    let mut theirs = sender.pass(&mut mine);
+    assert!(rt; sender.put(&rt, &mut mine, 7).is_ok());
+    assert!(rt; sender.put(&rt, &mut mine, 5).is_ok());
+    drop(sender);
+    assert_eq!(rt; taker.take(&rt, &mut theirs), Some(7));
+    assert_eq!(rt; taker.take(&rt, &mut theirs), Some(5));
+    assert_eq!(rt; taker.take(&rt, &mut theirs), None);
+    Ok(())
+}
+
+// Puts 64 jobs, each of which is to be taken in, and then takes 64, which are to be those, in order.
+fn fill_and_empty<R: Wait>(
+    rt: &R,
+    alloc: Global,
+    sender: &JobSender<u32>,
+    mine: &mut Pass<u32>,
+    taker: &JobTaker<u32>,
+    theirs: &mut Pass<u32>,
+    first: u32,
+) -> Result<bool, AllocError>
+    requires { PutsWith sender.now mine.old × TakesWith taker.now theirs.old }
+    ensures { PutsWith sender.now mine.new × TakesWith taker.now theirs.new }
+{
+    if put_many(rt, sender, mine, first, 64) != 64 {
+        return Ok(false);
+    }
+    let taken = take_many(rt, alloc, taker, theirs, 64)?;
+    Ok(
+        taken.len() == 64
+            && taken
+                .iter()
+                .zip(first..first.saturating_add(64))
+                .all(|(job, next)| *job == next),
+    )
+}
+
+// With both ends open, 64 puts of one thread are each Ok, and then 64 takes give the 64 jobs in order; and once more, past the end of the ring.
+#[test]
+fn sixty_four_jobs(rt: HostRuntime) -> Result<(), Fail> {
+    let alloc = rt.alloc();
+    let (sender, taker, mut mine) = job_queue(alloc)?;
+    let mut theirs = sender.pass(&mut mine);
+    assert!(rt; fill_and_empty(&rt, alloc, &sender, &mut mine, &taker, &mut theirs, 0)?);
+    assert!(rt; fill_and_empty(&rt, alloc, &sender, &mut mine, &taker, &mut theirs, 1000)?);
+    Ok(())
+}
+
+// Where no taker is left, a job comes back; where no sender is left and the queue is empty, there is none.
+#[test]
+fn one_end_gone(rt: HostRuntime) -> Result<(), Fail> {
+    let (sender, taker, mut mine) = job_queue(rt.alloc())?;
+    let second = taker.copy()?;
+    drop(taker);
+    assert!(rt; sender.put(&rt, &mut mine, 1).is_ok());
+    drop(second);
+    assert_eq!(rt; sender.put(&rt, &mut mine, 2), Err(2));
+
+    let (sender, taker, mut mine) = job_queue(rt.alloc())?;
+    let second = sender.copy()?;
+    drop(sender);
+    assert!(rt; second.put(&rt, &mut mine, 3).is_ok());
+    drop(second);
+    assert_eq!(rt; taker.take(&rt, &mut mine), Some(3));
+    assert_eq!(rt; taker.take(&rt, &mut mine), None);
+    Ok(())
+}
+
+// Starts a thread that puts 10,000 jobs.
+fn start_putter<R: Threads + Wait + Copy + Send + 'static>(
+    rt: R,
+    sender: &JobSender<u32>,
+    first: &mut Pass<u32>,
+    job: u32,
+) -> Result<JoinHandle<u32>, Fail>
+    requires { PutsWith sender.now first.old }
+    ensures { PutsWith sender.now first.new }
+{
+    let own = sender.copy()?;
+    let mut pass = sender.pass(first);
+    let handle = thread::spawn(
+        &rt,
+        move || -> u32
+            requires { PutsWith own pass }
+        { put_many(&rt, &own, &mut pass, job, 10_000) },
+    );
+    handle.map_err(|_| Fail::from("no thread"))
+}
+
+// Starts a thread that takes jobs until the queue is closed and empty.
+fn start_taker<R: Threads + Wait + Copy + Send + 'static>(
+    rt: R,
+    alloc: Global,
+    sender: &JobSender<u32>,
+    taker: &JobTaker<u32>,
+    first: &mut Pass<u32>,
+) -> Result<JoinHandle<Result<Vec<u32>, AllocError>>, Fail>
+    requires { PutsWith sender.now first.old × IsOneQueue sender.now taker.now }
+    ensures { PutsWith sender.now first.new }
+{
+    let own = taker.copy()?;
+    let mut pass = sender.pass(first);
+    let handle = thread::spawn(
+        &rt,
+        move || -> Result<Vec<u32>, AllocError>
+            requires { TakesWith own pass }
+        { take_many(&rt, alloc, &own, &mut pass, 40_000) },
+    );
+    handle.map_err(|_| Fail::from("no thread"))
+}
+
+// Marks each job that was taken, and says whether each was new.
+fn mark(seen: &mut Vec<bool>, taken: &[u32]) -> bool {
+    for job in taken {
+        match seen.get_mut(*job as usize) {
+            Some(mark) if !*mark => *mark = true,
+            _ => return false,
+        }
+    }
+    true
+}
+
+// Four putters and four takers of 10,000 jobs each: every job is taken once.
+#[test]
+fn four_putters_and_four_takers(rt: HostRuntime) -> Result<(), Fail> {
+    let alloc = rt.alloc();
+    let (sender, taker, mut first) = job_queue(alloc)?;
+    let takers = (
+        start_taker(rt, alloc, &sender, &taker, &mut first)?,
+        start_taker(rt, alloc, &sender, &taker, &mut first)?,
+        start_taker(rt, alloc, &sender, &taker, &mut first)?,
+        start_taker(rt, alloc, &sender, &taker, &mut first)?,
+    );
+    let putters = (
+        start_putter(rt, &sender, &mut first, 0)?,
+        start_putter(rt, &sender, &mut first, 10_000)?,
+        start_putter(rt, &sender, &mut first, 20_000)?,
+        start_putter(rt, &sender, &mut first, 30_000)?,
+    );
+    drop(sender);
+    let (a, b, c, d) = putters;
+    assert_eq!(rt;
+        (a.join(&rt), b.join(&rt), c.join(&rt), d.join(&rt)),
+        (10_000, 10_000, 10_000, 10_000)
+    );
+    let mut seen = vec![in alloc; false; 40_000]?;
+    let (a, b, c, d) = takers;
+    assert!(rt; mark(&mut seen, a.join(&rt)?.as_slice()));
+    assert!(rt; mark(&mut seen, b.join(&rt)?.as_slice()));
+    assert!(rt; mark(&mut seen, c.join(&rt)?.as_slice()));
+    assert!(rt; mark(&mut seen, d.join(&rt)?.as_slice()));
+    assert!(rt; seen.iter().all(|mark| *mark));
+    Ok(())
+}

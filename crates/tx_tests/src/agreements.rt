@@ -1,0 +1,90 @@
+//! Terms that can and can't be agreed on, and the fields of commitments against the values of BOLT 3.
+
+use crate::fixtures::{key, party, spending};
+use lists::List;
+use std::alloc::Global;
+use std::process::Abort;
+use terms::{Htlc, Obscured, Share, Side, Terms, TermsError, View, mask, number_of, obscure};
+use tx::{OutPoint, Tx};
+
+/// The payment base keys of BOLT 3, appendix C: the opener's, and the accepter's.
+const PAYMENT_BASES: [&str; 2] = [
+    "034f355bdcb7cc0af728ef3cceb9615d90684bb5b2ca5f859ab0f0b704075871aa",
+    "032c0b7cf95324a07d05398b240174dc0c2be444d96b159aa6c7f7b1e668680991",
+];
+
+/// The output that the channel of these tests spends.
+const FUNDING: OutPoint = OutPoint {
+    txid: [7; 32],
+    index: 1,
+};
+
+// Terms with a capacity of 100,000 satoshis.
+fn terms_of(rt: &impl Abort, a: u64, b: u64) -> Result<Terms, TermsError> {
+    let a = party(key(rt, PAYMENT_BASES[0]), a);
+    let b = party(key(rt, PAYMENT_BASES[1]), b);
+    Terms::new(FUNDING, 100_000, Side::A, 1000, a, b)
+}
+
+// Terms that can be agreed on.
+fn good_terms(rt: &impl Abort) -> Terms {
+    terms_of(rt, 0, 100_000_000).expect(rt, "terms")
+}
+
+#[test]
+fn starts_sum_to_the_capacity(rt: HostRuntime) {
+    assert!(rt; terms_of(&rt, 80_000_000, 20_000_000).is_ok());
+    assert!(rt; terms_of(&rt, 80_000_000, 20_000_001).is_err());
+    assert_eq!(rt; TermsError::BadTerms.number(), 1);
+}
+
+// The mask and the number of the commitments in BOLT 3, appendix C; of a greater number the low 48 bits count.
+#[test]
+fn numbers_hide_in_the_fields(rt: HostRuntime) {
+    assert_eq!(rt; mask(&good_terms(&rt)), 0x2bb0_3852_1914);
+    for (mask, n, lock_time, sequence) in [
+        (0x2bb0_3852_1914, 42, 0x2052_193e, 0x802b_b038),
+        (0, 0x1_0000_0000_0001, 0x2000_0001, 0x8000_0000),
+    ] {
+        assert_eq!(rt;
+            obscure(mask, n),
+            Obscured {
+                lock_time,
+                sequence
+            }
+        );
+    }
+}
+
+// The example of the page of `terms`.
+fn is_commitment(terms: &Terms, tx: &Tx, n: u64) -> bool {
+    number_of(terms, tx) == Some(n)
+}
+
+#[test]
+fn commitments_have_numbers(rt: HostRuntime) {
+    let tx = spending(&rt, rt.alloc(), &[FUNDING], 0x802b_b038, 0x2052_193e);
+    assert!(rt; is_commitment(&good_terms(&rt), &tx, 42));
+}
+
+// A share with so many HTLCs.
+fn share_of(rt: &impl Abort, alloc: Global, balance: u64, count: usize) -> Share {
+    let htlc = Htlc {
+        id: 3,
+        amount: 5_000_000,
+        hash: [9; 32],
+        expiry: 500,
+    };
+    let offered = List::from_vec(vec![in alloc; htlc; count].expect(rt, "memory"));
+    Share { balance, offered }
+}
+
+#[test]
+fn views_are_copied(rt: HostRuntime) {
+    let view = View {
+        a: share_of(&rt, rt.alloc(), 1, 2),
+        b: share_of(&rt, rt.alloc(), 2, 0),
+        feerate: 253,
+    };
+    assert!(rt; view.copy().is_ok());
+}

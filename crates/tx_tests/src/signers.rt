@@ -1,0 +1,184 @@
+//! Keys against values that Python's hashlib gave, and what signers may sign for.
+
+use crate::fixtures::{assert_prints, key};
+use hex::FromHex;
+use keys::{Base, Key, SignError, Signer, derive, point, revocation};
+use sighash::Token;
+use std::alloc::{AllocError, Global};
+use std::process::Abort;
+
+/// The bases in the order of their numbers.
+const BASES: [Base; 5] = [
+    Base::Funding,
+    Base::Payment,
+    Base::Delayed,
+    Base::Htlc,
+    Base::Revocation,
+];
+
+/// The seed of all signers here: 32 bytes 0a.
+const SEED: [u8; 32] = [0x0a; 32];
+
+/// The base keys of the seed.
+const BASE_KEYS: [&str; 5] = [
+    "02b0e2d3dc1a6b22e109abb20ef5d32787b004e8b72941b7b1e1c43021c26a5fb0",
+    "028857fd3aae0cb581c0deb5d49013130c944d27fb8fdd0b086ad9aee60c51de15",
+    "0284403cd5687784ca4b27ca9cf048bf3c9495426bce2fc3977212127290e00880",
+    "025ec23b9dbd14dfd11bfd006ede9591e377f5b44630869a0c6bd8d7ff6b4b3660",
+    "0286791f9847667325180a6aa37fe82c669c364ebb242e6f89646c56b0fd4ea99b",
+];
+
+/// What derives from them at the point 03(33*32).
+const DERIVED: [&str; 5] = [
+    "02bec57b1cbeb30d1818bf205eb4339031666a1f9fdba201c96d384403b4399372",
+    "026e01cf07b3a02dd4213450e796c9b4c35b91dad30ecd32156e8c88095bb6426c",
+    "02a6369da809a5dbc8d23606685e3efea17bfaa50369fa6b69f893195e70bea196",
+    "02f754d4b978ac2d2cb15b22c5bd4cdc4f7bc034ba7e1e8faf6a0e9633fae3c6b5",
+    "02ed42fec8c1c267d90bd96b0094d01decf05bbf5f6bc563c376eeccdec100d5ee",
+];
+
+/// Their revocation keys at the point of the secret 00 01 .. 1f.
+const REVOCATIONS: [&str; 5] = [
+    "02a9d48c7524d05e24ff01fc409097b3361e11ffd099f1be1670e50dd5956801d1",
+    "0279b621788663ccaa53551eededa48ef59cbf95a692dae9186c164a9c347c4794",
+    "0229cc594b69a59ce2d55d29f81cb6702d4790bf5dd89b3a95786111d0dbe92b9d",
+    "02f4dd69cdf5764d417c1722a176ad2daa317be07fa60e4e9ef1f91489d322b983",
+    "0208ef4ccea5aa1f13aa579efec7a6da8b41fb3908370de6403f6f3feac682b11c",
+];
+
+/// The point of that secret.
+const POINT: &str = "028087c7b77b89484bf1d2369981072209aaa1b7f8a2f4972ae96b2f2d3b3c28db";
+
+/// The seed of the per-commitment secrets.
+const COMMITMENT_SEED: &str = "6b4d9577f0bae8fdae454f93df2cb4e6a5849f10b2f662c6832b0aa9c7a7d946";
+
+/// The point 03(33*32).
+fn some_point(rt: &impl Abort) -> Key {
+    let mut bytes = [0x33; 33];
+    bytes[0] = 3;
+    Key::read(&bytes).expect(rt, "a key")
+}
+
+/// The secret 00 01 .. 1f.
+fn some_secret() -> [u8; 32] {
+    let mut secret = [0; 32];
+    for i in 0..32 {
+        secret[i] = i as u8;
+    }
+    secret
+}
+
+/// How many of the keys the signer may sign for.
+fn signable(rt: &impl Abort, signer: &Signer, keys: &[&str]) -> usize {
+    keys.iter()
+        .filter(|k| signer.can_sign(&key(rt, **k)))
+        .count()
+}
+
+#[test]
+fn derives_the_keys_that_hashlib_gives(rt: HostRuntime) {
+    let signer = Signer::new(rt.alloc(), &SEED);
+    let secret_point = point(&some_secret());
+    assert_eq!(rt; secret_point, key(&rt, POINT));
+    for (n, base) in BASES.iter().enumerate() {
+        let base_key = signer.base(*base);
+        assert_eq!(rt; usize::from(base.number()), n);
+        assert_eq!(rt; base_key, key(&rt, BASE_KEYS[n]), "base {n}");
+        assert_eq!(rt;
+            derive(&base_key, &some_point(&rt)),
+            key(&rt, DERIVED[n]),
+            "base {n}"
+        );
+        assert_eq!(rt;
+            revocation(&base_key, &secret_point),
+            key(&rt, REVOCATIONS[n]),
+            "base {n}"
+        );
+    }
+    let seed = <[u8; 32] as FromHex>::from_hex(COMMITMENT_SEED).expect(&rt, "64 hex digits");
+    assert_eq!(rt; signer.commitment_seed(), seed);
+}
+
+#[test]
+fn signs_for_what_it_has_a_right_to(rt: HostRuntime) {
+    let mut signer = Signer::new(rt.alloc(), &SEED);
+    assert_eq!(rt; signable(&rt, &signer, &BASE_KEYS), 5);
+    assert_eq!(rt; signable(&rt, &signer, &DERIVED), 0);
+    assert_eq!(rt; signable(&rt, &signer, &REVOCATIONS), 0);
+    signer.learn_point(&some_point(&rt)).expect(&rt, "memory");
+    assert_eq!(rt; signable(&rt, &signer, &DERIVED), 5);
+    assert_eq!(rt; signable(&rt, &signer, &REVOCATIONS), 0);
+    // the point of a secret gives no revocation key: its secret does
+    signer.learn_point(&key(&rt, POINT)).expect(&rt, "memory");
+    assert_eq!(rt; signable(&rt, &signer, &REVOCATIONS), 0);
+    signer.learn_secret(&some_secret()).expect(&rt, "memory");
+    assert_eq!(rt; signable(&rt, &signer, &REVOCATIONS), 5);
+    assert_eq!(rt; signable(&rt, &signer, &BASE_KEYS), 5);
+    assert_eq!(rt; signable(&rt, &signer, &[POINT]), 0);
+}
+
+/// A secret, another for each number.
+fn numbered_secret(number: u16) -> [u8; 32] {
+    let mut secret = [0x44; 32];
+    secret[..2].copy_from_slice(&number.to_be_bytes());
+    secret
+}
+
+/// Learns the secret of a number and its point, by one call or by two.
+fn learn(rt: &impl Abort, signer: &mut Signer, number: u16) {
+    let secret = numbered_secret(number);
+    let point = point(&secret);
+    if number % 2 == 0 {
+        signer
+            .learn_revocation(&secret, &point)
+            .expect(rt, "memory");
+    } else {
+        signer.learn_point(&point).expect(rt, "memory");
+        signer.learn_secret(&secret).expect(rt, "memory");
+    }
+}
+
+#[test]
+fn learns_many_and_forgets_none(rt: HostRuntime) {
+    let mut signer = Signer::new(rt.alloc(), &SEED);
+    for number in 0..300 {
+        learn(&rt, &mut signer, number);
+    }
+    let first = point(&numbered_secret(0));
+    assert!(rt; signer.can_sign(&derive(&signer.base(Base::Htlc), &first)));
+}
+
+#[test]
+fn copies_a_signer(rt: HostRuntime) {
+    let mut signer = Signer::new(rt.alloc(), &SEED);
+    learn(&rt, &mut signer, 0);
+    assert!(rt; signer.copy().is_ok());
+}
+
+#[test]
+fn prints_the_refusal(rt: HostRuntime) {
+    assert_prints(&rt, rt.alloc(), &SignError::NoRight, "NoRight");
+    assert_eq!(rt; SignError::NoRight.number(), 1);
+}
+
+// The example of the page of `keys`.
+fn sign_delayed(
+    alloc: Global,
+    seed: &[u8; 32],
+    point: &Key,
+    digest: &[u8; 32],
+) -> Result<Option<Token>, AllocError> {
+    let mut signer = Signer::new(alloc, seed);
+    signer.learn_point(point)?;
+    let key = derive(&signer.base(Base::Delayed), point);
+    Ok(signer.sign(&key, digest).ok())
+}
+
+#[test]
+fn signs_with_a_delayed_key(rt: HostRuntime) {
+    let token = sign_delayed(rt.alloc(), &SEED, &some_point(&rt), &[9; 32]).expect(&rt, "memory");
+    assert_eq!(rt;
+        token,
+        Some(Token::new(&key(&rt, DERIVED[2]).bytes, &[9; 32]))
+    );
+}

@@ -1,0 +1,212 @@
+//! What no clause says of transactions: that memory which is there is found, the order of outpoints, and printed names. Known bytes are read by
+//! `vectors`.
+
+use crate::fixtures::assert_prints;
+use lists::ByteString;
+use std::alloc::Global;
+use std::process::Abort;
+use tx::{
+    DecodeError, EncodeError, FieldError, Inputs, LimitError, OutPoint, Outputs, Tx, TxIn, TxOut,
+    Witness, decode, decode_stripped, encode, encode_stripped,
+};
+
+// The sizes of a transaction: how many inputs and outputs, items of each input, bytes of each item and script.
+#[derive(Clone, Copy, Drop)]
+struct Sizes {
+    inputs: usize,
+    outputs: usize,
+    items: usize,
+    item: usize,
+    script: usize,
+}
+
+// Bytes of one value.
+fn repeated(rt: &impl Abort, alloc: Global, byte: u8, count: usize) -> ByteString {
+    ByteString::from_vec(vec![in alloc; byte; count].expect(rt, "memory"))
+}
+
+// A witness of items of one length.
+fn witness_of(rt: &impl Abort, alloc: Global, items: usize, len: usize) -> Witness {
+    let mut witness = Witness::new(alloc);
+    for k in 0..items {
+        let item = repeated(rt, alloc, (k % 251) as u8, len);
+        witness.push(item).expect(rt, "an item");
+    }
+    witness
+}
+
+// Inputs, of which each has a witness like this one.
+fn inputs_of(rt: &impl Abort, alloc: Global, count: usize, witness: &Witness) -> Inputs {
+    let mut inputs = Inputs::new(alloc);
+    for k in 0..count {
+        let outpoint = OutPoint {
+            txid: [(k % 256) as u8; 32],
+            index: (k % 5_000) as u32,
+        };
+        let input = TxIn {
+            outpoint,
+            sequence: 144,
+            witness: witness.copy().expect(rt, "memory"),
+        };
+        inputs.push(input).expect(rt, "an input");
+    }
+    inputs
+}
+
+// Outputs to scripts of one length.
+fn outputs_of(rt: &impl Abort, alloc: Global, count: usize, len: usize) -> Outputs {
+    let mut outputs = Outputs::new(alloc);
+    for k in 0..count {
+        let script = repeated(rt, alloc, (k % 251) as u8, len);
+        let output = TxOut::new((k % 5_000) as u64, script).expect(rt, "an output");
+        outputs.push(output).expect(rt, "an output");
+    }
+    outputs
+}
+
+// A transaction of these sizes.
+fn transaction_of(rt: &impl Abort, alloc: Global, sizes: Sizes) -> Tx {
+    let witness = witness_of(rt, alloc, sizes.items, sizes.item);
+    let inputs = inputs_of(rt, alloc, sizes.inputs, &witness);
+    let outputs = outputs_of(rt, alloc, sizes.outputs, sizes.script);
+    Tx::new(2, inputs, outputs, 500).expect(rt, "an input")
+}
+
+// A transaction that was encoded and decoded.
+fn decoded(rt: &impl Abort, alloc: Global, tx: &Tx) -> Tx {
+    let bytes = encode(alloc, tx).expect(rt, "memory");
+    decode(alloc, &bytes).expect(rt, "a transaction")
+}
+
+// A transaction that was encoded and decoded without its witnesses.
+fn stripped(rt: &impl Abort, alloc: Global, tx: &Tx) -> Tx {
+    let bytes = encode_stripped(alloc, tx).expect(rt, "memory");
+    decode_stripped(alloc, &bytes).expect(rt, "a transaction")
+}
+
+// Whether a transaction of these sizes is encoded, decoded and copied, with and without witnesses.
+fn goes_round(rt: &impl Abort, alloc: Global, sizes: Sizes) -> bool {
+    let tx = transaction_of(rt, alloc, sizes);
+    let mut read = decoded(rt, alloc, &tx);
+    let copy = read.copy().expect(rt, "memory");
+    read.strip_witnesses();
+    let bare = stripped(rt, alloc, &copy);
+    copy.equals(&tx) && read.equals(&bare) && !bare.equals(&tx)
+}
+
+const PLAIN: Sizes = Sizes {
+    inputs: 1,
+    outputs: 1,
+    items: 1,
+    item: 1,
+    script: 22,
+};
+
+// At lengths on the way, in every part.
+#[test]
+fn goes_round_in_every_shape(rt: HostRuntime) {
+    for n in (1usize..=600).step_by(7) {
+        for sizes in [
+            Sizes { item: n, ..PLAIN },
+            Sizes { script: n, ..PLAIN },
+            Sizes { items: n, ..PLAIN },
+            Sizes { inputs: n, ..PLAIN },
+            Sizes {
+                outputs: n,
+                ..PLAIN
+            },
+        ] {
+            assert!(rt; goes_round(&rt, rt.alloc(), sizes), "{n}");
+        }
+    }
+}
+
+// At each limit.
+#[test]
+fn goes_round_at_the_limits(rt: HostRuntime) {
+    for sizes in [
+        Sizes {
+            inputs: 4_000,
+            outputs: 4_000,
+            ..PLAIN
+        },
+        Sizes {
+            items: 1_001,
+            item: 0,
+            ..PLAIN
+        },
+        Sizes {
+            item: 10_000,
+            script: 10_000,
+            ..PLAIN
+        },
+    ] {
+        assert!(rt; goes_round(&rt, rt.alloc(), sizes));
+    }
+}
+
+// The outpoint of an id that has these first and last bytes.
+fn outpoint_of(first: u8, last: u8, index: u32) -> OutPoint {
+    let mut txid = [first; 32];
+    txid[31] = last;
+    OutPoint { txid, index }
+}
+
+// Outpoints stand in the order of their ids, and then of their indices.
+#[test]
+fn orders_outpoints(rt: HostRuntime) {
+    assert!(rt; outpoint_of(0, 1, 9) < outpoint_of(0, 2, 0));
+    assert!(rt; outpoint_of(0, 2, 0) < outpoint_of(0, 2, 256));
+    assert!(rt; outpoint_of(0, 2, 256) < outpoint_of(1, 0, 0));
+}
+
+#[test]
+fn prints_every_fault(rt: HostRuntime) {
+    for (error, name) in [
+        (DecodeError::NoMemory, "NoMemory"),
+        (DecodeError::Truncated, "Truncated"),
+        (DecodeError::LongCount, "LongCount"),
+        (DecodeError::BadMarker, "BadMarker"),
+        (DecodeError::NoInputs, "NoInputs"),
+        (DecodeError::NoWitness, "NoWitness"),
+        (DecodeError::ValueTooLarge, "ValueTooLarge"),
+        (DecodeError::Trailing, "Trailing"),
+        (DecodeError::OverLimit, "OverLimit"),
+    ] {
+        assert_prints(&rt, rt.alloc(), &error, name);
+    }
+}
+
+#[test]
+fn prints_the_refusals_of_other_calls(rt: HostRuntime) {
+    let alloc = rt.alloc();
+    assert_prints(&rt, alloc, &EncodeError::NoMemory, "NoMemory");
+    assert_prints(&rt, alloc, &EncodeError::NoWitness, "NoWitness");
+    assert_prints(&rt, alloc, &LimitError::NoMemory, "NoMemory");
+    assert_prints(&rt, alloc, &LimitError::OverLimit, "OverLimit");
+    assert_prints(&rt, alloc, &FieldError::NoInputs, "NoInputs");
+    assert_prints(&rt, alloc, &FieldError::ValueTooLarge, "ValueTooLarge");
+    assert_prints(&rt, alloc, &FieldError::OverLimit, "OverLimit");
+}
+
+// The example of the page of `tx`.
+fn pays(alloc: Global, bytes: &[u8], value: u64) -> Result<bool, DecodeError> {
+    let tx = decode(alloc, bytes)?;
+    Ok(tx.outputs().iter().any(|output| output.value() == value))
+}
+
+// The bytes of a transaction whose outputs have the values 0 and 1.
+fn bytes_of_two_outputs(rt: &impl Abort, alloc: Global) -> Vec<u8> {
+    let sizes = Sizes {
+        outputs: 2,
+        ..PLAIN
+    };
+    encode(alloc, &transaction_of(rt, alloc, sizes)).expect(rt, "memory")
+}
+
+#[test]
+fn finds_an_output_by_its_value(rt: HostRuntime) {
+    let bytes = bytes_of_two_outputs(&rt, rt.alloc());
+    let found = pays(rt.alloc(), &bytes, 1).expect(&rt, "a transaction");
+    assert!(rt; found);
+}

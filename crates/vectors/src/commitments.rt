@@ -1,0 +1,99 @@
+//! Builds commitments, a line each: `build HTLCS TIMES` builds one with so many HTLCs of each direction so many times, and prints its id. What is printed are the ids of a
+//! model in another language.
+
+use anyhow::{Result, bail};
+use commit::{Htlc, Side, Terms, View, build};
+use digest::sha256;
+use keys::Key;
+use lists::List;
+use std::alloc::Global;
+use terms::{BaseKeys, Party, Share};
+use tx::OutPoint;
+
+/// 02 and one byte over and over.
+fn key(fill: u8) -> Result<Key> {
+    let mut bytes = [fill; 33];
+    bytes[0] = 2;
+    match Key::read(&bytes) {
+        Some(key) => Ok(key),
+        None => bail!("no key"),
+    }
+}
+
+/// A party whose keys are all one.
+fn party(delay: u16, start: u64, key: Key) -> Party {
+    Party {
+        dust: 546,
+        delay,
+        minimum: 0,
+        start,
+        bases: BaseKeys {
+            funding: key,
+            payment: key,
+            delayed: key,
+            htlc: key,
+            revocation: key,
+        },
+    }
+}
+
+/// 100 bitcoins, of which each side begins with half.
+fn terms() -> Result<Terms> {
+    let funding = OutPoint {
+        txid: [7; 32],
+        index: 1,
+    };
+    let half = 5_000_000_000_000;
+    let a = party(144, half, key(0xa0)?);
+    let b = party(144, half, key(0xb0)?);
+    Ok(Terms::new(funding, 10_000_000_000, Side::A, 1000, a, b)?)
+}
+
+/// So many HTLCs, each with a hash of its own, of nine amounts and seven expiries.
+fn share(alloc: Global, first: u32, count: u32) -> Result<Share> {
+    let mut htlcs = Vec::new(alloc);
+    for id in 0..count {
+        htlcs.push(Htlc {
+            id: u64::from(id),
+            amount: 10_000_000 + u64::from(id % 9) * 1000,
+            hash: sha256(&first.wrapping_add(id).to_le_bytes()),
+            expiry: 500 + id % 7,
+        })?;
+    }
+    Ok(Share {
+        balance: 4_000_000_000_000,
+        offered: List::from_vec(htlcs),
+    })
+}
+
+/// The id of A's commitment 42, built so many times.
+fn built(alloc: Global, htlcs: u32, times: u32) -> Result<[u8; 32]> {
+    let terms = terms()?;
+    let point = key(0xcc)?;
+    let view = View {
+        a: share(alloc, 0, htlcs)?,
+        b: share(alloc, 1_000_000, htlcs)?,
+        feerate: 1000,
+    };
+    let mut id = [0; 32];
+    for _time in 0..times {
+        id = *build(alloc, &terms, &view, Side::A, 42, &point)?.id();
+    }
+    Ok(id)
+}
+
+/// What a line asks for.
+fn id_of(alloc: Global, line: &str) -> Result<[u8; 32]> {
+    let mut words = line.split(' ');
+    match (words.next(), words.next(), words.next()) {
+        (Some("build"), Some(htlcs), Some(times)) => built(alloc, htlcs.parse()?, times.parse()?),
+        _ => bail!("no such line"),
+    }
+}
+
+/// Prints the id that a line asks for.
+pub fn show<R: Print + AllocGlobal>(rt: &R, line: &str) -> Result<()> {
+    let id = id_of(rt.alloc(), line)?;
+    println!(rt; "{}", hex::encode(rt.alloc(), id)?)?;
+    Ok(())
+}

@@ -1,0 +1,31 @@
+//! Why a line has no answer.
+
+use penalty::StateError;
+use std::alloc::{AllocError, AllocFailed};
+use thiserror::Error;
+
+/// Why a line has no answer.
+#[derive(Debug, Drop, Error)]
+pub enum LineError {
+    /// Memory ran out.
+    #[error("NoMemory")]
+    NoMemory,
+    /// The words are not those of a state.
+    #[error("BadLine")]
+    BadLine,
+    /// The values are none of a state.
+    #[error("{0}")]
+    State(StateError),
+}
+
+impl From<AllocError> for LineError {
+    fn from(_error: AllocError) -> LineError {
+        LineError::NoMemory
+    }
+}
+
+impl<T: Drop> From<AllocFailed<T>> for LineError {
+    fn from(_error: AllocFailed<T>) -> LineError {
+        LineError::NoMemory
+    }
+}

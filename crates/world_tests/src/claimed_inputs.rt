@@ -1,0 +1,96 @@
+// The chain's test of what a claim of one key is filled with.
+
+use chain::{Coins, Index, Refusal, Scan};
+use claim::{Claim, Key, Place, Shell, Slot, accept};
+use digest::sha256;
+use filling::fill;
+use keys::{Base, Signer};
+use lists::ByteString;
+use paths::check;
+use script::Script;
+use std::alloc::Global;
+use std::process::Abort;
+use tx::{MAX_OUTPUTS, Tx, TxOut};
+use world::check_claimed;
+
+// A push of the key, and CHECKSIG.
+fn code_of(rt: &impl Abort, alloc: Global, key: &Key) -> Vec<u8> {
+    let mut code = Vec::from_slice(alloc, &[0x21]).expect(rt, "memory");
+    code.extend_from_slice(&key.bytes).expect(rt, "memory");
+    code.push(0xac).expect(rt, "memory");
+    code
+}
+
+// The program of a script.
+fn program_of(rt: &impl Abort, alloc: Global, code: &[u8]) -> ByteString {
+    let mut program = Vec::from_slice(alloc, &[0x00, 0x20]).expect(rt, "memory");
+    program
+        .extend_from_slice(&sha256(code))
+        .expect(rt, "memory");
+    ByteString::from_vec(program)
+}
+
+// Where an output of 1,000 satoshis to the script stands, which the chain grants.
+fn granted<C: Coins>(rt: &impl Abort, alloc: Global, chain: &mut C, code: &[u8]) -> Place {
+    let program = program_of(rt, alloc, code);
+    let output = TxOut::new(1000, program_of(rt, alloc, code)).expect(rt, "an output");
+    let outpoint = chain.grant(output).expect(rt, "granted");
+    Place {
+        outpoint,
+        value: 1000,
+        program,
+    }
+}
+
+// The claim of the key on it.
+fn claim_on<C: Coins>(rt: &impl Abort, alloc: Global, chain: &mut C, key: &Key) -> Claim {
+    let code = code_of(rt, alloc, key);
+    let place = granted(rt, alloc, chain, &code);
+    let script = Script::parse(alloc, &code).expect(rt, "a script");
+    let checked = check(alloc, script).expect(rt, "paths");
+    let mut slots = Vec::new(alloc);
+    slots.push(Slot::Sig(*key)).expect(rt, "memory");
+    accept(alloc, checked, 0, slots, place, Shell::Open).expect(rt, "accepted")
+}
+
+// The transaction that claims it for one output.
+fn filled(rt: &impl Abort, alloc: Global, claim: &Claim, signer: &Signer) -> Tx {
+    let output = TxOut::new(900, ByteString::new(alloc)).expect(rt, "an output");
+    let mut outputs = Vec::new(alloc);
+    outputs.push(output).expect(rt, "memory");
+    assert!(rt; outputs.len() <= MAX_OUTPUTS);
+    let filled = fill(alloc, &[claim], outputs, signer, &[]).expect(rt, "filled");
+    filled.into_tx()
+}
+
+// The block takes it, and no other block after it.
+fn connect<C: Coins>(rt: &impl Abort, alloc: Global, chain: &mut C, claim: &Claim, tx: &Tx) {
+    let mut block = Vec::new(alloc);
+    block
+        .push(tx.copy().expect(rt, "memory"))
+        .expect(rt, "memory");
+    assert!(rt; chain.connect(block).is_ok());
+    assert_eq!(rt; check_claimed(chain, claim, tx, 0), Err(Refusal::Spent));
+}
+
+// A claim's filling passes, an input that is not there does not.
+fn claims<C: Coins>(rt: &impl Abort, alloc: Global, chain: &mut C) {
+    let signer = Signer::new(alloc, &[1; 32]);
+    let claim = claim_on(rt, alloc, chain, &signer.base(Base::Payment));
+    let tx = filled(rt, alloc, &claim, &signer);
+    assert_eq!(rt; check_claimed(chain, &claim, &tx, 0), Ok(()));
+    assert_eq!(rt; check_claimed(chain, &claim, &tx, 1), Err(Refusal::Unknown));
+    connect(rt, alloc, chain, &claim, &tx);
+}
+
+#[test]
+fn passes_a_filling_on_an_index(rt: HostRuntime) {
+    let mut chain = Index::new(rt.alloc()).expect(&rt, "memory");
+    claims(&rt, rt.alloc(), &mut chain);
+}
+
+#[test]
+fn passes_a_filling_on_a_scan(rt: HostRuntime) {
+    let mut chain = Scan::new(rt.alloc()).expect(&rt, "memory");
+    claims(&rt, rt.alloc(), &mut chain);
+}

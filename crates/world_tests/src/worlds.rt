@@ -1,0 +1,53 @@
+// Worlds of equal channels between the sides of the seeds 0a..0a and 0b..0b.
+
+use scenario::Seeds;
+use std::alloc::Global;
+use std::process::Abort;
+use terms::Side;
+use texts::{PlainParty, PlainTerms};
+use world::World;
+use world::errors::WorldError;
+
+const SEEDS: Seeds = Seeds {
+    a: [0x0a; 32],
+    b: [0x0b; 32],
+};
+
+fn party(start: u64) -> PlainParty {
+    PlainParty {
+        dust: 546,
+        delay: 144,
+        minimum: 1000,
+        start,
+    }
+}
+
+// The terms of 100,000 satoshis, of which B has so many millisatoshis at first: 20,000,000 are what is left to it.
+fn terms(start: u64) -> PlainTerms {
+    PlainTerms {
+        capacity: 100_000,
+        opener: Side::A,
+        feerate: 1000,
+        a: party(80_000_000),
+        b: party(start),
+    }
+}
+
+// A world of so many equal channels.
+pub(crate) fn begin(
+    rt: &impl Abort,
+    alloc: Global,
+    channels: usize,
+    start: u64,
+) -> Result<World, WorldError> {
+    let mut all = Vec::new(alloc);
+    for _channel in 0..channels {
+        all.push(terms(start)).expect(rt, "memory");
+    }
+    World::new(alloc, &SEEDS, &all)
+}
+
+// A world of one channel.
+pub(crate) fn first_world(rt: &impl Abort, alloc: Global) -> World {
+    begin(rt, alloc, 1, 20_000_000).expect(rt, "a world")
+}
