@@ -31,7 +31,7 @@ use Rattle.book.specs.declared.errors.SignError.TheVariants.{PenaltiesMissing, A
 use Rattle.book.specs.declared.errors.KeepError.TheVariants.{NotRevoked, AlreadyKept, OtherState, NoSuchChannel as NoChannelToKeep}
 use Rattle.book.specs.declared.errors.ReleaseError.TheVariants.{NoSuchChannel as NoChannelToRelease}
 use Rattle.book.specs.declared.limits.TheConstants.{MAX_CHANNELS}
-use Rattle.book.specs.Bounds.{IsSeedOf}
+use Rattle.terms.specs.Bases.{IsSeedOf}
 use Rattle.book.specs.Penalties.{is_penalty_set}
 use Rattle.book.specs.Books.{ChannelBook, missing_from}
 use Rattle.book.specs.Replies.{Reply, opened, stepped, signed, revoked, kept, released, reply_of, sign_refusal, keep_refusal, history_after}

@@ -24,7 +24,7 @@ use Rattle.commit.specs.declared.outputs.OutputKind.TheVariants.{ToLocal, ToRemo
 use Rattle.commit.specs.declared.outputs.CommitmentOutput.{CommitmentOutput}
 use Rattle.commit.specs.Keys.{KeyBytes, keys_of}
 use Rattle.commit.specs.Commitments.{Contents, commitment_of, tx_output, transaction_of}
-use Rattle.forms.specs.Scripts.{number_push, to_local, key_hash, offered, received}
+use Rattle.terms.specs.Scripts.{number_push, to_local, key_hash, offered, received}
 use Rattle.forms.specs.Forms.{to_local_form, key_hash_form, offered_form, received_form}
 use Rattle.forms.proofs.Pushes.{by_push}
 use Rattle.forms.proofs.Forms.{key_length}

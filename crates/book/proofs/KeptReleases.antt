@@ -25,7 +25,7 @@ use Rattle.book.specs.declared.calls.Call.{Call}
 use Rattle.book.specs.declared.calls.Call.TheVariants.{Open, Step as Stepping, Sign, Revoke, Keep, Release}
 use Rattle.book.specs.declared.calls.Entry.{Entry}
 use Rattle.book.specs.declared.errors.ReleaseError.TheVariants.{Unfilled, NoSuchChannel}
-use Rattle.book.specs.Bounds.{IsSeedOf}
+use Rattle.terms.specs.Bases.{IsSeedOf}
 use Rattle.book.specs.Books.{ChannelBook, Channels, at_index, stepped, with_state, channels_after, replayed, replay}
 use Rattle.channel.specs.Rights.{rights_of}
 use Rattle.book.specs.Signers.{first_lack, fill_refusal}

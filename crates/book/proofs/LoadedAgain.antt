@@ -29,7 +29,7 @@ use Rattle.texts.specs.Writing.{update_data}
 use Rattle.texts.specs.ClaimWriting.{plain_claim}
 use Rattle.texts.specs.CallWriting.{CanOpen, open_data, receive_data, release_data, entry_data}
 use Rattle.texts.proofs.CallReturning.{updated_again, dumps_come_back as dump_text}
-use Rattle.book.specs.Bounds.{IsSeedOf}
+use Rattle.terms.specs.Bases.{IsSeedOf}
 use Rattle.book.specs.declared.calls.Opening.{Opening}
 use Rattle.book.specs.declared.calls.Batch.{Batch}
 use Rattle.book.specs.declared.calls.Call.{Call}

@@ -23,7 +23,8 @@ use Rattle.claim.specs.Claims.{ClaimParts}
 use Rattle.texts.specs.declared.calls.PlainOpening.{PlainOpening}
 use Rattle.texts.specs.declared.agreement.PlainTerms.{PlainTerms}
 use Rattle.texts.specs.Calls.{can_agree, are_within}
-use Rattle.book.specs.Bounds.{IsSeedOf, CanRelease}
+use Rattle.terms.specs.Bases.{IsSeedOf}
+use Rattle.book.specs.Bounds.{CanRelease}
 use Rattle.book.specs.Calls.{IsOpenedBy, IsBatchOf}
 use Rattle.book.specs.Openings.{bases_of, own_or_others, party_of, terms_with, terms_if, terms_of, owns, opening_if, opening_of, batch_if, batch_of}
 use Rattle.book.specs.declared.calls.Opening.{Opening}

@@ -9,7 +9,7 @@ use Rattle.claim.specs.declared.parts.Shell.{Shell}
 use Rattle.claim.specs.declared.parts.Shell.TheVariants.{Open, Fixed}
 use Rattle.claim.specs.Judgement.{judgement_of}
 use Rattle.claim.specs.Claims.{ClaimParts}
-use Rattle.forms.specs.Scripts.{key_hash}
+use Rattle.terms.specs.Scripts.{key_hash}
 use Rattle.forms.specs.Fillings.{Signature, PreimageOf, Bytes}
 use Rattle.penalty.specs.Claimable.{Claimable}
 use Rattle.book.specs.Bounds.{CanRelease}

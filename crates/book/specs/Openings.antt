@@ -19,7 +19,7 @@ use Rattle.claim.specs.Claims.{ClaimParts}
 use Rattle.texts.specs.declared.agreement.PlainParty.{PlainParty}
 use Rattle.texts.specs.declared.calls.PlainOpening.{PlainOpening}
 use Rattle.texts.specs.Calls.{can_agree, are_within}
-use Rattle.book.specs.Bounds.{IsSeedOf}
+use Rattle.terms.specs.Bases.{IsSeedOf}
 use Rattle.book.specs.declared.calls.Opening.{Opening}
 use Rattle.book.specs.declared.calls.Batch.{Batch}
 

@@ -3,7 +3,7 @@
 ghost use Rattle.std.specs.Prelude.{◌≤◌, ◌↔◌, length, IsTrue};
 ghost use Rattle.tx.specs.Limits.{max_inputs, max_outputs};
 ghost use Rattle.terms.specs.Agreement.{party};
-ghost use Rattle.book.specs.Bounds.{IsSeedOf};
+ghost use Rattle.terms.specs.Bases.{IsSeedOf};
 
 use channel::Tokens;
 use claim::Claim;

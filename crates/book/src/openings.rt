@@ -1,34 +1,20 @@
 // Openings from their plain forms.
 
 ghost use Rattle.std.specs.Prelude.{◌≡◌};
-ghost use Rattle.book.specs.Bounds.{IsSeedOf};
 ghost use Rattle.book.specs.Openings.{bases_of, own_or_others, party_of, terms_of, opening_of};
 
 use crate::calls::Opening;
-use keys::{Base, Signer};
+use keys::Signer;
 use std::alloc::Global;
 use terms::{BaseKeys, Party, Side, Terms};
 use texts::{PlainOpening, PlainParty};
-
-// The base keys of a signer.
-fn signer_bases(signer: &Signer) -> BaseKeys
-    ensures { IsSeedOf signer.now.seed result }
-{
-    BaseKeys {
-        funding: signer.base(Base::Funding),
-        payment: signer.base(Base::Payment),
-        delayed: signer.base(Base::Delayed),
-        htlc: signer.base(Base::Htlc),
-        revocation: signer.base(Base::Revocation),
-    }
-}
 
 // The base keys of a seed.
 fn bases_of(alloc: Global, seed: &[u8; 32]) -> BaseKeys
     ensures { result ≡ bases_of seed.now }
 {
     let signer = Signer::new(alloc, seed);
-    signer_bases(&signer)
+    BaseKeys::of(&signer)
 }
 
 fn party_of(plain: &PlainParty, bases: BaseKeys) -> Party

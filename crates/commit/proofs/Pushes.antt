@@ -7,7 +7,7 @@ use Rattle.script.specs.declared.num.Number.{Number as Signed}
 use Rattle.script.specs.Number.{number_of, minimal_bytes_of, digits}
 use Rattle.script.proofs.RoundTrip.{read_back}
 use Rattle.script.proofs.Numbers.{number_of-long}
-use Rattle.forms.specs.Scripts.{number_push}
+use Rattle.terms.specs.Scripts.{number_push}
 
 -- an item that is read has at most five bytes
 some_none : {A : Type 0} (x : A) → Some x ≡ None → ⊥

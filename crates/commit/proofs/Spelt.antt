@@ -3,7 +3,7 @@ use Rattle.std.proofs.Common.{◌≡◌, ℕ, true, List, [], ◌∷◌, ◌++�
 use Rattle.std.proofs.lemmas.Bool.{eqb-true, and_parts}
 use Rattle.script.specs.Token.{is_key}
 use Rattle.script.specs.Spelling.{spelling}
-use Rattle.forms.specs.Scripts.{number_push, offered, received}
+use Rattle.terms.specs.Scripts.{number_push, offered, received}
 use Rattle.commit.specs.Outputs.{htlc_start}
 use Rattle.commit.proofs.Pushes.{push_of_32}
 

@@ -4,7 +4,7 @@ use Rattle.sha2.specs.Sha256.{sha256}
 use Rattle.digest.specs.Hash.{hash160}
 use Rattle.digest.specs.Ripemd160.{ripemd160}
 use Rattle.script.specs.Spelling.{spelling}
-use Rattle.forms.specs.Scripts.{to_local, key_hash, offered, received}
+use Rattle.terms.specs.Scripts.{to_local, key_hash, offered, received}
 use Rattle.terms.specs.declared.htlcs.Htlc.{Htlc}
 use Rattle.commit.specs.declared.fees.Direction.{Direction}
 use Rattle.commit.specs.declared.fees.Direction.TheVariants.{Offered, Received}

@@ -3,7 +3,7 @@ use Rattle.std.specs.Prelude.{ℕ, List, [], ◌∷◌, map}
 use Rattle.digest.specs.Hash.{sha256d}
 use Rattle.script.specs.Spelling.{spelling}
 use Rattle.script.specs.Token.{token_of}
-use Rattle.forms.specs.Scripts.{funding}
+use Rattle.terms.specs.Scripts.{funding}
 use Rattle.sighash.specs.Signing.{signed_list}
 use Rattle.tx.specs.declared.input.OutPoint.{OutPoint}
 use Rattle.tx.specs.declared.input.TxIn.{TxIn}

@@ -4,7 +4,7 @@ ghost use Rattle.std.specs.Prelude.{◌≡◌, ◌≤◌, ◌++◌, ◌∷◌, [
 ghost use Rattle.digest.specs.Hash.{hash160 as hash160_of};
 ghost use Rattle.script.specs.declared.opcode.Op.TheVariants.{Push};
 ghost use Rattle.script.specs.Spelling.{spelling};
-ghost use Rattle.forms.specs.Scripts.{number_push, two_of_two, to_local, key_hash};
+ghost use Rattle.terms.specs.Scripts.{number_push, two_of_two, to_local, key_hash};
 ghost use Rattle.commit.specs.Keys.{bytes_of};
 ghost use Rattle.commit.specs.Outputs.{to_local_script as to_local_script_of, to_remote_script as to_remote_script_of};
 
@@ -180,7 +180,7 @@ pub(crate) struct HtlcScripts {
 impl HtlcScripts {
     ghost use Rattle.std.specs.Prelude.{◌≡◌, ◌++◌, IfOk, OnOk};
     ghost use Rattle.script.specs.Spelling.{spelling};
-    ghost use Rattle.forms.specs.Scripts.{offered, received};
+    ghost use Rattle.terms.specs.Scripts.{offered, received};
     ghost use Rattle.commit.specs.Keys.{bytes_of};
     ghost use Rattle.commit.specs.Outputs.{htlc_start, htlc_script as htlc_script_of};
 

@@ -8,7 +8,7 @@ use Rattle.script.specs.Token.{is_key}
 use Rattle.script.specs.Number.{minimal_bytes_of, digits}
 use Rattle.script.specs.Spelling.{spelling}
 use Rattle.forms.specs.declared.parameters.HtlcKeys.{HtlcKeys}
-use Rattle.forms.specs.Scripts.{number_push}
+use Rattle.terms.specs.Scripts.{number_push}
 use Rattle.forms.specs.Forms.{funding_form, to_local_form, key_hash_form, offered_htlc, received_htlc}
 
 abbrev local_funding : List ℕ

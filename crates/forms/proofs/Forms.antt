@@ -20,7 +20,7 @@ use Rattle.paths.specs.HoleRules.{rule_of, check_multi_sig}
 use Rattle.paths.specs.HoleListing.{pattern_listing}
 use Rattle.paths.specs.Listing.{CheckedScript, listing}
 use Rattle.paths.specs.Patterns.{pattern_of, filled, IsListedAs}
-use Rattle.forms.specs.Scripts.{number_push}
+use Rattle.terms.specs.Scripts.{number_push}
 use Rattle.forms.specs.Forms.{two_of_two_form, to_local_form, key_hash_form, offered_form, received_form}
 use Rattle.forms.specs.Pieces.{two_of_two_pieces, to_local_pieces, key_hash_pieces, offered_pieces, received_pieces, is_listed, are_taken}
 use Rattle.forms.proofs.Pushes.{pushed_alike}

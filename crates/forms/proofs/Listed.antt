@@ -9,7 +9,7 @@ use Rattle.script.specs.Step.{bit_at}
 use Rattle.script.specs.Token.{is_key}
 use Rattle.paths.specs.Rules.{rule_of, check_multi_sig, age_bits}
 use Rattle.paths.specs.Listing.{listing}
-use Rattle.forms.specs.Scripts.{number_push, is_lesser, two_of_two, funding, to_local, key_hash, offered, received}
+use Rattle.terms.specs.Scripts.{number_push, is_lesser, two_of_two, funding, to_local, key_hash, offered, received}
 use Rattle.forms.proofs.Pushes.{signed, by_push}
 use Rattle.forms.specs.Ways.{two_of_two_ways, funding_ways, to_local_ways, key_hash_ways, offered_ways, received_ways}
 

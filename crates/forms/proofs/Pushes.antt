@@ -9,7 +9,7 @@ use Rattle.script.specs.Number.{number_of, minimal_bytes_of, digits}
 use Rattle.script.proofs.RoundTrip.{read_back}
 use Rattle.script.proofs.Numbers.{number_of-nil, number_of-long}
 use Rattle.paths.specs.Patterns.{number_op}
-use Rattle.forms.specs.Scripts.{number_push}
+use Rattle.terms.specs.Scripts.{number_push}
 
 -- a number that is not negative
 abbrev pub signed : ℕ → Option Signed

@@ -3,7 +3,7 @@ use Rattle.std.proofs.Common.{◌≡◌, ℕ, List, [], ◌∷◌, ◌++◌, map
 use Rattle.script.specs.Number.{minimal_bytes_of, digits}
 use Rattle.script.specs.Spelling.{spelling}
 use Rattle.paths.specs.declared.state.Path.{Path}
-use Rattle.forms.specs.Scripts.{number_push, is_lesser, funding, to_local, key_hash, offered, received}
+use Rattle.terms.specs.Scripts.{number_push, is_lesser, funding, to_local, key_hash, offered, received}
 use Rattle.forms.specs.Ways.{to_local_ways, offered_ways, received_ways}
 
 -- a compressed key

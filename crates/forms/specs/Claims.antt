@@ -20,7 +20,7 @@ use Rattle.claim.specs.declared.parts.Shell.TheVariants.{Open, Fixed}
 use Rattle.claim.specs.Judgement.{is_program, is_shell, judgement_of}
 use Rattle.forms.specs.declared.kinds.ClaimKind.{ClaimKind}
 use Rattle.forms.specs.declared.kinds.ClaimKind.TheVariants.{Penalty, Delayed, HtlcPenalty, DirectPreimage, DirectTimeout, KeyHash, HtlcTimeout, HtlcSuccess}
-use Rattle.forms.specs.Scripts.{offered, received}
+use Rattle.terms.specs.Scripts.{offered, received}
 use Rattle.forms.specs.Ways.{no}
 use Rattle.forms.specs.Forms.{to_local_form, key_hash_form, offered_form, received_form}
 

@@ -4,7 +4,7 @@ use Rattle.digest.specs.Hash.{hash160}
 use Rattle.digest.specs.Ripemd160.{ripemd160}
 use Rattle.paths.specs.Listing.{CheckedScript}
 use Rattle.forms.specs.declared.parameters.HtlcKeys.{HtlcKeys}
-use Rattle.forms.specs.Scripts.{two_of_two, funding, to_local, key_hash, offered, received}
+use Rattle.terms.specs.Scripts.{two_of_two, funding, to_local, key_hash, offered, received}
 use Rattle.forms.specs.Ways.{two_of_two_ways, funding_ways, to_local_ways, key_hash_ways, offered_ways, received_ways}
 
 abbrev pub two_of_two_form : List ℕ → List ℕ → CheckedScript

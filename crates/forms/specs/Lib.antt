@@ -1,4 +1,3 @@
-pub mod Scripts
 pub mod Ways
 pub mod Forms
 pub mod Pieces

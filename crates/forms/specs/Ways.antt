@@ -5,7 +5,7 @@ use Rattle.facts.specs.Symbols.{Fact}
 use Rattle.facts.specs.declared.symbols.FactOver.TheVariants.{Hash as HashIs, Size as SizeIs, Truth, Is, KeyForm, Form, Token, Assigned, Lock, Age}
 use Rattle.facts.specs.Symbols.{Stated}
 use Rattle.paths.specs.declared.state.Path.{Path}
-use Rattle.forms.specs.Scripts.{is_lesser}
+use Rattle.terms.specs.Scripts.{is_lesser}
 
 abbrev pub yes : Fact → Stated
 yes f = record { fact = f; holds = true }

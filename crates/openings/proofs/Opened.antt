@@ -18,7 +18,7 @@ use Rattle.terms.specs.declared.sides.Side.{Side}
 use Rattle.terms.specs.declared.sides.Side.TheVariants.{A, B}
 use Rattle.terms.specs.declared.agreement.Terms.{Terms}
 use Rattle.terms.specs.Sides.{other}
-use Rattle.forms.specs.Scripts.{funding}
+use Rattle.terms.specs.Scripts.{funding}
 use Rattle.commit.specs.Outputs.{script_hash_program}
 use Rattle.commit.specs.Signing.{funding_script}
 use Rattle.channel.specs.Points.{point_at}

@@ -14,14 +14,14 @@ use Rattle.terms.specs.declared.sides.Side.TheVariants.{A, B}
 use Rattle.terms.specs.declared.agreement.Terms.{Terms}
 use Rattle.terms.specs.Agreement.{HasFields, party}
 use Rattle.terms.specs.Sides.{other}
-use Rattle.forms.specs.Scripts.{funding}
+use Rattle.terms.specs.Scripts.{funding}
 use Rattle.commit.specs.Outputs.{script_hash_program}
 use Rattle.channel.specs.Points.{point_at}
 use Rattle.channel.specs.States.{first_of}
 use Rattle.channel.specs.Tokens.{peer_tokens}
 use Rattle.texts.specs.declared.agreement.PlainTerms.{PlainTerms}
 use Rattle.book.specs.declared.calls.Opening.{Opening}
-use Rattle.book.specs.Bounds.{IsSeedOf}
+use Rattle.terms.specs.Bases.{IsSeedOf}
 use Rattle.book.specs.Calls.{IsOpenedBy}
 use Rattle.book.specs.Openings.{bases_of, party_of}
 use Rattle.scenario.specs.declared.seeds.Seeds.{Seeds}

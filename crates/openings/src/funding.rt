@@ -2,7 +2,7 @@
 
 ghost use Rattle.std.specs.Prelude.{◌≡◌, IfOk};
 ghost use Rattle.script.specs.Spelling.{spelling};
-ghost use Rattle.forms.specs.Scripts.{funding as funding_of};
+ghost use Rattle.terms.specs.Scripts.{funding as funding_of};
 ghost use Rattle.commit.specs.Outputs.{script_hash_program};
 ghost use Rattle.openings.specs.Opening.{funding_if_within};
 

@@ -1,11 +1,10 @@
 //! The signers of the channels: a side has one for each channel, from a seed of its own.
 
 ghost use Rattle.std.specs.Prelude.{◌≡◌};
-ghost use Rattle.book.specs.Bounds.{IsSeedOf};
 ghost use Rattle.book.specs.Openings.{bases_of};
 ghost use Rattle.openings.specs.Opening.{channel_seed as seed_for};
 
-use keys::{Base, Signer};
+use keys::Signer;
 use sha2::{Digest, Sha256};
 use std::alloc::Global;
 use terms::BaseKeys;
@@ -22,23 +21,10 @@ pub(crate) fn channel_seed(seed: &[u8; 32], channel: u32) -> [u8; 32]
     hasher.finalize()
 }
 
-// The base keys of a signer.
-fn signer_bases(signer: &Signer) -> BaseKeys
-    ensures { IsSeedOf signer.now.seed result }
-{
-    BaseKeys {
-        funding: signer.base(Base::Funding),
-        payment: signer.base(Base::Payment),
-        delayed: signer.base(Base::Delayed),
-        htlc: signer.base(Base::Htlc),
-        revocation: signer.base(Base::Revocation),
-    }
-}
-
 /// The base keys of a side in a channel, by the side's seed. It takes no memory.
 pub(crate) fn bases_in(alloc: Global, seed: &[u8; 32], channel: u32) -> BaseKeys
     ensures { result ≡ bases_of (seed_for seed.now channel) }
 {
     let signer = Signer::new(alloc, &channel_seed(seed, channel));
-    signer_bases(&signer)
+    BaseKeys::of(&signer)
 }

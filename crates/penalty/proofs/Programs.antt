@@ -15,7 +15,7 @@ use Rattle.commit.specs.Keys.{KeyBytes}
 use Rattle.commit.specs.Commitments.{Contents}
 use Rattle.forms.specs.Forms.{to_local_form, key_hash_form}
 use Rattle.commit.specs.Outputs.{to_local_script, htlc_script, script_hash_program, key_hash_program}
-use Rattle.forms.specs.Scripts.{to_local, key_hash}
+use Rattle.terms.specs.Scripts.{to_local, key_hash}
 use Rattle.claim.specs.Judgement.{script_program, key_script, is_key_program, is_program}
 use Rattle.penalty.specs.Claimable.{htlc_form}
 

@@ -30,7 +30,7 @@ use Rattle.tx.specs.Fields.{Transaction}
 use Rattle.sighash.specs.Programs.{is_key_hash_program, is_script_hash_program, given_of, script_ops, run_of, spend_of}
 use Rattle.sighash.proofs.Parsing.{parsed_spelling}
 use Rattle.claim.proofs.TokenForms.{key-length, token-signature}
-use Rattle.forms.specs.Scripts.{number_push, two_of_two, offered, received}
+use Rattle.terms.specs.Scripts.{number_push, two_of_two, offered, received}
 use Rattle.forms.specs.Ways.{yes, no}
 use Rattle.commit.specs.Outputs.{script_hash_program}
 use Rattle.commit.proofs.Pushes.{short_push}

@@ -33,7 +33,7 @@ use Rattle.keys.specs.Derivation.{derived_key}
 use Rattle.terms.specs.declared.htlcs.Htlc.{Htlc}
 use Rattle.terms.specs.declared.agreement.Terms.{Terms}
 use Rattle.terms.specs.Numbers.{mask_of}
-use Rattle.forms.specs.Scripts.{is_lesser, two_of_two, offered, received}
+use Rattle.terms.specs.Scripts.{is_lesser, two_of_two, offered, received}
 use Rattle.forms.specs.Ways.{two_of_two_ways, offered_ways, received_ways}
 use Rattle.forms.proofs.Listed.{two_of_two-listed, offered-listed, received-listed}
 use Rattle.commit.specs.declared.fees.Direction.{Direction}

@@ -7,7 +7,7 @@ use Rattle.script.specs.Token.{token_of}
 use Rattle.tx.specs.Fields.{Transaction, transaction_with_witness}
 use Rattle.terms.specs.declared.htlcs.Htlc.{Htlc}
 use Rattle.terms.specs.declared.agreement.Terms.{Terms}
-use Rattle.forms.specs.Scripts.{is_lesser}
+use Rattle.terms.specs.Scripts.{is_lesser}
 use Rattle.commit.specs.declared.fees.Direction.{Direction}
 use Rattle.commit.specs.declared.fees.Direction.TheVariants.{Offered, Received}
 use Rattle.commit.specs.declared.outputs.HtlcOutput.{HtlcOutput}

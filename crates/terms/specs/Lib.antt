@@ -3,3 +3,5 @@ pub mod Refusals
 pub mod Agreement
 pub mod Views
 pub mod Numbers
+pub mod Scripts
+pub mod Bases

@@ -7,7 +7,7 @@ ghost use Rattle.terms.specs.declared.amounts.TheConstants.{MSAT_PER_SAT};
 use crate::amounts::MSAT_PER_SAT;
 use crate::errors::TermsError;
 use crate::sides::Side;
-use keys::Key;
+use keys::{Base, Key, Signer};
 use tx::{MAX_VALUE, OutPoint};
 
 /// The base keys of a side (BOLT 2, `open_channel` and `accept_channel`).
@@ -23,6 +23,23 @@ pub struct BaseKeys {
     pub htlc: Key,
     /// `revocation_basepoint`.
     pub revocation: Key,
+}
+
+impl BaseKeys {
+    ghost use Rattle.terms.specs.Bases.{IsSeedOf};
+
+    /// The base keys of a signer.
+    pub fn of(signer: &Signer) -> BaseKeys
+        ensures { IsSeedOf signer.now.seed result }
+    {
+        BaseKeys {
+            funding: signer.base(Base::Funding),
+            payment: signer.base(Base::Payment),
+            delayed: signer.base(Base::Delayed),
+            htlc: signer.base(Base::Htlc),
+            revocation: signer.base(Base::Revocation),
+        }
+    }
 }
 
 /// What one side brings to the terms.

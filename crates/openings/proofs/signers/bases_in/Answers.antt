@@ -1,6 +1,6 @@
 use Rattle.std.proofs.Common.{ap, ◌∙◌, subst}
 use Rattle.keys.specs.Rights.{Rights}
-use Rattle.book.specs.Bounds.{IsSeedOf}
+use Rattle.terms.specs.Bases.{IsSeedOf}
 use Rattle.book.proofs.SameOpenings.{same_bases}
 use Rattle.openings.specs.Opening.{channel_seed}
 use Rattle.openings.proofs.signers.bases_in.Goals as goal
@@ -8,4 +8,4 @@ use Rattle.openings.proofs.signers.bases_in.Goals as goal
 pub returns : goal.returns
 returns c =
     let seed = ap (λ (r : Rights). r.seed) c.new-signer.ensures ∙ c.channel_seed.ensures in
-    same_bases (channel_seed c.args.seed.now c.args.channel) c.signer_bases.result (subst (λ s. IsSeedOf s c.signer_bases.result) seed c.signer_bases.ensures)
+    same_bases (channel_seed c.args.seed.now c.args.channel) c.of.result (subst (λ s. IsSeedOf s c.of.result) seed c.of.ensures)
