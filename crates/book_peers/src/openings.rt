@@ -1,8 +1,6 @@
 //! How both sides open a channel.
 
 ghost use Rattle.std.specs.Prelude.{◌≡◌, IfOk};
-ghost use Rattle.keys.specs.declared.bases.Base.TheVariants.{Funding, Htlc};
-ghost use Rattle.keys.specs.Derivation.{base_key};
 ghost use Rattle.terms.specs.Sides.{other};
 ghost use Rattle.channel.specs.Keeping.{HasBases, CanOpen};
 
@@ -10,9 +8,10 @@ use anyhow::{Context, Result};
 use book::Opening;
 use channel::{Channel, opening_points, opening_token};
 use digest::sha256;
-use keys::{Base, Signer};
+use keys::Signer;
+use parties::{FUNDING, party, terms_of};
 use std::alloc::Global;
-use terms::{BaseKeys, Party, Side, Terms};
+use terms::{Side, Terms};
 use tx::OutPoint;
 
 /// What a side opens a channel by, and a channel that goes along with the book's.
@@ -28,38 +27,6 @@ fn channel_seed(byte: u8, number: u32) -> [u8; 32] {
     bytes[..7].copy_from_slice(b"channel");
     bytes[39..].copy_from_slice(&number.to_le_bytes());
     sha256(&bytes)
-}
-
-// What a side brings to the terms, by its signer.
-fn party(signer: &Signer, start: u64) -> Party
-    ensures funding { result.bases.funding.bytes ≡ base_key signer.now.seed Funding }
-    ensures htlc { result.bases.htlc.bytes ≡ base_key signer.now.seed Htlc }
-{
-    Party {
-        dust: 546,
-        delay: 144,
-        minimum: 1000,
-        start,
-        bases: BaseKeys {
-            funding: signer.base(Base::Funding),
-            payment: signer.base(Base::Payment),
-            delayed: signer.base(Base::Delayed),
-            htlc: signer.base(Base::Htlc),
-            revocation: signer.base(Base::Revocation),
-        },
-    }
-}
-
-// The terms of a channel of 100,000 satoshis that A opened, at 1,000 satoshis for 1,000 units of weight.
-fn terms_of(number: u32, a: Party, b: Party) -> Result<Terms>
-    ensures a { IfOk result (λ t. t.a ≡ a) }
-    ensures b { IfOk result (λ t. t.b ≡ b) }
-{
-    let funding = OutPoint {
-        txid: [7; 32],
-        index: number,
-    };
-    Ok(Terms::new(funding, 100_000, Side::A, 1000, a, b)?)
 }
 
 // What a side opens a channel by, with its signer and its peer's.
@@ -104,7 +71,16 @@ pub fn open_side(alloc: Global, number: u32, side: Side) -> Result<Opened> {
     let seed_a = channel_seed(0x0a, number);
     let seed_b = channel_seed(0x0b, number);
     let (a, b) = (Signer::new(alloc, &seed_a), Signer::new(alloc, &seed_b));
-    let terms = terms_of(number, party(&a, 80_000_000), party(&b, 20_000_000))?;
+    let funding = OutPoint {
+        index: number,
+        ..FUNDING
+    };
+    let terms = terms_of(
+        funding,
+        100_000,
+        party(&a, 80_000_000),
+        party(&b, 20_000_000),
+    )?;
     match side {
         Side::A => open_by(alloc, terms, Side::A, &seed_a, a, &b),
         Side::B => open_by(alloc, terms, Side::B, &seed_b, b, &a),

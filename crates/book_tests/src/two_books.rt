@@ -9,45 +9,23 @@ ghost use Rattle.terms.specs.Sides.{other};
 use book::{Book, Opening, Step};
 use channel::{Message, opening_points, opening_token};
 use claim::Claim;
-use keys::{Base, Key, Signer};
+use keys::{Key, Signer};
 use lists::List;
+use parties::{FUNDING, party, view};
 use penalty::{RevokedState, penalties};
 use std::alloc::Global;
 use std::process::Abort;
-use terms::{BaseKeys, Party, Share, Side, Terms, View};
+use terms::{Side, Terms};
 use texts::OwnUpdate;
-use tx::OutPoint;
 use updates::Update;
-
-fn party(signer: &Signer, start: u64) -> Party
-    ensures { result.bases.funding.bytes ≡ base_key signer.now.seed Funding }
-{
-    Party {
-        dust: 546,
-        delay: 144,
-        minimum: 1000,
-        start,
-        bases: BaseKeys {
-            funding: signer.base(Base::Funding),
-            payment: signer.base(Base::Payment),
-            delayed: signer.base(Base::Delayed),
-            htlc: signer.base(Base::Htlc),
-            revocation: signer.base(Base::Revocation),
-        },
-    }
-}
 
 // The channel of two signers.
 fn terms_of(rt: &impl Abort, a: &Signer, b: &Signer) -> Terms
     ensures a { result.a.bases.funding.bytes ≡ base_key a.now.seed Funding }
     ensures b { result.b.bases.funding.bytes ≡ base_key b.now.seed Funding }
 {
-    let funding = OutPoint {
-        txid: [7; 32],
-        index: 0,
-    };
     let (of_a, of_b) = (party(a, 80_000_000), party(b, 20_000_000));
-    Terms::new(funding, 100_000, Side::A, 1000, of_a, of_b).expect(rt, "terms")
+    parties::terms_of(FUNDING, 100_000, of_a, of_b).expect(rt, "terms")
 }
 
 // What a side opens the channel with.
@@ -145,17 +123,7 @@ pub(crate) fn offered_by(rt: &impl Abort, a: &mut Book, b: &mut Book, offer: Ste
 pub(crate) fn penalties_of_first(rt: &impl Abort, alloc: Global, secret: [u8; 32]) -> List<Claim> {
     let (a, b) = (Signer::new(alloc, &[1; 32]), Signer::new(alloc, &[2; 32]));
     let terms = terms_of(rt, &a, &b);
-    let view = View {
-        a: Share {
-            balance: 80_000_000,
-            offered: List::new(alloc),
-        },
-        b: Share {
-            balance: 20_000_000,
-            offered: List::new(alloc),
-        },
-        feerate: 1000,
-    };
+    let view = view(alloc, [80_000_000, 20_000_000], &[], &[]).expect(rt, "memory");
     let state = RevokedState::new(terms, view, Side::B, 0, secret).expect(rt, "a state");
     let set = penalties(alloc, &state).expect(rt, "memory");
     List::from_vec(set.into_claims())

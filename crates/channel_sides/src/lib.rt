@@ -12,8 +12,6 @@
 #![tactic(auto)]
 
 ghost use Rattle.std.specs.Prelude.{◌≡◌, IfOk};
-ghost use Rattle.keys.specs.declared.bases.Base.TheVariants.{Funding, Htlc};
-ghost use Rattle.keys.specs.Derivation.{base_key};
 ghost use Rattle.terms.specs.Sides.{other};
 ghost use Rattle.channel.specs.Points.{point_at};
 ghost use Rattle.channel.specs.States.{opened};
@@ -22,9 +20,10 @@ ghost use Rattle.channel.specs.Peers.{AreOpened};
 
 use anyhow::Result;
 use channel::{Channel, opening_points, opening_token};
-use keys::{Base, Signer};
+use keys::Signer;
+use parties::{FUNDING, party, terms_of};
 use std::alloc::Global;
-use terms::{BaseKeys, Party, Side, Terms};
+use terms::{Side, Terms};
 use tx::OutPoint;
 
 /// The seeds of the two signers.
@@ -39,38 +38,6 @@ pub struct Sides {
     pub terms: Terms,
     pub a: Channel,
     pub b: Channel,
-}
-
-// What a side brings to the terms, by its signer.
-fn party(signer: &Signer, start: u64) -> Party
-    ensures funding { result.bases.funding.bytes ≡ base_key signer.now.seed Funding }
-    ensures htlc { result.bases.htlc.bytes ≡ base_key signer.now.seed Htlc }
-{
-    Party {
-        dust: 546,
-        delay: 144,
-        minimum: 1000,
-        start,
-        bases: BaseKeys {
-            funding: signer.base(Base::Funding),
-            payment: signer.base(Base::Payment),
-            delayed: signer.base(Base::Delayed),
-            htlc: signer.base(Base::Htlc),
-            revocation: signer.base(Base::Revocation),
-        },
-    }
-}
-
-// The terms of a channel that A opened, at 1,000 satoshis for 1,000 units of weight.
-fn terms_of(capacity: u64, a: Party, b: Party) -> Result<Terms>
-    ensures a { IfOk result (λ t. t.a ≡ a) }
-    ensures b { IfOk result (λ t. t.b ≡ b) }
-{
-    let funding = OutPoint {
-        txid: [7; 32],
-        index: 0,
-    };
-    Ok(Terms::new(funding, capacity, Side::A, 1000, a, b)?)
 }
 
 // A side of a new channel, by both sides' signers.
@@ -107,7 +74,16 @@ pub fn open_sides(alloc: Global, capacity: u64, starts: [u64; 2]) -> Result<Side
     ensures { IfOk result (λ s. AreOpened s.a s.b) }
 {
     let (a, b) = (Signer::new(alloc, &SEED_A), Signer::new(alloc, &SEED_B));
-    let terms = terms_of(capacity, party(&a, starts[0]), party(&b, starts[1]))?;
+    let funding = OutPoint {
+        index: 0,
+        ..FUNDING
+    };
+    let terms = terms_of(
+        funding,
+        capacity,
+        party(&a, starts[0]),
+        party(&b, starts[1]),
+    )?;
     Ok(Sides {
         terms,
         a: open_side(alloc, terms, Side::A, Signer::new(alloc, &SEED_A), &b)?,

@@ -1,16 +1,19 @@
 //! Commitments with any number of HTLCs, and two whole ones against a model in another language.
 
+ghost use Rattle.std.specs.Prelude.{◌≤◌};
+
 use crate::fixtures::{key, one_key_party};
 use commit::{
-    Commitment, Htlc, OutputKind, Side, Terms, View, build, commitment_amounts, commitment_fee,
-    htlc_tx, signing_digests,
+    Commitment, OutputKind, Side, Terms, View, build, commitment_amounts, commitment_fee, htlc_tx,
+    signing_digests,
 };
 use hex::FromHex;
 use lists::List;
+use parties::{FUNDING, htlc, party_with, terms_of, view};
 use std::alloc::Global;
 use std::process::Abort;
 use terms::{BaseKeys, Party, Share};
-use tx::{OutPoint, txid};
+use tx::txid;
 
 fn share(rt: &impl Abort, alloc: Global, balance: u64, count: usize) -> Share {
     let htlc = htlc(0, 2_000_000, 9, 500);
@@ -22,7 +25,9 @@ fn share(rt: &impl Abort, alloc: Global, balance: u64, count: usize) -> Share {
 }
 
 // Asserts the amounts of B's commitment with so many HTLCs that A offered, and twelve times as many of B.
-fn has_amounts(rt: &impl Abort, alloc: Global, terms: &Terms, count: usize) {
+fn has_amounts(rt: &impl Abort, alloc: Global, terms: &Terms, count: usize)
+    requires { count ≤ 40 }
+{
     let view = View {
         a: share(rt, alloc, 4_000_000_000, count),
         b: share(rt, alloc, 3_000_000_000, 12 * count),
@@ -40,15 +45,8 @@ fn has_amounts(rt: &impl Abort, alloc: Global, terms: &Terms, count: usize) {
 // The example of the crate's page.
 #[test]
 fn every_count_of_htlcs_has_amounts(rt: HostRuntime) {
-    let funding = OutPoint {
-        txid: [7; 32],
-        index: 1,
-    };
-    let (a, b) = (
-        one_key_party(&rt, 5_000_000_000),
-        one_key_party(&rt, 5_000_000_000),
-    );
-    let terms = Terms::new(funding, 10_000_000, Side::A, 1000, a, b).expect(&rt, "terms");
+    let half = one_key_party(&rt, 5_000_000_000);
+    let terms = terms_of(FUNDING, 10_000_000, half, half).expect(&rt, "terms");
     for count in 0usize..=40 {
         has_amounts(&rt, rt.alloc(), &terms, count);
     }
@@ -67,63 +65,25 @@ fn bases(rt: &impl Abort, fills: [u8; 5]) -> BaseKeys {
 
 // Terms with unlike keys and delays, of 100,000 satoshis that A opened.
 fn unlike_terms(rt: &impl Abort) -> Terms {
-    let funding = OutPoint {
-        txid: [7; 32],
-        index: 1,
-    };
-    let a = Party {
-        dust: 546,
-        delay: 144,
-        minimum: 0,
-        start: 80_000_000,
-        bases: bases(rt, [0xa0, 0xa1, 0xa2, 0xa3, 0xa4]),
-    };
+    let a = party_with(bases(rt, [0xa0, 0xa1, 0xa2, 0xa3, 0xa4]), 80_000_000);
     let b = Party {
-        dust: 546,
         delay: 40_000,
-        minimum: 0,
-        start: 20_000_000,
-        bases: bases(rt, [0xb0, 0xb1, 0xb2, 0xb3, 0xb4]),
+        ..party_with(bases(rt, [0xb0, 0xb1, 0xb2, 0xb3, 0xb4]), 20_000_000)
     };
-    Terms::new(funding, 100_000, Side::A, 1000, a, b).expect(rt, "terms")
-}
-
-fn htlc(id: u64, amount: u64, fill: u8, expiry: u32) -> Htlc {
-    Htlc {
-        id,
-        amount,
-        hash: [fill; 32],
-        expiry,
-    }
+    terms_of(FUNDING, 100_000, a, b).expect(rt, "terms")
 }
 
 // A offers two HTLCs of one amount and one hash, and more where B offers one too.
 fn unlike_view(rt: &impl Abort, alloc: Global, both: bool) -> View {
-    let mut from_a = Vec::new(alloc);
-    let mut from_b = Vec::new(alloc);
-    from_a
-        .push(htlc(0, 10_000_000, 9, 600))
-        .expect(rt, "memory");
-    from_a
-        .push(htlc(1, 10_000_000, 9, 500))
-        .expect(rt, "memory");
-    if both {
-        from_a
-            .push(htlc(2, 3_000_000, 8, 400_000))
-            .expect(rt, "memory");
-        from_b.push(htlc(0, 7_000_000, 5, 16)).expect(rt, "memory");
-    }
-    View {
-        a: Share {
-            balance: if both { 50_000_000 } else { 60_000_000 },
-            offered: List::from_vec(from_a),
-        },
-        b: Share {
-            balance: 20_000_000,
-            offered: List::from_vec(from_b),
-        },
-        feerate: 1000,
-    }
+    let two = [htlc(0, 10_000_000, 9, 600), htlc(1, 10_000_000, 9, 500)];
+    let of_a = [two[0], two[1], htlc(2, 3_000_000, 8, 400_000)];
+    let of_b = [htlc(0, 7_000_000, 5, 16)];
+    let built = if both {
+        view(alloc, [50_000_000, 20_000_000], &of_a, &of_b)
+    } else {
+        view(alloc, [60_000_000, 20_000_000], &two, &[])
+    };
+    built.expect(rt, "memory")
 }
 
 fn built(rt: &impl Abort, alloc: Global, owner: Side, n: u64, both: bool) -> Commitment {

@@ -1,55 +1,21 @@
 //! The sides of a new channel, and how messages come from one to the other.
 
-ghost use Rattle.std.specs.Prelude.{◌≡◌};
-ghost use Rattle.keys.specs.declared.bases.Base.TheVariants.{Funding as FundingBase, Htlc as HtlcBase};
-ghost use Rattle.keys.specs.Derivation.{base_key};
 ghost use Rattle.terms.specs.Sides.{other};
 ghost use Rattle.channel.specs.Keeping.{HasBases, CanOpen};
 
 use channel::{Channel, Message, opening_points, opening_token};
-use keys::{Base, Signer};
+use keys::Signer;
+use parties::{FUNDING, party, terms_of};
 use std::alloc::Global;
 use std::process::Abort;
-use terms::{BaseKeys, Party, Side, Terms};
-use tx::OutPoint;
+use terms::{Side, Terms};
 use updates::Refusal;
-
-// What a side brings to the terms, by its signer.
-fn party(signer: &Signer, start: u64) -> Party
-    ensures funding { result.bases.funding.bytes ≡ base_key signer.now.seed FundingBase }
-    ensures htlc { result.bases.htlc.bytes ≡ base_key signer.now.seed HtlcBase }
-{
-    Party {
-        dust: 546,
-        delay: 144,
-        minimum: 1000,
-        start,
-        bases: BaseKeys {
-            funding: signer.base(Base::Funding),
-            payment: signer.base(Base::Payment),
-            delayed: signer.base(Base::Delayed),
-            htlc: signer.base(Base::Htlc),
-            revocation: signer.base(Base::Revocation),
-        },
-    }
-}
-
-// The terms of a channel of 100,000 satoshis, of which A has 80,000.
-fn terms_of(rt: &impl Abort, a: Party, b: Party) -> Terms
-    ensures a { result.a ≡ a }
-    ensures b { result.b ≡ b }
-{
-    let funding = OutPoint {
-        txid: [7; 32],
-        index: 0,
-    };
-    Terms::new(funding, 100_000, Side::A, 1000, a, b).expect(rt, "terms")
-}
 
 // A side of this channel, to which its peer gives a token for the commitment of this number.
 pub fn open(rt: &impl Abort, alloc: Global, side: Side, number: u64) -> Result<Channel, Refusal> {
     let (a, b) = (Signer::new(alloc, &[1; 32]), Signer::new(alloc, &[2; 32]));
-    let terms = terms_of(rt, party(&a, 80_000_000), party(&b, 20_000_000));
+    let (of_a, of_b) = (party(&a, 80_000_000), party(&b, 20_000_000));
+    let terms = terms_of(FUNDING, 100_000, of_a, of_b).expect(rt, "terms");
     match side {
         Side::A => open_with(rt, alloc, terms, side, a, &b, number),
         Side::B => open_with(rt, alloc, terms, side, b, &a, number),

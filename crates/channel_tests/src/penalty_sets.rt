@@ -1,60 +1,34 @@
 //! The penalty set of a small state. What sets have in them stands with the vectors of penalties.
 
 use crate::fixtures::{key, one_key_party};
-use lists::List;
+use parties::{FUNDING, htlc, terms_of, view};
 use penalty::{
-    Htlc, PenaltySet, RevokedState, Side, StateError, Terms, View, payable_commitment, penalties,
-    refusal,
+    PenaltySet, RevokedState, Side, StateError, Terms, View, payable_commitment, penalties, refusal,
 };
 use std::alloc::Global;
 use std::process::Abort;
-use terms::Share;
-use tx::OutPoint;
 
 fn terms(rt: &impl Abort) -> Terms {
-    let funding = OutPoint {
-        txid: [7; 32],
-        index: 1,
-    };
     let (a, b) = (one_key_party(rt, 80_000_000), one_key_party(rt, 20_000_000));
-    Terms::new(funding, 100_000, Side::A, 1000, a, b).expect(rt, "terms")
+    terms_of(FUNDING, 100_000, a, b).expect(rt, "terms")
 }
 
 // A view with an HTLC that A offered.
-fn view(rt: &impl Abort, alloc: Global) -> View {
-    let mut offered = List::new(alloc);
-    let htlc = Htlc {
-        id: 0,
-        amount: 10_000_000,
-        hash: [9; 32],
-        expiry: 500,
-    };
-    offered.push(htlc).expect(rt, "memory");
-    let a = Share {
-        balance: 70_000_000,
-        offered,
-    };
-    let b = Share {
-        balance: 20_000_000,
-        offered: List::new(alloc),
-    };
-    View {
-        a,
-        b,
-        feerate: 1000,
-    }
+fn offered(rt: &impl Abort, alloc: Global) -> View {
+    let of_a = [htlc(0, 10_000_000, 9, 500)];
+    view(alloc, [70_000_000, 20_000_000], &of_a, &[]).expect(rt, "memory")
 }
 
 // The penalties of A's commitment 7 of this view.
 fn set_of_a(rt: &impl Abort, alloc: Global) -> PenaltySet {
-    let view = view(rt, alloc);
+    let view = offered(rt, alloc);
     let state = RevokedState::new(terms(rt), view, Side::A, 7, [5; 32]).expect(rt, "a state");
     penalties(alloc, &state).expect(rt, "memory")
 }
 
 // How many outputs that commitment has.
 fn outputs_of_a(rt: &impl Abort, alloc: Global) -> usize {
-    let (terms, view) = (terms(rt), view(rt, alloc));
+    let (terms, view) = (terms(rt), offered(rt, alloc));
     assert!(rt; refusal(&terms, &view).is_none());
     let built = payable_commitment(alloc, &terms, &view, Side::A, 7, &key(rt, 0xcc));
     built.expect(rt, "memory").outputs().len()

@@ -3,76 +3,42 @@
 use commit::signing_digests;
 use keys::{Key, Signer};
 use lists::List;
+use parties::{FUNDING, htlc, key_of, one_key, party_with, terms_of, view};
 use penalty::RevokedState;
 use resolve::{Known, KnownCommitment, RevokedCommitment, RevokedCommitments, SignedCommitment};
 use sighash::Token;
 use std::alloc::Global;
 use std::process::Abort;
-use terms::{BaseKeys, Htlc, Party, Share, Side, Terms, View};
-use tx::OutPoint;
+use terms::{BaseKeys, Party, Side, Terms, View};
 
 // A key of one byte over and over, behind 02.
 fn key(rt: &impl Abort, fill: u8) -> Key {
-    let mut bytes = [fill; 33];
-    bytes[0] = 2;
-    Key::read(&bytes).expect(rt, "a key")
+    key_of(fill).expect(rt, "a key")
 }
 
 // A side whose funding key has this byte, and whose other keys have the next one.
 fn party(rt: &impl Abort, start: u64, fill: u8) -> Party {
-    let other = key(rt, fill ^ 1);
-    Party {
-        dust: 546,
-        delay: 144,
-        minimum: 0,
-        start,
-        bases: BaseKeys {
-            funding: key(rt, fill),
-            payment: other,
-            delayed: other,
-            htlc: other,
-            revocation: other,
-        },
-    }
+    let bases = BaseKeys {
+        funding: key(rt, fill),
+        ..one_key(key(rt, fill ^ 1))
+    };
+    party_with(bases, start)
 }
 
 pub fn terms(rt: &impl Abort) -> Terms {
-    let funding = OutPoint {
-        txid: [7; 32],
-        index: 1,
-    };
     let (a, b) = (party(rt, 80_000_000, 0xa0), party(rt, 20_000_000, 0xb0));
-    Terms::new(funding, 100_000, Side::A, 1000, a, b).expect(rt, "terms")
+    terms_of(FUNDING, 100_000, a, b).expect(rt, "terms")
 }
 
 // A view with an HTLC that A offered.
-fn view(rt: &impl Abort, alloc: Global) -> View {
-    let mut offered = List::new(alloc);
-    let htlc = Htlc {
-        id: 0,
-        amount: 10_000_000,
-        hash: [9; 32],
-        expiry: 500,
-    };
-    offered.push(htlc).expect(rt, "memory");
-    let a = Share {
-        balance: 70_000_000,
-        offered,
-    };
-    let b = Share {
-        balance: 20_000_000,
-        offered: List::new(alloc),
-    };
-    View {
-        a,
-        b,
-        feerate: 1000,
-    }
+fn offered(rt: &impl Abort, alloc: Global) -> View {
+    let of_a = [htlc(0, 10_000_000, 9, 500)];
+    view(alloc, [70_000_000, 20_000_000], &of_a, &[]).expect(rt, "memory")
 }
 
 // The owner's commitment of a number.
 pub fn numbered(rt: &impl Abort, alloc: Global, owner: Side, number: u64) -> KnownCommitment {
-    let view = view(rt, alloc);
+    let view = offered(rt, alloc);
     let built = KnownCommitment::new(alloc, &terms(rt), &view, owner, number, &key(rt, 0xcc));
     built.expect(rt, "a commitment")
 }
@@ -101,7 +67,7 @@ pub fn signed(rt: &impl Abort, alloc: Global) -> SignedCommitment {
 
 // B's revoked commitment of a number.
 pub fn revoked(rt: &impl Abort, alloc: Global, number: u64) -> RevokedCommitment {
-    let view = view(rt, alloc);
+    let view = offered(rt, alloc);
     let state = RevokedState::new(terms(rt), view, Side::B, number, [5; 32]).expect(rt, "a state");
     RevokedCommitment::new(alloc, state, false).expect(rt, "memory")
 }

@@ -1,11 +1,12 @@
 //! Terms that can and can't be agreed on, and the fields of commitments against the values of BOLT 3.
 
-use crate::fixtures::{key, party, spending};
+use crate::fixtures::{key, spending};
 use lists::List;
+use parties::{FUNDING, one_key, party_with, terms_of};
 use std::alloc::Global;
 use std::process::Abort;
-use terms::{Htlc, Obscured, Share, Side, Terms, TermsError, View, mask, number_of, obscure};
-use tx::{OutPoint, Tx};
+use terms::{Htlc, Obscured, Party, Share, Terms, TermsError, View, mask, number_of, obscure};
+use tx::Tx;
 
 /// The payment base keys of BOLT 3, appendix C: the opener's, and the accepter's.
 const PAYMENT_BASES: [&str; 2] = [
@@ -13,28 +14,27 @@ const PAYMENT_BASES: [&str; 2] = [
     "032c0b7cf95324a07d05398b240174dc0c2be444d96b159aa6c7f7b1e668680991",
 ];
 
-/// The output that the channel of these tests spends.
-const FUNDING: OutPoint = OutPoint {
-    txid: [7; 32],
-    index: 1,
-};
+// A side with this payment base key.
+fn party(rt: &impl Abort, payment: &str, start: u64) -> Party {
+    party_with(one_key(key(rt, payment)), start)
+}
 
 // Terms with a capacity of 100,000 satoshis.
-fn terms_of(rt: &impl Abort, a: u64, b: u64) -> Result<Terms, TermsError> {
-    let a = party(key(rt, PAYMENT_BASES[0]), a);
-    let b = party(key(rt, PAYMENT_BASES[1]), b);
-    Terms::new(FUNDING, 100_000, Side::A, 1000, a, b)
+fn terms_with(rt: &impl Abort, a: u64, b: u64) -> Result<Terms, TermsError> {
+    let a = party(rt, PAYMENT_BASES[0], a);
+    let b = party(rt, PAYMENT_BASES[1], b);
+    terms_of(FUNDING, 100_000, a, b)
 }
 
 // Terms that can be agreed on.
 fn good_terms(rt: &impl Abort) -> Terms {
-    terms_of(rt, 0, 100_000_000).expect(rt, "terms")
+    terms_with(rt, 0, 100_000_000).expect(rt, "terms")
 }
 
 #[test]
 fn starts_sum_to_the_capacity(rt: HostRuntime) {
-    assert!(rt; terms_of(&rt, 80_000_000, 20_000_000).is_ok());
-    assert!(rt; terms_of(&rt, 80_000_000, 20_000_001).is_err());
+    assert!(rt; terms_with(&rt, 80_000_000, 20_000_000).is_ok());
+    assert!(rt; terms_with(&rt, 80_000_000, 20_000_001).is_err());
     assert_eq!(rt; TermsError::BadTerms.number(), 1);
 }
 

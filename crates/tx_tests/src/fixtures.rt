@@ -5,30 +5,12 @@ use keys::Key;
 use std::alloc::Global;
 use std::fmt::Display;
 use std::process::Abort;
-use terms::{BaseKeys, Party};
 use tx::{Inputs, OutPoint, Outputs, Tx, TxIn, Witness};
 
 /// The key of 66 hexadecimal digits.
 pub(crate) fn key(rt: &impl Abort, text: &str) -> Key {
     let bytes = <[u8; 33] as FromHex>::from_hex(text).expect(rt, "66 hex digits");
     Key::read(&bytes).expect(rt, "a key")
-}
-
-/// A party that begins with so many millisatoshis, and whose five base keys are this one.
-pub(crate) fn party(key: Key, start: u64) -> Party {
-    Party {
-        dust: 546,
-        delay: 144,
-        minimum: 1000,
-        start,
-        bases: BaseKeys {
-            funding: key,
-            payment: key,
-            delayed: key,
-            htlc: key,
-            revocation: key,
-        },
-    }
 }
 
 /// A transaction that spends these outpoints, and has no output.

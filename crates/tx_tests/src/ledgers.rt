@@ -1,12 +1,12 @@
 //! Updates between two sides, with a hash from outside; memory that is there is found; printed names. Numbers alone are facts of the
 //! definitions.
 
-use crate::fixtures::{assert_prints, party};
+use crate::fixtures::assert_prints;
 use keys::point;
+use parties::{FUNDING, one_key, party_with, terms_of};
 use std::alloc::{AllocError, Global};
 use std::process::Abort;
-use terms::{Side, Terms, View};
-use tx::OutPoint;
+use terms::{Side, View};
 use updates::{Ledger, Refusal, Update};
 
 /// A preimage, and its SHA-256 (Python's hashlib).
@@ -26,13 +26,9 @@ struct Sides {
 
 /// A channel of 100,000 satoshis, of which A has 80,000 and B 20,000.
 fn open(rt: &impl Abort, alloc: Global) -> Sides {
-    let funding = OutPoint {
-        txid: [7; 32],
-        index: 0,
-    };
-    let key = point(&[1; 32]);
-    let (a, b) = (party(key, 80_000_000), party(key, 20_000_000));
-    let terms = Terms::new(funding, 100_000, Side::A, 1000, a, b).expect(rt, "terms");
+    let bases = one_key(point(&[1; 32]));
+    let (a, b) = (party_with(bases, 80_000_000), party_with(bases, 20_000_000));
+    let terms = terms_of(FUNDING, 100_000, a, b).expect(rt, "terms");
     let a = Ledger::new(alloc, terms, Side::A);
     let b = Ledger::new(alloc, terms, Side::B);
     Sides { a, b }

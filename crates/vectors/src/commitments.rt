@@ -1,52 +1,30 @@
 //! Builds commitments, a line each: `build HTLCS TIMES` builds one with so many HTLCs of each direction so many times, and prints its id. What is printed are the ids of a
 //! model in another language.
 
-use anyhow::{Result, bail};
+use anyhow::{Context, Result, bail};
 use commit::{Htlc, Side, Terms, View, build};
 use digest::sha256;
 use keys::Key;
 use lists::List;
+use parties::{FUNDING, key_of, one_key, party_with, terms_of};
 use std::alloc::Global;
-use terms::{BaseKeys, Party, Share};
-use tx::OutPoint;
+use terms::{Party, Share};
 
 /// 02 and one byte over and over.
 fn key(fill: u8) -> Result<Key> {
-    let mut bytes = [fill; 33];
-    bytes[0] = 2;
-    match Key::read(&bytes) {
-        Some(key) => Ok(key),
-        None => bail!("no key"),
-    }
+    key_of(fill).context("no key")
 }
 
 /// A party whose keys are all one.
-fn party(delay: u16, start: u64, key: Key) -> Party {
-    Party {
-        dust: 546,
-        delay,
-        minimum: 0,
-        start,
-        bases: BaseKeys {
-            funding: key,
-            payment: key,
-            delayed: key,
-            htlc: key,
-            revocation: key,
-        },
-    }
+fn party(start: u64, key: Key) -> Party {
+    party_with(one_key(key), start)
 }
 
 /// 100 bitcoins, of which each side begins with half.
 fn terms() -> Result<Terms> {
-    let funding = OutPoint {
-        txid: [7; 32],
-        index: 1,
-    };
     let half = 5_000_000_000_000;
-    let a = party(144, half, key(0xa0)?);
-    let b = party(144, half, key(0xb0)?);
-    Ok(Terms::new(funding, 10_000_000_000, Side::A, 1000, a, b)?)
+    let (a, b) = (party(half, key(0xa0)?), party(half, key(0xb0)?));
+    Ok(terms_of(FUNDING, 10_000_000_000, a, b)?)
 }
 
 /// So many HTLCs, each with a hash of its own, of nine amounts and seven expiries.

@@ -2,14 +2,14 @@
 
 use super::errors::LineError;
 use digest::sha256;
-use keys::{Base, Signer};
+use keys::Signer;
 use lists::List;
+use parties::{FUNDING, party, terms_of};
 use penalty::{Htlc, RevokedState, Side, Terms, View};
 use secrets::from_seed;
 use std::alloc::{AllocError, Global};
 use std::str::SplitWhitespace;
-use terms::{BaseKeys, Party, Share};
-use tx::OutPoint;
+use terms::{Party, Share};
 
 /// The seeds of A's signer and of B's.
 const SEED_A: [u8; 32] = [0x0a; 32];
@@ -27,32 +27,18 @@ fn seed(side: Side) -> [u8; 32] {
     }
 }
 
-fn party(alloc: Global, side: Side, start: u64, delay: u16) -> Party {
-    let signer = Signer::new(alloc, &seed(side));
-    Party {
-        dust: 546,
-        delay,
-        minimum: 1000,
-        start,
-        bases: BaseKeys {
-            funding: signer.base(Base::Funding),
-            payment: signer.base(Base::Payment),
-            delayed: signer.base(Base::Delayed),
-            htlc: signer.base(Base::Htlc),
-            revocation: signer.base(Base::Revocation),
-        },
-    }
+fn party_of(alloc: Global, side: Side, start: u64) -> Party {
+    party(&Signer::new(alloc, &seed(side)), start)
 }
 
 // The terms of a channel of 100,000 satoshis, of which A, who opened it, has 80,000 at the start.
 fn terms(alloc: Global) -> Result<Terms, LineError> {
-    let funding = OutPoint {
-        txid: [7; 32],
-        index: 1,
+    let a = party_of(alloc, Side::A, 80_000_000);
+    let b = Party {
+        delay: 72,
+        ..party_of(alloc, Side::B, 20_000_000)
     };
-    let a = party(alloc, Side::A, 80_000_000, 144);
-    let b = party(alloc, Side::B, 20_000_000, 72);
-    match Terms::new(funding, 100_000, Side::A, 1000, a, b) {
+    match terms_of(FUNDING, 100_000, a, b) {
         Ok(terms) => Ok(terms),
         Err(_) => Err(LineError::BadLine),
     }

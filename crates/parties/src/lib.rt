@@ -1,0 +1,113 @@
+//! What tests and programs open channels with: keys, parties and terms.
+//!
+//! [`party`] is a side by its signer: its base keys are those of the signer's seed (`IsSeedOf`), so that a channel, and a book, opens by it. [`party_with`] is a
+//! side with any base keys, for what no signer takes part in.
+//!
+//! ```rust
+//! /// The terms of a channel of 100,000 satoshis, of which A has 80,000.
+//! fn terms(alloc: Global) -> Result<Terms, TermsError> {
+//!     let (a, b) = (Signer::new(alloc, &[1; 32]), Signer::new(alloc, &[2; 32]));
+//!     terms_of(FUNDING, 100_000, party(&a, 80_000_000), party(&b, 20_000_000))
+//! }
+//! ```
+#![tactic(auto)]
+
+ghost use Rattle.std.specs.Prelude.{◌≡◌, ◌∷◌, IfOk, IfSome, replicate};
+ghost use Rattle.terms.specs.Bases.{IsSeedOf};
+
+use keys::{Key, Signer};
+use lists::List;
+use std::alloc::{AllocError, Global};
+use terms::{BaseKeys, Htlc, Party, Share, Side, Terms, TermsError, View};
+use tx::OutPoint;
+
+/// The outpoint of a funding output.
+pub const FUNDING: OutPoint = OutPoint {
+    txid: [7; 32],
+    index: 1,
+};
+
+/// The key of 02 and one byte over and over.
+pub fn key_of(fill: u8) -> Option<Key>
+    ensures { IfSome result (λ k. k.bytes ≡ 2 ∷ replicate 32 fill) }
+{
+    let mut bytes = [fill; 33];
+    bytes[0] = 2;
+    Key::read(&bytes)
+}
+
+/// Base keys that are all one.
+pub fn one_key(key: Key) -> BaseKeys
+    ensures { result ≡ record { funding = key; payment = key; delayed = key; htlc = key; revocation = key } }
+{
+    BaseKeys {
+        funding: key,
+        payment: key,
+        delayed: key,
+        htlc: key,
+        revocation: key,
+    }
+}
+
+/// A side with these base keys, which begins with so many millisatoshis: a dust limit of 546 satoshis, a delay of 144 blocks, HTLCs of at least 1,000
+/// millisatoshis.
+pub fn party_with(bases: BaseKeys, start: u64) -> Party
+    ensures { result ≡ record { dust = 546; delay = 144; minimum = 1000; start = start; bases = bases } }
+{
+    Party {
+        dust: 546,
+        delay: 144,
+        minimum: 1000,
+        start,
+        bases,
+    }
+}
+
+/// A side with its signer's base keys, which begins with so many millisatoshis.
+pub fn party(signer: &Signer, start: u64) -> Party
+    ensures { IsSeedOf signer.now.seed result.bases }
+{
+    party_with(BaseKeys::of(signer), start)
+}
+
+/// The terms of a channel of so many satoshis that A opened, at 1,000 satoshis for 1,000 units of weight.
+pub fn terms_of(funding: OutPoint, capacity: u64, a: Party, b: Party) -> Result<Terms, TermsError>
+    ensures a { IfOk result (λ t. t.a ≡ a) }
+    ensures b { IfOk result (λ t. t.b ≡ b) }
+{
+    Terms::new(funding, capacity, Side::A, 1000, a, b)
+}
+
+/// An HTLC whose payment hash is one byte over and over.
+pub fn htlc(id: u64, amount: u64, fill: u8, expiry: u32) -> Htlc {
+    Htlc {
+        id,
+        amount,
+        hash: [fill; 32],
+        expiry,
+    }
+}
+
+// What a view pays to a side: so many millisatoshis, and the HTLCs that it offered.
+fn share(alloc: Global, balance: u64, htlcs: &[Htlc]) -> Result<Share, AllocError> {
+    Ok(Share {
+        balance,
+        offered: List::from_vec(Vec::from_slice(alloc, htlcs)?),
+    })
+}
+
+/// A view with these millisatoshis of A and of B, and the HTLCs that each offered, at 1,000 satoshis for 1,000 units of weight.
+pub fn view(
+    alloc: Global,
+    balances: [u64; 2],
+    of_a: &[Htlc],
+    of_b: &[Htlc],
+) -> Result<View, AllocError> {
+    let a = share(alloc, balances[0], of_a)?;
+    let b = share(alloc, balances[1], of_b)?;
+    Ok(View {
+        a,
+        b,
+        feerate: 1000,
+    })
+}
