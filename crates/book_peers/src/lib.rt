@@ -9,7 +9,7 @@
 //! peers.act(Side::B, 0, Act::Deliver)?;
 //! ```
 //!
-//! The program `book_plays` plays so, line by line.
+//! The program `plays` plays so, line by line.
 #![tactic(auto)]
 
 mod nodes;

@@ -1,10 +1,10 @@
 // What a side knows of the channel: all that the program makes of the type `Known` is made here.
 
-use crate::parties::{informed_signer, point_of, secret_of};
-use crate::settings::Setting;
+use crate::dues::settings::Setting;
+use crate::dues::sides::{informed_signer, point_of, secret_of};
 use anyhow::Result;
 use commit::signing_digests;
-use keys::Key;
+use keys::{Key, Signer};
 use lists::List;
 use penalty::RevokedState;
 use resolve::{Known, KnownCommitment, RevokedCommitment, RevokedCommitments, SignedCommitment};
@@ -55,31 +55,49 @@ fn tokens_on(
     })
 }
 
+/// A commitment with the peer's tokens.
+fn with_tokens(
+    alloc: Global,
+    terms: &Terms,
+    owner: Side,
+    own: KnownCommitment,
+    tokens: Tokens,
+) -> Result<SignedCommitment> {
+    let Tokens { commitment, htlcs } = tokens;
+    Ok(SignedCommitment::new(alloc, terms, owner, own, commitment, htlcs)?)
+}
+
 /// The commitment of a number with the peer's tokens.
 fn signed(alloc: Global, setting: &Setting, owner: Side, number: u64) -> Result<SignedCommitment> {
     let own = commitment(alloc, setting, owner, number)?;
     let tokens = tokens_on(alloc, &setting.terms, owner, &own)?;
-    Ok(SignedCommitment::new(
-        alloc,
-        &setting.terms,
-        owner,
-        own,
-        tokens.commitment,
-        tokens.htlcs,
-    )?)
+    with_tokens(alloc, &setting.terms, owner, own, tokens)
 }
 
-/// The revoked commitment of a number.
-fn revoked(
+/// The state of a revoked commitment.
+fn revoked_state(
     alloc: Global,
     setting: &Setting,
     owner: Side,
     number: u64,
-) -> Result<RevokedCommitment> {
+) -> Result<RevokedState> {
     let secret = secret_of(alloc, owner, number)?;
     let view = setting.view.copy()?;
-    let state = RevokedState::new(setting.terms, view, owner, number, secret)?;
-    Ok(RevokedCommitment::new(alloc, state, true)?)
+    Ok(RevokedState::new(setting.terms, view, owner, number, secret)?)
+}
+
+/// The revoked commitment of a number, after those before it.
+fn push_revoked(
+    alloc: Global,
+    setting: &Setting,
+    owner: Side,
+    number: u64,
+    list: &mut RevokedCommitments,
+) -> Result<()> {
+    let state = revoked_state(alloc, setting, owner, number)?;
+    let revoked = RevokedCommitment::new(alloc, state, true)?;
+    list.push(revoked)?;
+    Ok(())
 }
 
 /// The first commitments, which were revoked.
@@ -91,7 +109,7 @@ fn all_revoked(
 ) -> Result<RevokedCommitments> {
     let mut list = RevokedCommitments::new(alloc);
     for number in 0..count {
-        list.push(revoked(alloc, setting, owner, number)?)?;
+        push_revoked(alloc, setting, owner, number, &mut list)?;
     }
     Ok(list)
 }
@@ -113,11 +131,63 @@ fn peers_commitments(
 ) -> Result<PeersCommitments> {
     let revoked = all_revoked(alloc, setting, peer, newest)?;
     let next = commitment(alloc, setting, peer, newest.saturating_add(1))?;
+    let newest = commitment(alloc, setting, peer, newest)?;
     Ok(PeersCommitments {
-        newest: commitment(alloc, setting, peer, newest)?,
+        newest,
         next,
         revoked,
     })
+}
+
+/// What a side has of its own.
+#[derive(Drop)]
+struct Own {
+    signer: Signer,
+    commitment: SignedCommitment,
+    preimages: List<[u8; 32]>,
+}
+
+/// What a side has of its own, and a preimage where it knows one.
+fn own_of(
+    alloc: Global,
+    setting: &Setting,
+    side: Side,
+    newest: u64,
+    preimage: Option<[u8; 32]>,
+) -> Result<Own> {
+    let preimages = Vec::from_slice(alloc, preimage.as_slice())?;
+    let signer = informed_signer(alloc, side, newest)?;
+    let commitment = signed(alloc, setting, side, newest)?;
+    Ok(Own {
+        signer,
+        commitment,
+        preimages: List::from_vec(preimages),
+    })
+}
+
+/// What a side knows by what it has of its own and the peer's commitments.
+fn joined(alloc: Global, terms: &Terms, side: Side, own: Own, theirs: PeersCommitments) -> Known {
+    let Own {
+        signer,
+        commitment,
+        preimages,
+    } = own;
+    let PeersCommitments {
+        newest,
+        next,
+        revoked,
+    } = theirs;
+    Known {
+        terms: *terms,
+        side,
+        signer,
+        own: commitment,
+        older: List::new(alloc),
+        theirs: newest,
+        next: Some(next),
+        revoked,
+        preimages,
+    }
 }
 
 /// What a side knows where the newest commitments of both have this number, those before it are revoked, and the peer's next one is signed.
@@ -126,21 +196,9 @@ pub fn known(
     setting: &Setting,
     side: Side,
     newest: u64,
-    preimages: &[[u8; 32]],
+    preimage: Option<[u8; 32]>,
 ) -> Result<Known> {
-    let signer = informed_signer(alloc, side, newest)?;
-    let preimages = Vec::from_slice(alloc, preimages)?;
+    let own = own_of(alloc, setting, side, newest, preimage)?;
     let theirs = peers_commitments(alloc, setting, side.other(), newest)?;
-    let own = signed(alloc, setting, side, newest)?;
-    Ok(Known {
-        terms: setting.terms,
-        side,
-        signer,
-        own,
-        older: List::new(alloc),
-        theirs: theirs.newest,
-        next: Some(theirs.next),
-        revoked: theirs.revoked,
-        preimages: List::from_vec(preimages),
-    })
+    Ok(joined(alloc, &setting.terms, side, own, theirs))
 }

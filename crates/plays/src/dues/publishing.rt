@@ -110,14 +110,6 @@ pub fn answer(
     ))
 }
 
-/// The transaction of a claim, of one output of its whole value.
-pub fn claiming_tx(alloc: Global, claim: &Claim, known: &Known) -> Result<Tx> {
-    match answer(alloc, &[claim], claim.place().value, known)? {
-        Ok(filled) => Ok(filled.into_tx()),
-        Err(refusal) => Err(refusal.into()),
-    }
-}
-
 /// Prints the id of a transaction, in the hash's own byte order.
 pub fn show_id<R: Print + AllocGlobal>(rt: &R, tx: &Tx) -> Result<()> {
     let id = hex::encode(rt.alloc(), &txid(tx))?;

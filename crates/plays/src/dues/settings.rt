@@ -1,7 +1,7 @@
 // What a channel is, and what its commitments pay.
 
-use crate::parties::party;
-use crate::publishing::funding_output;
+use crate::dues::publishing::funding_output;
+use crate::dues::sides::party;
 use anyhow::Result;
 use chain::{Chain, Coins};
 use digest::sha256;

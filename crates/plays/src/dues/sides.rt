@@ -1,10 +1,10 @@
 // The two sides of the channel: their keys and secrets, and what each learnt.
 
 use digest::sha256;
-use keys::{Base, Key, Signer, point};
+use keys::{Key, Signer, point};
 use secrets::from_seed;
 use std::alloc::{AllocError, Global};
-use terms::{BaseKeys, Party, Side};
+use terms::{Party, Side};
 
 /// How many commitments of each side are played with.
 const COMMITMENTS: u64 = 4;
@@ -77,16 +77,7 @@ pub fn informed_signer(alloc: Global, side: Side, revoked: u64) -> Result<Signer
 pub fn party(alloc: Global, side: Side, start: u64, delay: u16) -> Result<Party, AllocError> {
     let signer = signer_of(alloc, side)?;
     Ok(Party {
-        dust: 546,
         delay,
-        minimum: 1000,
-        start,
-        bases: BaseKeys {
-            funding: signer.base(Base::Funding),
-            payment: signer.base(Base::Payment),
-            delayed: signer.base(Base::Delayed),
-            htlc: signer.base(Base::Htlc),
-            revocation: signer.base(Base::Revocation),
-        },
+        ..parties::party(&signer, start)
     })
 }

@@ -1,6 +1,6 @@
 //! What dumps, and dumps with something changed, are loaded as.
 
-use crate::damages::{
+use crate::books::damages::{
     PATH, PROGRAM, SECRET, Spot, VALUE, VERSION, value_at, with_value, without_keep,
 };
 use anyhow::Result;

@@ -1,6 +1,6 @@
 //! Histories of random calls.
 
-use crate::loading::comes_back;
+use crate::books::loading::comes_back;
 use anyhow::Result;
 use book::errors::SignError;
 use book::{Book, Call, Step};

@@ -3,13 +3,12 @@
 //!
 //! It prints what came of each call, and of a refused one whether the dump is what it was. `entries` prints how many entries both histories have; `beginnings`, `damages` and `version` change A's dump and
 //! load it, and `dump` prints it; `load TEXT` loads a text; `random GAMES` dumps, loads and dumps again the histories of random games.
-#![tactic(auto)]
 
 mod damages;
 mod loading;
 mod random;
 
-use anyhow::{Result, bail};
+use anyhow::{Context, Result, bail};
 use book_peers::{Act, Peers, Reply, offer};
 use loading::{print_damages, print_loaded, print_version, read_beginnings};
 use random::play_games;
@@ -24,23 +23,45 @@ struct Words<'a> {
     words: &'a str,
 }
 
+// An offer of so many millisatoshis up to an expiry.
+fn offer_of(words: &str) -> Result<Act> {
+    let (amount, expiry) = words.split_once(' ').context("an offer has two numbers")?;
+    Ok(Act::Update(offer(amount.parse()?, expiry.parse()?)))
+}
+
+// A change of the feerate.
+fn fee_of(rate: &str) -> Result<Act> {
+    Ok(Act::Update(OwnUpdate::SetFee {
+        rate: rate.parse()?,
+    }))
+}
+
+// The call of a word with numbers behind it.
+fn act_with(word: &str, words: &str) -> Result<Act> {
+    match word {
+        "offer" => offer_of(words),
+        "fee" => fee_of(words),
+        "keep" => Ok(Act::Keep(words.parse()?)),
+        _ => bail!("no such call"),
+    }
+}
+
+// The call of a word alone.
+fn plain_act(word: &str) -> Result<Act> {
+    match word {
+        "sign" => Ok(Act::Sign),
+        "deliver" => Ok(Act::Deliver),
+        "zeros" => Ok(Act::Zeros),
+        _ => bail!("no such call"),
+    }
+}
+
 // The call that words say.
 fn act_of(words: &str) -> Result<Act> {
-    let mut words = words.split(' ');
-    let act = match (words.next(), words.next(), words.next()) {
-        (Some("offer"), Some(amount), Some(expiry)) => {
-            Act::Update(offer(amount.parse()?, expiry.parse()?))
-        }
-        (Some("fee"), Some(rate), None) => Act::Update(OwnUpdate::SetFee {
-            rate: rate.parse()?,
-        }),
-        (Some("sign"), None, None) => Act::Sign,
-        (Some("deliver"), None, None) => Act::Deliver,
-        (Some("zeros"), None, None) => Act::Zeros,
-        (Some("keep"), Some(number), None) => Act::Keep(number.parse()?),
-        _ => bail!("no such call"),
-    };
-    Ok(act)
+    match words.split_once(' ') {
+        Some((word, words)) => act_with(word, words),
+        None => plain_act(words),
+    }
 }
 
 // What came of a call, in words.
@@ -83,9 +104,10 @@ fn play_from(
     call: &Words,
     before: &str,
 ) -> Result<()> {
-    let reply = peers.act(side, 0, act_of(call.words)?)?;
+    let act = act_of(call.words)?;
+    let reply = peers.act(side, 0, act)?;
     print_reply(rt, call.line, &reply)?;
-    match reply {
+    match &reply {
         Reply::Done => Ok(()),
         _ => print_unchanged(rt, alloc, peers, side, before),
     }
@@ -161,20 +183,11 @@ fn follow_words(
     }
 }
 
-// Does what a line says.
-fn follow(rt: &impl Print, alloc: Global, peers: &mut Peers, line: &str) -> Result<()> {
+/// Does what a line says.
+pub fn follow(rt: &impl Print, alloc: Global, peers: &mut Peers, line: &str) -> Result<()> {
     match line.split_once(' ') {
         Some((word, words)) => follow_words(rt, alloc, peers, &Words { line, words }, word),
         None if line == "entries" => print_entries(rt, peers),
         None => follow_dump(rt, alloc, line, dump(alloc, peers, Side::A)?),
     }
-}
-
-fn main(rt: HostRuntime) -> Result<()> {
-    let alloc = rt.alloc();
-    let mut peers = Peers::new(alloc);
-    for line in rt.lines(alloc) {
-        follow(&rt, alloc, &mut peers, line?.as_str())?;
-    }
-    Ok(())
 }
