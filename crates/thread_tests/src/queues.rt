@@ -4,8 +4,8 @@ ghost use Rattle.jobs.specs.Ends.{PutsWith, TakesWith, IsOneQueue};
 
 use jobs::{JobSender, JobTaker, Pass, job_queue};
 use std::alloc::{AllocError, Global};
+use std::process::Abort;
 use std::sync::Wait;
-use std::test::Fail;
 use std::thread;
 use std::thread::{JoinHandle, Threads};
 
@@ -51,8 +51,8 @@ fn take_many<R: Wait>(
 
 // The example of the page of `jobs`.
 #[test]
-fn first_in_first_out(rt: HostRuntime) -> Result<(), Fail> {
-    let (sender, taker, mut mine) = job_queue(rt.alloc())?;
+fn first_in_first_out(rt: HostRuntime) {
+    let (sender, taker, mut mine) = job_queue(rt.alloc()).expect(&rt, "memory");
     let mut theirs = sender.pass(&mut mine);
     assert!(rt; sender.put(&rt, &mut mine, 7).is_ok());
     assert!(rt; sender.put(&rt, &mut mine, 5).is_ok());
@@ -60,7 +60,6 @@ fn first_in_first_out(rt: HostRuntime) -> Result<(), Fail> {
     assert_eq!(rt; taker.take(&rt, &mut theirs), Some(7));
     assert_eq!(rt; taker.take(&rt, &mut theirs), Some(5));
     assert_eq!(rt; taker.take(&rt, &mut theirs), None);
-    Ok(())
 }
 
 // Puts 64 jobs, each of which is to be taken in, and then takes 64, which are to be those, in order.
@@ -91,76 +90,88 @@ fn fill_and_empty<R: Wait>(
 
 // With both ends open, 64 puts of one thread are each Ok, and then 64 takes give the 64 jobs in order; and once more, past the end of the ring.
 #[test]
-fn sixty_four_jobs(rt: HostRuntime) -> Result<(), Fail> {
+fn sixty_four_jobs(rt: HostRuntime) {
     let alloc = rt.alloc();
-    let (sender, taker, mut mine) = job_queue(alloc)?;
+    let (sender, taker, mut mine) = job_queue(alloc).expect(&rt, "memory");
     let mut theirs = sender.pass(&mut mine);
-    assert!(rt; fill_and_empty(&rt, alloc, &sender, &mut mine, &taker, &mut theirs, 0)?);
-    assert!(rt; fill_and_empty(&rt, alloc, &sender, &mut mine, &taker, &mut theirs, 1000)?);
-    Ok(())
+    assert!(rt;
+        fill_and_empty(&rt, alloc, &sender, &mut mine, &taker, &mut theirs, 0).expect(&rt, "memory")
+    );
+    assert!(rt;
+        fill_and_empty(&rt, alloc, &sender, &mut mine, &taker, &mut theirs, 1000).expect(
+            &rt, "memory"
+        )
+    );
 }
 
-// Where no taker is left, a job comes back; where no sender is left and the queue is empty, there is none.
-#[test]
-fn one_end_gone(rt: HostRuntime) -> Result<(), Fail> {
-    let (sender, taker, mut mine) = job_queue(rt.alloc())?;
-    let second = taker.copy()?;
+// Where no taker is left, a job comes back.
+fn no_taker<R: Wait + Abort>(rt: &R, alloc: Global) {
+    let (sender, taker, mut mine) = job_queue(alloc).expect(rt, "memory");
+    let second = taker.copy().expect(rt, "memory");
     drop(taker);
-    assert!(rt; sender.put(&rt, &mut mine, 1).is_ok());
+    assert!(rt; sender.put(rt, &mut mine, 1).is_ok());
     drop(second);
-    assert_eq!(rt; sender.put(&rt, &mut mine, 2), Err(2));
+    assert_eq!(rt; sender.put(rt, &mut mine, 2), Err(2));
+}
 
-    let (sender, taker, mut mine) = job_queue(rt.alloc())?;
-    let second = sender.copy()?;
+// Where no sender is left and the queue is empty, there is no job.
+fn no_sender<R: Wait + Abort>(rt: &R, alloc: Global) {
+    let (sender, taker, mut mine) = job_queue(alloc).expect(rt, "memory");
+    let second = sender.copy().expect(rt, "memory");
     drop(sender);
-    assert!(rt; second.put(&rt, &mut mine, 3).is_ok());
+    assert!(rt; second.put(rt, &mut mine, 3).is_ok());
     drop(second);
-    assert_eq!(rt; taker.take(&rt, &mut mine), Some(3));
-    assert_eq!(rt; taker.take(&rt, &mut mine), None);
-    Ok(())
+    assert_eq!(rt; taker.take(rt, &mut mine), Some(3));
+    assert_eq!(rt; taker.take(rt, &mut mine), None);
+}
+
+#[test]
+fn one_end_gone(rt: HostRuntime) {
+    no_taker(&rt, rt.alloc());
+    no_sender(&rt, rt.alloc());
 }
 
 // Starts a thread that puts 10,000 jobs.
-fn start_putter<R: Threads + Wait + Copy + Send + 'static>(
+fn start_putter<R: Threads + Wait + Abort + Copy + Send + 'static>(
     rt: R,
     sender: &JobSender<u32>,
     first: &mut Pass<u32>,
     job: u32,
-) -> Result<JoinHandle<u32>, Fail>
+) -> JoinHandle<u32>
     requires { PutsWith sender.now first.old }
     ensures { PutsWith sender.now first.new }
 {
-    let own = sender.copy()?;
+    let own = sender.copy().expect(&rt, "memory");
     let mut pass = sender.pass(first);
-    let handle = thread::spawn(
+    thread::spawn(
         &rt,
         move || -> u32
             requires { PutsWith own pass }
         { put_many(&rt, &own, &mut pass, job, 10_000) },
-    );
-    handle.map_err(|_| Fail::from("no thread"))
+    )
+    .expect(&rt, "a thread")
 }
 
 // Starts a thread that takes jobs until the queue is closed and empty.
-fn start_taker<R: Threads + Wait + Copy + Send + 'static>(
+fn start_taker<R: Threads + Wait + Abort + Copy + Send + 'static>(
     rt: R,
     alloc: Global,
     sender: &JobSender<u32>,
     taker: &JobTaker<u32>,
     first: &mut Pass<u32>,
-) -> Result<JoinHandle<Result<Vec<u32>, AllocError>>, Fail>
+) -> JoinHandle<Result<Vec<u32>, AllocError>>
     requires { PutsWith sender.now first.old × IsOneQueue sender.now taker.now }
     ensures { PutsWith sender.now first.new }
 {
-    let own = taker.copy()?;
+    let own = taker.copy().expect(&rt, "memory");
     let mut pass = sender.pass(first);
-    let handle = thread::spawn(
+    thread::spawn(
         &rt,
         move || -> Result<Vec<u32>, AllocError>
             requires { TakesWith own pass }
         { take_many(&rt, alloc, &own, &mut pass, 40_000) },
-    );
-    handle.map_err(|_| Fail::from("no thread"))
+    )
+    .expect(&rt, "a thread")
 }
 
 // Marks each job that was taken, and says whether each was new.
@@ -174,35 +185,43 @@ fn mark(seen: &mut Vec<bool>, taken: &[u32]) -> bool {
     true
 }
 
+// Asserts that a putter has put its 10,000 jobs.
+fn has_put<R: Threads + Abort>(rt: &R, putter: JoinHandle<u32>) {
+    assert_eq!(rt; putter.join(rt), 10_000);
+}
+
+// Asserts that each job which a taker has taken is new, and marks it.
+fn has_taken<R: Threads + Abort>(
+    rt: &R,
+    taker: JoinHandle<Result<Vec<u32>, AllocError>>,
+    seen: &mut Vec<bool>,
+) {
+    let taken = taker.join(rt).expect(rt, "memory");
+    assert!(rt; mark(seen, &taken));
+}
+
 // Four putters and four takers of 10,000 jobs each: every job is taken once.
 #[test]
-fn four_putters_and_four_takers(rt: HostRuntime) -> Result<(), Fail> {
+fn four_putters_and_four_takers(rt: HostRuntime) {
     let alloc = rt.alloc();
-    let (sender, taker, mut first) = job_queue(alloc)?;
-    let takers = (
-        start_taker(rt, alloc, &sender, &taker, &mut first)?,
-        start_taker(rt, alloc, &sender, &taker, &mut first)?,
-        start_taker(rt, alloc, &sender, &taker, &mut first)?,
-        start_taker(rt, alloc, &sender, &taker, &mut first)?,
-    );
-    let putters = (
-        start_putter(rt, &sender, &mut first, 0)?,
-        start_putter(rt, &sender, &mut first, 10_000)?,
-        start_putter(rt, &sender, &mut first, 20_000)?,
-        start_putter(rt, &sender, &mut first, 30_000)?,
-    );
+    let (sender, taker, mut first) = job_queue(alloc).expect(&rt, "memory");
+    let a = start_taker(rt, alloc, &sender, &taker, &mut first);
+    let b = start_taker(rt, alloc, &sender, &taker, &mut first);
+    let c = start_taker(rt, alloc, &sender, &taker, &mut first);
+    let d = start_taker(rt, alloc, &sender, &taker, &mut first);
+    let e = start_putter(rt, &sender, &mut first, 0);
+    let f = start_putter(rt, &sender, &mut first, 10_000);
+    let g = start_putter(rt, &sender, &mut first, 20_000);
+    let h = start_putter(rt, &sender, &mut first, 30_000);
     drop(sender);
-    let (a, b, c, d) = putters;
-    assert_eq!(rt;
-        (a.join(&rt), b.join(&rt), c.join(&rt), d.join(&rt)),
-        (10_000, 10_000, 10_000, 10_000)
-    );
-    let mut seen = vec![in alloc; false; 40_000]?;
-    let (a, b, c, d) = takers;
-    assert!(rt; mark(&mut seen, a.join(&rt)?.as_slice()));
-    assert!(rt; mark(&mut seen, b.join(&rt)?.as_slice()));
-    assert!(rt; mark(&mut seen, c.join(&rt)?.as_slice()));
-    assert!(rt; mark(&mut seen, d.join(&rt)?.as_slice()));
+    has_put(&rt, e);
+    has_put(&rt, f);
+    has_put(&rt, g);
+    has_put(&rt, h);
+    let mut seen = vec![in alloc; false; 40_000].expect(&rt, "memory");
+    has_taken(&rt, a, &mut seen);
+    has_taken(&rt, b, &mut seen);
+    has_taken(&rt, c, &mut seen);
+    has_taken(&rt, d, &mut seen);
     assert!(rt; seen.iter().all(|mark| *mark));
-    Ok(())
 }
