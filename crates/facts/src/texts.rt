@@ -1,6 +1,7 @@
 // The printed texts of facts.
 
-ghost use Rattle.std.specs.Prelude.{Some, ◌≡◌, ◌<◌, decimal};
+ghost use Rattle.std.specs.Prelude.{Some, ◌≡◌, ◌<◌, ◌++◌, codes, decimal};
+ghost use Rattle.std.specs.Fmt.{WritesOnOk};
 ghost use Rattle.facts.specs.Texts.{hex_digit, hex_byte, hex_text, key_text, comma_separated, bytes_text, answer_text, text_of};
 
 use crate::symbols::{Fact, KeySource, Stated};
@@ -119,29 +120,77 @@ fn answer(holds: bool) -> &'static str
     if holds { "yes" } else { "no" }
 }
 
+// A number after a word.
+fn write_number<W: fmt::Write>(f: &mut fmt::Formatter<W>, word: &str, n: u64) -> fmt::Result
+    ensures { WritesOnOk W.write_str_gives f.old result (word.now ++ decimal n) f.new }
+{
+    write!(f, "{word}{n}")
+}
+
+// What a slot's hash is, and the answer.
+fn write_hash<W: fmt::Write>(
+    f: &mut fmt::Formatter<W>,
+    slot: usize,
+    hash: &[u8],
+    p: &str,
+) -> fmt::Result
+    ensures { WritesOnOk W.write_str_gives f.old result (codes "hash " ++ (decimal slot ++ (codes " " ++ (hex_text hash.now ++ (codes " " ++ p.now))))) f.new }
+{
+    write!(f, "hash {slot} {} {p}", Hex(hash))
+}
+
+// What a slot's item is, and the answer.
+fn write_item<W: fmt::Write>(
+    f: &mut fmt::Formatter<W>,
+    slot: usize,
+    item: &[u8],
+    p: &str,
+) -> fmt::Result
+    ensures { WritesOnOk W.write_str_gives f.old result (codes "is " ++ (decimal slot ++ (codes " " ++ (bytes_text item.now ++ (codes " " ++ p.now))))) f.new }
+{
+    write!(f, "is {slot} {} {p}", Bytes(item))
+}
+
+// Whose token a slot has, and the answer.
+fn write_token<W: fmt::Write>(
+    f: &mut fmt::Formatter<W>,
+    slot: usize,
+    key: &KeySource,
+    p: &str,
+) -> fmt::Result
+    ensures { WritesOnOk W.write_str_gives f.old result (codes "token " ++ (decimal slot ++ (codes " " ++ (key_text key.now ++ (codes " " ++ p.now))))) f.new }
+{
+    write!(f, "token {slot} {key} {p}")
+}
+
+// Which keys' tokens slots have, and the answer.
+fn write_assigned<W: fmt::Write>(
+    f: &mut fmt::Formatter<W>,
+    slots: &[usize],
+    keys: &[KeySource],
+    p: &str,
+) -> fmt::Result
+    ensures { WritesOnOk W.write_str_gives f.old result (codes "assigned " ++ (comma_separated decimal slots.now ++ (codes " " ++ (comma_separated key_text keys.now ++ (codes " " ++ p.now))))) f.new }
+{
+    write!(f, "assigned {} {} {p}", Slots(slots), Keys(keys))
+}
+
 impl fmt::Display for Stated {
     ghost output = { λ s. Some (text_of s) };
 
     fn fmt<W: fmt::Write>(&self, f: &mut fmt::Formatter<W>) -> fmt::Result {
         let p = answer(self.holds);
         match &self.fact {
-            Fact::Hash(slot, hash) => write!(f, "hash {slot} {} {p}", Hex(hash.bytes())),
+            Fact::Hash(slot, hash) => write_hash(f, *slot, hash.bytes(), p),
             Fact::Size(slot, size) => write!(f, "size {slot} {size} {p}"),
             Fact::Truth(slot) => write!(f, "truth {slot} {p}"),
-            Fact::Is(slot, bytes) => write!(f, "is {slot} {} {p}", Bytes(bytes.bytes())),
-            Fact::KeyForm(slot) => write!(f, "key {slot}"),
-            Fact::Form(slot) => write!(f, "form {slot}"),
-            Fact::Token(slot, key) => write!(f, "token {slot} {key} {p}"),
-            Fact::Assigned(slots, keys) => {
-                write!(
-                    f,
-                    "assigned {} {} {p}",
-                    Slots(slots.values()),
-                    Keys(keys.values())
-                )
-            }
-            Fact::Lock(n) => write!(f, "lock {n}"),
-            Fact::Age(n) => write!(f, "age {n}"),
+            Fact::Is(slot, bytes) => write_item(f, *slot, bytes.bytes(), p),
+            Fact::KeyForm(slot) => write_number(f, "key ", *slot as u64),
+            Fact::Form(slot) => write_number(f, "form ", *slot as u64),
+            Fact::Token(slot, key) => write_token(f, *slot, key, p),
+            Fact::Assigned(slots, keys) => write_assigned(f, slots.values(), keys.values(), p),
+            Fact::Lock(n) => write_number(f, "lock ", *n),
+            Fact::Age(n) => write_number(f, "age ", u64::from(*n)),
         }
     }
 }
