@@ -123,6 +123,27 @@ fn empty(alloc: Global) -> Result<Parts, AllocError>
     })
 }
 
+// The channels begin, one after another, in a world that has none. The only error is that memory ran out.
+fn begin_each(
+    alloc: Global,
+    parts: &mut Parts,
+    seeds: &Seeds,
+    terms: &[PlainTerms],
+) -> Result<(), AllocError>
+    requires few { length terms.now ≤ max_channels }
+    requires agreed { (i : ℕ) (plain : Plain) → slice_get terms.now i ≡ Some plain → can_agree plain ≡ true }
+    requires empty { parts.old ≡ empty_world }
+    ensures begins { OnOk result (IsBeginning seeds.now terms.now parts.new) }
+    ensures begun { OnOk result (HasBegun (length terms.now) parts.new) }
+{
+    // The proof takes from it that the channels of both sides agree.
+    openings_agree();
+    for channel in 0..terms.len() {
+        begin(alloc, parts, seeds, channel as u32, &terms[channel])?;
+    }
+    Ok(())
+}
+
 /// All channels begin. The only error is that memory ran out.
 pub(crate) fn begin_all(
     alloc: Global,
@@ -134,12 +155,8 @@ pub(crate) fn begin_all(
     ensures begins { IfOk result (IsBeginning seeds.now terms.now) }
     ensures world { IfOk result IsWorld }
 {
-    // The proof takes from it that the channels of both sides agree.
-    openings_agree();
     let mut parts = empty(alloc)?;
-    for channel in 0..terms.len() {
-        begin(alloc, &mut parts, seeds, channel as u32, &terms[channel])?;
-    }
+    begin_each(alloc, &mut parts, seeds, terms)?;
     parts.hold_both();
     Ok(parts)
 }

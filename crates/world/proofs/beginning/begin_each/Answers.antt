@@ -3,10 +3,10 @@ use Rattle.std.proofs.lemmas.Option.{slice_get-get_or}
 use Rattle.world.specs.Worlds.{World}
 use Rattle.world.specs.Beginning.{HasBegun}
 use Rattle.world.proofs.Begun.{IsLeft, nothing_begun, begin_next, has_begun, all_left}
-use Rattle.world.proofs.beginning.begin_all.Goals as goal
+use Rattle.world.proofs.beginning.begin_each.Goals as goal
 
 pub loop-channel-init : goal.loop-channel-init
-loop-channel-init c = subst (λ (w : World). IsLeft c.args.seeds.now c.args.terms.now 0 w × HasBegun 0 w) (sym c.in_ok-parts.ensures) ((λ end more. more), nothing_begun)
+loop-channel-init c = subst (λ (w : World). IsLeft c.args.seeds.now c.args.terms.now 0 w × HasBegun 0 w) (sym c.requires.empty) ((λ end more. more), nothing_begun)
 
 pub begin-requires-clause-agreed : goal.begin-requires-clause-agreed
 begin-requires-clause-agreed c = c.requires.agreed c.loop-channel.channel _ (slice_get-get_or c.args.terms.now c.loop-channel.channel _ c.loop-channel-test.true)
