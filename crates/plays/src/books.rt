@@ -132,8 +132,8 @@ fn print_entries(rt: &impl Print, peers: &Peers) -> Result<()> {
 }
 
 // Plays random games, and prints how many of their histories come back.
-fn print_random(rt: &impl Print, alloc: Global, games: u32) -> Result<()> {
-    let tally = play_games(alloc, games)?;
+fn print_random(rt: &impl Print, alloc: Global, peers: &mut Peers, games: u32) -> Result<()> {
+    let tally = play_games(alloc, peers, games)?;
     println!(rt;
         "random histories: {}, the same dump again: {}",
         tally.histories, tally.same
@@ -160,9 +160,9 @@ fn follow_dump(rt: &impl Print, alloc: Global, word: &str, text: String) -> Resu
 }
 
 // Opens so many channels between two empty books.
-fn open(alloc: Global, peers: &mut Peers, channels: &str) -> Result<()> {
+fn open(alloc: Global, peers: &mut Peers, channels: u32) -> Result<()> {
     *peers = Peers::new(alloc);
-    peers.open(alloc, channels.parse()?)
+    peers.open(alloc, channels)
 }
 
 // Does what a line of two words or more says.
@@ -174,9 +174,9 @@ fn follow_words(
     word: &str,
 ) -> Result<()> {
     match word {
-        "open" => open(alloc, peers, call.words),
+        "open" => open(alloc, peers, call.words.parse()?),
         "load" => print_loaded(rt, alloc, call.line, call.words),
-        "random" => print_random(rt, alloc, call.words.parse()?),
+        "random" => print_random(rt, alloc, peers, call.words.parse()?),
         "A" => play_line(rt, alloc, peers, Side::A, call),
         "B" => play_line(rt, alloc, peers, Side::B, call),
         _ => bail!("no such line"),

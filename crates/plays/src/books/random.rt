@@ -1,6 +1,7 @@
 //! Histories of random calls.
 
 use crate::books::loading::comes_back;
+use crate::books::open;
 use anyhow::Result;
 use book::errors::SignError;
 use book::{Book, Call, Step};
@@ -117,9 +118,8 @@ fn tally_book(alloc: Global, tally: &mut Tally, book: &Book) -> Result<()> {
     Ok(())
 }
 
-// Opens so many channels, and plays the steps of a history.
-fn play_steps(alloc: Global, peers: &mut Peers, channels: u32, state: &mut u64) -> Result<()> {
-    peers.open(alloc, channels)?;
+// Plays the steps of a history.
+fn play_steps(peers: &mut Peers, channels: u32, state: &mut u64) -> Result<()> {
     for _ in 0..STEPS {
         play_step(peers, u64::from(channels), next_number(state))?;
     }
@@ -132,18 +132,24 @@ fn tally_both(alloc: Global, tally: &mut Tally, peers: &Peers) -> Result<()> {
 }
 
 // Plays one game of two books.
-fn play_game(alloc: Global, tally: &mut Tally, channels: u32, state: &mut u64) -> Result<()> {
-    let mut peers = Peers::new(alloc);
-    play_steps(alloc, &mut peers, channels, state)?;
-    tally_both(alloc, tally, &peers)
+fn play_game(
+    alloc: Global,
+    peers: &mut Peers,
+    tally: &mut Tally,
+    channels: u32,
+    state: &mut u64,
+) -> Result<()> {
+    open(alloc, peers, channels)?;
+    play_steps(peers, channels, state)?;
+    tally_both(alloc, tally, peers)
 }
 
-/// Plays so many games, each of two books, of one or two channels in turn.
-pub fn play_games(alloc: Global, games: u32) -> Result<Tally> {
+/// Plays so many games, each of two empty books, of one or two channels in turn.
+pub fn play_games(alloc: Global, peers: &mut Peers, games: u32) -> Result<Tally> {
     let mut tally = Tally::default();
     let mut state = 1;
     for game in 0..games {
-        play_game(alloc, &mut tally, 1 + game % 2, &mut state)?;
+        play_game(alloc, peers, &mut tally, 1 + game % 2, &mut state)?;
     }
     Ok(tally)
 }

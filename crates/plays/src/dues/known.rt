@@ -101,17 +101,17 @@ fn push_revoked(
 }
 
 /// The first commitments, which were revoked.
-fn all_revoked(
+fn push_all_revoked(
     alloc: Global,
     setting: &Setting,
     owner: Side,
     count: u64,
-) -> Result<RevokedCommitments> {
-    let mut list = RevokedCommitments::new(alloc);
+    list: &mut RevokedCommitments,
+) -> Result<()> {
     for number in 0..count {
-        push_revoked(alloc, setting, owner, number, &mut list)?;
+        push_revoked(alloc, setting, owner, number, list)?;
     }
-    Ok(list)
+    Ok(())
 }
 
 /// The peer's commitments.
@@ -129,7 +129,8 @@ fn peers_commitments(
     peer: Side,
     newest: u64,
 ) -> Result<PeersCommitments> {
-    let revoked = all_revoked(alloc, setting, peer, newest)?;
+    let mut revoked = RevokedCommitments::new(alloc);
+    push_all_revoked(alloc, setting, peer, newest, &mut revoked)?;
     let next = commitment(alloc, setting, peer, newest.saturating_add(1))?;
     let newest = commitment(alloc, setting, peer, newest)?;
     Ok(PeersCommitments {
