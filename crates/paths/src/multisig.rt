@@ -1,9 +1,9 @@
 // CHECKMULTISIG.
 
-ghost use Rattle.std.specs.Prelude.{◌≡◌, ◌<◌, ◌≤◌, ◌+◌, reverse, IfOk, OnOk};
+ghost use Rattle.std.specs.Prelude.{false, ◌≡◌, ◌<◌, ◌≤◌, ◌+◌, reverse, IfOk, OnOk};
 ghost use Rattle.std.specs.List.{list_any};
 ghost use Rattle.paths.specs.Answers.{Answers, IfHalts, Leaves};
-ghost use Rattle.paths.specs.HoleRules.{pops, count_of as count_for, is_bad_key as is_bad_key_of, is_bad_extra as is_bad_extra_of, slots_of as slots_for, sources_of as sources_for, ask_forms as forms_asked, ask_keys as keys_asked, ask_extra as extra_asked, answer_of as answer_for, check_sigs};
+ghost use Rattle.paths.specs.HoleRules.{pops, count_of as count_for, is_bad_key as is_bad_key_of, is_bad_extra as is_bad_extra_of, slots_of as slots_for, sources_of as sources_for, ask_forms as forms_asked, ask_keys as keys_asked, ask_extra as extra_asked, answer_of as answer_for, check_sigs, push};
 ghost use Rattle.paths.specs.Following.{IsRuleOf};
 ghost use Rattle.paths.specs.Doing.{IsNear, count_keys as keys_counted};
 
@@ -92,14 +92,56 @@ fn check(
     if has_bad_key(&keys) || is_bad_extra(&extra) {
         return Err(Halt::Dead);
     }
+    check_forms(alloc, state, keys, signatures, &extra)
+}
+
+// Checks signatures against keys, where no form is bad.
+fn check_forms(
+    alloc: Global,
+    state: &mut State,
+    keys: Stack<Sym>,
+    signatures: Stack<Sym>,
+    extra: &Sym,
+) -> Result<(), Halt>
+    requires keys { list_any is_bad_key_of keys ≡ false }
+    requires extra { is_bad_extra_of extra.now ≡ false }
+    ensures exact { Leaves IfHalts (check_sigs keys signatures extra.now state.old) state.new result }
+    ensures near { OnOk result (IsNear 0 state.old state.new) }
+{
     let slots = slots_of(alloc, signatures)?;
     let sources = sources_of(alloc, keys)?;
-    ask_forms(state, slots.values())?;
-    ask_keys(state, sources.values())?;
-    ask_extra(alloc, state, extra)?;
-    let answer = answer_of(alloc, slots, sources)?;
-    put(state, answer)?;
+    ask_all(alloc, state, slots.values(), sources.values(), extra)?;
+    put_answer(alloc, state, slots, sources)?;
     Ok(())
+}
+
+// Asks for the forms of signatures and of keys, and that the extra item be empty.
+fn ask_all(
+    alloc: Global,
+    state: &mut State,
+    slots: &[usize],
+    sources: &[KeySource],
+    extra: &Sym,
+) -> Result<(), Halt>
+    ensures exact { Leaves IfHalts (extra_asked extra.now (keys_asked sources.now (forms_asked slots.now state.old))) state.new result }
+    ensures near { OnOk result (IsNear 0 state.old state.new) }
+{
+    ask_forms(state, slots)?;
+    ask_keys(state, sources)?;
+    ask_extra(alloc, state, extra)
+}
+
+// Pushes the answer. The only error is that memory ran out.
+fn put_answer(
+    alloc: Global,
+    state: &mut State,
+    slots: List<usize>,
+    sources: List<KeySource>,
+) -> Result<(), AllocError>
+    ensures { OnOk result (state.new ≡ push (answer_for slots sources) state.old) }
+{
+    let answer = answer_of(alloc, slots, sources)?;
+    put(state, answer)
 }
 
 // Whether no run takes one of these symbols for a key.
@@ -177,8 +219,8 @@ fn ask_keys(state: &mut State, keys: &[KeySource]) -> Result<(), AllocError>
 }
 
 // Asks that the extra item be empty (BIP 147).
-fn ask_extra(alloc: Global, state: &mut State, extra: Sym) -> Result<(), Halt>
-    ensures exact { Leaves IfHalts (extra_asked extra state.old) state.new result }
+fn ask_extra(alloc: Global, state: &mut State, extra: &Sym) -> Result<(), Halt>
+    ensures exact { Leaves IfHalts (extra_asked extra.now state.old) state.new result }
     ensures near { OnOk result (IsNear 0 state.old state.new) }
 {
     match extra {
@@ -192,12 +234,12 @@ fn ask_extra(alloc: Global, state: &mut State, extra: Sym) -> Result<(), Halt>
         Sym::Slot(i) => {
             ask(
                 state,
-                Fact::Is(i, Constant::Known(ByteString::new(alloc))),
+                Fact::Is(*i, Constant::Known(ByteString::new(alloc))),
                 true,
             )?;
             Ok(())
         }
-        _other => Err(Halt::Undecided),
+        _ => Err(Halt::Undecided),
     }
 }
 
