@@ -25,8 +25,9 @@ use Rattle.chain.specs.declared.commands.Command.TheVariants as command
 use Rattle.chain.specs.declared.commands.Answer.{Answer}
 use Rattle.chain.specs.declared.commands.Answer.TheVariants as answer
 use Rattle.chain.specs.Replays.{Answered, Replays}
-use Rattle.chain.specs.Conserving.{Differ, AreApart}
-use Rattle.chain.proofs.Noting.{same_is}
+use Rattle.chain.specs.Conserving.{GrantsAreApart}
+use Rattle.chain.proofs.Apart.{Differ, AreApart, or_parts, both_false, are_apart}
+use Rattle.chain.proofs.Noting.{same_is, itself, swapped}
 use Rattle.chain.proofs.Passing.{passed, named_fresh, named_created, next_passed}
 
 -- what creations are worth
@@ -61,21 +62,6 @@ dropped_here v a b s' e f = omega arith
 
 one_and_all : (a b v d vs f s : ℕ) → a ≡ b → b + v ≡ d → d + vs ≡ f → s ≡ v + vs → a + s ≡ f
 one_and_all a b v d vs f s e g h i = omega arith
-
-either_way : (a b : Bool) → (a ≡ true → b ≡ true) → (b ≡ true → a ≡ true) → a ≡ b
-either_way true b f g = sym (f refl)
-either_way false true f g = g refl
-either_way false false f g = refl
-
-pub itself : (o : OutPoint) → same_outpoint o o ≡ true
-itself o = rw ((bytes_eq-Decides o.txid o.txid).1 refl, eq-eqb o.index o.index refl) refl
-
-swapped : (o p : OutPoint) → same_outpoint o p ≡ same_outpoint p o
-swapped o p = either_way (same_outpoint o p) (same_outpoint p o) (λ e. ap (λ x. same_outpoint p x) (same_is o p e) ∙ itself p) (λ e. ap (λ x. same_outpoint o x) (same_is p o e) ∙ itself o)
-
-or_parts : (a b : Bool) → (a || b) ≡ false → (a ≡ false) × (b ≡ false)
-or_parts true b e = absurd (false≢true (sym e))
-or_parts false b e = (refl, e)
 
 left_same : (P Q : OutPoint → Bool) (list : List Creation) → ((q : OutPoint) → P q ≡ Q q) → left P list ≡ left Q list
 left_same P Q [] e = refl
@@ -143,10 +129,6 @@ none_at_all (d ∷ ys) = none_at_all ys
 some_found : (s : Bool) (c : Creation) (x : Option Creation) → s ≡ false → is_some x ≡ false → is_some (cond s (Some c) x) ≡ false
 some_found true c x e f = absurd (false≢true (sym e))
 some_found false c x e f = f
-
-both_false : (a b : Bool) → a ≡ false → b ≡ false → (a || b) ≡ false
-both_false true b e f = absurd (false≢true (sym e))
-both_false false b e f = f
 
 neither : (ys : List Creation) (c : Creation) (xs : List Creation) → list_any (λ d. same_outpoint d.outpoint c.outpoint) ys ≡ false → list_any (λ d. is_some (found d.outpoint xs)) ys ≡ false → list_any (λ d. is_some (found d.outpoint (c ∷ xs))) ys ≡ false
 neither [] c xs e f = refl
@@ -402,15 +384,15 @@ tested_call old command.Height (answer.Height n) new h t = rw h.0 t
 tested_call old command.Fees (answer.Fees n) new h t = rw h.0 t
 tested_call old c a new h t = absurd h
 
-tested_replay : (old : Standing) (cs : List Command) (answers : List Answer) (new : Standing) → Replays old cs answers new → is_tested old.blocks ≡ true → is_tested new.blocks ≡ true
+pub tested_replay : (old : Standing) (cs : List Command) (answers : List Answer) (new : Standing) → Replays old cs answers new → is_tested old.blocks ≡ true → is_tested new.blocks ≡ true
 tested_replay old [] [] new r t = rw r t
 tested_replay old [] (a ∷ answers) new r t = absurd r
 tested_replay old (c ∷ cs) [] new r t = absurd r
 tested_replay old (c ∷ cs) (a ∷ answers) new r t = tested_replay r.0 cs answers new r.2 (tested_call old c a r.0 r.1 t)
 
-pub conserved_there : (blocks : List Contents) → is_tested blocks ≡ true → AreApart blocks → sum_by (λ c. c.output.value) (unspent_of blocks) + fees_of blocks ≡ granted_of blocks
+pub conserved_there : (blocks : List Contents) → is_tested blocks ≡ true → GrantsAreApart blocks → sum_by (λ c. c.output.value) (unspent_of blocks) + fees_of blocks ≡ granted_of blocks
 unfolding Conserves
-conserved_there blocks tested apart = conserves_all blocks tested apart
+conserved_there blocks tested grants = conserves_all blocks tested (are_apart blocks tested grants)
 
-pub conserved : (commands : List Command) (answers : List Answer) (s : Standing) → Replays (record { blocks = empty_block ∷ []; greatest = 0 }) commands answers s → AreApart s.blocks → sum_by (λ c. c.output.value) (unspent_of s.blocks) + fees_of s.blocks ≡ granted_of s.blocks
-conserved commands answers s r apart = conserved_there s.blocks (tested_replay (record { blocks = empty_block ∷ []; greatest = 0 }) commands answers s r refl) apart
+pub conserved : (commands : List Command) (answers : List Answer) (s : Standing) → Replays (record { blocks = empty_block ∷ []; greatest = 0 }) commands answers s → GrantsAreApart s.blocks → sum_by (λ c. c.output.value) (unspent_of s.blocks) + fees_of s.blocks ≡ granted_of s.blocks
+conserved commands answers s r grants = conserved_there s.blocks (tested_replay (record { blocks = empty_block ∷ []; greatest = 0 }) commands answers s r refl) grants

@@ -1,14 +1,15 @@
 -- The definitions at work on known values.
-use Rattle.std.proofs.Common.{◌≡◌, List, ℕ, [], ◌∷◌, true, false, Some, None, refl, replicate, drop}
+use Rattle.std.proofs.Common.{◌≡◌, List, ℕ, [], ◌∷◌, true, false, Option, Some, None, Ok, max, refl, ap, ◌∙◌, replicate, drop}
 use Rattle.tx.specs.declared.input.OutPoint.{OutPoint}
 use Rattle.tx.specs.declared.input.TxIn.{TxIn}
 use Rattle.tx.specs.Parts.{Output}
 use Rattle.tx.specs.Fields.{Transaction}
-use Rattle.chain.specs.declared.refusal.Refusal.TheVariants.{Spent, Unknown, NotFinal, TooYoung}
+use Rattle.chain.specs.declared.refusal.Refusal.{Refusal}
+use Rattle.chain.specs.declared.refusal.Refusal.TheVariants.{Spent, Unknown, NotFinal, TooYoung, Twice}
 use Rattle.chain.specs.Blocks.{Contents, Standing, empty_block, height_of, granted_at, grants_in, grant_outpoint, creations_from, is_named, paid_out, granted_of}
 use Rattle.chain.specs.Locks.{is_final, is_old_enough}
-use Rattle.chain.specs.Tests.{coin_refusal, names_twice}
-use Rattle.chain.specs.Connecting.{is_too_deep, is_program}
+use Rattle.chain.specs.Tests.{coin_refusal, names_twice, transaction_refusal}
+use Rattle.chain.specs.Connecting.{Connects, ConnectsSome, Disconnects, is_too_deep, is_program}
 
 abbrev first : OutPoint
 first = record { txid = replicate 32 7; index = 1 }
@@ -107,7 +108,29 @@ deep : (is_too_deep (standing three 2) 0 ≡ false)
     × (is_too_deep (standing (replicate 9 empty_block) 8) 7 ≡ true)
     × (is_too_deep (standing (replicate 3 empty_block) 2) 2 ≡ false)
     × (is_too_deep (standing (replicate 3 empty_block) 2) 3 ≡ true)
-deep = (refl, refl, refl, refl, refl, refl, refl, refl, refl)
+    × (is_too_deep (standing (replicate 4 empty_block) 8) 1 ≡ false)
+    × (is_too_deep (standing (replicate 4 empty_block) 8) 2 ≡ true)
+deep = (refl, refl, refl, refl, refl, refl, refl, refl, refl, refl, refl)
+
+-- the greatest height ever is not that of the newest block: the chain was at height 8, stands at 2, and gets its next block
+greatest_stays : (s : Standing) → Connects (standing (replicate 3 empty_block) 8) [] (Ok 3) s → s.greatest ≡ 8
+greatest_stays s c = c.2
+
+greatest_grows : (s : Standing) → Connects (standing (replicate 9 empty_block) 8) [] (Ok 9) s → s.greatest ≡ 9
+greatest_grows s c = c.2
+
+greatest_of_some : (refusals : List (Option Refusal)) (s : Standing) → ConnectsSome (standing (replicate 3 empty_block) 8) [] refusals s → s.greatest ≡ 8
+greatest_of_some refusals s c = c.2 ∙ ap (λ blocks. max 8 (height_of blocks)) c.0
+
+greatest_of_taken : (txs : List Transaction) (s : Standing) → Disconnects (standing (replicate 9 empty_block) 8) 6 (Ok txs) s → s.greatest ≡ 8
+greatest_of_taken txs s c = ap (λ (x : Standing). x.greatest) c.2
+
+-- an outpoint that is named twice is refused as that, though nothing was created there; named once it is unknown, whatever the outputs pay
+in_turn : (transaction_refusal [] (record spending { inputs = from first 1 ∷ from first 2 ∷ [] }) ≡ Some Twice)
+    × (transaction_refusal [] (record spending { inputs = from second 1 ∷ from first 1 ∷ from first 1 ∷ [] }) ≡ Some Twice)
+    × (transaction_refusal [] spending ≡ Some Unknown)
+unfolding transaction_refusal
+in_turn = (refl, refl, refl)
 
 programs : (is_program (0x00 ∷ 0x14 ∷ replicate 20 7) ≡ true) × (is_program (0x00 ∷ 0x20 ∷ replicate 32 7) ≡ true) × (is_program (0x00 ∷ 0x20 ∷ replicate 20 7) ≡ false) × (is_program [] ≡ false)
 programs = (refl, refl, refl, refl)

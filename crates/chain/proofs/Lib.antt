@@ -2,10 +2,12 @@ pub mod Lists
 pub mod Finding
 pub mod Noting
 pub mod Passing
+pub mod Apart
 pub mod Indexed
 pub mod Copying
 pub mod Replaying
 pub mod Conserved
+pub mod Spending
 pub mod Growing
 pub mod Offering
 pub mod Undoing

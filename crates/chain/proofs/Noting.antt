@@ -53,6 +53,17 @@ same_is o p h =
     let index : o.index ≡ p.index = same_number o.index p.index parts.1 in
     ap (λ t. record { txid = t; index = o.index }) id ∙ ap (λ i. record { txid = p.txid; index = i }) index
 
+pub itself : (o : OutPoint) → same_outpoint o o ≡ true
+itself o = rw ((bytes_eq-Decides o.txid o.txid).1 refl, eq-eqb o.index o.index refl) refl
+
+either_way : (a b : Bool) → (a ≡ true → b ≡ true) → (b ≡ true → a ≡ true) → a ≡ b
+either_way true b f g = sym (f refl)
+either_way false true f g = g refl
+either_way false false f g = refl
+
+pub swapped : (o p : OutPoint) → same_outpoint o p ≡ same_outpoint p o
+swapped o p = either_way (same_outpoint o p) (same_outpoint p o) (λ e. ap (λ x. same_outpoint p x) (same_is o p e) ∙ itself p) (λ e. ap (λ x. same_outpoint o x) (same_is p o e) ∙ itself o)
+
 mapped : (t : Bool) (e : IndexedCoin) (x : Option IndexedCoin) → option_map indexed_coin (cond t (Some e) x) ≡ cond t (Some (indexed_coin e)) (option_map indexed_coin x)
 mapped true e x = refl
 mapped false e x = refl

@@ -1,12 +1,9 @@
--- Chains whose outputs stand at different outpoints.
-use Rattle.std.specs.Prelude.{◌≡◌, false, List, [], ◌∷◌}
-use Rattle.std.specs.List.{list_any}
-use Rattle.chain.specs.Blocks.{Contents, Creation, same_outpoint, created_of}
+-- Chains whose grants have ids of their own.
+use Rattle.std.specs.Prelude.{◌≡◌, ℕ, ◌<◌, false, List}
+use Rattle.std.specs.Str.{bytes_eq}
+use Rattle.chain.specs.Blocks.{Contents, grant_id, grants_in, has_id}
 
--- none of them stands at the outpoint of a later one
-abbrev pub Differ : List Creation → Type 0
-Differ [] = Unit {0}
-Differ (c ∷ cs) = (list_any (λ d. same_outpoint d.outpoint c.outpoint) cs ≡ false) × Differ cs
-
-abbrev pub AreApart : List Contents → Type 0
-AreApart blocks = Differ (created_of blocks)
+-- no two grants have one id, and no transaction on the chain has the id of a grant
+pub record GrantsAreApart (blocks : List Contents) : Type 0 where
+  pub among_grants : (g h : ℕ) → g < h → h < grants_in blocks → bytes_eq (grant_id g) (grant_id h) ≡ false
+  pub from_transactions : (g : ℕ) → g < grants_in blocks → has_id blocks (grant_id g) ≡ false

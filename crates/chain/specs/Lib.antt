@@ -12,3 +12,4 @@ pub mod Tested
 pub mod Indexing
 pub mod Replays
 pub mod Conserving
+pub mod Spending

@@ -1,5 +1,5 @@
 -- Calls of a chain one after another.
-use Rattle.std.specs.Prelude.{◌≡◌, List, [], ◌∷◌, length, slice_get, Ok, Err}
+use Rattle.std.specs.Prelude.{◌≡◌, ℕ, ◌-◌, ◌≤◌, List, [], ◌∷◌, length, take, slice_get, Ok, Err}
 use Rattle.chain.specs.declared.commands.Command.{Command}
 use Rattle.chain.specs.declared.commands.Command.TheVariants as command
 use Rattle.chain.specs.declared.commands.Answer.{Answer}
@@ -27,3 +27,7 @@ abbrev pub Replays : Standing → List Command → List Answer → Standing → 
 Replays old [] [] new = new ≡ old
 Replays old (c ∷ cs) (a ∷ answers) new = (next : Standing) × Answered old c a next × Replays next cs answers new
 Replays old cs answers new = ⊥
+
+-- the calls before one of these were made and answered, and none from there on
+abbrev pub ReplaysBefore : Standing → List Command → Standing → Type 0
+ReplaysBefore old commands new = (count : ℕ) × (answers : List Answer) × (count ≤ length commands - 1) × Replays old (take count commands) answers new

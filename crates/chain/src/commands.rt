@@ -1,7 +1,7 @@
 //! Calls of a chain as values, and what they answer.
 
-ghost use Rattle.std.specs.Prelude.{◌≡◌, IfOk};
-ghost use Rattle.chain.specs.Replays.{Answered, Replays};
+ghost use Rattle.std.specs.Prelude.{◌≡◌, IfOk, OnErr};
+ghost use Rattle.chain.specs.Replays.{Answered, Replays, ReplaysBefore};
 
 use crate::coins::Coins;
 use crate::refusal::{BlockError, Refusal};
@@ -58,13 +58,14 @@ fn copies(alloc: Global, transactions: &[Tx]) -> Result<Vec<Tx>, AllocError>
     Ok(txs)
 }
 
-/// Makes one call.
+/// Makes one call. The only error is that no memory was there for its answer or for a copy of what the command holds: then it was not made.
 fn make_call<C: Coins>(
     alloc: Global,
     chain: &mut C,
     command: &Command,
 ) -> Result<Answer, AllocError>
-    ensures { IfOk result (λ a. Answered (C.standing chain.old) command.now a (C.standing chain.new)) }
+    ensures ok { IfOk result (λ a. Answered (C.standing chain.old) command.now a (C.standing chain.new)) }
+    ensures err { OnErr result (C.standing chain.new ≡ C.standing chain.old) }
 {
     match command {
         Command::Grant(output) => Ok(Answer::Grant(chain.grant(output.copy()?))),
@@ -77,18 +78,20 @@ fn make_call<C: Coins>(
     }
 }
 
-/// Makes calls in their order, and gives their answers. The only error is that memory ran out for the answers or the copies of what the
-/// commands hold; the chain is then as after some of the calls.
+/// Makes calls in their order, and gives their answers. The only error is that memory ran out for the answers or for a copy of what a command holds; the chain is then as
+/// after the calls before that command, each of which was made and answered.
 pub fn replay_commands<C: Coins>(
     alloc: Global,
     chain: &mut C,
     commands: &[Command],
 ) -> Result<Vec<Answer>, AllocError>
-    ensures { IfOk result (λ answers. Replays (C.standing chain.old) commands.now answers.items (C.standing chain.new)) }
+    ensures ok { IfOk result (λ answers. Replays (C.standing chain.old) commands.now answers.items (C.standing chain.new)) }
+    ensures err { OnErr result (ReplaysBefore (C.standing chain.old) commands.now (C.standing chain.new)) }
 {
-    let mut answers = Vec::new(alloc);
+    let mut answers = Vec::with_capacity(alloc, commands.len())?;
     for command in commands {
-        answers.push(make_call(alloc, chain, command)?)?;
+        let answer = make_call(alloc, chain, command)?;
+        answers.push(answer).unwrap();
     }
     Ok(answers)
 }

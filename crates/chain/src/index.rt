@@ -148,7 +148,7 @@ pub struct Mark {
 impl Index {
     ghost use Rattle.std.specs.Prelude.{◌≡◌, ◌+◌, IfOk, OnErr, option_map, reverse, slice_get, sum_by};
     ghost use Rattle.chain.specs.Blocks.{Standing, has_id, unspent_of, fees_of, granted_of};
-    ghost use Rattle.chain.specs.Conserving.{AreApart};
+    ghost use Rattle.chain.specs.Conserving.{GrantsAreApart};
     ghost use Rattle.chain.specs.Connecting.{ConnectsSome};
     ghost use Rattle.chain.specs.Marking.{IsMark, IsGrown};
 
@@ -211,9 +211,9 @@ impl Index {
     }
 
     /// Conservation, by whatever calls the chain came about: what its unspent outputs are worth and its fees together are the satoshis that
-    /// were granted, as long as its outputs stand at different outpoints.
+    /// were granted, as long as the ids of its grants differ among themselves and from those of its transactions.
     pub fn conserves_values(&self)
-        ensures { AreApart self.now.blocks → sum_by (λ c. c.output.value) (unspent_of self.now.blocks) + fees_of self.now.blocks ≡ granted_of self.now.blocks }
+        ensures { GrantsAreApart self.now.blocks → sum_by (λ c. c.output.value) (unspent_of self.now.blocks) + fees_of self.now.blocks ≡ granted_of self.now.blocks }
     {
         let _ = &self.greatest;
     }

@@ -33,17 +33,28 @@ const TIMES: [Step; 13] = [
     Step::Check(1, 0, Err(Refusal::NotFinal)),
 ];
 
-// A coin of height 100 and an age of 144: too young in block 243, old enough in 244.
-const AGE_144: [Step; 8] = [
+// A coin of height 100 and an age of 144: too young in block 243, old enough in 244. Version 1 is never too young, and its script refuses it.
+const AGE_144: [Step; 12] = [
     Step::Raise(100),
     Step::GrantTo(5000, &TO_LOCAL_PROGRAM),
     Step::Make(2, &[(Source::Granted(0), 144)], &[4000], 0),
     Step::Sign(0, &TO_LOCAL, 5000, &[&[], &TO_LOCAL]),
+    Step::Make(1, &[(Source::Granted(0), 144)], &[4000], 0),
+    Step::Sign(1, &TO_LOCAL, 5000, &[&[], &TO_LOCAL]),
     Step::Raise(242),
     Step::Refuse(&[0], 0, Refusal::TooYoung),
+    VERSION_1_REFUSED,
     Step::Raise(243),
+    VERSION_1_REFUSED,
     Step::Connect(&[0], 244),
 ];
+
+// CHECKSEQUENCEVERIFY, the script's fifth opcode, wants version 2 (BIP 112).
+const VERSION_1_REFUSED: Step = Step::Refuse(
+    &[1],
+    0,
+    Refusal::Script(Cause::FailedCheck(Kind::Sequence), 4),
+);
 
 // The rules of BIP 68: the version, bit 31, bit 22, and the low 16 bits.
 const RELATIVE_LOCKS: [Step; 13] = [
