@@ -1,5 +1,7 @@
 -- What is due on commitments with an HTLC each way, by amounts and paths that were worked out by hand from BOLT 3 and BOLT 5.
-use Rattle.std.proofs.Common.{◌≡◌, ℕ, Bool, true, false, map, List, [], ◌∷◌, Some, None, refl, replicate}
+use Rattle.std.proofs.Common.{◌≡◌, ◌==◌, ℕ, Bool, true, false, map, List, [], ◌∷◌, Some, None, refl, replicate}
+use Rattle.std.specs.Str.{bytes_eq}
+use Rattle.sha2.specs.Sha256.{sha256}
 use Rattle.tx.specs.declared.input.OutPoint.{OutPoint}
 use Rattle.terms.specs.declared.htlcs.Htlc.{Htlc}
 use Rattle.terms.specs.declared.numbers.Obscured.{Obscured}
@@ -11,8 +13,11 @@ use Rattle.commit.specs.declared.fees.Direction.TheVariants.{Offered, Received}
 use Rattle.commit.specs.Keys.{KeyBytes}
 use Rattle.commit.specs.Outputs.{htlc_output, to_remote_output, to_local_output}
 use Rattle.commit.specs.Commitments.{Contents, second_stage_of}
-use Rattle.penalty.specs.Claimable.{Claimable, claims_by}
-use Rattle.resolve.specs.Due.{can_time_out, can_pay, is_known, owners_due, peers_due}
+use Rattle.penalty.specs.Claimable.{Claimable, claims_by, claimable_of}
+use Rattle.resolve.specs.declared.known.RevokedCommitment.{RevokedCommitment}
+use Rattle.resolve.specs.declared.known.Known.{Known}
+use Rattle.resolve.specs.declared.verdicts.Verdict.TheVariants.{Revoked}
+use Rattle.resolve.specs.Due.{can_time_out, can_pay, is_known, owners_due, peers_due, penalties_if, due_of}
 use Rattle.resolve.specs.Preimages.{shown_by, if_32, is_deep}
 
 -- the lock time of the transaction round a claim, where it is fixed
@@ -71,6 +76,23 @@ module _ (funding : OutPoint) (hidden : Obscured) (k : KeyBytes) (hash : List �
   peers_without : is_known preimages hash ≡ false → can_time_out k ≡ true → map spot (peers_due preimages both) ≡ (1, 11000, 2, 0) ∷ (2, 20000, 0, 0) ∷ []
   unfolding peers_due claims_by
   peers_without e g = rw (e, g) refl
+
+-- any preimage that is known counts, whichever came first
+module _ (x y hash : List ℕ) where
+  either : bytes_eq (sha256 x) hash ≡ true → bytes_eq (sha256 y) hash ≡ false
+      → map (λ known. is_known known hash) ((x ∷ y ∷ []) ∷ (y ∷ x ∷ []) ∷ (x ∷ []) ∷ (y ∷ y ∷ []) ∷ [] ∷ []) ≡ true ∷ true ∷ true ∷ false ∷ false ∷ []
+  either e f = rw (e, f) refl
+
+-- the penalties of a revoked commitment are due whether they are kept or not, by its number alone
+module _ (known : Known) (kept bare : RevokedCommitment) where
+  whether_kept : kept.is_kept ≡ true → bare.is_kept ≡ false
+      → map penalties_if (None ∷ Some kept ∷ Some bare ∷ []) ≡ [] ∷ claimable_of kept.state ∷ claimable_of bare.state ∷ []
+  whether_kept e f = refl
+
+  by_number : known.revoked ≡ kept ∷ bare ∷ [] → kept.is_kept ≡ true → bare.is_kept ≡ false → (kept.state.number == 0) ≡ true → (bare.state.number == 1) ≡ true
+      → map (due_of known) (Revoked 0 ∷ Revoked 1 ∷ Revoked 2 ∷ []) ≡ claimable_of kept.state ∷ claimable_of bare.state ∷ [] ∷ []
+  unfolding due_of
+  by_number e k b f g = rw (e, f, g) refl
 
 -- the item before the last, of three or five
 shown : (shown_by ((1 ∷ []) ∷ (2 ∷ []) ∷ (3 ∷ []) ∷ []) ≡ Some (2 ∷ []))

@@ -5,7 +5,9 @@ use keys::{Key, Signer};
 use lists::List;
 use parties::{FUNDING, htlc, key_of, one_key, party_with, terms_of, view};
 use penalty::RevokedState;
-use resolve::{Known, KnownCommitment, RevokedCommitment, RevokedCommitments, SignedCommitment};
+use resolve::{
+    Known, KnownCommitment, KnownError, RevokedCommitment, RevokedCommitments, SignedCommitment,
+};
 use sighash::Token;
 use std::alloc::Global;
 use std::process::Abort;
@@ -25,6 +27,7 @@ fn party(rt: &impl Abort, start: u64, fill: u8) -> Party {
     party_with(bases, start)
 }
 
+/// The terms of a channel of 100,000 satoshis.
 pub fn terms(rt: &impl Abort) -> Terms {
     let (a, b) = (party(rt, 80_000_000, 0xa0), party(rt, 20_000_000, 0xb0));
     terms_of(FUNDING, 100_000, a, b).expect(rt, "terms")
@@ -36,43 +39,76 @@ fn offered(rt: &impl Abort, alloc: Global) -> View {
     view(alloc, [70_000_000, 20_000_000], &of_a, &[]).expect(rt, "memory")
 }
 
-// The owner's commitment of a number.
+/// The owner's commitment of a number.
 pub fn numbered(rt: &impl Abort, alloc: Global, owner: Side, number: u64) -> KnownCommitment {
     let view = offered(rt, alloc);
     let built = KnownCommitment::new(alloc, &terms(rt), &view, owner, number, &key(rt, 0xcc));
     built.expect(rt, "a commitment")
 }
 
-// B's tokens on the HTLC transactions of a commitment.
-fn tokens_on(rt: &impl Abort, alloc: Global, remote: &Key, digests: &[[u8; 32]]) -> List<Token> {
+// The tokens of a key on the HTLC transactions of a commitment.
+fn tokens_on(rt: &impl Abort, alloc: Global, key: &Key, digests: &[[u8; 32]]) -> List<Token> {
     let mut tokens = List::new(alloc);
     for digest in digests {
-        let on_htlc = Token::new(&remote.bytes, digest);
+        let on_htlc = Token::new(&key.bytes, digest);
         tokens.push(on_htlc).expect(rt, "memory");
     }
     tokens
 }
 
-// A's commitment 3, with the tokens of B.
-pub fn signed(rt: &impl Abort, alloc: Global) -> SignedCommitment {
+/// Whose tokens come with A's commitment 3: those of B, or one of a wrong key.
+#[derive(Clone, Copy)]
+pub enum Tokens {
+    OfPeer,
+    WrongOnCommitment,
+    WrongOnHtlc,
+}
+
+// The key of the token on the commitment.
+fn funding_key(terms: &Terms, tokens: Tokens) -> Key {
+    match tokens {
+        Tokens::WrongOnCommitment => terms.a.bases.funding,
+        _ => terms.b.bases.funding,
+    }
+}
+
+// The key of the tokens on its HTLC transactions.
+fn htlc_key(known: &KnownCommitment, tokens: Tokens) -> Key {
+    let keys = known.commitment().keys();
+    match tokens {
+        Tokens::WrongOnHtlc => keys.local_htlc,
+        _ => keys.remote_htlc,
+    }
+}
+
+/// A's commitment 3, with these tokens.
+pub fn signed_with(
+    rt: &impl Abort,
+    alloc: Global,
+    tokens: Tokens,
+) -> Result<SignedCommitment, KnownError> {
     let terms = terms(rt);
     let known = numbered(rt, alloc, Side::A, 3);
     let digests = signing_digests(alloc, &terms, known.commitment()).expect(rt, "memory");
-    let token = Token::new(&terms.b.bases.funding.bytes, &digests.commitment);
-    let remote = known.commitment().keys().remote_htlc;
-    let tokens = tokens_on(rt, alloc, &remote, digests.htlcs.values());
-    let own = SignedCommitment::new(alloc, &terms, Side::A, known, token, tokens);
-    own.expect(rt, "the peer's tokens")
+    let token = Token::new(&funding_key(&terms, tokens).bytes, &digests.commitment);
+    let key = htlc_key(&known, tokens);
+    let on_htlcs = tokens_on(rt, alloc, &key, digests.htlcs.values());
+    SignedCommitment::new(alloc, &terms, Side::A, known, token, on_htlcs)
 }
 
-// B's revoked commitment of a number.
+/// A's commitment 3, with the tokens of B.
+pub fn signed(rt: &impl Abort, alloc: Global) -> SignedCommitment {
+    signed_with(rt, alloc, Tokens::OfPeer).expect(rt, "the peer's tokens")
+}
+
+/// B's revoked commitment of a number.
 pub fn revoked(rt: &impl Abort, alloc: Global, number: u64) -> RevokedCommitment {
     let view = offered(rt, alloc);
     let state = RevokedState::new(terms(rt), view, Side::B, number, [5; 32]).expect(rt, "a state");
     RevokedCommitment::new(alloc, state, false).expect(rt, "memory")
 }
 
-// Those of numbers 0 and 1, of which the penalties of 1 are kept.
+/// Those of numbers 0 and 1, of which the penalties of 1 are kept.
 pub fn two_revoked(rt: &impl Abort, alloc: Global) -> RevokedCommitments {
     let mut list = RevokedCommitments::new(alloc);
     list.push(revoked(rt, alloc, 0)).expect(rt, "number 0");
@@ -88,7 +124,7 @@ fn older(rt: &impl Abort, alloc: Global) -> List<SignedCommitment> {
     older
 }
 
-// What A knows, with two revoked commitments of B.
+/// What A knows, with two revoked commitments of B.
 pub fn known(rt: &impl Abort, alloc: Global) -> Known {
     Known {
         terms: terms(rt),

@@ -1,6 +1,6 @@
 //! The names of refusals, and what is known of a small channel.
 
-use crate::fixtures::{known, numbered, revoked, signed, two_revoked};
+use crate::fixtures::{Tokens, known, numbered, revoked, signed, signed_with, two_revoked};
 use resolve::{Known, KnownError, MAX_NUMBER, RevokedError, Verdict, due_claims};
 use std::alloc::Global;
 use std::process::Abort;
@@ -42,6 +42,10 @@ fn numbers_have_48_bits(rt: HostRuntime) {
 fn a_signed_commitment_has_the_peers_tokens(rt: HostRuntime) {
     let own = signed(&rt, rt.alloc());
     assert!(rt; own.copy().is_ok());
+    for tokens in [Tokens::WrongOnCommitment, Tokens::WrongOnHtlc] {
+        let refusal = signed_with(&rt, rt.alloc(), tokens).err();
+        assert!(rt; matches!(&refusal, Some(KnownError::BadSignature)));
+    }
 }
 
 #[test]

@@ -3,3 +3,6 @@ mod Walks
 mod Giving
 mod Standings
 mod WatchExamples
+mod Finding
+mod HtlcScripts
+mod Showing

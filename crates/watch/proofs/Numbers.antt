@@ -7,8 +7,7 @@ use Rattle.terms.specs.declared.agreement.Terms.{Terms}
 use Rattle.terms.specs.Numbers.{mask_of, revealed, HasNumber}
 use Rattle.terms.proofs.Revealing.{numbered}
 use Rattle.chain.specs.Blocks.{same_outpoint}
-use Rattle.chain.proofs.Conserved.{itself}
-use Rattle.chain.proofs.Noting.{same_is}
+use Rattle.chain.proofs.Noting.{itself, same_is}
 use Rattle.watch.specs.Verdicts.{number_by, number_in}
 
 same_option : (a b : Option ℕ) → ((n : ℕ) → a ≡ Some n → b ≡ Some n) → ((n : ℕ) → b ≡ Some n → a ≡ Some n) → a ≡ b

@@ -3,3 +3,5 @@ pub mod Watching
 pub mod Learning
 pub mod Sights
 pub mod Standing
+pub mod Finding
+pub mod Showing
