@@ -11,8 +11,9 @@ use Rattle.terms.specs.declared.sides.Side.TheVariants.{A, B}
 use Rattle.terms.specs.declared.agreement.BaseKeys.{BaseKeys}
 use Rattle.terms.specs.declared.agreement.Terms.{Terms}
 use Rattle.updates.specs.declared.changes.Update.TheVariants.{Add}
-use Rattle.updates.specs.declared.refusals.Refusal.TheVariants.{WrongSecret, NotYourTurn}
+use Rattle.updates.specs.declared.refusals.Refusal.TheVariants.{NoUpdates as NothingCovered, WrongSecret, NotYourTurn}
 use Rattle.claim.specs.Claims.{ClaimParts}
+use Rattle.filling.specs.declared.errors.FillError.TheVariants.{NoRight, SameOutpoint}
 use Rattle.channel.specs.declared.messages.Tokens.{Tokens}
 use Rattle.channel.specs.declared.messages.Message.TheVariants.{Updated as UpdateMessage, CommitmentSigned, RevokeAndAck}
 use Rattle.channel.specs.Points.{secret_at, point_at, is_foreign}
@@ -25,18 +26,34 @@ use Rattle.book.specs.declared.calls.Step.TheVariants.{Own, Updated, Signed}
 use Rattle.book.specs.declared.calls.Call.{Call}
 use Rattle.book.specs.declared.calls.Call.TheVariants.{Open, Step as Stepping, Sign, Revoke, Keep, Release}
 use Rattle.book.specs.declared.calls.Entry.{Entry}
-use Rattle.book.specs.declared.errors.OpenError.TheVariants.{SameFunding, BadSignature}
+use Rattle.book.specs.declared.errors.OpenError.TheVariants as opens
+use Rattle.book.specs.declared.errors.SignError.TheVariants as signs
+use Rattle.book.specs.declared.errors.KeepError.TheVariants as keeps
+use Rattle.book.specs.declared.errors.KnowError.TheVariants as knows
+use Rattle.book.specs.declared.errors.LoadError.TheVariants as loads
+use Rattle.book.specs.declared.errors.OpenError.TheVariants.{BookFull, SameFunding, BadSignature}
 use Rattle.book.specs.declared.errors.StepError.TheVariants.{Refused, NoSuchChannel as NoChannelToStep}
 use Rattle.book.specs.declared.errors.SignError.TheVariants.{PenaltiesMissing, AwaitingRevocation, NoUpdates, NoSuchChannel as NoChannelToSign}
 use Rattle.book.specs.declared.errors.KeepError.TheVariants.{NotRevoked, AlreadyKept, OtherState, NoSuchChannel as NoChannelToKeep}
-use Rattle.book.specs.declared.errors.ReleaseError.TheVariants.{NoSuchChannel as NoChannelToRelease}
+use Rattle.book.specs.declared.errors.ReleaseError.TheVariants.{Unfilled, NoSuchChannel as NoChannelToRelease}
 use Rattle.book.specs.declared.limits.TheConstants.{MAX_CHANNELS}
 use Rattle.terms.specs.Bases.{IsSeedOf}
 use Rattle.book.specs.Penalties.{is_penalty_set}
-use Rattle.book.specs.Books.{ChannelBook, missing_from}
-use Rattle.book.specs.Replies.{Reply, opened, stepped, signed, revoked, kept, released, reply_of, sign_refusal, keep_refusal, history_after}
+use Rattle.book.specs.Books.{ChannelBook, Channels, opened_by, missing_from}
+use Rattle.book.specs.Refusals.{open_error_number, step_error_number, sign_error_number, keep_error_number, release_error_number, know_error_number, load_error_number}
+use Rattle.book.specs.Replies.{answer_of, open_refusal, Reply, opened, stepped, signed, revoked, kept, released, reply_of, sign_refusal, keep_refusal, history_after}
 use Rattle.book.specs.Accepted.{all_accepted, first_refused}
 use Rattle.book.specs.Guarding.{is_set_in, number_kept, is_guarded}
+
+-- the numbers of the refusals; those of a channel and of a filling keep theirs
+numbers : (map open_error_number (opens.NoMemory ∷ opens.BookFull ∷ opens.SameFunding ∷ opens.BadSignature ∷ []) ≡ 0 ∷ 1 ∷ 2 ∷ 3 ∷ [])
+    × (map step_error_number (Refused NothingCovered ∷ Refused WrongSecret ∷ Refused NotYourTurn ∷ NoChannelToStep ∷ []) ≡ 9 ∷ 11 ∷ 12 ∷ 9 ∷ [])
+    × (map sign_error_number (signs.NoMemory ∷ signs.PenaltiesMissing 7 ∷ signs.AwaitingRevocation ∷ signs.NoUpdates ∷ signs.NoSuchChannel ∷ []) ≡ 0 ∷ 1 ∷ 2 ∷ 3 ∷ 9 ∷ [])
+    × (map keep_error_number (keeps.NoMemory ∷ keeps.NotRevoked ∷ keeps.OtherState ∷ keeps.AlreadyKept ∷ keeps.NoSuchChannel ∷ []) ≡ 0 ∷ 1 ∷ 2 ∷ 3 ∷ 9 ∷ [])
+    × (map release_error_number (Unfilled NoRight ∷ Unfilled SameOutpoint ∷ NoChannelToRelease ∷ []) ≡ 1 ∷ 5 ∷ 9 ∷ [])
+    × (map know_error_number (knows.NoMemory ∷ knows.NoSuchChannel ∷ []) ≡ 0 ∷ 9 ∷ [])
+    × (map load_error_number (loads.NoMemory ∷ loads.NotJson ∷ loads.BadShape ∷ loads.BadClaim 7 ∷ loads.BadHistory 7 ∷ []) ≡ 0 ∷ 1 ∷ 2 ∷ 3 ∷ 4 ∷ [])
+numbers = (refl, refl, refl, refl, refl, refl, refl)
 
 limit : MAX_CHANNELS ≡ 65536
 limit = refl
@@ -128,6 +145,13 @@ module _ (bases : BaseKeys) (seed : List ℕ) (own : IsSeedOf seed bases) where
   openings : answers_from [] (Open (opening A 0 (0 ∷ [])) ∷ Open (opening A 0 (1 ∷ [])) ∷ Open (opening A 1 (1 ∷ [])) ∷ Open (opening A 1 (0 ∷ [])) ∷ [])
       ≡ opened (Ok 0) ∷ opened (Err SameFunding) ∷ opened (Err BadSignature) ∷ opened (Ok 1) ∷ []
   openings = refl
+
+  -- 65,536 channels are the most, whatever the opening is; with one channel less, the funding output is tested
+  full : (chs : Channels) (o : Opening) → length chs ≡ 65536 → open_refusal tokens_of chs o ≡ Some BookFull
+  full chs o many = rw many refl
+
+  room : (chs : Channels) → length chs ≡ 65534 → open_refusal tokens_of (opened_by (opening A 0 (0 ∷ [])) ∷ chs) (opening A 0 (0 ∷ [])) ≡ Some SameFunding
+  room chs many = rw many refl
 
   -- the first scenario: A offers an HTLC, signs, receives the revocation, and offers another one
   abbrev first_calls : List Call
@@ -239,3 +263,14 @@ module _ (bases : BaseKeys) (seed : List ℕ) (own : IsSeedOf seed bases) where
         × (keep_refusal (channel then (0 ∷ [])) 0 claims ≡ Some AlreadyKept)
         × (keep_refusal (channel then []) 0 claims ≡ Some OtherState)
     keepings = (refl, refl, refl, rw no_set refl)
+
+  -- the number of a revoked commitment is how many revocations came before, and not that of the own newest one
+  abbrev awaiting : List (List ℕ) → ChannelBook
+  awaiting secrets = channel (record (after_sign (after_update (Add (htlc 0 1000000 500)) (opened_state (terms_of 0) A seed point_key (key 1)))) { number = 5; secrets = secrets }) []
+
+  first_revoked : answer_of tokens_of (awaiting [] ∷ []) (Revoke 0 secret (key 2)) ≡ revoked (Ok 0)
+  unfolding is_foreign
+  first_revoked = rw point_is refl
+
+  next_revoked : (first : List ℕ) → is_foreign (first ∷ []) secret ≡ false → answer_of tokens_of (awaiting (first ∷ []) ∷ []) (Revoke 0 secret (key 2)) ≡ revoked (Ok 1)
+  next_revoked first leads = rw (point_is, leads) refl

@@ -3,7 +3,7 @@ use Rattle.std.proofs.Common.{◌≡◌, ℕ, zero, suc, ◌&&◌, ◌||◌, ◌
 use Rattle.std.specs.Prelude.{slice_get}
 use Rattle.std.specs.Cmp.Lexicographic.{nat_list_eq_equiv}
 use Rattle.std.specs.List.{list_any}
-use Rattle.std.specs.Map.{lookup, values_of}
+use Rattle.std.specs.Map.{lookup, keys_of, values_of}
 use Rattle.std.specs.Str.{bytes_eq}
 use Rattle.std.proofs.lemmas.Bool.Decides.{nat_tests}
 use Rattle.std.proofs.lemmas.List.{map-append, length-map}
@@ -13,7 +13,7 @@ use Rattle.tx.specs.declared.input.OutPoint.{OutPoint}
 use Rattle.book.specs.Penalties.{same_outpoint}
 use Rattle.channel.specs.Tokens.{peer_tokens}
 use Rattle.book.specs.declared.calls.Entry.{Entry}
-use Rattle.book.specs.Books.{ChannelBook, Channels, at_index, replay}
+use Rattle.book.specs.Books.{ChannelBook, Channels, at_index, replay, fundings_of}
 use Rattle.book.specs.Accepted.{all_accepted}
 use Rattle.book.specs.Kept.{by_funding, AreLeft}
 
@@ -38,6 +38,10 @@ values_are : (chs : Channels) → values_of (by_funding chs) ≡ chs
 values_are [] = refl
 values_are (ch ∷ chs) = ap (λ cs. ch ∷ cs) (values_are chs)
 
+keys_are : (chs : Channels) → keys_of (by_funding chs) ≡ fundings_of chs
+keys_are [] = refl
+keys_are (ch ∷ chs) = ap (λ os. ch.state.held.terms.funding ∷ os) (keys_are chs)
+
 -- a change of one channel that leaves its funding output
 changed : (f : ChannelBook → ChannelBook) → ((ch : ChannelBook) → (f ch).state.held.terms ≡ ch.state.held.terms) → (c : ℕ) (chs : Channels) (x y : ChannelBook) → slice_get chs c ≡ Some x → y ≡ f x
     → set_value_at (by_funding chs) c y ≡ by_funding (at_index f c chs)
@@ -54,6 +58,10 @@ unchanged (suc c) (z ∷ chs) x y found e = ap (λ es. (z.state.held.terms.fundi
 module _ (history : List Entry) (channels : List (OutPoint × ChannelBook)) (k : AreLeft history channels) where
   pub as_many : length channels ≡ length (replay history)
   as_many = ap length k.left ∙ length-map (replay history) (λ (ch : ChannelBook). (ch.state.held.terms.funding, ch))
+
+  -- the outpoints are the channels' funding outputs
+  pub fundings_are : (os : List OutPoint) → os ≡ keys_of channels → os ≡ fundings_of (replay history)
+  fundings_are os is = is ∙ ap keys_of k.left ∙ keys_are (replay history)
 
   -- an outpoint is found where it is a channel's funding output
   pub funds : (o : OutPoint) → is_some (lookup (same_outpoint o) channels) ≡ list_any (λ ch. same_outpoint ch.state.held.terms.funding o) (replay history)

@@ -43,23 +43,27 @@ penalties_are s n claims c secret found revealed = rw (found, revealed) refl
 
 -- ---- the refusals
 
-less_true : (m n : ℕ) → m < n → nat_lt m n ≡ true
+pub less_true : (m n : ℕ) → m < n → nat_lt m n ≡ true
 less_true m n less = grind (arith, nat_tests)
 
 less_false : (m n : ℕ) → n ≤ m → nat_lt m n ≡ false
 less_false m n most = grind (arith, nat_tests)
 
-pub not_revoked : (ch : ChannelBook) (flags : List Bool) (below n : ℕ) (claims : List ClaimParts) → IsBeside ch flags below → slice_get flags n ≡ None → keep_refusal ch n claims ≡ Some NotRevoked
-not_revoked ch flags below n claims b none =
+pub past_flags : (ch : ChannelBook) (flags : List Bool) (below n : ℕ) → IsBeside ch flags below → slice_get flags n ≡ None → nat_lt n (length ch.state.secrets) ≡ false
+past_flags ch flags below n b none =
     let past : length flags ≤ n = ⊎_elim (λ less. absurd (none-some _ (sym none ∙ b.are.each n less))) (λ most. most) (cases_lt n (length flags)) in
     let count = b.count in
-    let e : nat_lt n (length ch.state.secrets) ≡ false = less_false n (length ch.state.secrets) (omega (arith, count, past)) in
+    less_false n (length ch.state.secrets) (omega (arith, count, past))
+
+pub not_revoked : (ch : ChannelBook) (flags : List Bool) (below n : ℕ) (claims : List ClaimParts) → IsBeside ch flags below → slice_get flags n ≡ None → keep_refusal ch n claims ≡ Some NotRevoked
+not_revoked ch flags below n claims b none =
+    let e = past_flags ch flags below n b none in
     rw e refl
 
 pub inside : (ch : ChannelBook) (flags : List Bool) (below n : ℕ) (flag : Bool) → IsBeside ch flags below → slice_get flags n ≡ Some flag → n < length ch.state.secrets
 inside ch flags below n flag b there = subst (λ k. n < k) b.count (slice_get_within flags n flag there)
 
-flagged : (ch : ChannelBook) (flags : List Bool) (below n : ℕ) (flag : Bool) → IsBeside ch flags below → slice_get flags n ≡ Some flag → is_kept ch.kept n ≡ flag
+pub flagged : (ch : ChannelBook) (flags : List Bool) (below n : ℕ) (flag : Bool) → IsBeside ch flags below → slice_get flags n ≡ Some flag → is_kept ch.kept n ≡ flag
 flagged ch flags below n flag b there = same_Some _ _ (sym (b.are.each n (slice_get_within flags n flag there)) ∙ there)
 
 pub already_kept : (ch : ChannelBook) (flags : List Bool) (below n : ℕ) (flag : Bool) (claims : List ClaimParts) → IsBeside ch flags below → slice_get flags n ≡ Some flag → flag ≡ true

@@ -1,6 +1,7 @@
 -- What a book knows, by its history.
-use Rattle.std.specs.Prelude.{ℕ, zero, suc, ◌+◌, ◌==◌, nat_lt, Bool, if◌then◌else◌, List, [], ◌∷◌, ◌++◌, length, reverse, Option, Some, None}
+use Rattle.std.specs.Prelude.{ℕ, zero, suc, ◌+◌, ◌==◌, nat_lt, Bool, if◌then◌else◌, List, [], ◌∷◌, ◌++◌, length, map, reverse, Option, Some, None}
 use Rattle.std.specs.List.{list_any}
+use Rattle.tx.specs.declared.input.OutPoint.{OutPoint}
 use Rattle.channel.specs.declared.messages.Message.TheVariants.{Updated as UpdateMessage, CommitmentSigned, RevokeAndAck}
 use Rattle.channel.specs.States.{State, opened, after_update, after_sign, after}
 use Rattle.updates.specs.declared.changes.Update.{Update}
@@ -68,6 +69,10 @@ replayed (e ∷ es) = channels_after e.call (replayed es)
 -- the channels after a history, which has the oldest entry first
 abbrev pub replay : List Entry → Channels
 replay history = replayed (reverse history)
+
+-- the funding outputs of the channels
+abbrev pub fundings_of : Channels → List OutPoint
+fundings_of chs = map (λ ch. ch.state.held.terms.funding) chs
 
 -- ---- the peer's revoked commitments
 

@@ -11,8 +11,9 @@ use filling::{FillError, Filled};
 use indexmap::IndexMap;
 use keys::Key;
 use lists::List;
+use penalty::RevokedState;
 use resolve::Known;
-use std::alloc::Global;
+use std::alloc::{AllocError, Global};
 use std::marker::Model;
 use tx::OutPoint;
 use updates::Refusal;
@@ -39,7 +40,7 @@ impl Model for Book {
 }
 
 impl Book {
-    ghost use Rattle.std.specs.Prelude.{◌≡◌, [], true, Err, length, slice_get, option_map, IfOk, IfErr};
+    ghost use Rattle.std.specs.Prelude.{◌≡◌, [], true, Err, length, slice_get, option_map, IfOk, IfErr, MatchResult};
     ghost use Rattle.std.specs.Option.{option_and_then, option_copied};
     ghost use Rattle.channel.specs.Tokens.{peer_tokens};
     ghost use Rattle.updates.specs.declared.refusals.Refusal.TheVariants.{NoMemory as refusal_memory};
@@ -47,9 +48,10 @@ impl Book {
     ghost use Rattle.book.specs.Accepted.{all_accepted};
     ghost use Rattle.book.specs.Guarding.{is_guarded};
     ghost use Rattle.book.specs.Replies.{opened, stepped, signed, revoked, kept, released};
-    ghost use Rattle.book.specs.Calling.{IsCall, step_reply};
-    ghost use Rattle.book.specs.Books.{replay, kept_at};
+    ghost use Rattle.book.specs.Calling.{IsCall, IsKeepRefusal, step_reply};
+    ghost use Rattle.book.specs.Books.{replay, kept_at, fundings_of};
     ghost use Rattle.book.specs.Knowing.{IsKnownIn, IsKnowRefusal};
+    ghost use Rattle.book.specs.Revoked.{IsRevokedIn, early_keep_refusal};
 
     /// An empty book, which takes no memory.
     pub fn new(alloc: Global) -> Book
@@ -97,6 +99,13 @@ impl Book {
             Some((_, open)) => open.keeps(number),
             None => None,
         }
+    }
+
+    /// The funding outputs of the channels, in the order in which they were opened. The only error is that memory ran out.
+    pub fn fundings(&self, alloc: Global) -> Result<Vec<OutPoint>, AllocError>
+        ensures { IfOk result (λ v. v.items ≡ fundings_of (replay self.now)) }
+    {
+        Vec::from_slice(alloc, self.channels.keys().as_slice())
     }
 
     /// Opens a channel, and gives its index: BookFull where there are 65,536, SameFunding where one has the same funding output, BadSignature where the token is not
@@ -269,6 +278,17 @@ impl Book {
         let call = Call::Release { channel, batch };
         self.entries.push(Entry { seat, call }).unwrap();
         Ok(filled)
+    }
+
+    /// The state of the peer's revoked commitment of a number whose penalties are not kept, for its penalties to be built: NoSuchChannel, NotRevoked, AlreadyKept.
+    pub fn revoked(&self, channel: u64, number: u64) -> Result<RevokedState, KeepError>
+        ensures { let there = slice_get (replay self.now) channel in MatchResult result (IsRevokedIn number there) (IsKeepRefusal (early_keep_refusal number there)) }
+    {
+        let index = channel as usize;
+        if index >= self.channels.len() {
+            return Err(KeepError::NoSuchChannel);
+        }
+        self.channels[index].revoked(number)
     }
 
     /// What the book knows of a channel, with the preimages of its fulfils in the order of the history: NoSuchChannel. It goes over the whole history.

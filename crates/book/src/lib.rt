@@ -1,9 +1,9 @@
 //! A node's book: what it did, in order.
 //!
 //! [`Book`] has six calls that may change it: `open`, `step`, `sign`, `revoke`, `keep` and `release`. Each answers what `reply_of` says of the history, and leaves the history that `history_after` says, or
-//! memory ran out and the history is as before: an accepted call adds one entry, and a refused one changes nothing. The signing gate, [`laws::signing_is_guarded`], holds of each history: each signature
+//! memory ran out and the history is as before: an accepted call adds one entry, and a refused one changes nothing. [`Book::call`] makes any of them. The signing gate, [`laws::signing_is_guarded`], holds of each history: each signature
 //! stands where every revocation that came in its channel has the penalties of the revoked commitment kept between the two. [`Book::entries`] hands this out. [`matching::is_set`] tells
-//! whether claims are a penalty set. [`Book::known`] hands out what the node knows of a channel, for what is due on the chain. What [`Book::dump`] gives, [`Book::load`] loads as the same history.
+//! whether claims are a penalty set. [`Book::known`] hands out what the node knows of a channel, for what is due on the chain, and [`Book::revoked`] the state of a revoked commitment, for its penalties to be built. What [`Book::dump`] gives, [`Book::load`] loads as the same history.
 //!
 //! ```rust
 //! assert!(rt; a.revoke(0, 0, came.secret, came.next_point).is_ok());
@@ -15,6 +15,7 @@
 //! The test `signs_once_penalties_are_kept` of `book_tests` has these lines; an update of one's own stands before the first signature.
 #![tactic(auto)]
 
+pub mod calling;
 pub mod calls;
 pub mod dumping;
 pub mod errors;
@@ -31,7 +32,9 @@ mod openings;
 mod reading;
 mod releasing;
 mod replaying;
+mod revoking;
 
+pub use calling::Reply;
 pub use calls::{Batch, Call, Entry, Opening, Step};
 pub use history::Book;
 pub use knowing::preimages_in;

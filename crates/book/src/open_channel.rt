@@ -14,10 +14,12 @@ use crate::flags::first_unset;
 use crate::judging::are_penalties;
 use crate::knowing::known_of;
 use crate::releasing::filled;
+use crate::revoking::state_at;
 use channel::{Channel, Message, Tokens};
 use claim::Claim;
 use filling::{FillError, Filled};
 use keys::{Key, Signer};
+use penalty::RevokedState;
 use resolve::Known;
 use std::alloc::{AllocError, Global};
 use std::marker::Model;
@@ -130,6 +132,7 @@ impl OpenChannel {
     ghost use Rattle.book.specs.Books.{with_state, with_kept, opened_by, is_kept, kept_at};
     ghost use Rattle.book.specs.Knowing.{IsKnownOf};
     ghost use Rattle.book.specs.Replies.{sign_refusal, keep_refusal};
+    ghost use Rattle.book.specs.Revoked.{IsRevokedIn, early_keep_refusal};
     ghost use Rattle.book.specs.Calling.{IsOpenRefusal, IsSignRefusal, IsKeepRefusal, IsFillRefusal, token_refusal, early_sign_refusal, filling_by};
     ghost use Rattle.channel.specs.Rights.{rights_of};
     ghost use Rattle.book.specs.Signers.{fill_refusal};
@@ -318,6 +321,22 @@ impl OpenChannel {
         self.flags[index] = true;
         self.below = first_unset(&self.flags, self.below);
         Ok(())
+    }
+
+    /// The state of the peer's revoked commitment of a number whose penalties are not kept: NotRevoked, AlreadyKept.
+    pub(crate) fn revoked(&self, number: u64) -> Result<RevokedState, KeepError>
+        ensures { MatchResult result (IsRevokedIn number (Some self.now)) (IsKeepRefusal (early_keep_refusal number (Some self.now))) }
+    {
+        let Some(is_kept) = self.flags.get(number as usize) else {
+            return Err(KeepError::NotRevoked);
+        };
+        if *is_kept {
+            return Err(KeepError::AlreadyKept);
+        }
+        match state_at(&self.channel, number) {
+            Ok(state) => Ok(state),
+            Err(_) => Err(KeepError::NoMemory),
+        }
     }
 
     /// What the side knows of the channel, where these preimages came. The only error is that memory ran out.

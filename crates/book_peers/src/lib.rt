@@ -15,6 +15,7 @@
 mod nodes;
 mod openings;
 mod peers;
+mod releases;
 
 pub use nodes::{Node, SEAT};
 pub use openings::{Opened, open_side};

@@ -1,9 +1,10 @@
 //! A node: its book, and beside each channel of the book one that goes along with it.
 
 use crate::openings::Opened;
+use crate::releases::batch_with;
 use anyhow::{Context, Result};
 use book::errors::{KeepError, SignError, StepError};
-use book::{Book, Step};
+use book::{Batch, Book, Step};
 use channel::{Channel, Message};
 use claim::Claim;
 use keys::Key;
@@ -196,5 +197,18 @@ impl Node {
     pub fn keep(&mut self, index: usize, number: u64) -> Result<Result<(), KeepError>> {
         let claims = self.penalties(index, number)?;
         Ok(self.book.keep(SEAT, index as u64, number, claims))
+    }
+
+    // The penalties of the peer's commitment of a number, in a transaction of their own.
+    fn batch(&mut self, index: usize, number: u64) -> Result<Batch> {
+        let claims = self.penalties(index, number)?;
+        batch_with(self.alloc, claims)
+    }
+
+    /// Releases the penalties of the peer's commitment of a number.
+    pub fn release(&mut self, index: usize, number: u64) -> Result<()> {
+        let batch = self.batch(index, number)?;
+        self.book.release(SEAT, index as u64, batch)?;
+        Ok(())
     }
 }

@@ -24,6 +24,8 @@ pub enum Act {
     Zeros,
     /// Keeps the penalties of the peer's commitment of this number.
     Keep(u64),
+    /// Releases them.
+    Release(u64),
 }
 
 /// What came of it.
@@ -100,6 +102,11 @@ fn keep(node: &mut Node, channel: usize, number: u64) -> Result<Reply> {
     }
 }
 
+fn release(node: &mut Node, channel: usize, number: u64) -> Result<Reply> {
+    node.release(channel, number)?;
+    Ok(Reply::Done)
+}
+
 // A node does something in a channel with its peer.
 fn play(node: &mut Node, peer: &mut Node, channel: usize, what: Act) -> Result<Reply> {
     match what {
@@ -108,6 +115,7 @@ fn play(node: &mut Node, peer: &mut Node, channel: usize, what: Act) -> Result<R
         Act::Deliver => deliver(node, peer, channel),
         Act::Zeros => revoke_zeros(node, channel),
         Act::Keep(number) => keep(node, channel, number),
+        Act::Release(number) => release(node, channel, number),
     }
 }
 

@@ -2,7 +2,7 @@
 
 use crate::two_books::{Revocation, offer, offered, opened, opening, penalties_of_first};
 use book::errors::{KeepError, OpenError, ReleaseError, SignError, StepError};
-use book::{Batch, Book};
+use book::{Batch, Book, Call, Reply};
 use channel::opening_points;
 use claim::Claim;
 use filling::FillError;
@@ -83,6 +83,54 @@ fn keeps_a_set_once(rt: HostRuntime) {
     assert!(rt; a.keep(3, 0, 0, claims).is_ok());
     assert!(rt; a.keep(0, 0, 0, List::new(alloc)) == Err(KeepError::AlreadyKept));
     assert_eq!(rt; a.entries().len(), 5);
+}
+
+fn is_accepted(book: &mut Book, call: Call) -> bool {
+    let reply = book.call(0, call);
+    match &reply {
+        Reply::Opened(answer) => answer.is_ok(),
+        Reply::Stepped(answer) => answer.is_ok(),
+        Reply::Signed(answer) => answer.is_ok(),
+        Reply::Revoked(answer) => answer.is_ok(),
+        Reply::Kept(answer) => answer.is_ok(),
+        Reply::Released(answer) => answer.is_ok(),
+    }
+}
+
+// A new book of A's opens the channel, offers, signs, and takes what came.
+fn called(rt: &impl Abort, alloc: Global, came: Revocation) -> Book {
+    let mut book = Book::new(alloc);
+    let open = Call::Open(opening(rt, alloc, Side::A));
+    let (channel, step) = (0, offer(500));
+    let revoke = Call::Revoke {
+        channel,
+        secret: came.secret,
+        next_point: came.next_point,
+    };
+    assert!(rt; is_accepted(&mut book, open));
+    assert!(rt; is_accepted(&mut book, Call::Step { channel, step }));
+    assert!(rt; is_accepted(&mut book, Call::Sign { channel }));
+    assert!(rt; is_accepted(&mut book, revoke));
+    book
+}
+
+// Each of the six calls is accepted by way of the one for all.
+#[test]
+fn makes_each_call(rt: HostRuntime) {
+    let alloc = rt.alloc();
+    let came = answered(&rt, alloc, &mut opened(&rt, alloc, Side::A));
+    let mut book = called(&rt, alloc, came);
+    let claims = penalties_of_first(&rt, alloc, came.secret);
+    let keep = Call::Keep {
+        channel: 0,
+        number: 0,
+        claims,
+    };
+    assert!(rt; is_accepted(&mut book, keep));
+    let claims = penalties_of_first(&rt, alloc, came.secret);
+    let batch = Batch::new(claims, List::new(alloc), List::new(alloc)).expect(&rt, "a batch");
+    assert!(rt; is_accepted(&mut book, Call::Release { channel: 0, batch }));
+    assert_eq!(rt; book.entries().len(), 6);
 }
 
 // Why a book of A's does not fill these claims.

@@ -1,9 +1,11 @@
 // What two books that share a channel know of it.
 
 use crate::two_books::{offered_by, opened, penalties_of_first, revocation_in, step_of};
-use book::errors::KnowError;
+use book::errors::{KeepError, KnowError};
 use book::{Book, Step};
+use parties::FUNDING;
 use resolve::Known;
+use std::alloc::Global;
 use std::process::Abort;
 use terms::Side;
 use texts::OwnUpdate;
@@ -52,6 +54,20 @@ fn known_to(rt: &impl Abort, book: &Book) -> Summary {
     summary_of(&book.known(0).expect(rt, "memory"))
 }
 
+// The number of the state that is told of a revoked commitment.
+fn revoked_number(book: &Book, channel: u64, number: u64) -> Result<u64, KeepError> {
+    match book.revoked(channel, number) {
+        Ok(state) => Ok(state.number),
+        Err(error) => Err(error),
+    }
+}
+
+// Whether the funding output of the books here is the only one.
+fn has_the_funding(rt: &impl Abort, alloc: Global, book: &Book) -> bool {
+    let fundings = book.fundings(alloc).expect(rt, "memory");
+    fundings.len() == 1 && fundings[0] == FUNDING
+}
+
 fn offer() -> Step {
     Step::Own(OwnUpdate::Offer {
         amount: 5_000_000,
@@ -68,6 +84,8 @@ fn knows_no_other_channel(rt: HostRuntime) {
     assert!(rt; book.channel(0).is_some());
     assert!(rt; book.channel(1).is_none());
     assert_eq!(rt; book.keeps(1, 0), None);
+    assert!(rt; revoked_number(&book, 1, 0) == Err(KeepError::NoSuchChannel));
+    assert!(rt; has_the_funding(&rt, rt.alloc(), &book));
 }
 
 // The peer's commitment with the HTLC is its next one until it revokes the first, whose penalties are then kept.
@@ -89,11 +107,14 @@ fn knows_what_is_revoked_and_kept(rt: HostRuntime) {
     };
     assert!(rt; known_to(&rt, &a) == signed);
     assert_eq!(rt; a.keeps(0, 0), None);
+    assert!(rt; revoked_number(&a, 0, 0) == Err(KeepError::NotRevoked));
     assert!(rt; a.revoke(0, 0, came.secret, came.next_point).is_ok());
     assert_eq!(rt; a.keeps(0, 0), Some(false));
+    assert!(rt; revoked_number(&a, 0, 0) == Ok(0));
     let claims = penalties_of_first(&rt, alloc, came.secret);
     assert!(rt; a.keep(3, 0, 0, claims).is_ok());
     assert_eq!(rt; a.keeps(0, 0), Some(true));
+    assert!(rt; revoked_number(&a, 0, 0) == Err(KeepError::AlreadyKept));
     let kept = Summary {
         theirs: 1,
         next: None,

@@ -34,11 +34,11 @@ use Rattle.book.specs.declared.calls.Call.{Call}
 use Rattle.book.specs.declared.calls.Entry.{Entry}
 use Rattle.book.specs.declared.errors.OpenError.TheVariants.{BookFull, SameFunding, BadSignature}
 use Rattle.book.specs.Penalties.{same_outpoint}
-use Rattle.book.specs.Books.{ChannelBook, Channels, opened_by, channels_after, replayed, replay}
+use Rattle.book.specs.Books.{ChannelBook, Channels, opened_by, channels_after, replayed, replay, fundings_of}
 use Rattle.book.specs.Replies.{opened, unless, if_so, open_refusal, is_accepted, reply_of, extended, history_after}
 use Rattle.scenario.specs.declared.seeds.Seeds.{Seeds}
 use Rattle.openings.specs.Opening.{seed_in, funding_output, funding_if_within, point_in, IsOpeningOf}
-use Rattle.openings.specs.Agreeing.{FundingsAreSpent, OpeningsArePaired, first_grants, fundings_of, OpeningsAreTaken}
+use Rattle.openings.specs.Agreeing.{FundingsAreSpent, OpeningsArePaired, first_grants, OpeningsAreTaken}
 use Rattle.openings.proofs.Grants.{apart}
 
 -- ---- the funding output

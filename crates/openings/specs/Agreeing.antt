@@ -1,5 +1,5 @@
 -- What is so of the openings of both sides: the commitments spend the funding output, the two channels are the two ends of one, and the books take them.
-use Rattle.std.specs.Prelude.{◌≡◌, ℕ, zero, suc, ◌<◌, List, [], ◌∷◌, ◌++◌, map, Ok}
+use Rattle.std.specs.Prelude.{◌≡◌, ℕ, zero, suc, ◌<◌, List, [], ◌∷◌, ◌++◌, Ok}
 use Rattle.tx.specs.declared.input.OutPoint.{OutPoint}
 use Rattle.chain.specs.Blocks.{grant_outpoint}
 use Rattle.terms.specs.declared.sides.Side.{Side}
@@ -14,7 +14,7 @@ use Rattle.texts.specs.declared.agreement.PlainTerms.{PlainTerms}
 use Rattle.book.specs.declared.calls.Opening.{Opening}
 use Rattle.book.specs.declared.calls.Call.{Call}
 use Rattle.book.specs.declared.calls.Entry.{Entry}
-use Rattle.book.specs.Books.{Channels, opened_by, replay}
+use Rattle.book.specs.Books.{opened_by, replay, fundings_of}
 use Rattle.book.specs.Replies.{opened, reply_of, history_after}
 use Rattle.scenario.specs.declared.seeds.Seeds.{Seeds}
 use Rattle.openings.specs.Opening.{funding_output, AreTermsOf, IsOpeningOf}
@@ -31,13 +31,10 @@ OpeningsArePaired =
     (seeds : Seeds) (channel : ℕ) (terms : Terms) (side : Side) (mine peers : Opening) → IsOpeningOf seeds channel side terms mine → IsOpeningOf seeds channel (other side) terms peers
     → IsPaired peer_tokens (placed side (opened_by mine).state (opened_by peers).state [] [])
 
--- the first outpoints that a chain grants, and those of the funding outputs of a book's channels
+-- the first outpoints that a chain grants
 abbrev pub first_grants : ℕ → List OutPoint
 first_grants zero = []
 first_grants (suc n) = first_grants n ++ grant_outpoint n ∷ []
-
-abbrev pub fundings_of : Channels → List OutPoint
-fundings_of chs = map (λ ch. ch.state.held.terms.funding) chs
 
 -- a book with as many channels, on the first grants of a chain, takes the opening of the next one, which is on the next grant
 abbrev pub OpeningsAreTaken : Type 0

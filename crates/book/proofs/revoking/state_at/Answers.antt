@@ -1,0 +1,18 @@
+use Rattle.std.proofs.Common.{◌≡◌, ◌<◌, length, Some, refl, sym, rules}
+use Rattle.std.specs.Prelude.{slice_get}
+use Rattle.book.proofs.Recorded.{recorded}
+use Rattle.book.proofs.Unkept.{state_is}
+use Rattle.book.proofs.revoking.state_at.Goals as goal
+
+pub returns : goal.returns
+returns c =
+    let s = c.args.channel.now in
+    let n = c.args.number in
+    let one = c.index-peers_commitments-number in
+    let cs = c.peers_commitments.result.now in
+    let within : n < length cs = search rules in
+    let told : slice_get s.secrets n ≡ Some c.in-Some.secret = sym c.in-Some.ensures in
+    state_is s _ _ _ n cs one.result c.in-Some.secret c.revoked_by.result c.peers_commitments.ensures.numbered
+    (recorded cs cs n one.result refl within one.is)
+    (recorded s.signed cs n one.result c.peers_commitments.ensures.commitments within one.is)
+    told c.revoked_by.ensures

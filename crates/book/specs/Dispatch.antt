@@ -1,0 +1,33 @@
+-- One call for the six of a book: the reply, and the one where memory ran out.
+use Rattle.std.specs.Prelude.{Err}
+use Rattle.updates.specs.declared.refusals.Refusal.TheVariants.{NoMemory as refusal_memory}
+use Rattle.filling.specs.declared.errors.FillError.TheVariants.{NoMemory as fill_memory}
+use Rattle.book.specs.declared.calls.Call.{Call}
+use Rattle.book.specs.declared.calls.Call.TheVariants.{Open, Step, Sign, Revoke, Keep, Release}
+use Rattle.book.specs.declared.calling.Reply.{Reply as Answer}
+use Rattle.book.specs.declared.calling.Reply.TheVariants.{Opened, Stepped, Signed, Revoked, Kept, Released}
+use Rattle.book.specs.declared.errors.OpenError.TheVariants.{NoMemory as open_memory}
+use Rattle.book.specs.declared.errors.StepError.TheVariants.{Refused}
+use Rattle.book.specs.declared.errors.SignError.TheVariants.{NoMemory as sign_memory}
+use Rattle.book.specs.declared.errors.KeepError.TheVariants.{NoMemory as keep_memory}
+use Rattle.book.specs.declared.errors.ReleaseError.TheVariants.{Unfilled}
+use Rattle.book.specs.Replies.{Reply, opened, stepped, signed, revoked, kept, released}
+use Rattle.book.specs.Calling.{step_reply}
+
+-- the answer that a reply has
+abbrev pub reply_form : Answer → Reply
+reply_form (Opened r) = opened r
+reply_form (Stepped r) = step_reply r
+reply_form (Signed r) = signed r
+reply_form (Revoked r) = revoked r
+reply_form (Kept r) = kept r
+reply_form (Released r) = released r
+
+-- the answer that memory ran out
+abbrev pub no_memory_of : Call → Reply
+no_memory_of (Open o) = opened (Err open_memory)
+no_memory_of (Step c step) = stepped (Err (Refused refusal_memory))
+no_memory_of (Sign c) = signed (Err sign_memory)
+no_memory_of (Revoke c secret next_point) = revoked (Err (Refused refusal_memory))
+no_memory_of (Keep c n claims) = kept (Err keep_memory)
+no_memory_of (Release c batch) = released (Err (Unfilled fill_memory))

@@ -1,0 +1,53 @@
+//! The six calls of a book as one.
+
+use crate::calls::Call;
+use crate::errors::{KeepError, OpenError, ReleaseError, SignError, StepError};
+use crate::history::Book;
+use channel::Message;
+use filling::Filled;
+
+/// What a book answers to a call: what the method of the call's name answers.
+#[derive(Drop)]
+pub enum Reply {
+    /// The channel's index.
+    Opened(Result<u64, OpenError>),
+    /// The message to send, if there is one.
+    Stepped(Result<Option<Message>, StepError>),
+    /// The message to send.
+    Signed(Result<Message, SignError>),
+    /// The number of the revoked commitment.
+    Revoked(Result<u64, StepError>),
+    /// The penalties are kept.
+    Kept(Result<(), KeepError>),
+    /// The transactions of the claims.
+    Released(Result<Filled, ReleaseError>),
+}
+
+impl Book {
+    ghost use Rattle.book.specs.Calling.{IsCall};
+    ghost use Rattle.book.specs.Dispatch.{no_memory_of, reply_form};
+
+    /// Makes a call. A refusal leaves the book as it was.
+    pub fn call(&mut self, seat: u32, call: Call) -> Reply
+        ensures { IsCall (no_memory_of call) (reply_form result) self.old self.new seat call }
+    {
+        match call {
+            Call::Open(opening) => Reply::Opened(self.open(seat, opening)),
+            Call::Step { channel, step } => Reply::Stepped(self.step(seat, channel, step)),
+            Call::Sign { channel } => Reply::Signed(self.sign(seat, channel)),
+            Call::Revoke {
+                channel,
+                secret,
+                next_point,
+            } => Reply::Revoked(self.revoke(seat, channel, secret, next_point)),
+            Call::Keep {
+                channel,
+                number,
+                claims,
+            } => Reply::Kept(self.keep(seat, channel, number, claims)),
+            Call::Release { channel, batch } => {
+                Reply::Released(self.release(seat, channel, batch))
+            }
+        }
+    }
+}
