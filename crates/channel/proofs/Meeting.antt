@@ -14,9 +14,9 @@ use Rattle.channel.specs.declared.commitments.CommitmentState.{CommitmentState}
 use Rattle.channel.specs.declared.limits.TheConstants.{LAST_NUMBER}
 use Rattle.channel.specs.declared.messages.Tokens.{Tokens}
 use Rattle.channel.specs.declared.messages.Message.TheVariants.{Updated, CommitmentSigned, RevokeAndAck}
-use Rattle.channel.specs.Points.{secret_at, secrets_below, point_at, is_foreign}
+use Rattle.channel.specs.Points.{secret_at, point_at, is_foreign}
 use Rattle.channel.specs.States.{Signing, State, update_refusal, sign_refusal, sign_tests, receive_refusal, receive_tests, all_eq, same_tokens, next_commitment, peers_next, own_next, after_update, after_sign, after, signature_message}
-use Rattle.channel.proofs.Secrets.{takes_own}
+use Rattle.channel.proofs.Secrets.{secrets_below, takes_own}
 use Rattle.updates.proofs.Accepting.{AllPass, all_pass, none_refuses, update_accepted}
 use Rattle.channel.proofs.Queues.{with_signature}
 use Rattle.updates.specs.Steady.{IsBeginning}

@@ -10,7 +10,7 @@ use Rattle.keys.specs.Derivation.{commitment_seed}
 use Rattle.secrets.specs.Derivation.{derived_secret, commitment_secret}
 use Rattle.secrets.proofs.Numbers.{trailing_splits}
 use Rattle.secrets.proofs.Storing.{seed-leads}
-use Rattle.channel.specs.Points.{index_of, secret_at, secrets_below, leads_to_one, leads_to, is_foreign}
+use Rattle.channel.specs.Points.{index_of, secret_at, leads_to_one, leads_to, is_foreign}
 
 implied : (c d : Bool) → (c ≡ true → d ≡ true) → not c || d ≡ true
 implied true d f = f refl
@@ -35,6 +35,11 @@ leads_more secret i (other ∷ others) more j h one =
     let e : j - suc (length others) ≡ j - 1 - length others = omega arith in
     ap (λ b. b && leads_to secret i (others ++ more ∷ []) (j - 1)) first
     ∙ leads_more secret i others more (j - 1) rest (subst (λ k. leads_to_one secret i more k ≡ true) e one)
+
+-- the secrets of the numbers below n, the first first
+abbrev pub secrets_below : List ℕ → ℕ → List (List ℕ)
+secrets_below seed zero = []
+secrets_below seed (suc n) = secrets_below seed n ++ secret_at seed n ∷ []
 
 below-length : (seed : List ℕ) (n : ℕ) → length (secrets_below seed n) ≡ n
 below-length seed zero = refl

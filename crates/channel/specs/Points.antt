@@ -1,5 +1,5 @@
 -- The per-commitment secrets and points of a side by the number of the commitment (BOLT 3, "Per-commitment Secret Requirements").
-use Rattle.std.specs.Prelude.{ℕ, zero, suc, ◌-◌, ◌/◌, ◌^◌, Bool, true, not, ◌&&◌, ◌||◌, ◌==◌, List, [], ◌∷◌, ◌++◌, length, IsTrue, codes}
+use Rattle.std.specs.Prelude.{ℕ, ◌-◌, ◌/◌, ◌^◌, Bool, true, not, ◌&&◌, ◌||◌, ◌==◌, List, [], ◌∷◌, ◌++◌, length, IsTrue, codes}
 use Rattle.std.specs.Str.{bytes_eq}
 use Rattle.std.specs.Int.Count.{count_trailing_zeros}
 use Rattle.sha2.proofs.Facts256.{length-sha256}
@@ -15,11 +15,6 @@ index_of n = 2 ^ 48 - 1 - n
 -- the secret of a commitment number, of a side's seed
 unfoldable pub secret_at : List ℕ → ℕ → List ℕ
 secret_at seed n = commitment_secret (commitment_seed seed) (index_of n)
-
--- the secrets of the numbers below n, the first first
-abbrev pub secrets_below : List ℕ → ℕ → List (List ℕ)
-secrets_below seed zero = []
-secrets_below seed (suc n) = secrets_below seed n ++ secret_at seed n ∷ []
 
 pub point_form : (secret : List ℕ) → IsTrue (is_key (point_of secret))
 unfolding is_key point_of

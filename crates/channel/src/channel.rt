@@ -488,6 +488,10 @@ impl Channel {
     /// Receives a message of the peer, and gives the answer: a `commitment_signed` is answered by a `revoke_and_ack`. An update is tested as one of one's
     /// own, a `commitment_signed` for NotYourTurn, NoUpdates and BadSignature, a `revoke_and_ack` for NotYourTurn and WrongSecret, in these orders. A refusal
     /// leaves the channel as it was.
+    ///
+    /// The channel has moved on by the time this returns: a caller has to store what it received, where a restart finds it, before it sends the answer, since a
+    /// `revoke_and_ack` gives up the commitment before and can't be taken back (BOLT 2, "Message Retransmission"). What the tests leave open is for the caller to
+    /// screen beforehand: whether a received feerate is one that it would pay or that still confirms, and whether the sender keeps a reserve.
     pub fn receive(&mut self, message: &Message) -> Result<Option<Message>, Refusal>
         ensures answer { IfOk result (λ m. cons_option m [] ≡ answers self.old message.now) }
         ensures ok { IfOk result (λ _. self.new ≡ after self.old message.now) }

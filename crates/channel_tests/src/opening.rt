@@ -11,7 +11,7 @@ use std::process::Abort;
 use terms::{Side, Terms};
 use updates::Refusal;
 
-// A side of this channel, to which its peer gives a token for the commitment of this number.
+/// A side of this channel, to which its peer gives a token for the commitment of this number.
 pub fn open(rt: &impl Abort, alloc: Global, side: Side, number: u64) -> Result<Channel, Refusal> {
     let (a, b) = (Signer::new(alloc, &[1; 32]), Signer::new(alloc, &[2; 32]));
     let (of_a, of_b) = (party(&a, 80_000_000), party(&b, 20_000_000));
@@ -49,7 +49,7 @@ fn open_with(
     )
 }
 
-// A side of a new channel.
+/// A side of a new channel.
 pub fn opened(rt: &impl Abort, alloc: Global, side: Side) -> Channel {
     open(rt, alloc, side, 0).expect(rt, "a channel")
 }
@@ -66,7 +66,7 @@ fn offer_and_sign(
     Ok((offer, signature))
 }
 
-// Messages that one side sends are received by the other, with what answers them.
+/// Messages that one side sends are received by the other, with what answers them.
 pub fn deliver(rt: &impl Abort, from: &mut Channel, to: &mut Channel, message: &Message) {
     let answer = to.receive(message).expect(rt, "a message");
     if let Some(answer) = answer {
@@ -74,7 +74,7 @@ pub fn deliver(rt: &impl Abort, from: &mut Channel, to: &mut Channel, message: &
     }
 }
 
-// A offers an HTLC of 20,000 satoshis to B, and signs B's commitment with it.
+/// A offers an HTLC of 20,000 satoshis to B, and signs B's commitment with it.
 pub fn offered(rt: &impl Abort, a: &mut Channel, b: &mut Channel) -> Message {
     let sent = offer_and_sign(a, 20_000_000, [9; 32], 500);
     let (offer, tokens) = sent.expect(rt, "an offer and tokens");

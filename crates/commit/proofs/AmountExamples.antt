@@ -8,7 +8,11 @@ use Rattle.terms.specs.declared.agreement.BaseKeys.{BaseKeys}
 use Rattle.terms.specs.declared.agreement.Party.{Party}
 use Rattle.terms.specs.declared.agreement.Terms.{Terms}
 use Rattle.terms.specs.declared.views.View.{View}
+use Rattle.tx.specs.Fields.{Transaction}
 use Rattle.commit.specs.Amounts.{amounts_of}
+use Rattle.commit.specs.Outputs.{outputs_of}
+use Rattle.commit.specs.Order.{in_order, output_cmp}
+use Rattle.commit.specs.Commitments.{Contents, commitment_of, htlcs_from, htlc_transaction_of, second_stage_of}
 
 -- the terms of these examples: A opened the channel
 module _ (funding : OutPoint) (bases : BaseKeys) where
@@ -83,3 +87,17 @@ module _ (funding : OutPoint) (bases : BaseKeys) where
   own_limits : map (λ owner. summary (opened_by_a 1000 500) (view 0 999000 (999000 ∷ []) 499000 (500000 ∷ [])) owner) (A ∷ B ∷ [])
       ≡ ([], [], 0, None, None) ∷ (500000 ∷ [], 999000 ∷ [], 0, None, Some 999) ∷ []
   own_limits = refl
+
+  -- the terms say 1,000 satoshis for 1,000 units of weight, and the view another feerate, at which A offers an HTLC and receives one
+  abbrev at_feerate : ℕ → List ℕ → Contents
+  at_feerate feerate point = commitment_of (opened_by_a 546 546) (view feerate 6000000000 (10000000 ∷ []) 3000000000 (12000000 ∷ [])) A 1 point
+
+  abbrev values : Option Transaction → List ℕ
+  values None = []
+  values (Some t) = map (λ o. o.value) t.outputs
+
+  -- HTLC-timeout and HTLC-success pay the view's feerate: 3,315 and 3,515 satoshis at 5,000, and 818 and 867 at 1,234
+  second_stages : (point : List ℕ) → (map (λ k. values (htlc_transaction_of (at_feerate 5000 point) k)) (0 ∷ 1 ∷ 2 ∷ []) ≡ (6685 ∷ []) ∷ (8485 ∷ []) ∷ [] ∷ [])
+      × (map (λ k. values (htlc_transaction_of (at_feerate 1234 point) k)) (0 ∷ 1 ∷ 2 ∷ []) ≡ (9182 ∷ []) ∷ (11133 ∷ []) ∷ [] ∷ [])
+  unfolding commitment_of outputs_of in_order output_cmp htlcs_from htlc_transaction_of second_stage_of
+  second_stages point = (refl, refl)

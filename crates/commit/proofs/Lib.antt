@@ -1,6 +1,7 @@
 pub mod Funds
 pub mod FeeExamples
 pub mod AmountExamples
+pub mod OpenerExamples
 pub mod Pushes
 pub mod Spelt
 pub mod Ordered

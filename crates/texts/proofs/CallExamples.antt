@@ -4,6 +4,7 @@ use Rattle.std.specs.Prelude.{replicate, is_some}
 use Rattle.hex.proofs.OnLiterals.{hex_on_literals}
 use Rattle.serde_json.specs.Data.{Data, Items, Members, no_items, item, no_members, member, null, number, string, array, object, unsigned}
 use Rattle.script.specs.Token.{is_key, is_token}
+use Rattle.tx.specs.Parts.{Output}
 use Rattle.keys.specs.declared.compressed.Key.{Key}
 use Rattle.terms.specs.declared.sides.Side.TheVariants.{A, B}
 use Rattle.updates.specs.declared.changes.Update.TheVariants.{Fail as Failing, Fee}
@@ -12,6 +13,8 @@ use Rattle.texts.specs.declared.steps.OwnUpdate.TheVariants.{Offer, Fulfil, Fail
 use Rattle.texts.specs.declared.steps.PlainReceived.TheVariants.{Updated, Signed}
 use Rattle.texts.specs.declared.steps.PlainStep.TheVariants.{Own, Receive}
 use Rattle.texts.specs.declared.calls.PlainCall.TheVariants.{Open, Step, Sign, Revoke, Keep, Release}
+use Rattle.texts.specs.Writing.{bytes_data, output_data}
+use Rattle.texts.specs.CallWriting.{release_data}
 use Rattle.texts.specs.Outpoints.{digits_from, outpoint_in}
 use Rattle.texts.specs.Keys.{base_keys_of}
 use Rattle.texts.specs.Terms.{terms_of}
@@ -199,3 +202,20 @@ dumps : (dump_of (dump 2 (array no_items)) ≡ Some (record { history = [] }))
     × (dump_of (dump 1 (two their_fee signature)) ≡ None)
 unfolding dump_of entry_of call_of call_named sign_of step_call_of step_of step_named own_named own_fee_of receive_of received_of received_named update_of update_named fee_of
 dumps = (refl, refl, refl, refl, refl, refl, refl, refl, refl, refl)
+
+-- the key 02 and one byte over and over
+abbrev key_at : ℕ → Key
+unfolding is_key
+key_at k = record { bytes = 2 ∷ replicate 32 k; form = refl }
+
+-- five base keys that differ: funding, payment, delayed, htlc, revocation
+bases : base_keys_of (five key_text other_key_text (text (codes "023333333333333333333333333333333333333333333333333333333333333333"))
+    (text (codes "024444444444444444444444444444444444444444444444444444444444444444")) (text (codes "025555555555555555555555555555555555555555555555555555555555555555")))
+    ≡ Some (record { funding = key; payment = other_key; delayed = key_at 0x33; htlc = key_at 0x44; revocation = key_at 0x55 })
+unfolding base_keys_of is_key hex_on_literals
+bases = refl
+
+-- behind the channel of a release stand its claims, its outputs, its preimages
+release_order : (o : Output) (p : List ℕ) → release_data 3 [] (o ∷ []) (p ∷ []) ≡ five (text (codes "release")) (n 3) (array no_items) (one (output_data o)) (one (bytes_data p))
+unfolding release_data
+release_order o p = refl

@@ -11,7 +11,7 @@ use Rattle.updates.specs.declared.pending.PendingHtlc.{PendingHtlc}
 use Rattle.updates.specs.Updates.{first_of_fates, fate_by, fate, offers, offer_of, total, if_live, if_fulfilled, one_if_live, kept_if_live, live_in}
 use Rattle.updates.specs.Ends.{end_of, within, end_after}
 use Rattle.updates.specs.Refusals.{removable}
-use Rattle.updates.specs.Pending.{pending_if_live, pending_htlcs, fate_at, total_amount, fulfilled_at, live_at, found_in, is_live, is_left, noted, noted_all, noted_front}
+use Rattle.updates.specs.Pending.{pending_if_live, pending_htlcs, fate_at, total_amount, fulfilled_at, live_at, found_in, is_live, is_left, noted, noted_all}
 use Rattle.updates.specs.Steady.{IsBeginning}
 use Rattle.updates.proofs.Sums.{fate-append}
 use Rattle.updates.proofs.Ends.{fate_within, end_of-push}
@@ -80,6 +80,12 @@ noted_if_live : (n : ℕ) (u : Update) (f : Fate) (x : PendingHtlc) (xs : List P
 noted_if_live n u Live x xs = refl
 noted_if_live n u Fulfilled x xs = refl
 noted_if_live n u Failed x xs = refl
+
+-- an update is noted at the first of them alone, as far as `noted_all` has come
+abbrev pub noted_front : ℕ → Update → ℕ → List PendingHtlc → List PendingHtlc
+noted_front position u zero es = es
+noted_front position u (suc i) [] = []
+noted_front position u (suc i) (e ∷ es) = noted position u e ∷ noted_front position u i es
 
 -- the loop over them
 pub notes_more : (n : ℕ) (u : Update) (es xs : List PendingHtlc) (i : ℕ) (d : PendingHtlc) → xs ≡ noted_front n u i es → i < length es → set xs i (noted n u (get_or xs i d)) ≡ noted_front n u (i + 1) es

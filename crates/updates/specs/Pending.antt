@@ -1,5 +1,5 @@
 -- The HTLCs of one direction whose removal has not passed all five stages, and what they say of all that were offered.
-use Rattle.std.specs.Prelude.{◌≡◌, ℕ, zero, suc, ◌+◌, ◌*◌, ◌^◌, ◌≤◌, nat_lt, Bool, true, false, ◌==◌, if◌then◌else◌, List, [], ◌∷◌, ◌++◌, length, map, filter, Option, Some, None}
+use Rattle.std.specs.Prelude.{◌≡◌, ℕ, suc, ◌+◌, ◌*◌, ◌^◌, ◌≤◌, nat_lt, Bool, true, false, ◌==◌, if◌then◌else◌, List, [], ◌∷◌, ◌++◌, length, map, filter, Option, Some, None}
 use Rattle.terms.specs.declared.htlcs.Htlc.{Htlc}
 use Rattle.terms.specs.declared.sides.Side.{Side}
 use Rattle.terms.specs.declared.agreement.Terms.{Terms}
@@ -73,12 +73,6 @@ new_pending position (Add h) = record { htlc = h; added = position; end = Never 
 new_pending position (Fulfil id preimage) = []
 new_pending position (Fail id) = []
 new_pending position (Fee rate) = []
-
--- what the first updates of a list make of an HTLC are noted (the work that is done of `noted_all`)
-abbrev pub noted_front : ℕ → Update → ℕ → List PendingHtlc → List PendingHtlc
-noted_front position u zero es = es
-noted_front position u (suc i) [] = []
-noted_front position u (suc i) (e ∷ es) = noted position u e ∷ noted_front position u i es
 
 -- before and after the side that offers makes an update, at this place among its own
 pub record IsGrown (p q : Pending) (position : ℕ) (u : Update) : Type 0 where

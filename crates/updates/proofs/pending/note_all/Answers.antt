@@ -1,6 +1,5 @@
 use Rattle.std.proofs.Common.{◌≡◌, ◌∙◌, ◌<◌, length, ap, arith}
-use Rattle.updates.specs.Pending.{noted_front}
-use Rattle.updates.proofs.Keeping.{notes_more, notes_end}
+use Rattle.updates.proofs.Keeping.{noted_front, notes_more, notes_end}
 use Rattle.updates.proofs.pending.note_all.Goals as goal
 
 pub loop-i-preserved : goal.loop-i-preserved

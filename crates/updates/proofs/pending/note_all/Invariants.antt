@@ -1,5 +1,5 @@
 use Rattle.std.proofs.Common.{◌≡◌}
-use Rattle.updates.specs.Pending.{noted_front}
+use Rattle.updates.proofs.Keeping.{noted_front}
 use Rattle.updates.proofs.pending.note_all.Given as goal
 
 abbrev pub invariant-loop-i : goal.invariant-loop-i
