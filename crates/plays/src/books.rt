@@ -1,8 +1,8 @@
 //! Plays two nodes with a book each, as the lines of its input say: `open CHANNELS` gives both an empty book and opens so many channels; `A offer MILLISATOSHIS EXPIRY`, `A fee RATE`, `A sign`,
-//! `A deliver` and `A keep NUMBER`, or the same of B, are calls in the first channel. `A zeros` hands A a revocation with a secret of zeros.
+//! `A deliver`, `A keep NUMBER` and `A release NUMBER` (the penalties of the peer's commitment), or the same of B, are calls in the first channel. `A zeros` hands A a revocation with a secret of zeros.
 //!
 //! It prints what came of each call, and of a refused one whether the dump is what it was. `entries` prints how many entries both histories have; `beginnings`, `damages` and `version` change A's dump and
-//! load it, and `dump` prints it; `load TEXT` loads a text; `random GAMES` dumps, loads and dumps again the histories of random games.
+//! load it, and `dump` prints it; `load TEXT` loads a text, and `stored TEXT` dumps it again; `random GAMES` dumps, loads and dumps again the histories of random games.
 
 mod damages;
 mod loading;
@@ -10,7 +10,7 @@ mod random;
 
 use anyhow::{Context, Result, bail};
 use book_peers::{Act, Peers, Reply, offer};
-use loading::{print_damages, print_loaded, print_version, read_beginnings};
+use loading::{print_damages, print_loaded, print_stored, print_version, read_beginnings};
 use random::play_games;
 use std::alloc::Global;
 use terms::Side;
@@ -42,6 +42,7 @@ fn act_with(word: &str, words: &str) -> Result<Act> {
         "offer" => offer_of(words),
         "fee" => fee_of(words),
         "keep" => Ok(Act::Keep(words.parse()?)),
+        "release" => Ok(Act::Release(words.parse()?)),
         _ => bail!("no such call"),
     }
 }
@@ -176,6 +177,7 @@ fn follow_words(
     match word {
         "open" => open(alloc, peers, call.words.parse()?),
         "load" => print_loaded(rt, alloc, call.line, call.words),
+        "stored" => print_stored(rt, alloc, call.words),
         "random" => print_random(rt, alloc, peers, call.words.parse()?),
         "A" => play_line(rt, alloc, peers, Side::A, call),
         "B" => play_line(rt, alloc, peers, Side::B, call),

@@ -1,12 +1,12 @@
-//! Builds commitments, a line each: `build HTLCS TIMES` builds one with so many HTLCs of each direction so many times, and prints its id. What is printed are the ids of a
-//! model in another language.
+//! Builds commitments, a line each: `build HTLCS TIMES` builds one with so many HTLCs of each direction so many times, and prints its id. A opened the channel, or B where a third word
+//! says so. What is printed are the ids of a model in another language.
 
 use anyhow::{Context, Result, bail};
 use commit::{Htlc, Side, Terms, View, build};
 use digest::sha256;
 use keys::Key;
 use lists::List;
-use parties::{FUNDING, key_of, one_key, party_with, terms_of};
+use parties::{FUNDING, key_of, one_key, party_with};
 use std::alloc::Global;
 use terms::{Party, Share};
 
@@ -21,10 +21,10 @@ fn party(start: u64, key: Key) -> Party {
 }
 
 /// 100 bitcoins, of which each side begins with half.
-fn terms() -> Result<Terms> {
+fn terms(opener: Side) -> Result<Terms> {
     let half = 5_000_000_000_000;
     let (a, b) = (party(half, key(0xa0)?), party(half, key(0xb0)?));
-    Ok(terms_of(FUNDING, 10_000_000_000, a, b)?)
+    Ok(Terms::new(FUNDING, 10_000_000_000, opener, 1000, a, b)?)
 }
 
 /// So many HTLCs, each with a hash of its own, of nine amounts and seven expiries.
@@ -45,8 +45,8 @@ fn share(alloc: Global, first: u32, count: u32) -> Result<Share> {
 }
 
 /// The id of A's commitment 42, built so many times.
-fn built(alloc: Global, htlcs: u32, times: u32) -> Result<[u8; 32]> {
-    let terms = terms()?;
+fn built(alloc: Global, opener: Side, htlcs: u32, times: u32) -> Result<[u8; 32]> {
+    let terms = terms(opener)?;
     let point = key(0xcc)?;
     let view = View {
         a: share(alloc, 0, htlcs)?,
@@ -60,11 +60,25 @@ fn built(alloc: Global, htlcs: u32, times: u32) -> Result<[u8; 32]> {
     Ok(id)
 }
 
+/// The side that a word names, A without one.
+fn side_of(word: Option<&str>) -> Result<Side> {
+    match word {
+        None => Ok(Side::A),
+        Some("B") => Ok(Side::B),
+        Some(_) => bail!("no such side"),
+    }
+}
+
 /// What a line asks for.
 fn id_of(alloc: Global, line: &str) -> Result<[u8; 32]> {
     let mut words = line.split(' ');
     match (words.next(), words.next(), words.next()) {
-        (Some("build"), Some(htlcs), Some(times)) => built(alloc, htlcs.parse()?, times.parse()?),
+        (Some("build"), Some(htlcs), Some(times)) => built(
+            alloc,
+            side_of(words.next())?,
+            htlcs.parse()?,
+            times.parse()?,
+        ),
         _ => bail!("no such line"),
     }
 }

@@ -1,8 +1,11 @@
-//! Plays two peers of a channel, as the lines of its input say: `open` opens a new channel; `A offer MILLISATOSHIS EXPIRY`, `A fulfil ID`, `A fail ID`, `A fee RATE`,
-//! `A sign` and `A deliver`, or the same of B, are steps; `random STEPS` plays so many at random.
+//! Plays two peers of a channel, as the lines of its input say: `open` opens a new channel of 100,000 satoshis, and `open SATOSHIS` one of so many, of which each side
+//! has half; `A offer MILLISATOSHIS EXPIRY`, `A fulfil ID`, `A fail ID`, `A fee RATE`, `A sign` and `A deliver`, or the same of B, are steps; `random STEPS` plays so many at
+//! random, and `repeat TIMES STEP, STEP` plays steps in turn, so many times.
 //!
-//! It prints the outcome of each step, before a signature the outputs of what is signed, and after steps at random how many of each kind were done.
+//! It prints the outcome of each step, before a signature the outputs of what is signed, after steps at random how many of each kind were done, and after repeated ones
+//! how many were done.
 
+mod often;
 mod random;
 mod steps;
 
@@ -10,25 +13,36 @@ use anyhow::Result;
 use channel::{CommitmentState, Pair};
 use channel_sides::open_sides;
 use commit::{CommitmentOutput, build};
+use often::play_often;
 use random::play_at_random;
 use std::alloc::Global;
 use steps::step_of;
 use terms::{Side, Terms};
 
-/// Two peers of a channel of 100,000 satoshis, of which A has 80,000.
+/// Two peers of a channel.
 #[derive(Drop)]
 pub struct Peers {
     terms: Terms,
     pair: Pair,
 }
 
-/// Opens a new channel.
-pub fn open(alloc: Global) -> Result<Peers> {
-    let sides = open_sides(alloc, 100_000, [80_000_000, 20_000_000])?;
+/// Opens a channel of so many satoshis, of which A and B have so many millisatoshis.
+fn open_with(alloc: Global, capacity: u64, starts: [u64; 2]) -> Result<Peers> {
+    let sides = open_sides(alloc, capacity, starts)?;
     Ok(Peers {
         terms: sides.terms,
         pair: Pair::new(alloc, sides.a, sides.b),
     })
+}
+
+/// Opens a channel of 100,000 satoshis, of which A has 80,000.
+pub fn open(alloc: Global) -> Result<Peers> {
+    open_with(alloc, 100_000, [80_000_000, 20_000_000])
+}
+
+/// Opens a channel of so many satoshis, of which each side has half.
+fn open_shared(alloc: Global, capacity: u64) -> Result<Peers> {
+    open_with(alloc, capacity, [capacity.saturating_mul(500); 2])
 }
 
 /// Prints the values of outputs.
@@ -93,7 +107,12 @@ pub fn follow(rt: &impl Print, alloc: Global, peers: &mut Peers, line: &str) -> 
             *peers = open(alloc)?;
             Ok(())
         }
+        Some(("open", capacity)) => {
+            *peers = open_shared(alloc, capacity.parse()?)?;
+            Ok(())
+        }
         Some(("random", steps)) => play_many(rt, alloc, peers, steps.parse()?),
+        Some(("repeat", words)) => play_often(rt, alloc, &mut peers.pair, words),
         Some(_) => play_line(rt, alloc, peers, line),
     }
 }

@@ -32,6 +32,20 @@ pub const VALUE: Spot = Spot {
     end: "}",
 };
 
+/// The path of the first claim that is released.
+pub const RELEASED: Spot = Spot {
+    call: "[\"release\"",
+    words: "\"path\":",
+    end: ",",
+};
+
+/// The satoshis of the first output that its transaction gives.
+pub const GIVEN: Spot = Spot {
+    call: "[\"release\"",
+    words: "}],[[",
+    end: ",",
+};
+
 /// The secret of the first revocation.
 pub const SECRET: Spot = Spot {
     call: "[\"revoke\",0",

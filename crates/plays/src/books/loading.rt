@@ -1,7 +1,8 @@
 //! What dumps, and dumps with something changed, are loaded as.
 
 use crate::books::damages::{
-    PATH, PROGRAM, SECRET, Spot, VALUE, VERSION, value_at, with_value, without_keep,
+    GIVEN, PATH, PROGRAM, RELEASED, SECRET, Spot, VALUE, VERSION, value_at, with_value,
+    without_keep,
 };
 use anyhow::Result;
 use book::Book;
@@ -97,12 +98,14 @@ pub fn print_damages(rt: &impl Print, alloc: Global, dump: &str) -> Result<()> {
     print_changed(rt, alloc, dump, "program of zeros", &PROGRAM, ZERO_PROGRAM)?;
     print_raised(rt, alloc, dump)?;
     print_without(rt, alloc, dump)?;
+    print_changed(rt, alloc, dump, "released path 9", &RELEASED, "9")?;
+    print_changed(rt, alloc, dump, "outputs that exceed", &GIVEN, "100001")?;
     print_changed(rt, alloc, dump, "secret of zeros", &SECRET, ZEROS)
 }
 
 // Prints what a text is loaded as, and whether it gives this dump.
-fn print_again(rt: &impl Print, alloc: Global, text: &str, dump: &str) -> Result<()> {
-    print_loaded(rt, alloc, "version 1", text)?;
+fn print_again(rt: &impl Print, alloc: Global, name: &str, text: &str, dump: &str) -> Result<()> {
+    print_loaded(rt, alloc, name, text)?;
     let is_same = loads_as(alloc, text, dump)?;
     println!(rt; "  the same dump again: {is_same}")?;
     Ok(())
@@ -111,5 +114,10 @@ fn print_again(rt: &impl Print, alloc: Global, text: &str, dump: &str) -> Result
 /// What a dump is loaded as in version 1.
 pub fn print_version(rt: &impl Print, alloc: Global, dump: &str) -> Result<()> {
     let changed = with_value(alloc, dump, &VERSION, "1")?;
-    print_again(rt, alloc, &changed, dump)
+    print_again(rt, alloc, "version 1", &changed, dump)
+}
+
+/// What a dump that is stored in the input is loaded as, and whether it is given again.
+pub fn print_stored(rt: &impl Print, alloc: Global, dump: &str) -> Result<()> {
+    print_again(rt, alloc, "stored", dump, dump)
 }

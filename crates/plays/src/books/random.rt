@@ -25,6 +25,7 @@ pub struct Tally {
     signatures: u64,
     revocations: u64,
     kept: u64,
+    released: u64,
 }
 
 impl Tally {
@@ -36,7 +37,8 @@ impl Tally {
             .min(self.received)
             .min(self.signatures)
             .min(self.revocations)
-            .min(self.kept);
+            .min(self.kept)
+            .min(self.released);
         fewest >= least
     }
 }
@@ -73,11 +75,18 @@ fn act_of(number: u64) -> Act {
     }
 }
 
-// A side does something; where penalties are missing, it keeps them instead.
+// A side keeps the penalties of a number, and releases them.
+fn keep_one(peers: &mut Peers, side: Side, channel: usize, number: u64) -> Result<()> {
+    peers.act(side, channel, Act::Keep(number))?;
+    peers.act(side, channel, Act::Release(number))?;
+    Ok(())
+}
+
+// A side does something; where penalties are missing, it keeps them instead, and releases them.
 fn play_one(peers: &mut Peers, side: Side, channel: usize, act: Act) -> Result<()> {
     let reply = peers.act(side, channel, act)?;
     if let Reply::NotSigned(SignError::PenaltiesMissing(number)) = reply {
-        peers.act(side, channel, Act::Keep(number))?;
+        keep_one(peers, side, channel, number)?;
     }
     Ok(())
 }
@@ -103,7 +112,7 @@ fn tally_entries(tally: &mut Tally, book: &Book) {
             Call::Sign { .. } => count(&mut tally.signatures),
             Call::Revoke { .. } => count(&mut tally.revocations),
             Call::Keep { .. } => count(&mut tally.kept),
-            Call::Release { .. } => {}
+            Call::Release { .. } => count(&mut tally.released),
         }
     }
 }
