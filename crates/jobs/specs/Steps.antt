@@ -27,7 +27,7 @@ module _ {J : Type 0} where
     pub after : IsFair items (slice_set views pass w)
     pub added : w ≡ hand v.put (v.taken ++ job ∷ [])
 
-  -- at one moment the queue held these jobs, and the pass had this view
+  -- the rule held of these jobs in the queue, with a pass that has this view; the other passes may be made up for it
   pub record HeldThen (v : Hand J) (items : List J) : Type 0 where
     pub pass : ℕ
     pub views : List (Hand J)

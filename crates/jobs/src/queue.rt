@@ -81,7 +81,7 @@ impl<J: Drop> JobTaker<J> {
     }
 
     /// Takes the job at the front, and waits while the queue is empty and a sender is left. `None` comes only where the queue was empty
-    /// at some moment of the call.
+    /// at some moment of the call, and closed; tests show that, since passes can be made up that meet `WasEmpty`.
     pub fn take<R: Wait>(&self, rt: &R, pass: &mut Pass<J>) -> Option<J>
         requires { TakesWith self.now pass.old }
         ensures pass { TakesWith self.now pass.new }
