@@ -23,11 +23,11 @@ use Rattle.scenario.specs.declared.seeds.Seeds.{Seeds}
 use Rattle.book.specs.declared.calls.Opening.{Opening}
 use Rattle.book.specs.declared.calls.Call.TheVariants.{Open}
 use Rattle.book.specs.Accepted.{begins as no_call, called}
-use Rattle.book.specs.Books.{opened_by, replay}
+use Rattle.book.specs.Books.{opened_by, replay, fundings_of}
 use Rattle.book.specs.Replies.{is_accepted}
 use Rattle.openings.specs.declared.sides.Both.{Both}
 use Rattle.openings.specs.Opening.{funding_output, funding_if_within, AreTermsOf, IsOpeningOf, AreOpeningsOf}
-use Rattle.openings.specs.Agreeing.{OpeningsArePaired, OpeningsAreTaken, first_grants, fundings_of}
+use Rattle.openings.specs.Agreeing.{OpeningsArePaired, OpeningsAreTaken, first_grants}
 use Rattle.world.specs.declared.limits.TheConstants.{SEAT}
 use Rattle.world.specs.Worlds.{World, Node, Line, inboxes, answer_to, after_call, with_line}
 use Rattle.world.specs.Pairing.{ArePaired}

@@ -1,23 +1,52 @@
--- Small events that were worked out by hand from what each is said to do.
-use Rattle.std.proofs.Common.{◌≡◌, ℕ, List, [], ◌∷◌, map, Some, None, refl}
+-- Worlds that do not begin, and small events that were worked out by hand from what each is said to do.
+use Rattle.std.proofs.Common.{◌≡◌, ℕ, true, false, List, [], ◌∷◌, map, replicate, Some, None, refl}
+use Rattle.std.specs.Str.{bytes_eq}
+use Rattle.sha2.specs.Sha256.{sha256}
 use Rattle.tx.specs.Fields.{Transaction}
 use Rattle.terms.specs.declared.sides.Side.TheVariants.{A, B}
+use Rattle.keys.specs.declared.compressed.Key.{Key}
+use Rattle.claim.specs.declared.parts.Slot.TheVariants.{Sig, Preimage}
 use Rattle.claim.specs.Claims.{ClaimParts}
 use Rattle.channel.specs.declared.messages.Message.{Message}
 use Rattle.chain.specs.Blocks.{Contents}
 use Rattle.mempool.specs.Mining.{mined_by, reorganised, blocks_after}
+use Rattle.watch.specs.declared.spends.Spend.{Spend}
+use Rattle.watch.specs.declared.unclaimed.Given.{Given}
 use Rattle.watch.specs.Watching.{Seen}
+use Rattle.texts.specs.declared.agreement.PlainTerms.{PlainTerms}
 use Rattle.texts.specs.declared.events.Event.TheVariants as events
 use Rattle.book.specs.declared.calls.Batch.{Batch}
 use Rattle.book.specs.declared.calls.Call.TheVariants.{Keep, Release}
 use Rattle.world.specs.declared.errors.EventError.TheVariants.{NoSuchChannel, NoMessage, NoSuchTx, NoJob, TooDeep}
+use Rattle.world.specs.declared.errors.WorldError.TheVariants as worlds
 use Rattle.world.specs.declared.jobs.Job.{Job}
 use Rattle.world.specs.declared.outcomes.Outcome.TheVariants.{Looked, Mined as MinedBlocks, Refused}
 use Rattle.world.specs.Worlds.{World, Node, Line, inboxes, sent_to, received_by}
+use Rattle.world.specs.Beginning.{beginning_refusal, world_error_number}
 use Rattle.world.specs.Releasing.{with_taken}
-use Rattle.world.specs.Looking.{Reading, all_read, block, no_more}
-use Rattle.world.specs.Steps.{refusal_of, with_waiting, with_released, happens, refuses, mines, looks, reorganises, Runs, ends, goes_on}
+use Rattle.world.specs.Looking.{wanted_by, Reading, all_read, block, no_more, back_to}
+use Rattle.world.specs.Steps.{refusal_of, with_waiting, with_released, both_back, happens, refuses, mines, looks, reorganises, Runs, ends, goes_on}
 use Rattle.world.specs.Theorem.{claims_of}
+
+-- ---- worlds that do not begin
+
+world_numbers : map world_error_number (worlds.NoMemory ∷ worlds.BadTerms 7 ∷ worlds.OverLimit ∷ []) ≡ 0 ∷ 1 ∷ 2 ∷ []
+world_numbers = refl
+
+-- terms of 1 satoshi, of which side A has 999 millisatoshis and side B so many
+abbrev terms_with : ℕ → PlainTerms
+terms_with b = record {
+  capacity = 1;
+  opener = A;
+  feerate = 6;
+  a = record { dust = 4; delay = 2; minimum = 7; start = 999 };
+  b = record { dust = 5; delay = 3; minimum = 8; start = b };
+}
+
+-- 8 channels and 9; the limit comes before terms, of which the first bad ones are named
+beginnings : map beginning_refusal ([] ∷ replicate 8 (terms_with 1) ∷ replicate 9 (terms_with 1) ∷ replicate 9 (terms_with 2) ∷ (terms_with 1 ∷ terms_with 2 ∷ terms_with 0 ∷ []) ∷ [])
+    ≡ None ∷ None ∷ Some worlds.OverLimit ∷ Some worlds.OverLimit ∷ Some (worlds.BadTerms 1) ∷ []
+beginnings = refl
 
 -- ---- worlds without channels
 
@@ -116,3 +145,41 @@ waiting t u v w = refl
 
 released : (t u v : Transaction) (w : World) → (with_released v (record w { pool = t ∷ []; released = u ∷ [] }) ≡ record w { pool = t ∷ v ∷ []; released = u ∷ v ∷ [] })
 released t u v w = refl
+
+-- the first preimage of the hash that a slot asks for, of several that are known
+module _ (x y z hash : List ℕ) (key : Key) where
+  first_known : bytes_eq (sha256 x) hash ≡ true → bytes_eq (sha256 y) hash ≡ true → bytes_eq (sha256 z) hash ≡ false
+      → map (λ known. wanted_by known (Preimage hash)) ((x ∷ y ∷ z ∷ []) ∷ (z ∷ y ∷ x ∷ []) ∷ (z ∷ []) ∷ [] ∷ []) ≡ Some x ∷ Some y ∷ None ∷ None ∷ []
+  first_known e f g = rw (e, f, g) refl
+
+  none_wanted : wanted_by (x ∷ y ∷ z ∷ []) (Sig key) ≡ None
+  none_wanted = refl
+
+-- ---- back to a height
+
+module _ (t : Transaction) (m : Message) (learnt : List (List ℕ)) (job other : Job) where
+  abbrev spend : ℕ → Spend
+  spend height = record { height = height; tx = t }
+
+  abbrev given : ℕ → Given
+  given height = record { outpoint = record { txid = []; index = height }; path = 1; height = height }
+
+  abbrev line_with : List Spend → List Given → Line
+  line_with spends given = record { inbox = m ∷ []; seen = record { spends = spends; given = given } }
+
+  abbrev reader : List Line → ℕ → Node
+  reader lines read = record nobody { lines = lines; read = read; learnt = learnt; jobs = job ∷ []; taken = other ∷ [] }
+
+  -- of blocks on both sides of the fork, those above it are forgotten, in each channel; what was learnt stays, and so do the jobs, those that were taken and the messages
+  forgets : back_to 5 (reader (line_with (spend 4 ∷ spend 5 ∷ spend 6 ∷ []) (given 5 ∷ given 6 ∷ given 7 ∷ []) ∷ line_with (spend 6 ∷ []) (given 4 ∷ []) ∷ []) 7)
+      ≡ reader (line_with (spend 4 ∷ spend 5 ∷ []) (given 5 ∷ []) ∷ line_with [] (given 4 ∷ []) ∷ []) 5
+  forgets = refl
+
+  -- where nothing above it was read, nothing is forgotten
+  keeps : back_to 5 (reader (line_with (spend 3 ∷ []) (given 4 ∷ []) ∷ []) 4) ≡ reader (line_with (spend 3 ∷ []) (given 4 ∷ []) ∷ []) 4
+  keeps = refl
+
+  -- each side goes back
+  both_forget : (w : World) → both_back 5 (record w { a = reader (line_with (spend 6 ∷ []) [] ∷ []) 6; b = reader (line_with [] (given 6 ∷ given 5 ∷ []) ∷ []) 7 })
+      ≡ record w { a = reader (line_with [] [] ∷ []) 5; b = reader (line_with [] (given 5 ∷ []) ∷ []) 5 }
+  both_forget w = refl

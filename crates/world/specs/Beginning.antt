@@ -14,11 +14,11 @@ use Rattle.book.specs.declared.calls.Call.TheVariants.{Open}
 use Rattle.book.specs.declared.errors.OpenError.{OpenError}
 use Rattle.book.specs.declared.errors.OpenError.TheVariants.{NoMemory}
 use Rattle.book.specs.Accepted.{IsHistory}
-use Rattle.book.specs.Books.{replay}
+use Rattle.book.specs.Books.{replay, fundings_of}
 use Rattle.book.specs.Replies.{opened, is_accepted}
 use Rattle.openings.specs.declared.sides.Both.{Both}
 use Rattle.openings.specs.Opening.{funding_output, AreOpeningsOf}
-use Rattle.openings.specs.Agreeing.{first_grants, fundings_of}
+use Rattle.openings.specs.Agreeing.{first_grants}
 use Rattle.world.specs.declared.errors.WorldError.{WorldError}
 use Rattle.world.specs.declared.errors.WorldError.TheVariants.{NoMemory as no_memory, OverLimit, BadTerms}
 use Rattle.world.specs.Worlds.{World, Node, inboxes, answer_to, after_call, with_line}
@@ -69,6 +69,11 @@ beginning_refusal terms = if nat_lt max_channels (length terms) then Some OverLi
 abbrev pub IsBeginningRefusal : Option WorldError → WorldError → Type 0
 IsBeginningRefusal first no_memory = Unit {0}
 IsBeginningRefusal first e = first ≡ Some e
+
+abbrev pub world_error_number : WorldError → ℕ
+world_error_number no_memory = 0
+world_error_number (BadTerms channel) = 1
+world_error_number OverLimit = 2
 
 -- what is so of the world once the channels below a number have begun
 pub record HasBegun (c : ℕ) (w : World) : Type 0 where

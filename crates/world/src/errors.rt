@@ -132,18 +132,33 @@ impl<T: Drop> From<AllocFailed<T>> for EventError {
     }
 }
 
-/// Why a world does not begin. It is tested for these in this order.
+/// Why a world does not begin. OverLimit is tested before BadTerms.
 #[derive(Debug, Drop, Error)]
 pub enum WorldError {
     /// Memory ran out.
     #[error("NoMemory")]
     NoMemory,
-    /// There are more than 8 channels.
-    #[error("OverLimit")]
-    OverLimit,
     /// The two sides can't agree on the terms of the channel of this index.
     #[error("BadTerms {0}")]
     BadTerms(usize),
+    /// There are more than 8 channels.
+    #[error("OverLimit")]
+    OverLimit,
+}
+
+impl WorldError {
+    ghost use Rattle.world.specs.Beginning.{world_error_number};
+
+    /// The number of the refusal; 0 is out of memory.
+    pub fn number(&self) -> u8
+        ensures { result ≡ world_error_number self.now }
+    {
+        match self {
+            WorldError::NoMemory => 0,
+            WorldError::BadTerms(_) => 1,
+            WorldError::OverLimit => 2,
+        }
+    }
 }
 
 impl From<AllocError> for WorldError {
