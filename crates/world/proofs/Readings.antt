@@ -13,7 +13,7 @@ use Rattle.channel.specs.States.{State}
 use Rattle.book.specs.declared.calls.Entry.{Entry}
 use Rattle.book.specs.Books.{ChannelBook, is_kept, replay}
 use Rattle.book.specs.Knowing.{IsKnownOf, IsKnownIn, preimages_in}
-use Rattle.world.specs.declared.jobs.Job.{Job}
+use Rattle.side.specs.declared.due.DueClaim.{DueClaim}
 use Rattle.world.specs.Worlds.{Line, Node, IsNode}
 use Rattle.world.specs.Looking.{Knows, is_closed, ReadsChannel, quiet, sees, ReadsBlock, no_more, channel, Reading, IsAfter, Reads, all_read, block, reading_of, with_seen}
 use Rattle.world.proofs.Whole.{all_append}
@@ -92,7 +92,7 @@ closed_there chs c seen txs closed = closed_by chs c seen txs (slice_get chs c) 
 
 -- ---- one channel
 
-pub reads_channel : (history : List Entry) (learnt : List (List ℕ)) (height : ℕ) (txs : List Transaction) (c : ℕ) (older newer : Seen) (jobs : List Job) (shown : List (List ℕ)) (o : Option Known)
+pub reads_channel : (history : List Entry) (learnt : List (List ℕ)) (height : ℕ) (txs : List Transaction) (c : ℕ) (older newer : Seen) (jobs : List DueClaim) (shown : List (List ℕ)) (o : Option Known)
     → IsReady history learnt c older txs o → FindsIf o height txs c older newer jobs shown → ReadsChannel history learnt height txs c older newer jobs shown
 reads_channel history learnt height txs c older newer jobs shown None ready (e, j, s) = rw (e, j, s) (quiet ready)
 reads_channel history learnt height txs c older newer jobs shown (Some k) ready finds = sees k ready finds
@@ -100,16 +100,16 @@ reads_channel history learnt height txs c older newer jobs shown (Some k) ready 
 -- ---- a block
 
 -- reading the channels from a number on makes what was read of those below it the whole
-abbrev pub Onward : List Entry → List (List ℕ) → ℕ → List Transaction → ℕ → List Seen → List Seen → List Job → List (List ℕ) → Type 0
+abbrev pub Onward : List Entry → List (List ℕ) → ℕ → List Transaction → ℕ → List Seen → List Seen → List DueClaim → List (List ℕ) → Type 0
 Onward history learnt height txs i older seen jobs shown =
-    (newer : List Seen) (more : List Job) (more_shown : List (List ℕ)) → ReadsBlock history learnt height txs i (drop i seen) newer more more_shown
+    (newer : List Seen) (more : List DueClaim) (more_shown : List (List ℕ)) → ReadsBlock history learnt height txs i (drop i seen) newer more more_shown
     → ReadsBlock history learnt height txs 0 older (take i seen ++ newer) (jobs ++ more) (shown ++ more_shown)
 
 split : {A : Type 0} (xs : List A) (i : ℕ) (x : A) → i < length xs → x ≡ get_or xs i x → drop i xs ≡ x ∷ drop (i + 1) xs
 split xs i x l e = drop_more xs i x l ∙ ap (λ y. y ∷ drop (i + 1) xs) (sym e)
 
 module _ (history : List Entry) (learnt : List (List ℕ)) (height : ℕ) (txs : List Transaction) where
-  pub onward_step : (i : ℕ) (older seen : List Seen) (jobs : List Job) (shown : List (List ℕ)) (s t : Seen) (seen' : List Seen) (jobs' new_jobs : List Job) (shown' new_shown : List (List ℕ))
+  pub onward_step : (i : ℕ) (older seen : List Seen) (jobs : List DueClaim) (shown : List (List ℕ)) (s t : Seen) (seen' : List Seen) (jobs' new_jobs : List DueClaim) (shown' new_shown : List (List ℕ))
       → Onward history learnt height txs i older seen jobs shown → i < length seen → s ≡ get_or seen i s → seen' ≡ set seen i t → ReadsChannel history learnt height txs i s t new_jobs new_shown
       → jobs' ≡ jobs ++ new_jobs → shown' ≡ shown ++ new_shown → Onward history learnt height txs (i + 1) older seen' jobs' shown'
   onward_step i older seen jobs shown s t seen' jobs' new_jobs shown' new_shown onward l e w step j h newer more more_shown rest =
@@ -122,21 +122,21 @@ module _ (history : List Entry) (learnt : List (List ℕ)) (height : ℕ) (txs :
       let shown_is : shown' ++ more_shown ≡ shown ++ (new_shown ++ more_shown) = ap (λ xs. xs ++ more_shown) h ∙ append_assoc shown new_shown more_shown in
       rw (seen_is, jobs_are, shown_is) (onward (t ∷ newer) (new_jobs ++ more) (new_shown ++ more_shown) here)
 
-  pub onward_end : (i : ℕ) (older seen : List Seen) (jobs : List Job) (shown : List (List ℕ)) → Onward history learnt height txs i older seen jobs shown → length seen ≤ i
+  pub onward_end : (i : ℕ) (older seen : List Seen) (jobs : List DueClaim) (shown : List (List ℕ)) → Onward history learnt height txs i older seen jobs shown → length seen ≤ i
       → ReadsBlock history learnt height txs 0 older seen jobs shown
   onward_end i older seen jobs shown onward l =
       let none = subst (λ (xs : List Seen). ReadsBlock history learnt height txs i xs [] [] []) (sym (drop_all i seen l)) no_more in
       let all : take i seen ++ [] ≡ seen = append-nil (take i seen) ∙ take_all i seen l in
       let here = subst (λ (xs : List Seen). ReadsBlock history learnt height txs 0 older xs (jobs ++ []) (shown ++ [])) all (onward [] [] [] none) in
-      subst (λ (xs : List Job). ReadsBlock history learnt height txs 0 older seen xs shown) (append-nil jobs)
+      subst (λ (xs : List DueClaim). ReadsBlock history learnt height txs 0 older seen xs shown) (append-nil jobs)
       (subst (λ (xs : List (List ℕ)). ReadsBlock history learnt height txs 0 older seen (jobs ++ []) xs) (append-nil shown) here)
 
   -- nothing was read yet
-  pub onward_start : (seen : List Seen) (jobs : List Job) (shown : List (List ℕ)) → jobs ≡ [] → shown ≡ [] → Onward history learnt height txs 0 seen seen jobs shown
+  pub onward_start : (seen : List Seen) (jobs : List DueClaim) (shown : List (List ℕ)) → jobs ≡ [] → shown ≡ [] → Onward history learnt height txs 0 seen seen jobs shown
   onward_start seen jobs shown j s newer more more_shown rest = rw (j, s) rest
 
 -- a block was read, and what it showed is known from then on
-pub after_block : (history : List Entry) (height : ℕ) (txs : List Transaction) (r next : Reading) (learnt : List (List ℕ)) (older newer : List Seen) (jobs : List Job) (shown : List (List ℕ))
+pub after_block : (history : List Entry) (height : ℕ) (txs : List Transaction) (r next : Reading) (learnt : List (List ℕ)) (older newer : List Seen) (jobs : List DueClaim) (shown : List (List ℕ))
     → ReadsBlock history learnt height txs 0 older newer jobs shown → learnt ≡ r.learnt → older ≡ r.seen → next.seen ≡ newer → next.jobs ≡ r.jobs ++ jobs → next.learnt ≡ r.learnt ++ shown
     → IsAfter history height txs r next
 after_block history height txs r next learnt older newer jobs shown reads l o n j s =
@@ -189,7 +189,7 @@ past_end (x ∷ xs) (suc n) e = let l = past_end xs n e in omega arith
 -- ---- the side
 
 module _ {history : List Entry} {learnt : List (List ℕ)} {height : ℕ} {txs : List Transaction} where
-  as_many : {c : ℕ} {older newer : List Seen} {jobs : List Job} {shown : List (List ℕ)} → ReadsBlock history learnt height txs c older newer jobs shown → length newer ≡ length older
+  as_many : {c : ℕ} {older newer : List Seen} {jobs : List DueClaim} {shown : List (List ℕ)} → ReadsBlock history learnt height txs c older newer jobs shown → length newer ≡ length older
   as_many no_more = refl
   as_many (channel one rest) = ap suc (as_many rest)
 
@@ -214,10 +214,10 @@ take_front : {A : Type 0} (xs ys : List A) → take (length xs) (xs ++ ys) ≡ x
 take_front [] ys = refl
 take_front (x ∷ xs) ys = ap (λ zs. x ∷ zs) (take_front xs ys)
 
-abbrev pub AreWhole : List Job → Type 0
+abbrev pub AreWhole : List DueClaim → Type 0
 AreWhole jobs = AllByRecursion (λ j. IsWhole j.claim) jobs
 
-pub is_node_after : (n : Node) (more jobs : List Job) (new items : List Line) (seen : List Seen) (len read : ℕ) (learnt : List (List ℕ)) → IsNode n → AreWhole more → jobs ≡ n.jobs ++ more
+pub is_node_after : (n : Node) (more jobs : List DueClaim) (new items : List Line) (seen : List Seen) (len read : ℕ) (learnt : List (List ℕ)) → IsNode n → AreWhole more → jobs ≡ n.jobs ++ more
     → items ≡ n.lines → length items ≡ len → new ≡ with_seen seen items → IsNode (record n { lines = take len (new ++ drop (length new) n.lines); read = read; learnt = learnt; jobs = jobs })
 is_node_after n more jobs new items seen len read learnt is w j same long l =
     let as_long : length new ≡ length items = ap length l ∙ seen_length seen items in

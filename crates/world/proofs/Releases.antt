@@ -26,7 +26,7 @@ use Rattle.book.specs.Replies.{released, asked, unless, fill_answer, if_so}
 use Rattle.book.proofs.Released.{tested_by}
 use Rattle.world.specs.declared.errors.EventError.{EventError}
 use Rattle.world.specs.declared.errors.EventError.TheVariants as errors
-use Rattle.world.specs.declared.jobs.Job.{Job}
+use Rattle.side.specs.declared.due.DueClaim.{DueClaim}
 use Rattle.world.specs.Worlds.{Node, channel_of, answer_to, after_call}
 use Rattle.world.specs.Refusing.{by_release, refusal_in, IsRefusal}
 use Rattle.world.specs.Releasing.{are_of, value_of, claims_in, output_for, preimages_for, release_answer, refusal_of, is_no_count, release_refusal, without_taken, IsReady, IsReleased}
@@ -39,17 +39,17 @@ pub not_over : (m v : ℕ) → v ≤ m → nat_lt m v ≡ false
 not_over m v small = grind (arith, nat_tests)
 
 -- the first refusal, by the oldest of the claims
-by_first : (jobs : List Job) (n : Node) (j : Job) → slice_get jobs 0 ≡ Some j
+by_first : (jobs : List DueClaim) (n : Node) (j : DueClaim) → slice_get jobs 0 ≡ Some j
     → refusal_of jobs n ≡ if_so (not (are_of j.channel jobs)) errors.MixedChannels (if_so (nat_lt max_value (value_of jobs)) errors.OverValue (refusal_in (release_answer j.channel jobs n)))
 by_first [] n j found = absurd (none-some j found)
 by_first (x ∷ jobs) n j found =
-    ap (λ (y : Job). if_so (not (are_of y.channel (x ∷ jobs))) errors.MixedChannels (if_so (nat_lt max_value (value_of (x ∷ jobs))) errors.OverValue (refusal_in (release_answer y.channel (x ∷ jobs) n)))) (same_Some x j found)
+    ap (λ (y : DueClaim). if_so (not (are_of y.channel (x ∷ jobs))) errors.MixedChannels (if_so (nat_lt max_value (value_of (x ∷ jobs))) errors.OverValue (refusal_in (release_answer y.channel (x ∷ jobs) n)))) (same_Some x j found)
 
-by_value : (jobs : List Job) (n : Node) (j : Job) → slice_get jobs 0 ≡ Some j → are_of j.channel jobs ≡ true
+by_value : (jobs : List DueClaim) (n : Node) (j : DueClaim) → slice_get jobs 0 ≡ Some j → are_of j.channel jobs ≡ true
     → refusal_of jobs n ≡ if_so (nat_lt max_value (value_of jobs)) errors.OverValue (refusal_in (release_answer j.channel jobs n))
 by_value jobs n j found all = by_first jobs n j found ∙ ap (λ b. if_so (not b) errors.MixedChannels (if_so (nat_lt max_value (value_of jobs)) errors.OverValue (refusal_in (release_answer j.channel jobs n)))) all
 
-by_book : (jobs : List Job) (n : Node) (j : Job) → slice_get jobs 0 ≡ Some j → are_of j.channel jobs ≡ true → nat_lt max_value (value_of jobs) ≡ false → refusal_of jobs n ≡ refusal_in (release_answer j.channel jobs n)
+by_book : (jobs : List DueClaim) (n : Node) (j : DueClaim) → slice_get jobs 0 ≡ Some j → are_of j.channel jobs ≡ true → nat_lt max_value (value_of jobs) ≡ false → refusal_of jobs n ≡ refusal_in (release_answer j.channel jobs n)
 by_book jobs n j found all little = by_value jobs n j found all ∙ ap (λ b. if_so b errors.OverValue (refusal_in (release_answer j.channel jobs n))) little
 
 -- ---- the channel
@@ -78,7 +78,7 @@ same_answer o ch outputs claims preimages batch there is =
     ∙ ap (λ ps. refusal_in (released (fill_answer ch.state batch.claims batch.outputs ps))) (sym is.preimages_is)
     ∙ ap (λ p. refusal_in (released (asked NoSuchChannel p (λ c. fill_answer c.state batch.claims batch.outputs batch.preimages)))) (sym there)
 
-pub is_ready : (jobs : List Job) (n : Node) (j : Job) (s : State) (batch : Batch) → slice_get jobs 0 ≡ Some j → are_of j.channel jobs ≡ true → nat_lt max_value (value_of jobs) ≡ false
+pub is_ready : (jobs : List DueClaim) (n : Node) (j : DueClaim) (s : State) (batch : Batch) → slice_get jobs 0 ≡ Some j → are_of j.channel jobs ≡ true → nat_lt max_value (value_of jobs) ≡ false
     → Some s ≡ option_map (λ ch. ch.state) (channel_of n j.channel) → IsBatchOf (claims_in jobs) (output_for s jobs ∷ []) (preimages_for jobs) batch → IsReady jobs n j.channel batch
 is_ready jobs n j s batch found all little there is =
     let t = is_there (channel_of n j.channel) s there in
@@ -118,7 +118,7 @@ answer_refused : (o : Option ChannelBook) (ch : ChannelBook) (b : Batch) (e : Fi
 answer_refused o ch b e there is =
     ap (λ p. refusal_in (released (asked NoSuchChannel p (λ c. fill_answer c.state b.claims b.outputs b.preimages)))) there ∙ ap (λ r. refusal_in (released (unless Unfilled r (filling_by b)))) is
 
-pub refused_by : (jobs : List Job) (n : Node) (channel : ℕ) (batch : Batch) (s : State) (e : FillError) (x : EventError) → IsReady jobs n channel batch → Some s ≡ option_map (λ ch. ch.state) (channel_of n channel)
+pub refused_by : (jobs : List DueClaim) (n : Node) (channel : ℕ) (batch : Batch) (s : State) (e : FillError) (x : EventError) → IsReady jobs n channel batch → Some s ≡ option_map (λ ch. ch.state) (channel_of n channel)
     → IsFillRefusal (fill_refusal batch.claims batch.outputs (rights_of s) batch.preimages) e → x ≡ by_release (Unfilled e) → IsRefusal (refusal_of jobs n) x
 refused_by jobs n channel batch s e x ready there is by = subst (λ (y : EventError). IsRefusal (refusal_of jobs n) y) (sym by) (of_fill e is)
   where

@@ -19,7 +19,7 @@ use Rattle.book.specs.declared.calls.Batch.{Batch}
 use Rattle.book.specs.declared.calls.Call.TheVariants.{Keep, Release}
 use Rattle.world.specs.declared.errors.EventError.TheVariants.{NoSuchChannel, NoMessage, NoSuchTx, NoJob, TooDeep}
 use Rattle.world.specs.declared.errors.WorldError.TheVariants as worlds
-use Rattle.world.specs.declared.jobs.Job.{Job}
+use Rattle.side.specs.declared.due.DueClaim.{DueClaim}
 use Rattle.world.specs.declared.outcomes.Outcome.TheVariants.{Looked, Mined as MinedBlocks, Refused}
 use Rattle.world.specs.Worlds.{World, Node, Line, inboxes, sent_to, received_by}
 use Rattle.world.specs.Beginning.{beginning_refusal, world_error_number}
@@ -122,7 +122,7 @@ module _ (nothing_seen : Seen) (m1 m2 m3 m4 : Message) where
   nothing_came : map (refusal_of (record beginning { b = listening })) (events.Deliver B 2 ∷ events.Deliver B 3 ∷ events.Deliver A 0 ∷ []) ≡ Some NoMessage ∷ Some NoSuchChannel ∷ Some NoSuchChannel ∷ []
   nothing_came = refl
 
-module _ (j1 j2 j3 j4 : Job) where
+module _ (j1 j2 j3 j4 : DueClaim) where
   abbrev busy : Node
   busy = record nobody { jobs = j2 ∷ j3 ∷ j4 ∷ []; taken = j1 ∷ [] }
 
@@ -157,7 +157,7 @@ module _ (x y z hash : List ℕ) (key : Key) where
 
 -- ---- back to a height
 
-module _ (t : Transaction) (m : Message) (learnt : List (List ℕ)) (job other : Job) where
+module _ (t : Transaction) (m : Message) (learnt : List (List ℕ)) (job other : DueClaim) where
   abbrev spend : ℕ → Spend
   spend height = record { height = height; tx = t }
 

@@ -5,7 +5,7 @@ use Rattle.resolve.specs.declared.known.Known.{Known}
 use Rattle.watch.specs.Watching.{Seen}
 use Rattle.book.specs.declared.calls.Entry.{Entry}
 use Rattle.book.specs.Books.{replay}
-use Rattle.world.specs.declared.jobs.Job.{Job}
+use Rattle.side.specs.declared.due.DueClaim.{DueClaim}
 use Rattle.world.specs.Looking.{is_closed, Knows, Finds}
 
 -- what is known of a channel is what the side knows, where it was asked; and of each channel
@@ -22,7 +22,7 @@ IsReady history learnt c seen txs None = is_closed (slice_get (replay history) c
 IsReady history learnt c seen txs (Some known) = Knows history learnt c known
 
 -- what is found by what is known: nothing, where nobody asked
-abbrev pub FindsIf : Option Known → ℕ → List Transaction → ℕ → Seen → Seen → List Job → List (List ℕ) → Type 0
+abbrev pub FindsIf : Option Known → ℕ → List Transaction → ℕ → Seen → Seen → List DueClaim → List (List ℕ) → Type 0
 FindsIf None height txs c older newer jobs shown = (newer ≡ older) × (jobs ≡ []) × (shown ≡ [])
 FindsIf (Some known) height txs c older newer jobs shown = Finds known height txs c older newer jobs shown
 

@@ -14,7 +14,7 @@ use Rattle.watch.specs.Sights.{IsSight}
 use Rattle.book.specs.declared.calls.Entry.{Entry}
 use Rattle.book.specs.Books.{ChannelBook, is_kept, replay}
 use Rattle.book.specs.Knowing.{IsKnownOf, preimages_in}
-use Rattle.world.specs.declared.jobs.Job.{Job}
+use Rattle.side.specs.declared.due.DueClaim.{DueClaim}
 use Rattle.world.specs.Worlds.{Line, Node}
 
 -- ---- one channel
@@ -36,28 +36,28 @@ wanted_by preimages (Preimage hash) = find (λ p. bytes_eq (sha256 p) hash) prei
 wanted_by preimages slot = None
 
 -- claims on a channel's outputs as jobs, each with the known preimages that it wants
-abbrev pub jobs_of : ℕ → List (List ℕ) → List ClaimParts → List Job
+abbrev pub jobs_of : ℕ → List (List ℕ) → List ClaimParts → List DueClaim
 jobs_of c preimages claims = map (λ x. record { channel = c; claim = x; preimages = filter_map (wanted_by preimages) x.slots }) claims
 
 -- what is found by what is known: what was seen of the channel then, the jobs, and the preimages that the block shows
-pub record Finds (known : Known) (height : ℕ) (txs : List Transaction) (c : ℕ) (older newer : Seen) (jobs : List Job) (shown : List (List ℕ)) : Type 0 where
+pub record Finds (known : Known) (height : ℕ) (txs : List Transaction) (c : ℕ) (older newer : Seen) (jobs : List DueClaim) (shown : List (List ℕ)) : Type 0 where
   pub claims : List ClaimParts
   pub sight : IsSight older height txs known claims shown
   pub seen : newer ≡ seen_after older height txs known
   pub jobs_are : jobs ≡ jobs_of c known.preimages claims
 
 -- a side reads a block for one channel: a channel that is not closed gives nothing
-pub data ReadsChannel (history : List Entry) (learnt : List (List ℕ)) (height : ℕ) (txs : List Transaction) (c : ℕ) (older : Seen) : Seen → List Job → List (List ℕ) → Type 0 where
+pub data ReadsChannel (history : List Entry) (learnt : List (List ℕ)) (height : ℕ) (txs : List Transaction) (c : ℕ) (older : Seen) : Seen → List DueClaim → List (List ℕ) → Type 0 where
   quiet : is_closed (slice_get (replay history) c) older txs ≡ false → ReadsChannel history learnt height txs c older older [] []
-  sees : {newer : Seen} {jobs : List Job} {shown : List (List ℕ)} (known : Known)
+  sees : {newer : Seen} {jobs : List DueClaim} {shown : List (List ℕ)} (known : Known)
       → Knows history learnt c known → Finds known height txs c older newer jobs shown → ReadsChannel history learnt height txs c older newer jobs shown
 
 -- ---- blocks
 
 -- a block for all channels from a number on, by what was known before it
-pub data ReadsBlock (history : List Entry) (learnt : List (List ℕ)) (height : ℕ) (txs : List Transaction) : ℕ → List Seen → List Seen → List Job → List (List ℕ) → Type 0 where
+pub data ReadsBlock (history : List Entry) (learnt : List (List ℕ)) (height : ℕ) (txs : List Transaction) : ℕ → List Seen → List Seen → List DueClaim → List (List ℕ) → Type 0 where
   no_more : {c : ℕ} → ReadsBlock history learnt height txs c [] [] [] []
-  channel : {c : ℕ} {s t : Seen} {older newer : List Seen} {jobs more_jobs : List Job} {shown more_shown : List (List ℕ)}
+  channel : {c : ℕ} {s t : Seen} {older newer : List Seen} {jobs more_jobs : List DueClaim} {shown more_shown : List (List ℕ)}
       → ReadsChannel history learnt height txs c s t jobs shown → ReadsBlock history learnt height txs (c + 1) older newer more_jobs more_shown
       → ReadsBlock history learnt height txs c (s ∷ older) (t ∷ newer) (jobs ++ more_jobs) (shown ++ more_shown)
 
@@ -65,11 +65,11 @@ pub data ReadsBlock (history : List Entry) (learnt : List (List ℕ)) (height : 
 pub record Reading : Type 0 where
   pub seen : List Seen
   pub learnt : List (List ℕ)
-  pub jobs : List Job
+  pub jobs : List DueClaim
 
 -- after one block more
 pub record IsAfter (history : List Entry) (height : ℕ) (txs : List Transaction) (r next : Reading) : Type 0 where
-  pub jobs : List Job
+  pub jobs : List DueClaim
   pub shown : List (List ℕ)
   pub channels : ReadsBlock history r.learnt height txs 0 r.seen next.seen jobs shown
   pub jobs_are : next.jobs ≡ r.jobs ++ jobs

@@ -19,7 +19,7 @@ use Rattle.book.specs.Books.{ChannelBook}
 use Rattle.book.specs.Replies.{Reply, released, asked, fill_answer, if_so}
 use Rattle.world.specs.declared.errors.EventError.{EventError}
 use Rattle.world.specs.declared.errors.EventError.TheVariants.{NoJob, MixedChannels, OverValue}
-use Rattle.world.specs.declared.jobs.Job.{Job}
+use Rattle.side.specs.declared.due.DueClaim.{DueClaim}
 use Rattle.world.specs.Worlds.{Node, channel_of, answer_to, after_call}
 use Rattle.world.specs.Refusing.{refusal_in}
 
@@ -33,12 +33,12 @@ with_taken k n = record n { jobs = drop k n.jobs; taken = n.taken ++ take k n.jo
 -- ---- releases
 
 -- whether jobs are all of a channel
-abbrev pub are_of : ℕ → List Job → Bool
+abbrev pub are_of : ℕ → List DueClaim → Bool
 are_of c [] = true
 are_of c (j ∷ jobs) = j.channel == c && are_of c jobs
 
 -- what claims are worth together, in satoshis
-abbrev pub value_of : List Job → ℕ
+abbrev pub value_of : List DueClaim → ℕ
 value_of [] = 0
 value_of (j ∷ jobs) = j.claim.place.value + value_of jobs
 
@@ -51,24 +51,24 @@ each_once xs = fold with_new [] xs
 
 -- what the claims are filled by: one output of their whole value to the hash of the side's payment key in the channel (which a fixed transaction, that keeps its own, does not read), and the preimages
 -- that they want
-abbrev pub claims_in : List Job → List ClaimParts
+abbrev pub claims_in : List DueClaim → List ClaimParts
 claims_in jobs = map (λ j. j.claim) jobs
 
 abbrev pub payment_program : State → List ℕ
 payment_program s = 0x00 ∷ 0x14 ∷ hash160 (base_key s.seed Payment)
 
-abbrev pub output_for : State → List Job → Output
+abbrev pub output_for : State → List DueClaim → Output
 output_for s jobs = record { value = value_of jobs; script = payment_program s }
 
-abbrev pub preimages_for : List Job → List (List ℕ)
+abbrev pub preimages_for : List DueClaim → List (List ℕ)
 preimages_for jobs = each_once (flat_map (λ j. j.preimages) jobs)
 
 -- what the book answers to the release of claims of a channel
-abbrev pub release_answer : ℕ → List Job → Node → Reply
+abbrev pub release_answer : ℕ → List DueClaim → Node → Reply
 release_answer c jobs n = released (asked NoSuchChannel (channel_of n c) (λ ch. fill_answer ch.state (claims_in jobs) (output_for ch.state jobs ∷ []) (preimages_for jobs)))
 
 -- NoJob, MixedChannels, OverValue, else the refusal of the book
-abbrev pub refusal_of : List Job → Node → Option EventError
+abbrev pub refusal_of : List DueClaim → Node → Option EventError
 refusal_of [] n = Some NoJob
 refusal_of (j ∷ jobs) n =
     if_so (not (are_of j.channel (j ∷ jobs))) MixedChannels
@@ -87,7 +87,7 @@ abbrev pub without_taken : ℕ → Node → Node
 without_taken k n = record n { taken = drop k n.taken }
 
 -- claims, all of one channel, are released by this batch, where the book does not refuse it
-pub record IsReady (jobs : List Job) (n : Node) (channel : ℕ) (batch : Batch) : Type 0 where
+pub record IsReady (jobs : List DueClaim) (n : Node) (channel : ℕ) (batch : Batch) : Type 0 where
   pub ch : ChannelBook
   pub there : channel_of n channel ≡ Some ch
   pub all_of : are_of channel jobs ≡ true

@@ -15,7 +15,7 @@ use Rattle.book.specs.declared.calls.Entry.{Entry}
 use Rattle.book.specs.Books.{ChannelBook, at_index, replay}
 use Rattle.book.specs.Replies.{Reply, reply_of, history_after}
 use Rattle.world.specs.declared.limits.TheConstants.{SEAT}
-use Rattle.world.specs.declared.jobs.Job.{Job}
+use Rattle.side.specs.declared.due.DueClaim.{DueClaim}
 
 -- what a side has of a channel beside its book: the messages on their way to it, the oldest first, and what its watch has seen
 pub record Line : Type 0 where
@@ -29,8 +29,8 @@ pub record Node : Type 0 where
   pub lines : List Line
   pub read : ℕ
   pub learnt : List (List ℕ)
-  pub jobs : List Job
-  pub taken : List Job
+  pub jobs : List DueClaim
+  pub taken : List DueClaim
 
 -- the claims of a call
 abbrev pub claims_by : Call → List ClaimParts

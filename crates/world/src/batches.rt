@@ -10,7 +10,6 @@ ghost use Rattle.world.specs.Refusing.{IsRefusal};
 ghost use Rattle.world.specs.Releasing.{value_of, claims_in, payment_program, output_for, preimages_for, is_no_count, refusal_of, release_refusal, IsReady};
 
 use crate::errors::EventError;
-use crate::jobs::Job;
 use crate::nodes::Node;
 use crate::releasing::{are_of, claims_of, key_hash_program, oldest_of, preimages_of, value_of};
 use book::Batch;
@@ -20,6 +19,7 @@ use claim::Claim;
 use filling::{FillError, fill};
 use keys::Base;
 use lists::List;
+use side::DueClaim;
 use std::alloc::{AllocError, Global};
 use tx::{MAX_INPUTS, MAX_VALUE, Tx, TxOut};
 
@@ -48,7 +48,7 @@ fn payment_of(alloc: Global, channel: &Channel, value: u64) -> Result<TxOut, All
 fn batch_of(
     alloc: Global,
     channel: &Channel,
-    jobs: &[&Job],
+    jobs: &[&DueClaim],
     value: u64,
 ) -> Result<Batch, AllocError>
     requires some { 1 ≤ length jobs.now }
@@ -68,7 +68,7 @@ fn batch_of(
 }
 
 // The claims, lent. The only error is that memory ran out.
-fn lent<'a>(alloc: Global, jobs: &[&'a Job]) -> Result<Vec<&'a Claim>, AllocError>
+fn lent<'a>(alloc: Global, jobs: &[&'a DueClaim]) -> Result<Vec<&'a Claim>, AllocError>
     ensures { IfOk result (λ v. map (λ c. c.now) v.items ≡ claims_in (map (λ j. j.now) jobs.now)) }
 {
     let mut lent = Vec::new(alloc);
@@ -92,7 +92,7 @@ fn payments_of(alloc: Global, channel: &Channel, value: u64) -> Result<Vec<TxOut
 fn filling_of(
     alloc: Global,
     channel: &Channel,
-    jobs: &[&Job],
+    jobs: &[&DueClaim],
     value: u64,
     batch: &Batch,
 ) -> Result<Tx, FillError>
@@ -121,7 +121,7 @@ fn is_no_count(count: u64, taken: usize) -> bool
 }
 
 // The call by which claims are released, which are a side's: NoJob where there is none, MixedChannels, OverValue.
-fn release_by(alloc: Global, me: &Node, jobs: &[&Job]) -> Result<Release, EventError>
+fn release_by(alloc: Global, me: &Node, jobs: &[&DueClaim]) -> Result<Release, EventError>
     requires { length jobs.now ≤ max_inputs }
     ensures { let all = map (λ j. j.now) jobs.now in
         MatchResult result (λ r. IsReady all me.now r.channel r.batch × (r.tx ≡ (filling_by r.batch).tx)) (IsRefusal (refusal_of all me.now)) }

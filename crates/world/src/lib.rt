@@ -18,7 +18,6 @@ mod beginning;
 pub mod claimed;
 mod delivering;
 pub mod errors;
-mod jobs;
 mod keeping;
 pub mod laws;
 mod limits;

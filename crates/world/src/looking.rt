@@ -10,7 +10,6 @@ ghost use Rattle.world.specs.Looking.{is_closed, wanted_by, jobs_of, Knows, Find
 ghost use Rattle.world.specs.Asking.{IfKnown, AreKnown, IsReady, FindsIf, taught};
 
 use crate::errors::EventError;
-use crate::jobs::Job;
 use crate::nodes::{Line, Node};
 use book::Book;
 use book::errors::KnowError;
@@ -19,6 +18,7 @@ use claim::{Claim, Slot};
 use digest::sha256;
 use lists::List;
 use resolve::Known;
+use side::DueClaim;
 use std::alloc::{AllocError, Global};
 use std::collections::VecDeque;
 use std::marker::Model;
@@ -29,7 +29,7 @@ use watch::Watch;
 struct Reading {
     watches: Vec<Watch>,
     learnt: Vec<[u8; 32]>,
-    jobs: VecDeque<Job>,
+    jobs: VecDeque<DueClaim>,
 }
 
 impl Model for Reading {
@@ -43,7 +43,7 @@ impl Model for Reading {
 /// What blocks give: claims to be filled, and preimages.
 #[derive(Drop)]
 struct Found {
-    jobs: VecDeque<Job>,
+    jobs: VecDeque<DueClaim>,
     learnt: Vec<[u8; 32]>,
 }
 
@@ -104,13 +104,13 @@ fn jobs_of(
     channel: u64,
     preimages: &[[u8; 32]],
     claims: Vec<Claim>,
-) -> Result<VecDeque<Job>, AllocError>
+) -> Result<VecDeque<DueClaim>, AllocError>
     ensures { IfOk result (λ jobs. jobs.items ≡ jobs_of channel preimages.now claims.items) }
 {
     let mut jobs = VecDeque::new(alloc);
     for claim in claims {
         let preimages = wanted_in(alloc, preimages, claim.slots())?;
-        jobs.push_back(Job {
+        jobs.push_back(DueClaim {
             channel,
             claim,
             preimages,
@@ -384,7 +384,7 @@ fn put_watches(lines: &mut [Line], watches: Vec<Watch>)
 }
 
 // What the claims of jobs are, for proofs: accepted ones.
-fn hold_whole_jobs(jobs: &VecDeque<Job>)
+fn hold_whole_jobs(jobs: &VecDeque<DueClaim>)
     ensures { AllByRecursion (λ j. IsWhole j.claim) jobs.now.items }
 {
     for index in 0..jobs.len() {

@@ -4,7 +4,6 @@ ghost use Rattle.std.specs.List.{AllByRecursion};
 ghost use Rattle.claim.specs.Claims.{IsWhole};
 
 use crate::errors::EventError;
-use crate::jobs::Job;
 use crate::limits::SEAT;
 use book::errors::OpenError;
 use book::{Batch, Book, Opening, Step};
@@ -13,6 +12,7 @@ use claim::Claim;
 use filling::Filled;
 use keys::Key;
 use lists::List;
+use side::DueClaim;
 use std::alloc::Global;
 use std::collections::VecDeque;
 use std::marker::Model;
@@ -45,9 +45,9 @@ pub(crate) struct Node {
     /// The preimages that it learnt from blocks, in order.
     pub(crate) learnt: Vec<[u8; 32]>,
     /// The claims that nobody took yet, the oldest first.
-    pub(crate) jobs: VecDeque<Job>,
+    pub(crate) jobs: VecDeque<DueClaim>,
     /// The claims that were taken and not released yet, the oldest first.
-    pub(crate) taken: VecDeque<Job>,
+    pub(crate) taken: VecDeque<DueClaim>,
 }
 
 impl Model for Node {

@@ -9,18 +9,18 @@ ghost use Rattle.world.specs.Releasing.{take_refusal, with_taken, are_of, value_
 
 use crate::batches::release_of;
 use crate::errors::EventError;
-use crate::jobs::Job;
 use crate::nodes::Node;
 use claim::Claim;
 use digest::hash160;
 use keys::Key;
 use lists::{ByteString, List};
+use side::DueClaim;
 use std::alloc::{AllocError, Global};
 use std::collections::VecDeque;
 use tx::Tx;
 
 // So many jobs go to the end of others, the oldest first.
-fn move_oldest(from: &mut VecDeque<Job>, to: &mut VecDeque<Job>, count: usize)
+fn move_oldest(from: &mut VecDeque<DueClaim>, to: &mut VecDeque<DueClaim>, count: usize)
     requires there { count ≤ deque_len from.old }
     requires room { deque_len to.old + count ≤ deque_capacity to.old }
     ensures from { from.new.items ≡ drop count from.old.items }
@@ -50,9 +50,9 @@ pub(crate) fn take(me: &mut Node, count: u64) -> Result<(), EventError>
 // So many of the oldest claims, lent. The only error is that memory ran out.
 pub(crate) fn oldest_of(
     alloc: Global,
-    taken: &VecDeque<Job>,
+    taken: &VecDeque<DueClaim>,
     count: usize,
-) -> Result<Vec<&Job>, AllocError>
+) -> Result<Vec<&DueClaim>, AllocError>
     requires { count ≤ deque_len taken.now }
     ensures { IfOk result (λ v. map (λ j. j.now) v.items ≡ take count taken.now.items) }
 {
@@ -64,7 +64,7 @@ pub(crate) fn oldest_of(
 }
 
 // Whether the claims are all of a channel.
-pub(crate) fn are_of(channel: u64, jobs: &[&Job]) -> bool
+pub(crate) fn are_of(channel: u64, jobs: &[&DueClaim]) -> bool
     ensures { result ≡ are_of channel (map (λ j. j.now) jobs.now) }
 {
     for job in jobs {
@@ -76,7 +76,7 @@ pub(crate) fn are_of(channel: u64, jobs: &[&Job]) -> bool
 }
 
 // What the claims are worth, in satoshis. No number of them passes the width.
-pub(crate) fn value_of(jobs: &[&Job]) -> u128
+pub(crate) fn value_of(jobs: &[&DueClaim]) -> u128
     ensures value { result ≡ value_of (map (λ j. j.now) jobs.now) }
     ensures bound { result ≤ length jobs.now * 2 ^ 64 }
 {
@@ -89,7 +89,7 @@ pub(crate) fn value_of(jobs: &[&Job]) -> u128
 }
 
 // Copies of the claims. The only error is that memory ran out.
-pub(crate) fn claims_of(alloc: Global, jobs: &[&Job]) -> Result<List<Claim>, AllocError>
+pub(crate) fn claims_of(alloc: Global, jobs: &[&DueClaim]) -> Result<List<Claim>, AllocError>
     ensures { IfOk result (λ claims. claims ≡ map (λ j. j.claim) (map (λ j. j.now) jobs.now)) }
 {
     let mut claims = List::new(alloc);
@@ -120,7 +120,7 @@ fn push_each_once(preimages: &mut List<[u8; 32]>, wanted: &[[u8; 32]]) -> Result
 }
 
 // The preimages that the claims want, each once. The only error is that memory ran out.
-pub(crate) fn preimages_of(alloc: Global, jobs: &[&Job]) -> Result<List<[u8; 32]>, AllocError>
+pub(crate) fn preimages_of(alloc: Global, jobs: &[&DueClaim]) -> Result<List<[u8; 32]>, AllocError>
     ensures { IfOk result (λ preimages. preimages ≡ each_once (flat_map (λ j. j.preimages) (map (λ j. j.now) jobs.now))) }
 {
     let mut preimages = List::new(alloc);
@@ -143,14 +143,14 @@ pub(crate) fn key_hash_program(alloc: Global, key: &Key) -> Result<ByteString, A
 }
 
 // The oldest claim is no longer taken.
-fn pop_job(taken: &mut VecDeque<Job>)
+fn pop_job(taken: &mut VecDeque<DueClaim>)
     ensures { taken.new.items ≡ drop 1 taken.old.items }
 {
     let _job = taken.pop_front();
 }
 
 // So many of the oldest claims are no longer taken.
-fn pop_oldest(taken: &mut VecDeque<Job>, count: usize)
+fn pop_oldest(taken: &mut VecDeque<DueClaim>, count: usize)
     ensures { taken.new.items ≡ drop count taken.old.items }
 {
     for _job in 0..count {
