@@ -1,0 +1,501 @@
+#!/usr/bin/env python3
+"""What has to be read to know what a contract says.
+
+  docs/reading.py WORD     WORD is a public function or law, as world::World::play or world::laws::claims_open,
+                           or a word of the definitions, as Rattle.world.specs.Theorem.HoldsAt
+
+It walks from word to word. It begins with the word itself, of a function with its clauses (requires and ensures)
+and the types of its signature. Of each definition it takes every word that the definition cites, and so on. It
+prints a line for each file: the lines of the definitions that are needed, the file, their names. Then the sum.
+
+Order. A file stands before those that it cites: users first, so a reader knows what a definition is for before
+he reads it. Where several may come next, the first that is cited stands first. Read backwards, the list goes from
+the ground up. The names of a line stand as in their file. Equal sources give equal text.
+
+Lines. A definition is the comment lines directly above it, its signature and its equations; a record or a type is
+all its fields or constructors, with the comments between them. Empty lines, imports, attributes and the comment at
+the head of a file count nothing.
+
+What counts:
+- A word counts where the text of a needed definition has it, outside comments, and no variable or field has the
+  same name there. A word that is only imported does not count.
+- A constructor counts as its whole type. A field comes with its record or struct, which some type there names.
+- A Rust type is its struct or enum, with the types of its fields and what its ghost fields promise. A Rust
+  constant is its line. Both stand in a src/ folder and are summed up apart.
+- A Rust type with a Model is read as the value that the Model names ('ghost Value'), where a signature or a field
+  has the type. Neither its struct nor the Model's view and invariant count.
+- Words of the kit (its standard library and its ported crates) are named at the end. Neither they nor what they
+  cite count.
+- Bodies and proofs count nothing, nor do the contracts of other functions.
+"""
+import functools
+import glob
+import os
+import re
+import sys
+
+TOP = os.path.dirname(os.path.dirname(os.path.abspath(__file__)))
+WORD = re.compile(r"[A-Za-z_][A-Za-z0-9_'?]*")
+CHAIN = re.compile(r"(?<![A-Za-z0-9_'?.])[A-Za-z_][A-Za-z0-9_'?]*(?:\.[A-Za-z_][A-Za-z0-9_'?]*)*")
+HEAD = re.compile(r"(?:abbrev|unfoldable|record|data|pub)\b(?!\s+mod\b)")
+IMPORT = re.compile(r"(?:ghost\s+)?use\s+([A-Za-z0-9_.]+?)(?:\.\{([^}]*)\}|\s+as\s+(\w+));?\s*$", re.M)
+ITEM = re.compile(r"^(?:pub(?:\([a-z]+\))? )?(struct|enum|const|type|trait) (\w+)", re.M)
+
+
+@functools.cache
+def text_of(file):
+    with open(os.path.join(TOP, file), encoding="utf-8") as it:
+        return it.read()
+
+
+def imports_of(text):
+    """What each imported name stands for: a path with the word; and the paths of names for whole modules."""
+    words, modules = {}, {}
+    for path, names, alias in IMPORT.findall(text):
+        if alias:
+            modules[alias] = path
+        for name in filter(None, map(str.strip, (names or "").split(","))):
+            first, _, other = name.partition(" as ")
+            words[other or first] = (path, first)
+    return words, modules
+
+
+def lines_in(lines):
+    return sum(1 for line in lines if line.strip() and not line.lstrip().startswith("#["))
+
+
+def bare(text):
+    return re.sub(r"--.*", "", text)
+
+
+class Definition:
+    """A definition of a file of definitions, and the parameters of the module that it stands in."""
+
+    def __init__(self, name, kind, above, lines, module):
+        self.name, self.kind, self.module = name, kind, module
+        self.lines = lines_in(above + lines)
+        self.text = bare("\n".join(lines))
+        self.comments = self.lines - lines_in(self.text.split("\n"))
+
+    def inside(self):
+        """The constructors of data."""
+        return re.findall(r"^ +(?:pub )?([\w?']+) :", self.text, re.M) if self.kind == "data" else []
+
+
+@functools.cache
+def definitions(file):
+    """The definitions of a file, by name, in order."""
+    lines, modules, found, at = text_of(file).split("\n"), [], {}, 0
+    for n, line in enumerate(lines):
+        module = re.match(r"module _ (.*) where$", line)
+        outer = line and not line.startswith(" ")
+        modules.append(module[1] if module else "" if outer or not modules else modules[-1])
+        if modules[-1] and not module:
+            lines[n] = line[2:]
+    while at < len(lines):
+        if not HEAD.match(lines[at]):
+            at += 1
+            continue
+        top, end = at, at + 1
+        kind, name = re.match(r"(?:pub )?(\w+)(?: pub)? (\S+)", lines[at]).groups()
+        while top and (lines[top - 1].startswith("--") or lines[top - 1].startswith("infix")):
+            top -= 1
+        begins = re.compile(re.escape(name) + r"(?![\w'?])")
+        plain = name.startswith("◌")
+
+        def goes_on(line):
+            return line.startswith((" ", "}", ")")) or begins.match(line) or (plain and line and not line.startswith("--") and not HEAD.match(line))
+
+        while end < len(lines):
+            after = end
+            while after < len(lines) and lines[after].startswith("--"):
+                after += 1
+            if after == len(lines) or not goes_on(lines[after]):
+                break
+            end = after + 1
+        found[name] = Definition(name, kind, lines[top:at], lines[at:end], modules[at])
+        at = end
+    return found
+
+
+def equations(definition):
+    """The definition's signature and its equations, each for itself."""
+    parts = []
+    for line in definition.text.split("\n"):
+        if line[:1] not in (" ", "", "}", ")") or not parts:
+            parts.append(line)
+        else:
+            parts[-1] += "\n" + line
+    return parts
+
+
+def variables(part, name, is_constructor):
+    """The names that a part of a definition gives to variables and fields."""
+    found = set()
+    for names in re.findall(r"λ ([^.]*)\.", part):
+        found |= set(WORD.findall(names))
+    found |= set(re.findall(r"\blet (\w+)[^=\n]* =", part))
+    for names in re.findall(r"[({]([\w' ]+) :", part):
+        found |= set(names.split())
+    found |= set(re.findall(r"^ +pub (\w+) :", part, re.M))
+    if name and part.startswith(name) and not re.match(re.escape(name) + r"\s*:", part):
+        left = re.split(r"\s=(?=\s|$)", part, maxsplit=1)[0]
+        found |= {it for it in CHAIN.findall(left[len(name):]) if "." not in it and not is_constructor(it)}
+    return found
+
+
+class Walk:
+    def __init__(self):
+        self.seen, self.cites, self.kit = {}, {}, {}
+
+    # ---- where a path leads
+
+    def of_path(self, path, word):
+        """The definition that a path with a word names: (file, name), None for the kit."""
+        steps = path.split(".")
+        if steps[0] != "Rattle" or len(steps) < 3 or not os.path.isdir(f"{TOP}/crates/{steps[1]}"):
+            self.kit.setdefault(steps[1] if steps[0] == "Rattle" and len(steps) > 1 else steps[0], set()).add(word)
+            return None
+        crate, folder, steps = steps[1], steps[2], steps[3:]
+        if steps[:1] == ["declared"]:
+            steps = [it for it in steps[1:] if it not in ("TheVariants", "TheConstants")]
+            kinds = [it for it in steps if it[0].isupper()]
+            at = of_item(crate, kinds[-1] if kinds else word, "/".join(it for it in steps if it[0].islower()))
+            if at is None:
+                raise SystemExit(f"reading: there is no Rust item {path}.{word}")
+            return at
+        for n in range(len(steps), 0, -1):
+            file = f"crates/{crate}/{folder}/{'/'.join(steps[:n])}.antt"
+            if os.path.isfile(os.path.join(TOP, file)):
+                return self.in_file(file, steps[n] if n < len(steps) else word)
+        raise SystemExit(f"reading: there is no file of {path}")
+
+    @staticmethod
+    def in_file(file, word):
+        """The definition of a file that has the word: itself, or the data of which it is a constructor."""
+        known = definitions(file)
+        if word in known:
+            return file, word
+        return next(((file, it.name) for it in known.values() if word in it.inside()), None)
+
+    def named(self, path, word):
+        """The same, of a word that is imported and so has to be there."""
+        at = self.of_path(path, word)
+        if at is None and path.split(".")[0] == "Rattle" and os.path.isdir(f"{TOP}/crates/{path.split('.')[1]}"):
+            raise SystemExit(f"reading: there is no definition {path}.{word}")
+        return at
+
+    # ---- what a definition cites
+
+    def words_in(self, text, scope, hidden):
+        """The definitions that a text cites, in order."""
+        words, modules, own = scope
+        symbols = {it.strip("◌"): it for it in (*words, *(definitions(own) if own.endswith(".antt") else ())) if it.startswith("◌")}
+        places = [(it.start(), it[0]) for it in CHAIN.finditer(text)]
+        for symbol, name in symbols.items():
+            places += [(it.start(), name) for it in re.finditer(r"(?<=\s)" + re.escape(symbol) + r"(?=\s)", text)]
+        found = []
+        for at, chain in sorted(places):
+            first, _, rest = chain.partition(".")
+            if rest and first in modules:
+                found.append(self.named(modules[first], rest.split(".")[0]))
+            elif re.match(r"\s=\s", text[at + len(chain) :]) and re.search(r"[{;]\s*$", text[:at]):
+                continue
+            elif first in hidden:
+                continue
+            elif first in words:
+                found.append(self.named(*words[first]))
+            elif own.endswith(".antt"):
+                found.append(self.in_file(own, first))
+        return [it for it in found if it]
+
+    def of_definition(self, file, name):
+        definition, scope = definitions(file)[name], (*imports_of(text_of(file)), file)
+
+        def is_constructor(it):
+            if it in scope[0]:
+                path, word = scope[0][it]
+                at = self.of_path(path, word)
+                return at is None or at[1] != word
+            return any(it in other.inside() for other in definitions(file).values())
+
+        parameters = variables(definition.module, "", is_constructor)
+        found = self.words_in(definition.module, scope, parameters)
+        for part in equations(definition):
+            found += self.words_in(part, scope, variables(part, name, is_constructor) | parameters)
+        return definition.lines, found
+
+    def of_rust(self, file, name):
+        text, lines = item_text(file, name)
+        found = []
+        ghost = re.compile(r"ghost \w+: (\{.*?\})(?=,\n|\n)", re.S)
+        plain = re.sub(r"//.*", "", text)
+        for clause in ghost.findall(plain):
+            names = set(re.findall(r"^\s*(?:pub(?:\([a-z]+\))? )?(\w+):", plain, re.M))
+            found += self.words_in(clause, (*imports_of(text_of(file)), file), names)
+        found += self.types_in(ghost.sub("", plain.split("=")[0] if " const " in f" {plain}"[:12] else plain), file, name)
+        return lines, found
+
+    def types_in(self, text, file, but=None):
+        """What the Rust types of a text are read as."""
+        found = []
+        uses = rust_uses(file)
+        for name in re.findall(r"(?<![\w'])[A-Z]\w*", re.sub(r"^\s*[A-Z]\w*(?=[,({]| \{)", "", text, flags=re.M)):
+            crate = uses.get(name, file.split("/")[1])
+            if name == but or crate is None:
+                continue
+            at = of_item(crate, name)
+            if at is None:
+                continue
+            value = model_of(crate, name)
+            if value is None:
+                found.append(at)
+            else:
+                model, uses_there, where = value
+                found += self.words_in(model, (*uses_there, where), set())
+        return found
+
+    def of_function(self, file, name, kind):
+        clauses, signature, ghost = clauses_of(file, name, kind)
+        found = []
+        for clause in clauses:
+            hidden = set(re.findall(r"(\w+)\s*:", signature)) | variables(clause, "", lambda it: False)
+            found += self.words_in(clause, (*imports_of(ghost), file), hidden)
+        found += self.types_in(signature, file)
+        return sum(lines_in(it.split("\n")) for it in clauses), found
+
+    # ---- the walk
+
+    def go(self, root, first):
+        waiting = [(root, first)]
+        while waiting:
+            at, look = waiting.pop()
+            if at in self.seen:
+                continue
+            self.seen[at], found = look()
+            self.cites[at] = found
+            for it in found:
+                if it not in self.seen:
+                    waiting.append((it, functools.partial(self.of_rust if it[0].endswith(".rt") else self.of_definition, *it)))
+
+    def order(self, root):
+        """The files, each before those that it cites."""
+        cites, files, done, out = {}, [], set(), []
+        for at in self.seen:
+            for it in self.cites[at]:
+                if it[0] != at[0]:
+                    cites.setdefault(at[0], []).append(it)
+        ranks = {}
+
+        def places(file):
+            names = list(definitions(file)) if file.endswith(".antt") else [it[2] for it in ITEM.finditer(text_of(file))]
+            return {name: n for n, name in enumerate(names)}
+
+        # the files that a file cites, in the order of its own definitions
+        for file in sorted({it[0] for it in self.seen}):
+            rank = places(file)
+            own = sorted((it for it in self.seen if it[0] == file), key=lambda it: (rank.get(it[1], -1), it[1]))
+            cited = [to[0] for it in own for to in self.cites[it] if to[0] != file]
+            ranks[file] = list(dict.fromkeys(cited))
+
+        def visit(file):
+            done.add(file)
+            for to in reversed(ranks[file]):
+                if to not in done:
+                    visit(to)
+            out.append(file)
+
+        visit(root[0])
+        return [(file, places(file)) for file in reversed(out)]
+
+
+# ---- Rust sources
+
+
+@functools.cache
+def sources(crate):
+    return sorted(os.path.relpath(it, TOP) for it in glob.glob(f"{TOP}/crates/{crate}/src/**/*.rt", recursive=True))
+
+
+@functools.cache
+def of_item(crate, name, module=None):
+    """The file and name of a type or constant of a crate, or of what the crate passes on."""
+    files = [it for it in sources(crate) if any(item[2] == name for item in ITEM.finditer(text_of(it)))]
+    if module:
+        files = [it for it in files if it.endswith((f"/src/{module}.rt", f"/src/{module}/mod.rt"))] or files
+    if files:
+        return files[0], name
+    for file in sources(crate):
+        other = rust_uses(file).get(name)
+        if other and other != crate and re.search(rf"^pub use [^;]*\b{name}\b", text_of(file), re.M):
+            return of_item(other, name)
+    return None
+
+
+@functools.cache
+def rust_uses(file):
+    """Which crate each name of a file's uses comes from; None: the kit's."""
+    found, own = {}, file.split("/")[1]
+    for path in re.findall(r"^(?:pub )?use ([^;]*);", text_of(file), re.M):
+        crate = re.match(r"\w+", path)[0]
+        crate = own if crate in ("crate", "super", "self") else crate
+        for name in re.findall(r"[A-Z]\w*", path):
+            found[name] = crate if os.path.isdir(f"{TOP}/crates/{crate}") else None
+    return found
+
+
+@functools.cache
+def without_strings(text):
+    """A Rust text with its strings, characters and comments blanked."""
+    return re.sub(r"//[^\n]*|b?\"(?:\\.|[^\"\\])*\"|b?'(?:\\.[^']*|[^'\\\n])'", lambda it: " " * len(it[0]), text, flags=re.S)
+
+
+def closing(text, at):
+    """The place after the bracket that closes the one at a place."""
+    text, depth = without_strings(text), 0
+    for n in range(at, len(text)):
+        depth += (text[n] in "{(") - (text[n] in "})")
+        if depth == 0:
+            return n + 1
+    raise SystemExit("reading: a bracket does not close")
+
+
+@functools.cache
+def item_text(file, name):
+    """A type or constant, and the number of its lines with the comments above it."""
+    text = text_of(file)
+    item = next(it for it in ITEM.finditer(text) if it[2] == name)
+    end = re.compile(r"[;{(]").search(text, item.end())
+    if item[1] in ("const", "type"):
+        stop = text.index(";", item.end()) + 1
+    else:
+        stop = closing(text, end.start()) if end[0] != ";" else end.end()
+    lines = text[: item.start()].split("\n")[:-1]
+    top = len(lines)
+    while top and lines[top - 1].startswith(("//", "#[")) and not lines[top - 1].startswith("//!"):
+        top -= 1
+    return text[item.start() : stop], lines_in(lines[top:] + text[item.start() : stop].split("\n"))
+
+
+@functools.cache
+def model_of(crate, name):
+    """The value that a type's Model names, with the imports there."""
+    for file in sources(crate):
+        text = text_of(file)
+        it = re.search(rf"^impl(?:<[^{{]*?>)? Model for {name}\b[^{{]*\{{", text, re.M)
+        if it:
+            body = text[it.end() - 1 : closing(text, it.end() - 1)]
+            value = re.search(r"ghost Value = (\{.*?\});", body, re.S)
+            if value:
+                return value[1], imports_of(heads_of(text) + without_indent(body)), file
+    return None
+
+
+def without_indent(text):
+    return re.sub(r"^ +", "", text, flags=re.M)
+
+
+def heads_of(text):
+    return "\n".join(re.findall(r"^ghost use .*", text, re.M)) + "\n"
+
+
+def functions(file):
+    """The functions of a file: the type of the impl or trait round each, its name, where it stands, and the imports that it sees."""
+    text = text_of(file)
+    blocks = []
+    for it in re.finditer(r"^(?:pub )?(?:impl|trait)\b[^{;]*\{", text, re.M):
+        head = re.sub(r"<[^<>]*(?:<[^<>]*>[^<>]*)*>", "", it[0])
+        kind = re.search(r"(?:\bfor\s+|impl\s+|trait\s+)(?:\w+::)*(\w+)[^{]*\{$", head)
+        blocks.append((it.start(), closing(text, it.end() - 1), kind[1] if kind else ""))
+    for it in re.finditer(r"^ *(?:pub(?:\([a-z]+\))? )?(?:const )?fn (\w+)", text, re.M):
+        kind, ghost = "", heads_of(text)
+        for start, stop, name in blocks:
+            if start < it.start() < stop:
+                kind = name
+                ghost += "\n".join(without_indent(line) for line in re.findall(r"^    ghost use .*", text[start:stop], re.M)) + "\n"
+        yield kind, it[1], it.start(), ghost
+
+
+def clauses_of(file, name, kind):
+    """The clauses of a function, its signature, and the imports that its clauses see."""
+    text = text_of(file)
+    start, ghost = next((at, ghost) for it, fn, at, ghost in functions(file) if (it, fn) == (kind, name))
+    clause = re.compile(r"\s*(?://[^\n]*\s*)*(?:requires|ensures)(?: \w+)? (?=\{)")
+    at = closing(text, text.index("(", start))
+    more = re.compile(r"[^{;]*?(?=\n\s*(?:requires|ensures)\b|\s*\{|;)", re.S).match(text, at)
+    signature, at = text[start : more.end()], more.end()
+    clauses = []
+    while it := clause.match(text, at):
+        at = closing(text, it.end())
+        clauses.append(text[it.start() : at].strip())
+    return clauses, signature, ghost
+
+
+def found_function(word):
+    """The files that have the function of this name."""
+    crate, *between, name = word.split("::")
+    if not os.path.isdir(f"{TOP}/crates/{crate}"):
+        return [], name
+    kind = between.pop() if between and between[-1][0].isupper() else ""
+    found = []
+    for file in sources(crate):
+        if between and not file.endswith(("/" + "/".join(between) + ".rt", "/" + "/".join(between) + "/mod.rt")):
+            continue
+        found += [(file, kind) for it, fn, at, _ in functions(file) if (it, fn) == (kind, name) and re.match(r" *pub fn", text_of(file)[at:])]
+    if len(found) > 1:
+        head = text_of(f"crates/{crate}/src/lib.rt")
+        found = [it for it in found if re.search(rf"^pub use (?:crate::)?{os.path.basename(it[0])[:-3]}::[^;]*\b{name}\b", head, re.M)] or found
+    return found, name
+
+
+def main(words):
+    if len(words) != 1 or words[0].startswith("-"):
+        print(__doc__.strip())
+        return 0 if words in (["-h"], ["--help"]) else 2
+    word, walk = words[0], Walk()
+    if "::" in word:
+        found, name = found_function(word)
+        if len(found) != 1:
+            print(f"reading: {'there is no function' if not found else 'more than one function is'} {word}", *(it[0] for it in found), file=sys.stderr)
+            return 1
+        file, kind = found[0]
+        if not clauses_of(file, name, kind)[0]:
+            print(f"reading: {word} has no clause", file=sys.stderr)
+            return 1
+        root = (file, f"{kind}::{name}" if kind else name)
+        walk.go(root, lambda: walk.of_function(file, name, kind))
+    else:
+        path, _, name = word.rpartition(".")
+        root = walk.of_path(path, name) if path.count(".") > 1 else None
+        if root is None:
+            print(f"reading: there is no definition {word}", file=sys.stderr)
+            return 1
+        walk.go(root, functools.partial(walk.of_definition, *root))
+    report(walk, root)
+    return 0
+
+
+def report(walk, root):
+    sums = {".antt": [0, 0, 0], ".rt": [0, 0, 0]}
+    rows, comments = [], 0
+    for file, rank in walk.order(root):
+        own = sorted((it for it in walk.seen if it[0] == file), key=lambda it: (rank.get(it[1], -1), it[1]))
+        lines = sum(walk.seen[it] for it in own)
+        rows.append(f"{lines:5}  {file}: {', '.join(it[1] for it in own)}")
+        comments += sum(definitions(file)[it[1]].comments for it in own) if file.endswith(".antt") else 0
+        part = sums[os.path.splitext(file)[1]]
+        part[0] += lines
+        part[1] += len(own)
+        part[2] += 1
+    print("\n".join(rows))
+    for kind, (lines, count, files) in sums.items():
+        what = f"definitions, {comments} of them comments," if kind == ".antt" else "Rust items"
+        print(f"{lines:5}  lines of {count} {what} in {files} {kind} files")
+    print(f"{sum(it[0] for it in sums.values()):5}  lines together")
+    for crate in sorted(walk.kit):
+        print(f"of the kit, {crate}: {', '.join(sorted(walk.kit[crate]))}")
+
+
+if __name__ == "__main__":
+    sys.setrecursionlimit(10000)
+    sys.exit(main(sys.argv[1:]))
