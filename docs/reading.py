@@ -32,6 +32,7 @@ import functools
 import glob
 import os
 import re
+import signal
 import sys
 
 TOP = os.path.dirname(os.path.dirname(os.path.abspath(__file__)))
@@ -39,6 +40,7 @@ WORD = re.compile(r"[A-Za-z_][A-Za-z0-9_'?]*")
 CHAIN = re.compile(r"(?<![A-Za-z0-9_'?.])[A-Za-z_][A-Za-z0-9_'?]*(?:\.[A-Za-z_][A-Za-z0-9_'?]*)*")
 HEAD = re.compile(r"(?:abbrev|unfoldable|record|data|pub)\b(?!\s+mod\b)")
 IMPORT = re.compile(r"(?:ghost\s+)?use\s+([A-Za-z0-9_.]+?)(?:\.\{([^}]*)\}|\s+as\s+(\w+));?\s*$", re.M)
+GHOST_FIELD = re.compile(r"ghost \w+: (\{.*?\})(?=,?\n)", re.S)
 ITEM = re.compile(r"^(?:pub(?:\([a-z]+\))? )?(struct|enum|const|type|trait) (\w+)", re.M)
 
 
@@ -101,10 +103,10 @@ def definitions(file):
         while top and (lines[top - 1].startswith("--") or lines[top - 1].startswith("infix")):
             top -= 1
         begins = re.compile(re.escape(name) + r"(?![\w'?])")
-        plain = name.startswith("◌")
 
         def goes_on(line):
-            return line.startswith((" ", "}", ")")) or begins.match(line) or (plain and line and not line.startswith("--") and not HEAD.match(line))
+            # an equation of an operator begins with its first operand
+            return line.startswith((" ", "}", ")")) or begins.match(line) or (name.startswith("◌") and line and not line.startswith("--") and not HEAD.match(line))
 
         while end < len(lines):
             after = end
@@ -226,15 +228,15 @@ class Walk:
         return definition.lines, found
 
     def of_rust(self, file, name):
-        text, lines = item_text(file, name)
+        kind, text, lines = item_text(file, name)
+        text = re.sub(r"//.*", "", text)
+        fields = set(re.findall(r"^\s*(?:pub(?:\([a-z]+\))? )?(\w+):", text, re.M))
         found = []
-        ghost = re.compile(r"ghost \w+: (\{.*?\})(?=,\n|\n)", re.S)
-        plain = re.sub(r"//.*", "", text)
-        for clause in ghost.findall(plain):
-            names = set(re.findall(r"^\s*(?:pub(?:\([a-z]+\))? )?(\w+):", plain, re.M))
-            found += self.words_in(clause, (*imports_of(text_of(file)), file), names)
-        found += self.types_in(ghost.sub("", plain.split("=")[0] if " const " in f" {plain}"[:12] else plain), file, name)
-        return lines, found
+        for clause in GHOST_FIELD.findall(text):
+            found += self.words_in(clause, (*imports_of(text_of(file)), file), fields)
+        if kind == "const":
+            text = text.partition("=")[0]
+        return lines, found + self.types_in(GHOST_FIELD.sub("", text), file, name)
 
     def types_in(self, text, file, but=None):
         """What the Rust types of a text are read as."""
@@ -278,35 +280,26 @@ class Walk:
                 if it not in self.seen:
                     waiting.append((it, functools.partial(self.of_rust if it[0].endswith(".rt") else self.of_definition, *it)))
 
-    def order(self, root):
-        """The files, each before those that it cites."""
-        cites, files, done, out = {}, [], set(), []
-        for at in self.seen:
-            for it in self.cites[at]:
-                if it[0] != at[0]:
-                    cites.setdefault(at[0], []).append(it)
-        ranks = {}
+    def in_order(self, file):
+        """The definitions of a file that are needed, in its order."""
+        names = list(definitions(file)) if file.endswith(".antt") else [it[2] for it in ITEM.finditer(text_of(file))]
+        rank = {name: n for n, name in enumerate(names)}
+        return sorted((it for it in self.seen if it[0] == file), key=lambda it: (rank.get(it[1], -1), it[1]))
 
-        def places(file):
-            names = list(definitions(file)) if file.endswith(".antt") else [it[2] for it in ITEM.finditer(text_of(file))]
-            return {name: n for n, name in enumerate(names)}
-
-        # the files that a file cites, in the order of its own definitions
-        for file in sorted({it[0] for it in self.seen}):
-            rank = places(file)
-            own = sorted((it for it in self.seen if it[0] == file), key=lambda it: (rank.get(it[1], -1), it[1]))
-            cited = [to[0] for it in own for to in self.cites[it] if to[0] != file]
-            ranks[file] = list(dict.fromkeys(cited))
+    def files(self, root):
+        """The files, each before those that it cites: the reverse of the order in which a search in depth leaves them."""
+        done, left = set(), []
 
         def visit(file):
             done.add(file)
-            for to in reversed(ranks[file]):
+            cited = dict.fromkeys(to[0] for it in self.in_order(file) for to in self.cites[it])
+            for to in reversed(cited):
                 if to not in done:
                     visit(to)
-            out.append(file)
+            left.append(file)
 
         visit(root[0])
-        return [(file, places(file)) for file in reversed(out)]
+        return left[::-1]
 
 
 # ---- Rust sources
@@ -362,7 +355,7 @@ def closing(text, at):
 
 @functools.cache
 def item_text(file, name):
-    """A type or constant, and the number of its lines with the comments above it."""
+    """The kind of a type or constant, its text, and the number of its lines with the comments above it."""
     text = text_of(file)
     item = next(it for it in ITEM.finditer(text) if it[2] == name)
     end = re.compile(r"[;{(]").search(text, item.end())
@@ -374,7 +367,7 @@ def item_text(file, name):
     top = len(lines)
     while top and lines[top - 1].startswith(("//", "#[")) and not lines[top - 1].startswith("//!"):
         top -= 1
-    return text[item.start() : stop], lines_in(lines[top:] + text[item.start() : stop].split("\n"))
+    return item[1], text[item.start() : stop], lines_in(lines[top:] + text[item.start() : stop].split("\n"))
 
 
 @functools.cache
@@ -478,8 +471,8 @@ def main(words):
 def report(walk, root):
     sums = {".antt": [0, 0, 0], ".rt": [0, 0, 0]}
     rows, comments = [], 0
-    for file, rank in walk.order(root):
-        own = sorted((it for it in walk.seen if it[0] == file), key=lambda it: (rank.get(it[1], -1), it[1]))
+    for file in walk.files(root):
+        own = walk.in_order(file)
         lines = sum(walk.seen[it] for it in own)
         rows.append(f"{lines:5}  {file}: {', '.join(it[1] for it in own)}")
         comments += sum(definitions(file)[it[1]].comments for it in own) if file.endswith(".antt") else 0
@@ -497,5 +490,5 @@ def report(walk, root):
 
 
 if __name__ == "__main__":
-    sys.setrecursionlimit(10000)
+    signal.signal(signal.SIGPIPE, signal.SIG_DFL)
     sys.exit(main(sys.argv[1:]))
