@@ -102,10 +102,12 @@ fn called(rt: &impl Abort, alloc: Global, came: Revocation) -> Book {
     let mut book = Book::new(alloc);
     let open = Call::Open(opening(rt, alloc, Side::A));
     let (channel, step) = (0, offer(500));
+    let secret = came.secret;
+    let next_point = came.next_point;
     let revoke = Call::Revoke {
         channel,
-        secret: came.secret,
-        next_point: came.next_point,
+        secret,
+        next_point,
     };
     assert!(rt; is_accepted(&mut book, open));
     assert!(rt; is_accepted(&mut book, Call::Step { channel, step }));
