@@ -2,7 +2,9 @@
 
 use crate::opening::{deliver, offered, opened};
 use channel::Channel;
-use publish::{signed_commitment, signed_htlc_tx};
+use lists::List;
+use publish::{signed_commitment, signed_commitment_in, signed_htlc_tx, signed_htlc_tx_in};
+use resolve::{Known, KnownCommitment, RevokedCommitments, SignedCommitment};
 use std::alloc::{AllocError, Global};
 use std::process::Abort;
 use terms::Side;
@@ -41,4 +43,61 @@ fn closes_with_its_newest_commitment(rt: HostRuntime) {
     assert_eq!(rt; outputs(timeout), 1);
     let none = signed_htlc_tx(rt.alloc(), &side, 1, 1, &[]).expect(&rt, "memory");
     assert_eq!(rt; outputs(none), 0);
+}
+
+// One's own commitment of a number, with the peer's tokens.
+fn own(rt: &impl Abort, alloc: Global, side: &Channel, number: u64) -> SignedCommitment {
+    let state = side.own_commitment(number).expect(rt, "a commitment");
+    let tokens = side.own_tokens(number).expect(rt, "memory");
+    let tokens = tokens.expect(rt, "tokens");
+    let terms = side.terms();
+    let built = KnownCommitment::new(alloc, terms, &state.view, state.owner, number, &state.point);
+    let known = built.expect(rt, "a commitment");
+    let signed = SignedCommitment::new(
+        alloc,
+        terms,
+        state.owner,
+        known,
+        tokens.commitment,
+        tokens.htlcs,
+    );
+    signed.expect(rt, "the peer's tokens")
+}
+
+// The peer's commitment 0.
+fn theirs(rt: &impl Abort, alloc: Global, side: &Channel) -> KnownCommitment {
+    let state = side.peers_commitment(0).expect(rt, "a commitment");
+    let terms = side.terms();
+    let built = KnownCommitment::new(alloc, terms, &state.view, state.owner, 0, &state.point);
+    built.expect(rt, "a commitment")
+}
+
+// What a side knows that has the commitments 0 and 1.
+fn known(rt: &impl Abort, alloc: Global, side: &Channel) -> Known {
+    let mut older = List::new(alloc);
+    older.push(own(rt, alloc, side, 0)).expect(rt, "memory");
+    Known {
+        terms: *side.terms(),
+        side: side.side(),
+        signer: side.signer().copy().expect(rt, "memory"),
+        own: own(rt, alloc, side, 1),
+        older,
+        theirs: theirs(rt, alloc, side),
+        next: None,
+        revoked: RevokedCommitments::new(alloc),
+        preimages: List::new(alloc),
+    }
+}
+
+// As by the channel: the newest commitment has an output more than the one before it, and the HTLC's timeout has one.
+#[test]
+fn closes_by_what_is_known(rt: HostRuntime) {
+    let side = side_with_an_offer(&rt, rt.alloc());
+    let known = known(&rt, rt.alloc(), &side);
+    for (number, count) in [(0, 2), (1, 3), (2, 0)] {
+        let closing = signed_commitment_in(rt.alloc(), &known, number).expect(&rt, "memory");
+        assert_eq!(rt; outputs(closing), count);
+    }
+    let timeout = signed_htlc_tx_in(rt.alloc(), &known, 1, 0, &[]).expect(&rt, "memory");
+    assert_eq!(rt; outputs(timeout), 1);
 }

@@ -1,4 +1,6 @@
-mod Kept
+pub mod Kept
+mod Rights
 mod Witnessed
 mod Clean
 mod Opened
+mod KnownExamples

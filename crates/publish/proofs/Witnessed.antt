@@ -1,6 +1,6 @@
 -- Witnesses, put together from tokens.
 use Rattle.std.proofs.Common.{◌≡◌, ℕ, List, [], ◌∷◌, ◌++◌, Result, Ok, Err, sym, ap, ◌∙◌, refl}
-use Rattle.std.specs.Prelude.{Some, IfOk, slice_get}
+use Rattle.std.specs.Prelude.{IfOk}
 use Rattle.script.specs.Spelling.{spelling}
 use Rattle.script.specs.Token.{token_of}
 use Rattle.tx.specs.Fields.{Transaction, transaction_with_witness}
@@ -11,10 +11,10 @@ use Rattle.commit.specs.declared.fees.Direction.TheVariants.{Offered, Received}
 use Rattle.commit.specs.declared.outputs.HtlcOutput.{HtlcOutput}
 use Rattle.commit.specs.Keys.{KeyBytes}
 use Rattle.commit.specs.Outputs.{htlc_script}
-use Rattle.commit.specs.Commitments.{Contents, htlcs_of, second_stage_of}
+use Rattle.commit.specs.Commitments.{Contents, second_stage_of}
 use Rattle.commit.specs.Signing.{funding_script, commitment_digest, htlc_digest}
 use Rattle.penalty.specs.Claimable.{htlc_form}
-use Rattle.publish.specs.Published.{in_key_order, funding_witness, htlc_witness, branch_item, signed_second_stage, signed_htlc_of}
+use Rattle.publish.specs.Published.{in_key_order, funding_witness, htlc_witness, signed_second_stage}
 
 abbrev of_funding : Terms → List ℕ → List ℕ → List (List ℕ)
 of_funding terms of_a of_b = ([] ∷ in_key_order terms.a.bases.funding.bytes of_a terms.b.bases.funding.bytes of_b) ++ funding_script terms ∷ []
@@ -37,16 +37,13 @@ abbrev of_htlc : List ℕ → List ℕ → List ℕ → KeyBytes → HtlcOutput 
 of_htlc remote local item k h = [] ∷ remote ∷ local ∷ item ∷ htlc_script k h.direction h.htlc ∷ []
 
 -- an HTLC transaction's, by both keys' tokens
-pub second_by : {E : Type 0} (r : Result (List (List ℕ)) E) (c : Contents) (k : KeyBytes) (h : HtlcOutput) (remote local item : List ℕ) → k ≡ c.keys
+pub second_by : (w : List (List ℕ)) (c : Contents) (k : KeyBytes) (h : HtlcOutput) (remote local item : List ℕ) → k ≡ c.keys
     → remote ≡ token_of c.keys.remote_htlc (htlc_digest c h) → local ≡ token_of c.keys.local_htlc (htlc_digest c h)
-    → IfOk r (λ w. w ≡ [] ∷ remote ∷ local ∷ item ∷ htlc_script k h.direction h.htlc ∷ []) → IfOk r (λ w. w ≡ htlc_witness c h item)
-second_by (Ok w) c k h remote local item e f g i =
+    → w ≡ [] ∷ remote ∷ local ∷ item ∷ htlc_script k h.direction h.htlc ∷ [] → w ≡ htlc_witness c h item
+second_by w c k h remote local item e f g i =
     i ∙ ap (λ x. of_htlc remote local item x h) e ∙ ap (λ x. of_htlc x local item c.keys h) f ∙ ap (λ x. of_htlc (token_of c.keys.remote_htlc (htlc_digest c h)) x item c.keys h) g
-second_by (Err x) c k h remote local item e f g i = tt
 
--- the HTLC transaction of a commitment's HTLC, where what stands above the signatures is known
-pub second_is : (c : Contents) (k : ℕ) (h : HtlcOutput) (preimages : List (List ℕ)) (item : List ℕ) (t signed : Transaction) (w : List (List ℕ)) → slice_get (htlcs_of c) k ≡ Some h
-    → branch_item preimages h.direction h.htlc ≡ Some item → t ≡ second_stage_of c h → w ≡ htlc_witness c h item → signed ≡ transaction_with_witness t 0 w → Some signed ≡ signed_htlc_of c k preimages
-second_is c k h preimages item t signed w kth branch e f g =
-    let same : signed ≡ signed_second_stage c h item = g ∙ ap (λ x. transaction_with_witness x 0 w) e ∙ ap (transaction_with_witness (second_stage_of c h) 0) f in
-    rw (kth, branch) (ap Some same)
+-- the HTLC transaction of a commitment's HTLC, with this witness
+pub second_is : (c : Contents) (h : HtlcOutput) (item : List ℕ) (t signed : Transaction) (w : List (List ℕ)) → t ≡ second_stage_of c h → w ≡ htlc_witness c h item
+    → signed ≡ transaction_with_witness t 0 w → signed ≡ signed_second_stage c h item
+second_is c h item t signed w e f g = g ∙ ap (λ x. transaction_with_witness x 0 w) e ∙ ap (transaction_with_witness (second_stage_of c h) 0) f

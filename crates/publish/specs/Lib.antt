@@ -1,3 +1,4 @@
 pub mod Recorded
 pub mod Published
+pub mod Known
 pub mod Opening

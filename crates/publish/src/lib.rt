@@ -4,6 +4,9 @@
 //! one that this side offered, and HTLC-success for one that was offered to it, where the preimage is among those that are given. Each is exactly that of the
 //! definitions `signed_commitment_of` and `signed_htlc_tx_of`, witness included.
 //!
+//! [`signed_commitment_in`] and [`signed_htlc_tx_in`] give them by what is known of a channel (`resolve::Known`), so that no channel is held meanwhile: those of `commitment_known` and
+//! `htlc_tx_known`, where the signer has the right to the owner's key.
+//!
 //! ```rust
 //! /// What closes a channel: this side's newest commitment.
 //! fn closing_tx(alloc: Global, channel: &Channel) -> Result<Option<Tx>, AllocError> {
@@ -12,11 +15,13 @@
 //! ```
 #![tactic(auto)]
 
+mod known;
 pub mod laws;
 mod preimages;
 mod publishing;
 mod recorded;
-mod tokens;
+mod signatures;
 mod witnesses;
 
+pub use known::{signed_commitment_in, signed_htlc_tx_in};
 pub use publishing::{signed_commitment, signed_htlc_tx};

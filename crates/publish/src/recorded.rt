@@ -1,19 +1,18 @@
-// A commitment of this side, with what both sides sign of it.
+// A commitment of this side, with the peer's tokens on it.
 
 ghost use Rattle.std.specs.Prelude.{◌≡◌, Some, slice_get, IfOk};
 ghost use Rattle.penalty.specs.Outputs.{AreOutputs};
 ghost use Rattle.publish.specs.Recorded.{recorded_of};
 
 use channel::{Channel, CommitmentState, Tokens};
-use commit::{Commitment, Digests, signing_digests};
+use commit::Commitment;
 use penalty::payable_commitment;
 use std::alloc::{AllocError, Global};
 
-/// A commitment, what signatures on it and on its HTLC transactions are for, and the peer's tokens.
+/// A commitment, and the peer's tokens on it and on its HTLC transactions.
 #[derive(Drop)]
 pub(crate) struct Recorded {
     pub commitment: Commitment,
-    pub digests: Digests,
     pub tokens: Tokens,
 }
 
@@ -30,22 +29,16 @@ pub(crate) fn recorded_commitment(
 {
     // The proof learns from the list that the commitment can be paid.
     let _numbered = channel.own_commitments();
-    let terms = channel.terms();
     let commitment = payable_commitment(
         alloc,
-        terms,
+        channel.terms(),
         &state.view,
         state.owner,
         state.number,
         &state.point,
     )?;
-    let digests = signing_digests(alloc, terms, &commitment)?;
     match channel.own_tokens(number)? {
-        Some(tokens) => Ok(Recorded {
-            commitment,
-            digests,
-            tokens,
-        }),
+        Some(tokens) => Ok(Recorded { commitment, tokens }),
         None => unreachable!(),
     }
 }

@@ -12,4 +12,4 @@ payable_commitment-requires c =
     let state = c.args.state.now in
     let cs = c.own_commitments-numbered.result.now in
     let found = ap (λ xs. slice_get xs n) c.own_commitments-numbered.ensures.commitments ∙ c.requires in
-    subst (λ (t : Terms). CanPay t state.view) (sym c.terms-terms.ensures) (state_pays s.held.terms s.held.side _ n cs state c.own_commitments-numbered.ensures.numbered found)
+    subst (λ (t : Terms). CanPay t state.view) (sym c.terms.ensures) (state_pays s.held.terms s.held.side _ n cs state c.own_commitments-numbered.ensures.numbered found)
