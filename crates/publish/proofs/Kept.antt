@@ -1,5 +1,5 @@
 -- What a channel keeps of its own commitments, and what its signer may sign of them.
-use Rattle.std.proofs.Common.{◌≡◌, ℕ, ◌+◌, ◌≤◌, ◌<◌, zero, suc, List, [], ◌∷◌, ◌++◌, length, map, get_or, Option, Some, None, sym, ap, subst, ◌∙◌, refl, arith}
+use Rattle.std.proofs.Common.{◌≡◌, ℕ, ◌+◌, ◌≤◌, ◌<◌, zero, suc, List, [], ◌∷◌, length, map, Some, ap, subst, ◌∙◌, arith}
 use Rattle.std.specs.Prelude.{Contains, slice_get, option_map}
 use Rattle.std.specs.List.{All, cons_option}
 use Rattle.std.proofs.lemmas.Bool.{and_from}
@@ -8,7 +8,7 @@ use Rattle.std.proofs.lemmas.List.Elements.{All-head, All-tail, Contains-append_
 use Rattle.script.specs.Limits.{locktime_threshold}
 use Rattle.script.specs.Token.{token_of}
 use Rattle.keys.specs.declared.bases.Base.TheVariants.{Funding, Htlc as HtlcBase}
-use Rattle.keys.specs.Derivation.{base_key, derived_key}
+use Rattle.keys.specs.Derivation.{derived_key}
 use Rattle.keys.specs.Rights.{Rights, MaySign}
 use Rattle.terms.specs.declared.sides.Side.{Side}
 use Rattle.terms.specs.declared.agreement.Terms.{Terms}

@@ -1,5 +1,5 @@
 -- What is broadcast opens what it spends.
-use Rattle.std.proofs.Common.{◌≡◌, ℕ, ◌+◌, ◌*◌, ◌/◌, ◌%◌, ◌^◌, ◌<◌, ◌≤◌, Bool, true, false, eqb, ltb, leb, List, [], ◌∷◌, ◌++◌, length, Option, Some, None, sym, ap, subst, refl, arith, ◌∙◌}
+use Rattle.std.proofs.Common.{◌≡◌, ℕ, ◌+◌, ◌*◌, ◌/◌, ◌%◌, ◌^◌, ◌<◌, ◌≤◌, Bool, true, false, ltb, leb, List, [], ◌∷◌, ◌++◌, length, Option, Some, None, sym, ap, subst, refl, arith, ◌∙◌}
 use Rattle.std.specs.Prelude.{bit_xor, codes, if◌then◌else◌, slice_get, option_map}
 use Rattle.std.specs.List.{All}
 use Rattle.std.specs.Str.{bytes_eq}
@@ -16,8 +16,6 @@ use Rattle.script.specs.Limits.{locktime_threshold}
 use Rattle.script.specs.Spelling.{spelling}
 use Rattle.script.specs.Token.{token_of, is_key}
 use Rattle.script.specs.Run.{Clean}
-use Rattle.paths.specs.declared.state.Path.{Path}
-use Rattle.paths.specs.Sound.{IsSound}
 use Rattle.paths.proofs.SoundWalk.{listing-sound}
 use Rattle.tx.specs.declared.input.OutPoint.{OutPoint}
 use Rattle.tx.specs.declared.input.TxIn.{TxIn}
@@ -27,7 +25,7 @@ use Rattle.sighash.specs.Signing.{signed_list, all_outpoints, all_sequences}
 use Rattle.sighash.specs.Programs.{run_of, spend_of}
 use Rattle.claim.proofs.TokenForms.{key-length}
 use Rattle.claim.proofs.Meeting.{sound-at}
-use Rattle.chain.specs.Blocks.{Contents as Block, Coin, coin_at}
+use Rattle.chain.specs.Blocks.{Contents as Block, coin_at}
 use Rattle.chain.specs.Locks.{is_final, is_old_enough}
 use Rattle.keys.specs.Derivation.{derived_key}
 use Rattle.terms.specs.declared.htlcs.Htlc.{Htlc}
@@ -42,13 +40,13 @@ use Rattle.commit.specs.declared.outputs.HtlcOutput.{HtlcOutput}
 use Rattle.commit.specs.Fees.{satoshis_of}
 use Rattle.commit.specs.Keys.{keys_of}
 use Rattle.commit.specs.Outputs.{script_hash_program, htlc_script}
-use Rattle.commit.specs.Commitments.{Contents, commitment_of, transaction_of, id_of, htlcs_of, second_stage_of, lock_time_of}
+use Rattle.commit.specs.Commitments.{Contents, commitment_of, transaction_of, htlcs_of, second_stage_of, lock_time_of}
 use Rattle.commit.specs.Signing.{funding_script, commitment_digest, htlc_digest}
 use Rattle.channel.specs.declared.commitments.CommitmentState.{CommitmentState}
 use Rattle.channel.specs.States.{State}
 use Rattle.channel.specs.Tokens.{contents_of}
-use Rattle.publish.specs.Published.{funding_witness, signed_transaction, preimage_among, branch_item, htlc_witness, signed_second_stage, signed_htlc_of, signed_htlc_tx_of}
-use Rattle.publish.specs.Opening.{funding_output, HasUnspent, IsTaken, CommitmentsOpen, output_of, outpoint_of, IsHtlcTx, HtlcTxsOpen}
+use Rattle.publish.specs.Published.{funding_witness, signed_transaction, preimage_among, branch_item, htlc_witness, signed_second_stage, signed_htlc_tx_of}
+use Rattle.publish.specs.Opening.{funding_output, HasUnspent, IsTaken, CommitmentsOpen, output_of, outpoint_of, HtlcTxsOpen}
 use Rattle.publish.proofs.Clean.{runs_clean, two_of_two-valid, two_of_two-short, offered-valid, offered-short, received-valid, received-short, meets_two, meets_timeout, meets_success}
 
 -- an input whose output stands unspent, whose locks are reached and which runs clean

@@ -1,6 +1,6 @@
 -- What is signed where the right is there.
 use Rattle.std.proofs.Common.{◌≡◌, Option, Some, None, Result, Ok, Err, refl, sym, ◌∙◌}
-use Rattle.std.specs.Prelude.{◌↔◌, IfOk}
+use Rattle.std.specs.Prelude.{IfOk}
 use Rattle.tx.specs.Fields.{Transaction}
 use Rattle.publish.specs.Known.{IsSignedWhere}
 

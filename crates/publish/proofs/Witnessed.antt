@@ -1,5 +1,5 @@
 -- Witnesses, put together from tokens.
-use Rattle.std.proofs.Common.{◌≡◌, ℕ, List, [], ◌∷◌, ◌++◌, Result, Ok, Err, sym, ap, ◌∙◌, refl}
+use Rattle.std.proofs.Common.{◌≡◌, ℕ, List, [], ◌∷◌, ◌++◌, Result, Ok, Err, ap, ◌∙◌, refl}
 use Rattle.std.specs.Prelude.{IfOk}
 use Rattle.script.specs.Spelling.{spelling}
 use Rattle.script.specs.Token.{token_of}

@@ -1,4 +1,3 @@
-use Rattle.std.proofs.Common.{◌≡◌}
 use Rattle.penalty.proofs.Second.{there_is_one, that_one, is_there}
 use Rattle.commit.specs.Keys.{bytes_of}
 use Rattle.publish.proofs.Kept.{low_expiry}

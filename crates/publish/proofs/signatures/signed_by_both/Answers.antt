@@ -1,4 +1,4 @@
-use Rattle.std.proofs.Common.{◌≡◌, true, false, Some, None, ap, sym, subst, refl, ◌∙◌}
+use Rattle.std.proofs.Common.{◌≡◌, true, false, Some, None, ap, sym, subst, refl}
 use Rattle.keys.specs.Rights.{MaySign}
 use Rattle.terms.specs.declared.agreement.Party.{Party}
 use Rattle.terms.specs.Agreement.{party}
