@@ -8,3 +8,5 @@ pub mod Second
 pub mod Covering
 pub mod ClaimableExamples
 pub mod StateExamples
+pub mod Worth
+pub mod WorthExamples

@@ -6,3 +6,4 @@ pub mod Sets
 pub mod Outputs
 pub mod Rights
 pub mod Covering
+pub mod Worth

@@ -2,6 +2,7 @@
 
 ghost use Rattle.penalty.specs.Covering.{EachOutputIsClaimed, EachSecondStageIsClaimed};
 ghost use Rattle.penalty.specs.Rights.{PeerCanFill};
+ghost use Rattle.penalty.specs.Worth.{FirstStageIsWorthTheCapacity, EachStageIsWorthTheCapacity, EachStageIsClaimable};
 
 /// Nothing is left out: each output of a revoked commitment's transaction is claimed, and so is the output of each of its HTLC transactions.
 pub fn nothing_is_left_out()
@@ -13,4 +14,13 @@ pub fn nothing_is_left_out()
 /// refused for want of either.
 pub fn peer_can_fill()
     ensures { PeerCanFill }
+{}
+
+/// What a revoked commitment lets the owner's peer claim is worth the capacity, the peer's own to_remote among it. Of the outputs of the commitment it is
+/// with the fee that the opener paid, at most its balance, with what was left out as dust, and with what was rounded off. Where HTLC transactions stand, their
+/// outputs take the place of the HTLCs' outputs, and the fees of these transactions are added.
+pub fn claims_are_worth_the_capacity()
+    ensures first { FirstStageIsWorthTheCapacity }
+    ensures each { EachStageIsWorthTheCapacity }
+    ensures claimable { EachStageIsClaimable }
 {}
