@@ -23,7 +23,7 @@ use Rattle.commit.specs.Keys.{KeyBytes, bytes_of}
 use Rattle.commit.specs.Commitments.{Contents}
 use Rattle.forms.specs.declared.kinds.ClaimKind.{ClaimKind}
 use Rattle.forms.specs.declared.kinds.ClaimKind.TheVariants.{Penalty, HtlcPenalty, KeyHash}
-use Rattle.forms.specs.Forms.{to_local_form, key_hash_form, offered_form, received_form}
+use Rattle.forms.specs.Forms.{to_local_form, key_hash_form}
 use Rattle.forms.specs.Fillings.{Filling, Signature, Bytes, filling_of, fillings_of}
 use Rattle.forms.specs.Claims.{Claims, of_penalty, of_delayed, of_offered_penalty, of_received_penalty, of_preimage, of_timeout, of_key, AreAccepted, path_taken_by}
 use Rattle.penalty.specs.Claimable.{Claimable, htlc_form, penalty_on, payment_on, htlc_penalty_on}

@@ -1,27 +1,23 @@
 -- What revoked commitments let the peer claim (BOLT 5, "Revoked Transaction Close Handling"), by amounts that were computed by hand.
-use Rattle.std.proofs.Common.{◌≡◌, ℕ, map, length, List, [], ◌∷◌, refl, lit≤}
+use Rattle.std.proofs.Common.{◌≡◌, ℕ, map, List, [], ◌∷◌, refl, lit≤}
 use Rattle.tx.specs.declared.input.OutPoint.{OutPoint}
 use Rattle.tx.specs.Spelling.{transaction_id}
-use Rattle.keys.specs.Derivation.{point_of, derived_key, revocation_key}
-use Rattle.digest.specs.Hash.{hash160}
+use Rattle.keys.specs.Derivation.{point_of, revocation_key}
 use Rattle.terms.specs.declared.htlcs.Htlc.{Htlc}
-use Rattle.terms.specs.declared.sides.Side.{Side}
-use Rattle.terms.specs.declared.sides.Side.TheVariants.{A, B}
+use Rattle.terms.specs.declared.sides.Side.TheVariants.{A}
 use Rattle.terms.specs.declared.agreement.BaseKeys.{BaseKeys}
 use Rattle.terms.specs.declared.agreement.Party.{Party}
 use Rattle.terms.specs.declared.agreement.Terms.{Terms}
 use Rattle.terms.specs.declared.views.View.{View}
 use Rattle.forms.specs.Fillings.{Filling, Signature, Bytes}
-use Rattle.forms.specs.Forms.{to_local_form, key_hash_form, offered_form, received_form}
-use Rattle.commit.specs.Amounts.{amounts_of}
 use Rattle.terms.specs.declared.numbers.Obscured.{Obscured}
 use Rattle.commit.specs.declared.fees.Direction.TheVariants.{Offered}
 use Rattle.commit.specs.Keys.{KeyBytes, keys_of}
 use Rattle.commit.specs.Outputs.{outputs_of, to_local_script, script_hash_program, htlc_output, to_remote_output, to_local_output}
 use Rattle.commit.specs.Order.{output_cmp, in_order}
-use Rattle.commit.specs.Commitments.{Contents, commitment_of, transaction_of, second_stage_of, id_of, htlcs_from}
+use Rattle.commit.specs.Commitments.{Contents, commitment_of, transaction_of, second_stage_of}
 use Rattle.penalty.specs.declared.states.RevokedState.{RevokedState}
-use Rattle.penalty.specs.Claimable.{Claimable, claims_by, claims_from, claimable_of, commitment_in}
+use Rattle.penalty.specs.Claimable.{Claimable, claims_by, claims_from, claimable_of}
 
 -- the index and the value of an output that is claimed, and how it is claimed
 abbrev spot : Claimable → ℕ × ℕ

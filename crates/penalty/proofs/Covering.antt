@@ -1,5 +1,5 @@
 -- Each output of a revoked commitment is claimed, and that of each of its HTLC transactions.
-use Rattle.std.proofs.Common.{◌≡◌, ℕ, zero, suc, ◌+◌, ◌<◌, List, [], ◌∷◌, ◌++◌, map, length, Option, Some, None, refl, sym, ap, subst, ◌∙◌, arith}
+use Rattle.std.proofs.Common.{◌≡◌, ℕ, zero, suc, ◌+◌, List, [], ◌∷◌, ◌++◌, map, Option, Some, None, refl, sym, ap, subst, ◌∙◌, arith}
 use Rattle.std.specs.Prelude.{slice_get, option_map, Contains}
 use Rattle.std.specs.List.{cons_option}
 use Rattle.std.proofs.lemmas.List.Elements.{Contains-append_left, Contains-append_right}
@@ -14,7 +14,6 @@ use Rattle.commit.specs.declared.outputs.OutputKind.TheVariants.{ToLocal, ToRemo
 use Rattle.commit.specs.declared.outputs.CommitmentOutput.{CommitmentOutput}
 use Rattle.commit.specs.declared.outputs.HtlcOutput.{HtlcOutput}
 use Rattle.commit.specs.Commitments.{Contents, tx_output, transaction_of, htlc_at, htlcs_from, htlcs_of, htlc_transaction_of, second_stage_output, second_stage_of}
-use Rattle.penalty.specs.declared.states.RevokedState.{RevokedState}
 use Rattle.penalty.specs.Claimable.{Claimable, place_in, penalty_on, payment_on, htlc_penalty_on, second_stage_penalty, claims_on, claims_by, claims_from, commitment_in, claimable_of}
 use Rattle.penalty.specs.Covering.{IsClaimedAt, EachOutputIsClaimed, EachSecondStageIsClaimed}
 use Rattle.penalty.proofs.Second.{first_output}

@@ -1,9 +1,9 @@
 -- The owner's peer can fill each claim of a revoked state.
-use Rattle.std.proofs.Common.{◌≡◌, ℕ, ◌+◌, List, [], ◌∷◌, ◌++◌, ap}
+use Rattle.std.proofs.Common.{ℕ, ◌+◌, List, [], ◌∷◌, ◌++◌, ap}
 use Rattle.std.specs.Prelude.{Contains}
 use Rattle.std.specs.List.{AllByRecursion}
 use Rattle.keys.specs.declared.bases.Base.TheVariants.{Payment, Revocation}
-use Rattle.keys.specs.Derivation.{point_of, base_key, revocation_key}
+use Rattle.keys.specs.Derivation.{point_of, revocation_key}
 use Rattle.keys.specs.Rights.{Rights, MaySign, own, revoked}
 use Rattle.terms.specs.Agreement.{party}
 use Rattle.terms.specs.Sides.{other}

@@ -1,5 +1,5 @@
 -- Claims on outputs, one after another.
-use Rattle.std.proofs.Common.{◌≡◌, ℕ, List, [], ◌∷◌, ◌++◌, sym, ap, subst, ◌∙◌, append_assoc}
+use Rattle.std.proofs.Common.{◌≡◌, List, [], ◌∷◌, ◌++◌, sym, ap, subst, ◌∙◌, append_assoc}
 use Rattle.claim.specs.Claims.{ClaimParts}
 use Rattle.penalty.specs.Claimable.{Claimable}
 use Rattle.penalty.specs.Sets.{IsClaimOn, AreClaimsOn}

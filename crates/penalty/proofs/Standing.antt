@@ -1,7 +1,6 @@
 -- What claims on the outputs of a revoked state's commitment rest on.
-use Rattle.std.proofs.Common.{◌≡◌, ℕ, ◌<◌, Bool, true, List, [], ◌∷◌, ◌++◌, map, Option, Some, None, Ok, Err, refl, sym, ap, ◌∙◌}
-use Rattle.std.specs.Prelude.{◌&&◌}
-use Rattle.std.specs.List.{All, filter}
+use Rattle.std.proofs.Common.{◌≡◌, ℕ, ◌<◌, true, List, [], ◌∷◌, map, Option, Some, None, Err, refl, sym, ap, ◌∙◌}
+use Rattle.std.specs.List.{All}
 use Rattle.std.proofs.lemmas.Bool.{and_parts, ltb-true}
 use Rattle.std.proofs.lemmas.List.Elements.{All-nil, All-cons, All-append, All-filter, All-map}
 use Rattle.std.proofs.lemmas.List.Sorted.{All-permutation}
@@ -22,9 +21,8 @@ use Rattle.commit.specs.declared.errors.BuildError.TheVariants.{NoMemory, TooMan
 use Rattle.commit.specs.Amounts.{amounts_of}
 use Rattle.commit.specs.Keys.{KeyBytes, keys_of}
 use Rattle.commit.specs.Outputs.{htlc_output, to_local_output, to_remote_output, where_paid, outputs_of}
-use Rattle.commit.specs.Order.{in_order}
 use Rattle.commit.specs.declared.errors.BuildError.{BuildError}
-use Rattle.commit.specs.Building.{refusal_of, Gives}
+use Rattle.commit.specs.Building.{Gives}
 use Rattle.commit.specs.Commitments.{Contents, commitment_of}
 use Rattle.commit.proofs.Collected.{few_outputs}
 use Rattle.commit.proofs.Ordered.{there_is_one}

@@ -1,5 +1,5 @@
 -- Which views a commitment can pay, on both sides of each limit.
-use Rattle.std.proofs.Common.{◌≡◌, ℕ, replicate, List, [], ◌∷◌, Some, None, refl, lit≤}
+use Rattle.std.proofs.Common.{◌≡◌, ℕ, replicate, List, [], Some, None, refl, lit≤}
 use Rattle.tx.specs.declared.input.OutPoint.{OutPoint}
 use Rattle.terms.specs.declared.htlcs.Htlc.{Htlc}
 use Rattle.terms.specs.declared.sides.Side.TheVariants.{A}

@@ -1,5 +1,5 @@
 -- What a revoked state lets the peer claim is worth the capacity.
-use Rattle.std.proofs.Common.{◌≡◌, ℕ, ◌+◌, ◌-◌, ◌*◌, ◌/◌, ◌≤◌, Bool, true, false, not, List, [], ◌∷◌, ◌++◌, map, Option, Some, None, unwrap_or, refl, sym, ap, ◌∙◌, arith}
+use Rattle.std.proofs.Common.{◌≡◌, ℕ, ◌+◌, ◌-◌, ◌*◌, ◌≤◌, Bool, true, false, not, List, [], ◌∷◌, ◌++◌, map, Option, Some, None, unwrap_or, refl, sym, ap, ◌∙◌, arith}
 use Rattle.std.specs.Prelude.{if◌then◌else◌, Contains}
 use Rattle.std.specs.List.{All, AllByRecursion, sum_by, cons_option}
 use Rattle.std.proofs.lemmas.Bool.{ltb-false, false≢true}
@@ -24,7 +24,7 @@ use Rattle.commit.specs.declared.outputs.CommitmentOutput.{CommitmentOutput}
 use Rattle.commit.specs.declared.outputs.HtlcOutput.{HtlcOutput}
 use Rattle.commit.specs.Fees.{satoshis_of, fee_of, htlc_weight, is_trimmed_by}
 use Rattle.commit.specs.Amounts.{untrimmed, amounts_of}
-use Rattle.commit.specs.Sums.{worth_of, paid_out, fee_paid, left_out}
+use Rattle.commit.specs.Sums.{worth_of, paid_out}
 use Rattle.commit.specs.Keys.{KeyBytes, keys_of}
 use Rattle.commit.specs.Outputs.{htlc_output, to_local_output, to_remote_output, where_paid, outputs_of}
 use Rattle.commit.specs.Order.{in_order}

@@ -1,5 +1,5 @@
 -- Who can fill the claims of a revoked state.
-use Rattle.std.specs.Prelude.{◌≡◌, ℕ, List, Contains}
+use Rattle.std.specs.Prelude.{◌≡◌, Contains}
 use Rattle.std.specs.List.{AllByRecursion}
 use Rattle.keys.specs.declared.bases.Base.TheVariants.{Payment, Revocation}
 use Rattle.keys.specs.Derivation.{base_key}

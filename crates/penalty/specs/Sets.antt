@@ -3,7 +3,7 @@ use Rattle.std.specs.Prelude.{◌≡◌, List, [], ◌∷◌, map}
 use Rattle.claim.specs.Claims.{ClaimParts, IsAccepted}
 use Rattle.forms.specs.Fillings.{filling_of}
 use Rattle.penalty.specs.declared.states.RevokedState.{RevokedState}
-use Rattle.penalty.specs.Claimable.{Claimable, claimable_of}
+use Rattle.penalty.specs.Claimable.{Claimable}
 
 -- what a claim claims
 abbrev pub claimed_by : ClaimParts → Claimable
