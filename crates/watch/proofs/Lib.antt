@@ -6,3 +6,5 @@ mod WatchExamples
 mod Finding
 mod HtlcScripts
 mod Showing
+mod Settled
+mod Learnt

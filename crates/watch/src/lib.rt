@@ -19,11 +19,13 @@
 
 pub mod laws;
 mod learning;
+mod lookout;
 mod spends;
 mod unclaimed;
 mod verdicts;
 mod watching;
 
+pub use lookout::Lookout;
 pub use resolve::Verdict;
 pub use spends::Spend;
 pub use unclaimed::Given;

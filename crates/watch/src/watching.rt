@@ -99,6 +99,13 @@ impl Watch {
         Ok(Watch { spends, given })
     }
 
+    // The transactions read that spend the funding output, in order.
+    pub(crate) fn spends(&self) -> &[Spend]
+        ensures { result.now ≡ self.now.spends }
+    {
+        self.spends.as_slice()
+    }
+
     /// Whether a transaction that spends the funding output was read or stands in this block.
     pub fn is_spent(&self, funding: &OutPoint, block: &Block) -> bool
         ensures { result ≡ is_spent funding.now self.now (reverse block.now.transactions) }

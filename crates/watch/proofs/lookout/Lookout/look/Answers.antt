@@ -1,0 +1,29 @@
+use Rattle.std.proofs.Common.{◌≡◌, List, Vec, Global, reverse, sym, subst, ◌∙◌, Bool, true}
+use Rattle.std.specs.Prelude.{IfSome}
+use Rattle.watch.specs.declared.spends.Spend.{Spend}
+use Rattle.watch.specs.declared.learning.CommitmentHtlcs.{CommitmentHtlcs}
+use Rattle.watch.specs.Learning.{htlcs_by}
+use Rattle.watch.specs.Lookouts.{IsSettled}
+use Rattle.watch.proofs.Settled.{on_true, sight_of, seen_on}
+use Rattle.watch.proofs.lookout.Lookout.look.Goals as goal
+
+pub invariant_of-self-2 : goal.invariant_of-self-2
+invariant_of-self-2 c = (
+  subst (λ (ss : List Spend). IfSome c.shown.new.commitments (λ (v : Vec CommitmentHtlcs Global). v.items ≡ htlcs_by c.self-2.inside.known ss)) c.spends-spends.ensures c.in_ok-learnt.ensures.kept,
+  c.self-2.invariant.1,
+)
+
+pub returns-clause-sight : goal.returns-clause-sight
+returns-clause-sight c =
+    let is : c.self.inside.is_settled ≡ true = (cc) in
+    sight_of (record { seen = c.self.inside.watch; known = c.self.inside.known }) (record { seen = c.self-2.inside.watch; known = c.self-2.inside.known }) c.args.self.now c.args.height
+    (reverse c.args.block.now.transactions) c.transactions-txs.result.now c.spends-spends.result.now c.new.result.items c.in_ok-learnt.learnt.items c.self.view_is c.self-2.view_is c.transactions-txs.ensures
+    (sym c.if-some_spends.ensures) (on_true c.self.inside.is_settled (IsSettled c.self.inside.watch c.self.inside.known) is c.self.invariant.1) c.spends-spends.ensures c.new.ensures.items
+    c.in_ok-learnt.ensures.shown
+
+pub returns-clause-ok : goal.returns-clause-ok
+returns-clause-ok c =
+    let is : c.self.inside.is_settled ≡ true = (cc) in
+    seen_on (record { seen = c.self.inside.watch; known = c.self.inside.known }) (record { seen = c.self-2.inside.watch; known = c.self-2.inside.known }) c.args.self.now c.args.height
+    (reverse c.args.block.now.transactions) c.transactions-txs.result.now c.self.view_is c.self-2.view_is c.transactions-txs.ensures
+    (sym c.if-some_spends.ensures) (on_true c.self.inside.is_settled (IsSettled c.self.inside.watch c.self.inside.known) is c.self.invariant.1)
