@@ -12,6 +12,7 @@ use sighash::Token;
 use std::alloc::Global;
 use std::process::Abort;
 use terms::{BaseKeys, Party, Side, Terms, View};
+use tx::OutPoint;
 
 // A key of one byte over and over, behind 02.
 fn key(rt: &impl Abort, fill: u8) -> Key {
@@ -27,10 +28,15 @@ fn party(rt: &impl Abort, start: u64, fill: u8) -> Party {
     party_with(bases, start)
 }
 
+/// The terms of a channel of 100,000 satoshis on a funding output.
+pub fn terms_on(rt: &impl Abort, funding: OutPoint) -> Terms {
+    let (a, b) = (party(rt, 80_000_000, 0xa0), party(rt, 20_000_000, 0xb0));
+    terms_of(funding, 100_000, a, b).expect(rt, "terms")
+}
+
 /// The terms of a channel of 100,000 satoshis.
 pub fn terms(rt: &impl Abort) -> Terms {
-    let (a, b) = (party(rt, 80_000_000, 0xa0), party(rt, 20_000_000, 0xb0));
-    terms_of(FUNDING, 100_000, a, b).expect(rt, "terms")
+    terms_on(rt, FUNDING)
 }
 
 // A view with an HTLC that A offered.

@@ -7,4 +7,6 @@ mod fixtures;
 #[cfg(test)]
 mod knowledge;
 #[cfg(test)]
+mod lookouts;
+#[cfg(test)]
 mod watches;

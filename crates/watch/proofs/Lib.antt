@@ -8,3 +8,4 @@ mod HtlcScripts
 mod Showing
 mod Settled
 mod Learnt
+mod LookoutExamples

@@ -2,6 +2,7 @@
 //!
 //! [`verdict`] names the known commitment that a transaction is, by its id. A [`Watch`] serves one channel: [`Watch::look`] reads a block and gives a
 //! [`Sight`], the claims that are due and that it hasn't given yet, and what it learnt; [`Watch::back`] forgets blocks that were taken off.
+//! A [`Lookout`] is a watch with what is known of its channel: it reads many blocks by the same knowledge, and works out once what no block changes.
 //!
 //! ```rust
 //! /// Reads the block at a height, and tells how many claims are to be filled after it.

@@ -1,4 +1,4 @@
-use Rattle.std.proofs.Common.{◌≡◌, List, Vec, Global, reverse, sym, subst, ◌∙◌, Bool, true}
+use Rattle.std.proofs.Common.{◌≡◌, List, Vec, Global, reverse, sym, subst, true}
 use Rattle.std.specs.Prelude.{IfSome}
 use Rattle.watch.specs.declared.spends.Spend.{Spend}
 use Rattle.watch.specs.declared.learning.CommitmentHtlcs.{CommitmentHtlcs}

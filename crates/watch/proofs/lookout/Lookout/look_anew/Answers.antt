@@ -1,4 +1,4 @@
-use Rattle.std.proofs.Common.{◌≡◌, reverse, sym, subst}
+use Rattle.std.proofs.Common.{reverse, sym, subst}
 use Rattle.watch.specs.Watching.{Seen}
 use Rattle.watch.specs.Lookouts.{IsSettled}
 use Rattle.watch.proofs.Settled.{settled}
