@@ -4,7 +4,7 @@ use Rattle.std.specs.List.{AllByRecursion}
 use Rattle.std.proofs.lemmas.List.{map-append}
 use Rattle.claim.specs.Claims.{ClaimParts, IsAccepted}
 use Rattle.penalty.specs.Claimable.{Claimable}
-use Rattle.penalty.specs.Sets.{claimed_by, IsClaimOn, AreClaimsOn}
+use Rattle.penalty.specs.Sets.{claimed_by, AreClaimsOn}
 use Rattle.watch.specs.declared.unclaimed.Given.{Given}
 use Rattle.resolve.specs.declared.known.Known.{Known}
 use Rattle.resolve.specs.Due.{due_of}

@@ -1,14 +1,13 @@
 -- What is forgotten is what the blocks that were taken off showed.
-use Rattle.std.proofs.Common.{◌≡◌, ℕ, Bool, true, false, cond, ◌<◌, ◌≤◌, leb, List, [], ◌∷◌, ◌++◌, map, sym, ap, ◌∙◌, refl, subst, arith, append-nil}
+use Rattle.std.proofs.Common.{◌≡◌, ℕ, Bool, true, false, cond, ◌<◌, List, [], ◌∷◌, ◌++◌, map, sym, ap, ◌∙◌, refl, arith, append-nil}
 use Rattle.std.specs.Prelude.{filter, nat_le}
 use Rattle.std.specs.List.{AllByRecursion}
 use Rattle.std.proofs.lemmas.Bool.{leb-true, le-leb}
 use Rattle.std.proofs.lemmas.List.Elements.{filter-append}
-use Rattle.tx.specs.Fields.{Transaction}
 use Rattle.chain.specs.Blocks.{names}
 use Rattle.watch.specs.declared.spends.Spend.{Spend}
 use Rattle.watch.specs.declared.unclaimed.Given.{Given}
-use Rattle.watch.specs.Watching.{Seen, nothing_seen, spend_at, given_at, claims_after, seen_after, seen_up_to}
+use Rattle.watch.specs.Watching.{Seen, spend_at, given_at, claims_after, seen_up_to}
 use Rattle.watch.specs.Standing.{Reading, Call, Look, Back, standing, AreInOrder, after_reading, seen_of, seen_by, SeesWhatStands}
 use Rattle.watch.proofs.Giving.{all_append}
 

@@ -1,5 +1,5 @@
 -- Loops over lists, in which what is left gives the whole.
-use Rattle.std.proofs.Common.{◌≡◌, ℕ, Bool, suc, ◌+◌, ◌<◌, ◌≤◌, List, [], ◌∷◌, ◌++◌, map, drop, take, length, get_or, sym, ap, ◌∙◌, refl, append_assoc, append-nil, add-one}
+use Rattle.std.proofs.Common.{◌≡◌, ℕ, Bool, ◌+◌, ◌<◌, ◌≤◌, List, [], ◌∷◌, ◌++◌, map, drop, take, length, get_or, sym, ap, ◌∙◌, refl, append_assoc, append-nil, add-one}
 use Rattle.std.specs.Prelude.{filter, Option}
 use Rattle.std.specs.List.{filter_map, flat_map}
 use Rattle.std.proofs.Math.Seq.{drop-cons, take-append_seam}
