@@ -74,3 +74,9 @@ pub filled_by : (b : Batch) (r : Rights) (given : Result Filling FillError) → 
     → IfOk given (λ f. f ≡ filling_by b)
 filled_by b r (Ok f) h = ap (λ t. record { tx = t; places = f.places }) h.tx ∙ ap (λ ps. record { tx = (filling_by b).tx; places = ps }) h.places
 filled_by b r (Err e) h = tt
+
+-- and of any rights to the same keys
+pub filled_as : (b : Batch) (r : Rights) (given : Result Filling FillError) → MatchResult given (IsFillingOf b.claims b.outputs r b.preimages) (IsFirstRefusal b.claims b.outputs r b.preimages) → (s : Rights) → AreSame r s
+    → MatchResult given (λ f. (fill_refusal b.claims b.outputs s b.preimages ≡ None) × (f ≡ filling_by b)) (IsFillRefusal (fill_refusal b.claims b.outputs s b.preimages))
+filled_as b r (Ok f) h s same = (tested_by b r s (Ok f) same h, filled_by b r (Ok f) h)
+filled_as b r (Err e) h s same = tested_by b r s (Err e) same h

@@ -11,7 +11,7 @@ use filling::{FillError, Filled};
 use indexmap::IndexMap;
 use keys::Key;
 use lists::List;
-use penalty::RevokedState;
+use penalty::{PenaltySet, RevokedState};
 use resolve::Known;
 use std::alloc::{AllocError, Global};
 use std::marker::Model;
@@ -245,7 +245,7 @@ impl Book {
         }
         let alloc = self.alloc;
         let open = &mut self.channels[index];
-        match open.keep(alloc, number, claims.values()) {
+        match open.keep(alloc, number, claims.values(), None) {
             Ok(()) => {}
             Err(error) => return Err(error),
         }
@@ -253,6 +253,40 @@ impl Book {
             channel,
             number,
             claims,
+        };
+        self.entries.push(Entry { seat, call }).unwrap();
+        Ok(())
+    }
+
+    /// Keeps a penalty set that was built outside the book, as `keep` does its claims, in the same order of refusals. Where the set is of the book's own revoked state of that number, it isn't built again. A
+    /// refusal leaves the book as it was.
+    pub fn keep_set(
+        &mut self,
+        seat: u32,
+        channel: u64,
+        number: u64,
+        set: PenaltySet,
+    ) -> Result<(), KeepError>
+        ensures { IsCall (kept (Err KeepError.NoMemory)) (kept result) self.old self.new seat (Call.Keep channel number set.claims) }
+    {
+        let index = channel as usize;
+        if index >= self.channels.len() {
+            return Err(KeepError::NoSuchChannel);
+        }
+        match self.entries.reserve(1) {
+            Ok(()) => {}
+            Err(_) => return Err(KeepError::NoMemory),
+        }
+        let alloc = self.alloc;
+        let open = &mut self.channels[index];
+        match open.keep(alloc, number, set.claims(), Some(set.state())) {
+            Ok(()) => {}
+            Err(error) => return Err(error),
+        }
+        let call = Call::Keep {
+            channel,
+            number,
+            claims: List::from_vec(set.into_claims()),
         };
         self.entries.push(Entry { seat, call }).unwrap();
         Ok(())

@@ -17,6 +17,7 @@
 
 pub mod calling;
 pub mod calls;
+mod comparing;
 pub mod dumping;
 pub mod errors;
 mod flags;
@@ -39,3 +40,4 @@ pub use calls::{Batch, Call, Entry, Opening, Step};
 pub use history::Book;
 pub use knowing::preimages_in;
 pub use limits::MAX_CHANNELS;
+pub use releasing::filled;

@@ -9,6 +9,7 @@ ghost use Rattle.book.specs.Books.{update_of, stepped};
 ghost use Rattle.book.specs.Replies.{step_refusal, messages_of};
 
 use crate::calls::{Batch, Opening, Step};
+use crate::comparing::is_state_at;
 use crate::errors::{KeepError, OpenError, SignError};
 use crate::flags::first_unset;
 use crate::judging::are_penalties;
@@ -126,6 +127,9 @@ fn take(channel: &mut Channel, step: Step) -> Result<Taken, Refusal>
 
 impl OpenChannel {
     ghost use Rattle.std.specs.Prelude.{◌<◌, length};
+    ghost use Rattle.std.specs.Option.{ForSome};
+    ghost use Rattle.penalty.specs.Claimable.{claimable_of};
+    ghost use Rattle.penalty.specs.Sets.{AreClaimsOn};
     ghost use Rattle.book.specs.Penalties.{is_penalty_set};
     ghost use Rattle.channel.specs.declared.messages.Message.TheVariants.{RevokeAndAck};
     ghost use Rattle.channel.specs.States.{after, after_sign, receive_refusal, signature_message};
@@ -277,8 +281,34 @@ impl OpenChannel {
         )
     }
 
+    // Whether the claims are the penalties of the peer's commitment of a number, which is revoked. Where they are known to be those of a state, nothing is built if it is that of the number.
+    fn are_its_own(
+        &self,
+        alloc: Global,
+        number: u64,
+        claims: &[Claim],
+        state: Option<&RevokedState>,
+    ) -> Result<bool, AllocError>
+        requires { ForSome state (λ s. AreClaimsOn (claimable_of s.now) claims.now) }
+        ensures { IfOk result (λ b. b ≡ is_penalty_set self.now.state number claims.now) }
+    {
+        if let Some(state) = state {
+            if is_state_at(&self.channel, number, state) {
+                return Ok(true);
+            }
+        }
+        self.are_penalties(alloc, number, claims)
+    }
+
     // Why the penalties of a number are not kept.
-    fn check_keep(&self, alloc: Global, number: u64, claims: &[Claim]) -> Result<(), KeepError>
+    fn check_keep(
+        &self,
+        alloc: Global,
+        number: u64,
+        claims: &[Claim],
+        state: Option<&RevokedState>,
+    ) -> Result<(), KeepError>
+        requires { ForSome state (λ s. AreClaimsOn (claimable_of s.now) claims.now) }
         ensures tested { let first = keep_refusal self.now number claims.now in MatchResult result (λ _. first ≡ None) (IsKeepRefusal first) }
         ensures within { IfOk result (λ _. number < length self.now.state.secrets) }
     {
@@ -288,7 +318,7 @@ impl OpenChannel {
         if *is_kept {
             return Err(KeepError::AlreadyKept);
         }
-        let are_its_own = match self.are_penalties(alloc, number, claims) {
+        let are_its_own = match self.are_its_own(alloc, number, claims, state) {
             Ok(are_its_own) => are_its_own,
             Err(_) => return Err(KeepError::NoMemory),
         };
@@ -298,18 +328,20 @@ impl OpenChannel {
         Ok(())
     }
 
-    /// Keeps the penalties of the peer's revoked commitment of a number. A refusal leaves all as it was.
+    /// Keeps the penalties of the peer's revoked commitment of a number, which may be known to be those of a state. A refusal leaves all as it was.
     pub(crate) fn keep(
         &mut self,
         alloc: Global,
         number: u64,
         claims: &[Claim],
+        state: Option<&RevokedState>,
     ) -> Result<(), KeepError>
+        requires { ForSome state (λ s. AreClaimsOn (claimable_of s.now) claims.now) }
         ensures ok { IfOk result (λ _. self.new ≡ with_kept number self.old) }
         ensures tested { let first = keep_refusal self.old number claims.now in MatchResult result (λ _. first ≡ None) (IsKeepRefusal first) }
         ensures err { OnErr result (self.new ≡ self.old) }
     {
-        match self.check_keep(alloc, number, claims) {
+        match self.check_keep(alloc, number, claims, state) {
             Ok(()) => {}
             Err(error) => return Err(error),
         }

@@ -1,8 +1,11 @@
 // The transaction that a batch makes.
 
-ghost use Rattle.std.specs.Prelude.{◌≡◌, map, IfOk, MatchResult};
+ghost use Rattle.std.specs.Prelude.{◌≡◌, ◌↔◌, ℕ, List, map, None, IfOk, MatchResult};
+ghost use Rattle.keys.specs.Rights.{Rights, MaySign};
 ghost use Rattle.filling.specs.Filled.{IsFillingOf};
 ghost use Rattle.filling.specs.Refusals.{IsFirstRefusal};
+ghost use Rattle.book.specs.Calling.{IsFillRefusal, filling_by};
+ghost use Rattle.book.specs.Signers.{fill_refusal};
 
 use crate::calls::Batch;
 use claim::Claim;
@@ -33,9 +36,13 @@ fn lent(alloc: Global, claims: &[Claim]) -> Result<Vec<&Claim>, AllocError>
     Ok(lent)
 }
 
-/// Fills the claims of a batch: the refusal of `fill`.
-pub(crate) fn filled(alloc: Global, batch: &Batch, signer: &Signer) -> Result<Filled, FillError>
-    ensures { MatchResult result (IsFillingOf batch.now.claims batch.now.outputs signer.now batch.now.preimages) (IsFirstRefusal batch.now.claims batch.now.outputs signer.now batch.now.preimages) }
+/// Fills the claims of a batch by a signer, as a book's `release` does by the channel's: MixedShells, SameOutpoint, OutputsExceed, and then by claim and slot NoRight where the signer has no right to
+/// the key, and NoPreimage where the batch has none of the hash. `tested` says so by any rights to the same keys.
+pub fn filled(alloc: Global, batch: &Batch, signer: &Signer) -> Result<Filled, FillError>
+    ensures by_signer { MatchResult result (IsFillingOf batch.now.claims batch.now.outputs signer.now batch.now.preimages) (IsFirstRefusal batch.now.claims batch.now.outputs signer.now batch.now.preimages) }
+    ensures tested { (rights : Rights) → ((key : List ℕ) → MaySign signer.now key ↔ MaySign rights key) →
+        let first = fill_refusal batch.now.claims batch.now.outputs rights batch.now.preimages in
+        MatchResult result (λ f. (first ≡ None) × (f ≡ filling_by batch.now)) (IsFillRefusal first) }
 {
     let outputs = copies(alloc, batch.outputs.values())?;
     let claims = lent(alloc, batch.claims.values())?;

@@ -51,7 +51,7 @@ fn takes_the_secret_of_the_seed_alone(rt: HostRuntime) {
 }
 
 // A's book offers an HTLC and signs it to a book of B's. What the answer brings.
-fn answered(rt: &impl Abort, alloc: Global, a: &mut Book) -> Revocation {
+pub(crate) fn answered(rt: &impl Abort, alloc: Global, a: &mut Book) -> Revocation {
     let mut b = opened(rt, alloc, Side::B);
     offered(rt, a, &mut b)
 }

@@ -6,6 +6,8 @@
 #[cfg(test)]
 mod book_calls;
 #[cfg(test)]
+mod kept_sets;
+#[cfg(test)]
 mod known_states;
 #[cfg(test)]
 mod loaded_dumps;

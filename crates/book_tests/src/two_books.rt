@@ -119,12 +119,26 @@ pub(crate) fn offered_by(rt: &impl Abort, a: &mut Book, b: &mut Book, offer: Ste
     revocation_in(b.step(0, 0, step).expect(rt, "taken")).expect(rt, "a revocation")
 }
 
-// The penalties of B's commitment 0, which pays what the two sides begin with.
-pub(crate) fn penalties_of_first(rt: &impl Abort, alloc: Global, secret: [u8; 32]) -> List<Claim> {
+// A state of B's with these balances and this number, which the secret revokes.
+pub(crate) fn state_of(
+    rt: &impl Abort,
+    alloc: Global,
+    balances: [u64; 2],
+    number: u64,
+    secret: [u8; 32],
+) -> RevokedState {
     let (a, b) = (Signer::new(alloc, &[1; 32]), Signer::new(alloc, &[2; 32]));
     let terms = terms_of(rt, &a, &b);
-    let view = view(alloc, [80_000_000, 20_000_000], &[], &[]).expect(rt, "memory");
-    let state = RevokedState::new(terms, view, Side::B, 0, secret).expect(rt, "a state");
+    let view = view(alloc, balances, &[], &[]).expect(rt, "memory");
+    RevokedState::new(terms, view, Side::B, number, secret).expect(rt, "a state")
+}
+
+// What the two sides begin with, which B's commitment 0 pays.
+pub(crate) const FIRST: [u64; 2] = [80_000_000, 20_000_000];
+
+// The penalties of B's commitment 0.
+pub(crate) fn penalties_of_first(rt: &impl Abort, alloc: Global, secret: [u8; 32]) -> List<Claim> {
+    let state = state_of(rt, alloc, FIRST, 0, secret);
     let set = penalties(alloc, &state).expect(rt, "memory");
     List::from_vec(set.into_claims())
 }

@@ -1,0 +1,53 @@
+use Rattle.std.proofs.Common.{◌≡◌, List, None, Bor, subst, Err, Ok, refl, sym, ap, ◌∙◌}
+use Rattle.std.proofs.lemmas.Option.{same_Some}
+use Rattle.claim.specs.Claims.{ClaimParts}
+use Rattle.penalty.specs.declared.states.RevokedState.{RevokedState}
+use Rattle.penalty.specs.Claimable.{claimable_of}
+use Rattle.penalty.specs.Sets.{AreClaimsOn}
+use Rattle.book.specs.declared.calls.Call.TheVariants.{Keep}
+use Rattle.book.specs.declared.calls.Entry.{Entry}
+use Rattle.book.specs.declared.errors.KeepError.TheVariants.{NoMemory}
+use Rattle.book.specs.Replies.{kept, keep_refusal}
+use Rattle.book.specs.Calling.{IsCall, IsKeepRefusal}
+use Rattle.book.proofs.Fundings.{left_alone}
+use Rattle.book.proofs.Refused.{keep_refused}
+use Rattle.book.proofs.Called.{entry, grown, keep_done}
+use Rattle.book.proofs.history.Book.keep_set.Goals as goal
+
+pub keep-requires : goal.keep-requires
+keep-requires c = λ x is.
+    subst (λ (r : Bor RevokedState). AreClaimsOn (claimable_of r.now) c.claims.result.now) (same_Some c.state.result x is)
+    (subst (λ (s : RevokedState). AreClaimsOn (claimable_of s) c.claims.result.now) (sym c.state.ensures)
+    (subst (λ (cs : List ClaimParts). AreClaimsOn (claimable_of c.args.set.state) cs) (sym c.claims.ensures.value) c.claims.ensures.full))
+
+pub invariant_of-self-2 : goal.invariant_of-self-2
+invariant_of-self-2 c =
+    let i = c.self.inside in
+    let claims = c.args.set.claims in
+    let named = ap (λ (cs : List ClaimParts). entry c.args.seat (Keep c.args.channel c.args.number cs)) (c.from_vec.ensures ∙ c.into_claims.ensures.value) in
+    let is = grown c.push.result c.unwrap.result c.push.new.self.items c.reserve.new.self.items i.entries.items _ _ c.unwrap.ensures c.push.ensures.items c.in-Ok.ensures.items named in
+    let tested = subst (λ (cs : List ClaimParts). keep_refusal c.index_mut-open.result.now c.args.number cs ≡ None) c.claims.ensures.value c.in-Ok-keep.ensures.tested in
+    (keep_done i.entries.items c.push.new.self.items i.channels.entries c.args.seat c.args.channel c.args.number c.index_mut-open.result.now c.keep.new.self claims (kept (Err NoMemory)) c.self.invariant c.index_mut-open.ensures.value tested c.in-Ok-keep.ensures.ok is).keeps
+
+pub returns : goal.returns
+returns c =
+    let i = c.self.inside in
+    let claims = c.args.set.claims in
+    let named = ap (λ (cs : List ClaimParts). entry c.args.seat (Keep c.args.channel c.args.number cs)) (c.from_vec.ensures ∙ c.into_claims.ensures.value) in
+    let is = grown c.push.result c.unwrap.result c.push.new.self.items c.reserve.new.self.items i.entries.items _ _ c.unwrap.ensures c.push.ensures.items c.in-Ok.ensures.items named in
+    let tested = subst (λ (cs : List ClaimParts). keep_refusal c.index_mut-open.result.now c.args.number cs ≡ None) c.claims.ensures.value c.in-Ok-keep.ensures.tested in
+    let done = keep_done i.entries.items c.push.new.self.items i.channels.entries c.args.seat c.args.channel c.args.number c.index_mut-open.result.now c.keep.new.self claims (kept (Err NoMemory)) c.self.invariant c.index_mut-open.ensures.value tested c.in-Ok-keep.ensures.ok is in
+    subst (λ (h : List Entry). IsCall (kept (Err NoMemory)) (kept (Ok tt)) h c.push.new.self.items c.args.seat (Keep c.args.channel c.args.number claims)) c.self.view_is done.called
+
+pub invariant_of-self-in-Err-keep : goal.invariant_of-self-in-Err-keep
+invariant_of-self-in-Err-keep c =
+    let i = c.self.inside in
+    left_alone i.entries.items i.channels.entries c.self.invariant c.reserve.new.self.items c.in-Ok.ensures.items c.args.channel c.index_mut-open.result.now c.keep.new.self c.index_mut-open.ensures.value c.in-Err-keep.ensures.err
+
+pub returns-in-Err-keep : goal.returns-in-Err-keep
+returns-in-Err-keep c =
+    let i = c.self.inside in
+    let claims = c.args.set.claims in
+    let tested = subst (λ (cs : List ClaimParts). IsKeepRefusal (keep_refusal c.index_mut-open.result.now c.args.number cs) c.in-Err-keep.error) c.claims.ensures.value c.in-Err-keep.ensures.tested in
+    let refused = keep_refused i.entries.items c.reserve.new.self.items i.channels.entries c.self.invariant c.in-Ok.ensures.items c.args.seat c.args.channel c.index_mut-open.result.now c.index_mut-open.ensures.value c.args.number claims c.in-Err-keep.error tested in
+    subst (λ (h : List Entry). IsCall (kept (Err NoMemory)) (kept (Err c.in-Err-keep.error)) h c.reserve.new.self.items c.args.seat (Keep c.args.channel c.args.number claims)) c.self.view_is refused

@@ -1,0 +1,59 @@
+// Whether a revoked state is that of a commitment of the peer.
+
+ghost use Rattle.std.specs.Prelude.{◌≡◌, ◌↔◌, IsTrue};
+ghost use Rattle.penalty.specs.States.{HasParts};
+ghost use Rattle.book.specs.Revoked.{IsStateAt};
+
+use channel::{Channel, CommitmentState};
+use penalty::RevokedState;
+use terms::{Share, Side, Terms, View};
+
+fn is_same_share(a: &Share, b: &Share) -> bool
+    ensures { IsTrue result ↔ (a.now ≡ b.now) }
+{
+    a.balance == b.balance && a.offered.values() == b.offered.values()
+}
+
+fn is_same_view(a: &View, b: &View) -> bool
+    ensures { IsTrue result ↔ (a.now ≡ b.now) }
+{
+    is_same_share(&a.a, &b.a) && is_same_share(&a.b, &b.b) && a.feerate == b.feerate
+}
+
+fn are_same_terms(a: &Terms, b: &Terms) -> bool
+    ensures { IsTrue result ↔ (a.now ≡ b.now) }
+{
+    *a == *b
+}
+
+// Whether a state has the parts of a commitment that this secret revokes.
+fn has_parts(
+    state: &RevokedState,
+    terms: &Terms,
+    owner: Side,
+    commitment: &CommitmentState,
+    secret: &[u8; 32],
+) -> bool
+    ensures { IsTrue result ↔ HasParts terms.now commitment.now.view owner commitment.now.number secret.now state.now }
+{
+    state.number == commitment.number
+        && state.owner == owner
+        && state.secret == *secret
+        && are_same_terms(&state.terms, terms)
+        && is_same_view(&state.view, &commitment.view)
+}
+
+/// Whether a state is the peer's commitment of a number, with the secret that revokes it. Nothing is built.
+pub(crate) fn is_state_at(channel: &Channel, number: u64, state: &RevokedState) -> bool
+    ensures { IsTrue result ↔ IsStateAt channel.now number state.now }
+{
+    let commitments = channel.peers_commitments();
+    let Some(commitment) = commitments.get(number as usize) else {
+        return false;
+    };
+    let Some(secret) = channel.peers_secret(number) else {
+        return false;
+    };
+    let owner = channel.side().other();
+    has_parts(state, channel.terms(), owner, commitment, &secret)
+}
