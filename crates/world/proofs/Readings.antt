@@ -1,9 +1,10 @@
 -- What a side reads in blocks, channel by channel.
-use Rattle.std.proofs.Common.{◌≡◌, ℕ, zero, suc, ◌+◌, ◌<◌, ◌≤◌, Bool, List, [], ◌∷◌, ◌++◌, map, take, drop, set, get_or, replicate, length, reverse, Option, Some, None, refl, sym, ap, subst, ◌∙◌, arith, add-one, append_assoc, append-nil}
-use Rattle.std.specs.Prelude.{slice_get, true}
+use Rattle.std.proofs.Common.{◌≡◌, ℕ, zero, suc, ◌+◌, ◌<◌, ◌≤◌, Bool, true, false, if◌then◌else◌, List, [], ◌∷◌, ◌++◌, map, take, drop, set, get_or, replicate, length, reverse, Option, Some, None, refl, sym, ap, subst, ◌∙◌, arith, zero-add, add-zero, add-one, append_assoc}
+use Rattle.std.specs.Prelude.{slice_get}
 use Rattle.std.specs.List.{AllByRecursion}
-use Rattle.std.proofs.lemmas.List.{drop_all, drop_more, drop-set-lt, take_more_set, take_all, get_or-map, get_or-replicate, length-map, length-replicate, take-append-drop}
+use Rattle.std.proofs.lemmas.List.{drop_all, drop_more, drop-set-lt, take_more_set, get_or-map, get_or-replicate, length-map, length-replicate, take-append-drop}
 use Rattle.std.proofs.lemmas.Option.{none-some, same_Some}
+use Rattle.tx.specs.declared.input.OutPoint.{OutPoint}
 use Rattle.tx.specs.Fields.{Transaction}
 use Rattle.claim.specs.Claims.{IsWhole}
 use Rattle.resolve.specs.declared.known.Known.{Known}
@@ -11,13 +12,15 @@ use Rattle.chain.specs.Blocks.{Contents}
 use Rattle.watch.specs.Watching.{Seen}
 use Rattle.channel.specs.States.{State}
 use Rattle.book.specs.declared.calls.Entry.{Entry}
-use Rattle.book.specs.Books.{ChannelBook, is_kept, replay}
+use Rattle.book.specs.Books.{ChannelBook, is_kept, replay, fundings_of}
 use Rattle.book.specs.Knowing.{IsKnownOf, IsKnownIn, preimages_in}
 use Rattle.side.specs.declared.due.DueClaim.{DueClaim}
+use Rattle.side.specs.Due.{FindsIf, with_preimages, taught}
+use Rattle.side.specs.Reading.{Reader, is_to_ask, numbers_to_ask, with_answer, FindsBlock, no_more, channel, IsRead}
 use Rattle.world.specs.Worlds.{Line, Node, IsNode}
-use Rattle.world.specs.Looking.{Knows, is_closed, ReadsChannel, quiet, sees, ReadsBlock, no_more, channel, Reading, IsAfter, Reads, all_read, block, reading_of, with_seen}
+use Rattle.world.specs.Looking.{Knows, is_closed, ReadsChannel, quiet, sees, ReadsBlock, no_more as none_read, channel as one_read, Reading, IsAfter, Reads, all_read, block, reading_of, reading_in, with_seen}
+use Rattle.world.specs.Asking.{IfKnown, AreKnown, IsReady, AreReady}
 use Rattle.world.proofs.Whole.{all_append}
-use Rattle.world.specs.Asking.{IfKnown, AreKnown, IsReady, FindsIf, with_preimages, taught}
 
 -- ---- what is known
 
@@ -77,19 +80,6 @@ pub known_then : (history : List Entry) (learnt : List (List ℕ)) (knowns : Lis
     → IsReady history learnt c seen txs o → AreKnown history learnt (set knowns c o)
 known_then history learnt knowns c seen txs o are ready = set_keeps (IfKnown history learnt) knowns c o are (ready_known history learnt c seen txs o ready)
 
--- a channel that is closed is there
-within : {A : Type 0} (xs : List A) (n : ℕ) (x : A) → slice_get xs n ≡ Some x → n < length xs
-within [] n x e = absurd (none-some x e)
-within (y ∷ xs) zero x e = omega arith
-within (y ∷ xs) (suc n) x e = let l = within xs n x e in omega arith
-
-closed_by : (chs : List ChannelBook) (c : ℕ) (seen : Seen) (txs : List Transaction) (o : Option ChannelBook) → slice_get chs c ≡ o → is_closed o seen txs ≡ true → c < length chs
-closed_by chs c seen txs None e closed = absurd (cc)
-closed_by chs c seen txs (Some ch) e closed = within chs c ch e
-
-pub closed_there : (chs : List ChannelBook) (c : ℕ) (seen : Seen) (txs : List Transaction) → is_closed (slice_get chs c) seen txs ≡ true → c < length chs
-closed_there chs c seen txs closed = closed_by chs c seen txs (slice_get chs c) refl closed
-
 -- ---- one channel
 
 pub reads_channel : (history : List Entry) (learnt : List (List ℕ)) (height : ℕ) (txs : List Transaction) (c : ℕ) (older newer : Seen) (jobs : List DueClaim) (shown : List (List ℕ)) (o : Option Known)
@@ -97,64 +87,126 @@ pub reads_channel : (history : List Entry) (learnt : List (List ℕ)) (height : 
 reads_channel history learnt height txs c older newer jobs shown None ready (e, j, s) = rw (e, j, s) (quiet ready)
 reads_channel history learnt height txs c older newer jobs shown (Some k) ready finds = sees k ready finds
 
--- ---- a block
-
--- reading the channels from a number on makes what was read of those below it the whole
-abbrev pub Onward : List Entry → List (List ℕ) → ℕ → List Transaction → ℕ → List Seen → List Seen → List DueClaim → List (List ℕ) → Type 0
-Onward history learnt height txs i older seen jobs shown =
-    (newer : List Seen) (more : List DueClaim) (more_shown : List (List ℕ)) → ReadsBlock history learnt height txs i (drop i seen) newer more more_shown
-    → ReadsBlock history learnt height txs 0 older (take i seen ++ newer) (jobs ++ more) (shown ++ more_shown)
-
-split : {A : Type 0} (xs : List A) (i : ℕ) (x : A) → i < length xs → x ≡ get_or xs i x → drop i xs ≡ x ∷ drop (i + 1) xs
-split xs i x l e = drop_more xs i x l ∙ ap (λ y. y ∷ drop (i + 1) xs) (sym e)
-
-module _ (history : List Entry) (learnt : List (List ℕ)) (height : ℕ) (txs : List Transaction) where
-  pub onward_step : (i : ℕ) (older seen : List Seen) (jobs : List DueClaim) (shown : List (List ℕ)) (s t : Seen) (seen' : List Seen) (jobs' new_jobs : List DueClaim) (shown' new_shown : List (List ℕ))
-      → Onward history learnt height txs i older seen jobs shown → i < length seen → s ≡ get_or seen i s → seen' ≡ set seen i t → ReadsChannel history learnt height txs i s t new_jobs new_shown
-      → jobs' ≡ jobs ++ new_jobs → shown' ≡ shown ++ new_shown → Onward history learnt height txs (i + 1) older seen' jobs' shown'
-  onward_step i older seen jobs shown s t seen' jobs' new_jobs shown' new_shown onward l e w step j h newer more more_shown rest =
-      let same : drop (i + 1) seen' ≡ drop (i + 1) seen = ap (drop (i + 1)) w ∙ drop-set-lt (i + 1) seen i t (omega arith) in
-      let all = subst (λ (xs : List Seen). ReadsBlock history learnt height txs (i + 1) xs newer more more_shown) same rest in
-      let here = subst (λ (xs : List Seen). ReadsBlock history learnt height txs i xs (t ∷ newer) (new_jobs ++ more) (new_shown ++ more_shown)) (sym (split seen i s l e)) (channel step all) in
-      let seen_is : take (i + 1) seen' ++ newer ≡ take i seen ++ t ∷ newer =
-      ap (λ xs. xs ++ newer) (ap (take (i + 1)) w ∙ take_more_set seen i t l) ∙ append_assoc (take i seen) (t ∷ []) newer in
-      let jobs_are : jobs' ++ more ≡ jobs ++ (new_jobs ++ more) = ap (λ xs. xs ++ more) j ∙ append_assoc jobs new_jobs more in
-      let shown_is : shown' ++ more_shown ≡ shown ++ (new_shown ++ more_shown) = ap (λ xs. xs ++ more_shown) h ∙ append_assoc shown new_shown more_shown in
-      rw (seen_is, jobs_are, shown_is) (onward (t ∷ newer) (new_jobs ++ more) (new_shown ++ more_shown) here)
-
-  pub onward_end : (i : ℕ) (older seen : List Seen) (jobs : List DueClaim) (shown : List (List ℕ)) → Onward history learnt height txs i older seen jobs shown → length seen ≤ i
-      → ReadsBlock history learnt height txs 0 older seen jobs shown
-  onward_end i older seen jobs shown onward l =
-      let none = subst (λ (xs : List Seen). ReadsBlock history learnt height txs i xs [] [] []) (sym (drop_all i seen l)) no_more in
-      let all : take i seen ++ [] ≡ seen = append-nil (take i seen) ∙ take_all i seen l in
-      let here = subst (λ (xs : List Seen). ReadsBlock history learnt height txs 0 older xs (jobs ++ []) (shown ++ [])) all (onward [] [] [] none) in
-      subst (λ (xs : List DueClaim). ReadsBlock history learnt height txs 0 older seen xs shown) (append-nil jobs)
-      (subst (λ (xs : List (List ℕ)). ReadsBlock history learnt height txs 0 older seen (jobs ++ []) xs) (append-nil shown) here)
-
-  -- nothing was read yet
-  pub onward_start : (seen : List Seen) (jobs : List DueClaim) (shown : List (List ℕ)) → jobs ≡ [] → shown ≡ [] → Onward history learnt height txs 0 seen seen jobs shown
-  onward_start seen jobs shown j s newer more more_shown rest = rw (j, s) rest
-
--- a block was read, and what it showed is known from then on
-pub after_block : (history : List Entry) (height : ℕ) (txs : List Transaction) (r next : Reading) (learnt : List (List ℕ)) (older newer : List Seen) (jobs : List DueClaim) (shown : List (List ℕ))
-    → ReadsBlock history learnt height txs 0 older newer jobs shown → learnt ≡ r.learnt → older ≡ r.seen → next.seen ≡ newer → next.jobs ≡ r.jobs ++ jobs → next.learnt ≡ r.learnt ++ shown
-    → IsAfter history height txs r next
-after_block history height txs r next learnt older newer jobs shown reads l o n j s =
-    let by_learnt = subst (λ (xs : List (List ℕ)). ReadsBlock history xs height txs 0 older newer jobs shown) l reads in
-    let by_older = subst (λ (xs : List Seen). ReadsBlock history r.learnt height txs 0 xs newer jobs shown) o by_learnt in
-    record {
-      jobs = jobs;
-      shown = shown;
-      channels = subst (λ (xs : List Seen). ReadsBlock history r.learnt height txs 0 r.seen xs jobs shown) (sym n) by_older;
-      jobs_are = j;
-      learnt_is = s;
-    }
+-- ---- what is known after a block
 
 pub known_after : (history : List Entry) (learnt old_learnt shown given new_learnt : List (List ℕ)) (knowns new : List (Option Known)) → AreKnown history learnt knowns → learnt ≡ old_learnt
     → new ≡ map (taught given) knowns → given ≡ shown → new_learnt ≡ old_learnt ++ shown → AreKnown history new_learnt new
 known_after history learnt old_learnt shown given new_learnt knowns new are l k g n =
     subst (λ (xs : List (List ℕ)). AreKnown history xs new) (ap (λ xs. xs ++ shown) l ∙ sym n)
     (subst (λ (ks : List (Option Known)). AreKnown history (learnt ++ shown) ks) (ap (λ xs. map (taught xs) knowns) (sym g) ∙ sym k) (all_known_more history learnt shown knowns are))
+
+-- ---- what is asked
+
+-- the first that is to be asked is not below the number from which on they are
+not_below : (b : Bool) (c n : ℕ) (xs rest : List ℕ) → (xs ≡ n ∷ rest → c + 1 ≤ n) → (if b then c ∷ xs else xs) ≡ n ∷ rest → c ≤ n
+not_below true c n xs rest go e = let h : c ≡ n = cc in omega arith
+not_below false c n xs rest go e = let h = go e in omega (arith, h)
+
+asked_above : (c : ℕ) (fundings : List OutPoint) (seen : List Seen) (knowns : List (Option Known)) (txs : List Transaction) (n : ℕ) (rest : List ℕ)
+    → numbers_to_ask c fundings seen knowns txs ≡ n ∷ rest → c ≤ n
+asked_above c [] seen knowns txs n rest e = absurd (cc)
+asked_above c (o ∷ fundings) [] knowns txs n rest e = absurd (cc)
+asked_above c (o ∷ fundings) (s ∷ seen) [] txs n rest e = absurd (cc)
+asked_above c (o ∷ fundings) (s ∷ seen) (k ∷ knowns) txs n rest e =
+    not_below (is_to_ask o s k txs) c n (numbers_to_ask (c + 1) fundings seen knowns txs) rest (λ h. asked_above (c + 1) fundings seen knowns txs n rest h) e
+
+-- once the first is answered, the others are to be asked
+asked_at : (i : ℕ) (b : Bool) (c n : ℕ) (o : OutPoint) (fundings : List OutPoint) (s : Seen) (seen : List Seen) (k : Option Known) (knowns : List (Option Known)) (txs : List Transaction)
+    (rest : List ℕ) (known : Known) → is_to_ask o s k txs ≡ b → n ≡ c + i
+    → ((j : ℕ) → n ≡ c + 1 + j → numbers_to_ask (c + 1) fundings seen knowns txs ≡ n ∷ rest → numbers_to_ask (c + 1) fundings seen (set knowns j (Some known)) txs ≡ rest)
+    → (if b then c ∷ numbers_to_ask (c + 1) fundings seen knowns txs else numbers_to_ask (c + 1) fundings seen knowns txs) ≡ n ∷ rest
+    → numbers_to_ask c (o ∷ fundings) (s ∷ seen) (set (k ∷ knowns) i (Some known)) txs ≡ rest
+asked_at zero true c n o fundings s seen k knowns txs rest known asks at go e = cc
+asked_at zero false c n o fundings s seen k knowns txs rest known asks at go e = let h = asked_above (c + 1) fundings seen knowns txs n rest e in absurd (omega (arith, h, at))
+asked_at (suc i) true c n o fundings s seen k knowns txs rest known asks at go e = let h : c ≡ n = cc in absurd (omega (arith, at, h))
+asked_at (suc i) false c n o fundings s seen k knowns txs rest known asks at go e =
+    let others = numbers_to_ask (c + 1) fundings seen (set knowns i (Some known)) txs in
+    ap (λ (b : Bool). if b then c ∷ others else others) asks ∙ go i (omega (arith, at)) e
+
+asked_then : (c : ℕ) (fundings : List OutPoint) (seen : List Seen) (knowns : List (Option Known)) (txs : List Transaction) (n i : ℕ) (rest : List ℕ) (known : Known) → n ≡ c + i
+    → numbers_to_ask c fundings seen knowns txs ≡ n ∷ rest → numbers_to_ask c fundings seen (set knowns i (Some known)) txs ≡ rest
+asked_then c [] seen knowns txs n i rest known at e = absurd (cc)
+asked_then c (o ∷ fundings) [] knowns txs n i rest known at e = absurd (cc)
+asked_then c (o ∷ fundings) (s ∷ seen) [] txs n i rest known at e = absurd (cc)
+asked_then c (o ∷ fundings) (s ∷ seen) (k ∷ knowns) txs n i rest known at e =
+    asked_at i (is_to_ask o s k txs) c n o fundings s seen k knowns txs rest known refl at (λ j a h. asked_then (c + 1) fundings seen knowns txs n j rest known a h) e
+
+pub answered : (r next : Reader) (txs : List Transaction) (n : ℕ) (rest left : List ℕ) (known : Known) → left ≡ n ∷ rest → left ≡ numbers_to_ask 0 r.fundings r.seen r.knowns txs
+    → next ≡ with_answer n known r → rest ≡ numbers_to_ask 0 next.fundings next.seen next.knowns txs
+answered r next txs n rest left known l e w =
+    let after = asked_then 0 r.fundings r.seen r.knowns txs n n rest (with_preimages r.learnt known) (omega arith) (sym e ∙ l) in
+    sym after ∙ ap (λ (x : Reader). numbers_to_ask 0 x.fundings x.seen x.knowns txs) (sym w)
+
+-- where none is left, each channel is ready
+none_asked : (b : Bool) (c : ℕ) (xs : List ℕ) → (if b then c ∷ xs else xs) ≡ [] → (b ≡ false) × (xs ≡ [])
+none_asked true c xs e = absurd (cc)
+none_asked false c xs e = (refl, e)
+
+after_first : {A : Type 0} (xs : List A) (n : ℕ) (y : A) (ys : List A) → drop n xs ≡ y ∷ ys → drop (suc n) xs ≡ ys
+after_first [] zero y ys e = absurd (cc)
+after_first [] (suc n) y ys e = absurd (cc)
+after_first (x ∷ xs) zero y ys e = cc
+after_first (x ∷ xs) (suc n) y ys e = after_first xs n y ys e
+
+first_at : {A : Type 0} (xs : List A) (n : ℕ) (y : A) (ys : List A) → drop n xs ≡ y ∷ ys → slice_get xs n ≡ Some y
+first_at [] zero y ys e = absurd (cc)
+first_at [] (suc n) y ys e = absurd (cc)
+first_at (x ∷ xs) zero y ys e = let h : x ≡ y = cc in ap Some h
+first_at (x ∷ xs) (suc n) y ys e = first_at xs n y ys e
+
+ready_one : (history : List Entry) (learnt : List (List ℕ)) (c : ℕ) (ch : ChannelBook) (s : Seen) (k : Option Known) (txs : List Transaction) → slice_get (replay history) c ≡ Some ch
+    → IfKnown history learnt c k → is_to_ask ch.state.held.terms.funding s k txs ≡ false → IsReady history learnt c s txs k
+ready_one history learnt c ch s None txs there known unspent = ap (λ (o : Option ChannelBook). is_closed o s txs) there ∙ unspent
+ready_one history learnt c ch s (Some k) txs there known unspent = known
+
+ready_from : (history : List Entry) (learnt : List (List ℕ)) (c : ℕ) (chs : List ChannelBook) (knowns : List (Option Known)) (seen : List Seen) (txs : List Transaction) → drop c (replay history) ≡ chs
+    → length chs ≡ length seen → ((i : ℕ) → i < length knowns → (d : Option Known) → IfKnown history learnt (c + i) (get_or knowns i d))
+    → numbers_to_ask c (fundings_of chs) seen knowns txs ≡ [] → AreReady history learnt c knowns seen txs
+ready_from history learnt c chs [] seen txs there long are none = tt
+ready_from history learnt c chs (k ∷ knowns) [] txs there long are none = tt
+ready_from history learnt c [] (k ∷ knowns) (s ∷ seen) txs there long are none = absurd (omega (arith, long))
+ready_from history learnt c (ch ∷ chs) (k ∷ knowns) (s ∷ seen) txs there long are none =
+    let funding = ch.state.held.terms.funding in
+    let quiet = none_asked (is_to_ask funding s k txs) c (numbers_to_ask (c + 1) (fundings_of chs) seen knowns txs) none in
+    let known = subst (λ n. IfKnown history learnt n k) (add-zero c) (are 0 (omega arith) None) in
+    let more : (i : ℕ) → i < length knowns → (d : Option Known) → IfKnown history learnt (c + 1 + i) (get_or knowns i d)
+    = λ i l d. let e : c + suc i ≡ c + 1 + i = omega arith in subst (λ n. IfKnown history learnt n (get_or knowns i d)) e (are (suc i) (omega (arith, l)) d) in
+    let on : drop (c + 1) (replay history) ≡ chs = ap (λ n. drop n (replay history)) (add-one c) ∙ after_first (replay history) c ch chs there in (
+      ready_one history learnt c ch s k txs (first_at (replay history) c ch chs there) known quiet.0,
+      ready_from history learnt (c + 1) chs knowns seen txs on (omega (arith, long)) more quiet.1,
+    )
+
+pub all_ready : (history : List Entry) (learnt : List (List ℕ)) (knowns : List (Option Known)) (fundings : List OutPoint) (seen : List Seen) (txs : List Transaction) → AreKnown history learnt knowns
+    → fundings ≡ fundings_of (replay history) → length fundings ≡ length seen → numbers_to_ask 0 fundings seen knowns txs ≡ [] → AreReady history learnt 0 knowns seen txs
+all_ready history learnt knowns fundings seen txs are f l none =
+    let long : length (replay history) ≡ length seen = omega (arith, l, ap length f, length-map (replay history) (λ ch. ch.state.held.terms.funding)) in
+    let shift : (i : ℕ) → i < length knowns → (d : Option Known) → IfKnown history learnt (0 + i) (get_or knowns i d)
+    = λ i m d. subst (λ n. IfKnown history learnt n (get_or knowns i d)) (sym (zero-add i)) (are i m d) in
+    ready_from history learnt 0 (replay history) knowns seen txs refl long shift (ap (λ (os : List OutPoint). numbers_to_ask 0 os seen knowns txs) (sym f) ∙ none)
+
+-- ---- a block
+
+-- what is found of channels that are ready is what the side reads by its book
+pub reads_by_book : {history : List Entry} {learnt : List (List ℕ)} {height : ℕ} {txs : List Transaction} {c : ℕ} {knowns : List (Option Known)} {older newer : List Seen} {jobs : List DueClaim}
+    {shown : List (List ℕ)} → AreReady history learnt c knowns older txs → FindsBlock height txs c knowns older newer jobs shown → ReadsBlock history learnt height txs c older newer jobs shown
+reads_by_book ready no_more = none_read
+reads_by_book {history} {learnt} {height} {txs} {c} ready (channel jobs shown one rest) = one_read (reads_channel history learnt height txs c _ _ jobs shown _ ready.0 one) (reads_by_book ready.1 rest)
+
+-- a block was read by the answers, and what it showed is known from then on
+pub after_read : (history : List Entry) (height : ℕ) (txs : List Transaction) (r asked next : Reader) → AreReady history r.learnt 0 asked.knowns r.seen txs → asked ≡ record r { knowns = asked.knowns }
+    → IsRead height txs asked next → IsAfter history height txs (reading_in r) (reading_in next)
+after_read history height txs r asked next ready same is = record {
+  jobs = is.jobs;
+  shown = is.shown;
+  channels = reads_by_book ready (subst (λ (xs : List Seen). FindsBlock height txs 0 asked.knowns xs next.seen is.jobs is.shown) (ap (λ (x : Reader). x.seen) same) is.channels);
+  jobs_are = is.jobs_are ∙ ap (λ (x : Reader). x.jobs ++ is.jobs) same;
+  learnt_is = is.learnt_is ∙ ap (λ (x : Reader). x.learnt ++ is.shown) same;
+}
+
+pub known_read : (history : List Entry) (height : ℕ) (txs : List Transaction) (r asked next : Reader) → AreKnown history r.learnt asked.knowns → asked ≡ record r { knowns = asked.knowns }
+    → IsRead height txs asked next → AreKnown history next.learnt next.knowns
+known_read history height txs r asked next are same is =
+    known_after history r.learnt r.learnt is.shown is.shown next.learnt asked.knowns next.knowns are refl is.knowns_are refl (is.learnt_is ∙ ap (λ (x : Reader). x.learnt ++ is.shown) same)
 
 -- ---- blocks
 
@@ -190,8 +242,8 @@ past_end (x ∷ xs) (suc n) e = let l = past_end xs n e in omega arith
 
 module _ {history : List Entry} {learnt : List (List ℕ)} {height : ℕ} {txs : List Transaction} where
   as_many : {c : ℕ} {older newer : List Seen} {jobs : List DueClaim} {shown : List (List ℕ)} → ReadsBlock history learnt height txs c older newer jobs shown → length newer ≡ length older
-  as_many no_more = refl
-  as_many (channel one rest) = ap suc (as_many rest)
+  as_many none_read = refl
+  as_many (one_read one rest) = ap suc (as_many rest)
 
 pub as_many_after : (history : List Entry) (height : ℕ) (txs : List Transaction) (r next : Reading) → IsAfter history height txs r next → length next.seen ≡ length r.seen
 as_many_after history height txs r next after = as_many after.channels
@@ -229,6 +281,9 @@ is_node_after n more jobs new items seen len read learnt is w j same long l =
       jobs = subst AreWhole (sym j) (all_append (λ x. IsWhole x.claim) n.jobs more is.jobs w);
       taken = is.taken;
     }
+
+split : {A : Type 0} (xs : List A) (i : ℕ) (x : A) → i < length xs → x ≡ get_or xs i x → drop i xs ≡ x ∷ drop (i + 1) xs
+split xs i x l e = drop_more xs i x l ∙ ap (λ y. y ∷ drop (i + 1) xs) (sym e)
 
 -- each line in its turn
 pub put_step : (i : ℕ) (lines lines' : List Line) (line : Line) (s : Seen) (rest seen : List Seen) (whole : List Line) → i < length lines → line ≡ get_or lines i line

@@ -1,11 +1,7 @@
 -- Worlds that do not begin, and small events that were worked out by hand from what each is said to do.
-use Rattle.std.proofs.Common.{◌≡◌, ℕ, true, false, List, [], ◌∷◌, map, replicate, Some, None, refl}
-use Rattle.std.specs.Str.{bytes_eq}
-use Rattle.sha2.specs.Sha256.{sha256}
+use Rattle.std.proofs.Common.{◌≡◌, ℕ, List, [], ◌∷◌, map, replicate, Some, None, refl}
 use Rattle.tx.specs.Fields.{Transaction}
 use Rattle.terms.specs.declared.sides.Side.TheVariants.{A, B}
-use Rattle.keys.specs.declared.compressed.Key.{Key}
-use Rattle.claim.specs.declared.parts.Slot.TheVariants.{Sig, Preimage}
 use Rattle.claim.specs.Claims.{ClaimParts}
 use Rattle.channel.specs.declared.messages.Message.{Message}
 use Rattle.chain.specs.Blocks.{Contents}
@@ -24,7 +20,7 @@ use Rattle.world.specs.declared.outcomes.Outcome.TheVariants.{Looked, Mined as M
 use Rattle.world.specs.Worlds.{World, Node, Line, inboxes, sent_to, received_by}
 use Rattle.world.specs.Beginning.{beginning_refusal, world_error_number}
 use Rattle.world.specs.Releasing.{with_taken}
-use Rattle.world.specs.Looking.{wanted_by, Reading, all_read, block, no_more, back_to}
+use Rattle.world.specs.Looking.{Reading, all_read, block, no_more, back_to}
 use Rattle.world.specs.Steps.{refusal_of, with_waiting, with_released, both_back, happens, refuses, mines, looks, reorganises, Runs, ends, goes_on}
 use Rattle.world.specs.Theorem.{claims_of}
 
@@ -145,15 +141,6 @@ waiting t u v w = refl
 
 released : (t u v : Transaction) (w : World) → (with_released v (record w { pool = t ∷ []; released = u ∷ [] }) ≡ record w { pool = t ∷ v ∷ []; released = u ∷ v ∷ [] })
 released t u v w = refl
-
--- the first preimage of the hash that a slot asks for, of several that are known
-module _ (x y z hash : List ℕ) (key : Key) where
-  first_known : bytes_eq (sha256 x) hash ≡ true → bytes_eq (sha256 y) hash ≡ true → bytes_eq (sha256 z) hash ≡ false
-      → map (λ known. wanted_by known (Preimage hash)) ((x ∷ y ∷ z ∷ []) ∷ (z ∷ y ∷ x ∷ []) ∷ (z ∷ []) ∷ [] ∷ []) ≡ Some x ∷ Some y ∷ None ∷ None ∷ []
-  first_known e f g = rw (e, f, g) refl
-
-  none_wanted : wanted_by (x ∷ y ∷ z ∷ []) (Sig key) ≡ None
-  none_wanted = refl
 
 -- ---- back to a height
 

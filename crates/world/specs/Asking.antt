@@ -1,12 +1,11 @@
 -- What a side has asked its book for as it reads blocks.
-use Rattle.std.specs.Prelude.{◌≡◌, ℕ, ◌<◌, false, List, [], ◌++◌, length, Option, Some, None, slice_get, slice_index_or}
+use Rattle.std.specs.Prelude.{◌≡◌, ℕ, ◌+◌, ◌<◌, false, List, ◌∷◌, length, Option, Some, None, slice_get, slice_index_or}
 use Rattle.tx.specs.Fields.{Transaction}
 use Rattle.resolve.specs.declared.known.Known.{Known}
 use Rattle.watch.specs.Watching.{Seen}
 use Rattle.book.specs.declared.calls.Entry.{Entry}
 use Rattle.book.specs.Books.{replay}
-use Rattle.side.specs.declared.due.DueClaim.{DueClaim}
-use Rattle.world.specs.Looking.{is_closed, Knows, Finds}
+use Rattle.world.specs.Looking.{is_closed, Knows}
 
 -- what is known of a channel is what the side knows, where it was asked; and of each channel
 abbrev pub IfKnown : List Entry → List (List ℕ) → ℕ → Option Known → Type 0
@@ -21,15 +20,7 @@ abbrev pub IsReady : List Entry → List (List ℕ) → ℕ → Seen → List Tr
 IsReady history learnt c seen txs None = is_closed (slice_get (replay history) c) seen txs ≡ false
 IsReady history learnt c seen txs (Some known) = Knows history learnt c known
 
--- what is found by what is known: nothing, where nobody asked
-abbrev pub FindsIf : Option Known → ℕ → List Transaction → ℕ → Seen → Seen → List DueClaim → List (List ℕ) → Type 0
-FindsIf None height txs c older newer jobs shown = (newer ≡ older) × (jobs ≡ []) × (shown ≡ [])
-FindsIf (Some known) height txs c older newer jobs shown = Finds known height txs c older newer jobs shown
-
--- what is known has more preimages
-abbrev pub with_preimages : List (List ℕ) → Known → Known
-with_preimages shown known = record known { preimages = known.preimages ++ shown }
-
-abbrev pub taught : List (List ℕ) → Option Known → Option Known
-taught shown None = None
-taught shown (Some known) = Some (with_preimages shown known)
+-- and so for each channel from a number on
+abbrev pub AreReady : List Entry → List (List ℕ) → ℕ → List (Option Known) → List Seen → List Transaction → Type 0
+AreReady history learnt c (k ∷ knowns) (s ∷ seen) txs = IsReady history learnt c s txs k × AreReady history learnt (c + 1) knowns seen txs
+AreReady history learnt c knowns seen txs = Unit {0}

@@ -1,20 +1,16 @@
 -- What a side finds in the blocks that it has not read.
 use Rattle.std.specs.Prelude.{◌≡◌, ℕ, ◌+◌, Bool, false, List, [], ◌∷◌, ◌++◌, length, map, min, max, reverse, drop, Option, Some, None, slice_get}
-use Rattle.std.specs.List.{find, filter_map}
-use Rattle.std.specs.Str.{bytes_eq}
-use Rattle.sha2.specs.Sha256.{sha256}
 use Rattle.tx.specs.Fields.{Transaction}
-use Rattle.claim.specs.declared.parts.Slot.{Slot}
-use Rattle.claim.specs.declared.parts.Slot.TheVariants.{Preimage}
-use Rattle.claim.specs.Claims.{ClaimParts}
 use Rattle.resolve.specs.declared.known.Known.{Known}
 use Rattle.chain.specs.Blocks.{Contents, height_of}
-use Rattle.watch.specs.Watching.{Seen, is_spent, seen_after, seen_up_to}
-use Rattle.watch.specs.Sights.{IsSight}
+use Rattle.watch.specs.Watching.{Seen, is_spent, seen_up_to}
 use Rattle.book.specs.declared.calls.Entry.{Entry}
 use Rattle.book.specs.Books.{ChannelBook, is_kept, replay}
 use Rattle.book.specs.Knowing.{IsKnownOf, preimages_in}
 use Rattle.side.specs.declared.due.DueClaim.{DueClaim}
+use Rattle.side.specs.declared.reading.ReadParts.{ReadParts}
+use Rattle.side.specs.Due.{Finds}
+use Rattle.side.specs.Reading.{Reader}
 use Rattle.world.specs.Worlds.{Line, Node}
 
 -- ---- one channel
@@ -29,22 +25,6 @@ pub record Knows (history : List Entry) (learnt : List (List ℕ)) (c : ℕ) (kn
 abbrev pub is_closed : Option ChannelBook → Seen → List Transaction → Bool
 is_closed None seen txs = false
 is_closed (Some ch) seen txs = is_spent ch.state.held.terms.funding seen txs
-
--- the first preimage of the hash that a slot asks for, and those of a claim's slots, in their order
-abbrev pub wanted_by : List (List ℕ) → Slot → Option (List ℕ)
-wanted_by preimages (Preimage hash) = find (λ p. bytes_eq (sha256 p) hash) preimages
-wanted_by preimages slot = None
-
--- claims on a channel's outputs as jobs, each with the known preimages that it wants
-abbrev pub jobs_of : ℕ → List (List ℕ) → List ClaimParts → List DueClaim
-jobs_of c preimages claims = map (λ x. record { channel = c; claim = x; preimages = filter_map (wanted_by preimages) x.slots }) claims
-
--- what is found by what is known: what was seen of the channel then, the jobs, and the preimages that the block shows
-pub record Finds (known : Known) (height : ℕ) (txs : List Transaction) (c : ℕ) (older newer : Seen) (jobs : List DueClaim) (shown : List (List ℕ)) : Type 0 where
-  pub claims : List ClaimParts
-  pub sight : IsSight older height txs known claims shown
-  pub seen : newer ≡ seen_after older height txs known
-  pub jobs_are : jobs ≡ jobs_of c known.preimages claims
 
 -- a side reads a block for one channel: a channel that is not closed gives nothing
 pub data ReadsChannel (history : List Entry) (learnt : List (List ℕ)) (height : ℕ) (txs : List Transaction) (c : ℕ) (older : Seen) : Seen → List DueClaim → List (List ℕ) → Type 0 where
@@ -82,6 +62,13 @@ pub data Reads (history : List Entry) : ℕ → List Contents → Reading → Re
       → IsAfter history height (reverse b.transactions) r next → Reads history (height + 1) blocks next done → Reads history height (b ∷ blocks) r done
 
 -- ---- a side
+
+-- what a reader has read, and what it has once it is done
+abbrev pub reading_in : Reader → Reading
+reading_in r = record { seen = r.seen; learnt = r.learnt; jobs = r.jobs }
+
+abbrev pub parts_read : ReadParts → Reading
+parts_read p = record { seen = p.watches.items; learnt = p.learnt.items; jobs = p.due.items }
 
 -- what a side has read before it looks
 abbrev pub reading_of : Node → Reading

@@ -1,143 +1,24 @@
 //! What a side reads in blocks.
 
-ghost use Rattle.std.specs.Prelude.{◌≡◌, ◌<◌, ◌+◌, ◌++◌, [], map, replicate, length, reverse, drop, slice_get, None, IfOk, IfErr, OnOk, OnErr};
-ghost use Rattle.std.specs.List.{AllByRecursion, cons_option, filter_map};
+ghost use Rattle.std.specs.Prelude.{◌≡◌, ◌<◌, ◌+◌, map, length, reverse, drop, slice_get, IfOk, IfErr, OnOk, OnErr};
+ghost use Rattle.std.specs.List.{AllByRecursion};
 ghost use Rattle.claim.specs.Claims.{IsWhole};
-ghost use Rattle.book.specs.Books.{replay};
+ghost use Rattle.book.specs.Books.{replay, fundings_of};
 ghost use Rattle.book.specs.Knowing.{IsKnownIn};
+ghost use Rattle.side.specs.Reading.{begun};
 ghost use Rattle.world.specs.declared.errors.EventError.TheVariants.{NoMemory};
-ghost use Rattle.world.specs.Looking.{is_closed, wanted_by, jobs_of, Knows, Finds, ReadsBlock, IsAfter, Reads, reading_of, with_seen, with_reading, Looks, seen_back_to, back_to};
-ghost use Rattle.world.specs.Asking.{IfKnown, AreKnown, IsReady, FindsIf, taught};
+ghost use Rattle.world.specs.Looking.{IsAfter, Reads, reading_of, reading_in, parts_read, with_seen, with_reading, Looks, seen_back_to, back_to};
+ghost use Rattle.world.specs.Asking.{AreKnown, AreReady};
 
 use crate::errors::EventError;
 use crate::nodes::{Line, Node};
 use book::Book;
 use book::errors::KnowError;
 use chain::{Block, Coins, Index};
-use claim::{Claim, Slot};
-use digest::sha256;
-use lists::List;
 use resolve::Known;
-use side::DueClaim;
+use side::{ReadParts, Reader};
 use std::alloc::{AllocError, Global};
-use std::collections::VecDeque;
-use std::marker::Model;
 use watch::Watch;
-
-/// What a side has read: its watches, by channel, the preimages that it learnt so far, and the claims that the blocks gave. A side takes it over once all is read.
-#[derive(Drop)]
-struct Reading {
-    watches: Vec<Watch>,
-    learnt: Vec<[u8; 32]>,
-    jobs: VecDeque<DueClaim>,
-}
-
-impl Model for Reading {
-    ghost use Rattle.world.specs.Looking.{Reading as ReadingParts};
-
-    ghost Value = { ReadingParts };
-
-    ghost view = { λ r. record { seen = r.watches.items; learnt = r.learnt.items; jobs = r.jobs.items } };
-}
-
-/// What blocks give: claims to be filled, and preimages.
-#[derive(Drop)]
-struct Found {
-    jobs: VecDeque<DueClaim>,
-    learnt: Vec<[u8; 32]>,
-}
-
-// Nothing, which takes no memory.
-fn nothing_found(alloc: Global) -> Found
-    ensures jobs { result.jobs.items ≡ [] }
-    ensures learnt { result.learnt.items ≡ [] }
-{
-    Found {
-        jobs: VecDeque::new(alloc),
-        learnt: Vec::new(alloc),
-    }
-}
-
-// The first of the preimages that a slot asks for.
-fn wanted_by(preimages: &[[u8; 32]], slot: &Slot) -> Option<[u8; 32]>
-    ensures { result ≡ wanted_by preimages.now slot.now }
-{
-    let Slot::Preimage(hash) = slot else {
-        return None;
-    };
-    for preimage in preimages {
-        if sha256(preimage) == *hash {
-            return Some(*preimage);
-        }
-    }
-    None
-}
-
-// Puts a preimage at the end, where there is one.
-fn push_some(preimages: &mut List<[u8; 32]>, preimage: Option<[u8; 32]>) -> Result<(), AllocError>
-    ensures { OnOk result (preimages.new ≡ preimages.old ++ cons_option preimage []) }
-{
-    if let Some(preimage) = preimage {
-        preimages.push(preimage)?;
-    }
-    Ok(())
-}
-
-// The preimages that slots ask for, in their order. The only error is that memory ran out.
-fn wanted_in(
-    alloc: Global,
-    preimages: &[[u8; 32]],
-    slots: &[Slot],
-) -> Result<List<[u8; 32]>, AllocError>
-    ensures { IfOk result (λ w. w ≡ filter_map (wanted_by preimages.now) slots.now) }
-{
-    let mut wanted = List::new(alloc);
-    for slot in slots {
-        push_some(&mut wanted, wanted_by(preimages, slot))?;
-    }
-    Ok(wanted)
-}
-
-// Claims on a channel's outputs as jobs. The only error is that memory ran out.
-fn jobs_of(
-    alloc: Global,
-    channel: u64,
-    preimages: &[[u8; 32]],
-    claims: Vec<Claim>,
-) -> Result<VecDeque<DueClaim>, AllocError>
-    ensures { IfOk result (λ jobs. jobs.items ≡ jobs_of channel preimages.now claims.items) }
-{
-    let mut jobs = VecDeque::new(alloc);
-    for claim in claims {
-        let preimages = wanted_in(alloc, preimages, claim.slots())?;
-        jobs.push_back(DueClaim {
-            channel,
-            claim,
-            preimages,
-        })?;
-    }
-    Ok(jobs)
-}
-
-// Whether a channel is closed by a transaction that was read or that stands in a block.
-fn is_closed(book: &Book, channel: u64, watch: &Watch, block: &Block) -> bool
-    ensures { result ≡ is_closed (slice_get (replay book.now) channel) watch.now (reverse block.now.transactions) }
-{
-    match book.channel(channel) {
-        Some(state) => watch.is_spent(&state.terms().funding, block),
-        None => false,
-    }
-}
-
-// Puts preimages at the end. The only error is that memory ran out.
-fn push_all(preimages: &mut List<[u8; 32]>, more: &[[u8; 32]]) -> Result<(), AllocError>
-    ensures { OnOk result (preimages.new ≡ preimages.old ++ more.now) }
-{
-    for preimage in more {
-        preimages.push(*preimage)?;
-    }
-    Ok(())
-}
 
 // What the book knows of a channel that it has. The only error is that memory ran out.
 fn known_by(book: &Book, channel: u64) -> Result<Known, AllocError>
@@ -151,135 +32,23 @@ fn known_by(book: &Book, channel: u64) -> Result<Known, AllocError>
     }
 }
 
-// What is known of a channel has these preimages too, where it was asked. The only error is that memory ran out.
-fn teach(known: &mut Option<Known>, shown: &[[u8; 32]]) -> Result<(), AllocError>
-    ensures { OnOk result (known.new ≡ taught shown.now known.old) }
-{
-    if let Some(known) = known {
-        push_all(&mut known.preimages, shown)?;
-    }
-    Ok(())
-}
-
-// The book is asked what is known of a channel, where it is closed, and the preimages that blocks showed go to that. The only error is that memory ran out.
-fn ask_where_closed(
+// The book is asked what is known of each channel of which that is to be asked before a block is read. The only error is that memory ran out.
+fn answer_all(
+    alloc: Global,
     book: &Book,
-    channel: u64,
-    learnt: &[[u8; 32]],
-    watch: &Watch,
     block: &Block,
-    known: &mut Option<Known>,
+    reader: &mut Reader,
 ) -> Result<(), AllocError>
-    requires { known.old ≡ None }
-    ensures { OnOk result (IsReady book.now learnt.now channel watch.now (reverse block.now.transactions) known.new) }
+    requires fundings { reader.old.fundings ≡ fundings_of (replay book.now) }
+    requires known { AreKnown book.now reader.old.learnt reader.old.knowns }
+    ensures ready { OnOk result (AreReady book.now reader.old.learnt 0 reader.new.knowns reader.old.seen (reverse block.now.transactions)) }
+    ensures known { OnOk result (AreKnown book.now reader.old.learnt reader.new.knowns) }
+    ensures same { OnOk result (reader.new ≡ record reader.old { knowns = reader.new.knowns }) }
 {
-    let closed = is_closed(book, channel, watch, block);
-    if !closed {
-        return Ok(());
-    }
-    drop(known.replace(known_by(book, channel)?));
-    teach(known, learnt)?;
-    Ok(())
-}
-
-// The book is asked what is known of a channel, where it wasn't yet and the channel is closed. The only error is that memory ran out.
-fn ask(
-    book: &Book,
-    channel: u64,
-    learnt: &[[u8; 32]],
-    watch: &Watch,
-    block: &Block,
-    known: &mut Option<Known>,
-) -> Result<(), AllocError>
-    requires { IfKnown book.now learnt.now channel known.old }
-    ensures { OnOk result (IsReady book.now learnt.now channel watch.now (reverse block.now.transactions) known.new) }
-{
-    match known {
-        Some(_) => Ok(()),
-        None => ask_where_closed(book, channel, learnt, watch, block, known),
-    }
-}
-
-// A watch reads a block by what is known of its channel. The only error is that memory ran out.
-fn look_by(
-    alloc: Global,
-    height: u64,
-    block: &Block,
-    channel: u64,
-    known: &Known,
-    watch: &mut Watch,
-) -> Result<Found, AllocError>
-    ensures { IfOk result (λ f. Finds known.now height (reverse block.now.transactions) channel watch.old watch.new f.jobs.items f.learnt.items) }
-{
-    let sight = watch.look(alloc, height, block, known)?;
-    let jobs = jobs_of(alloc, channel, known.preimages.values(), sight.claims)?;
-    Ok(Found {
-        jobs,
-        learnt: sight.learnt,
-    })
-}
-
-// A side reads a block for one channel: nothing, where nobody asked what is known of it. The only error is that memory ran out.
-fn read_channel(
-    alloc: Global,
-    height: u64,
-    block: &Block,
-    channel: u64,
-    known: &Option<Known>,
-    watch: &mut Watch,
-) -> Result<Found, AllocError>
-    ensures { IfOk result (λ f. FindsIf known.now height (reverse block.now.transactions) channel watch.old watch.new f.jobs.items f.learnt.items) }
-{
-    match known {
-        Some(known) => look_by(alloc, height, block, channel, known, watch),
-        None => Ok(nothing_found(alloc)),
-    }
-}
-
-// Puts more at the end of what was found. The only error is that memory ran out.
-fn add(found: &mut Found, more: Found) -> Result<(), AllocError>
-    ensures jobs { OnOk result (found.new.jobs.items ≡ found.old.jobs.items ++ more.jobs.items) }
-    ensures learnt { OnOk result (found.new.learnt.items ≡ found.old.learnt.items ++ more.learnt.items) }
-{
-    let mut more = more;
-    found.jobs.append(&mut more.jobs)?;
-    found.learnt.append(&mut more.learnt)?;
-    Ok(())
-}
-
-// A side reads a block for all channels, by what it learnt before. The only error is that memory ran out.
-fn read_channels(
-    alloc: Global,
-    book: &Book,
-    learnt: &[[u8; 32]],
-    height: u64,
-    block: &Block,
-    knowns: &mut [Option<Known>],
-    watches: &mut [Watch],
-) -> Result<Found, AllocError>
-    requires same { length knowns.old ≡ length watches.old }
-    requires known { AreKnown book.now learnt.now knowns.old }
-    ensures read { IfOk result (λ f. ReadsBlock book.now learnt.now height (reverse block.now.transactions) 0 watches.old watches.new f.jobs.items f.learnt.items) }
-    ensures known { OnOk result (AreKnown book.now learnt.now knowns.new) }
-{
-    let mut found = nothing_found(alloc);
-    for index in 0..watches.len() {
-        let channel = index as u64;
-        let known = &mut knowns[index];
-        let watch = &mut watches[index];
-        ask(book, channel, learnt, watch, block, known)?;
-        let more = read_channel(alloc, height, block, channel, known, watch)?;
-        add(&mut found, more)?;
-    }
-    Ok(found)
-}
-
-// What is known of each channel has these preimages too. The only error is that memory ran out.
-fn teach_all(knowns: &mut [Option<Known>], shown: &[[u8; 32]]) -> Result<(), AllocError>
-    ensures { OnOk result (knowns.new ≡ map (taught shown.now) knowns.old) }
-{
-    for index in 0..knowns.len() {
-        teach(&mut knowns[index], shown)?;
+    let channels = reader.to_ask(alloc, block)?;
+    for channel in &channels {
+        let known = known_by(book, *channel)?;
+        reader.answer(*channel, known)?;
     }
     Ok(())
 }
@@ -290,27 +59,17 @@ fn read_block(
     book: &Book,
     height: u64,
     block: &Block,
-    knowns: &mut [Option<Known>],
-    reading: &mut Reading,
-) -> Result<(), AllocError>
-    requires same { length knowns.old ≡ length reading.old.seen }
-    requires known { AreKnown book.now reading.old.learnt knowns.old }
-    ensures after { OnOk result (IsAfter book.now height (reverse block.now.transactions) reading.old reading.new) }
-    ensures known { OnOk result (AreKnown book.now reading.new.learnt knowns.new) }
+    reader: Reader,
+) -> Result<Reader, AllocError>
+    requires fundings { reader.fundings ≡ fundings_of (replay book.now) }
+    requires known { AreKnown book.now reader.learnt reader.knowns }
+    ensures after { IfOk result (λ r. IsAfter book.now height (reverse block.now.transactions) (reading_in reader) (reading_in r)) }
+    ensures known { IfOk result (λ r. AreKnown book.now r.learnt r.knowns) }
+    ensures fundings { IfOk result (λ r. r.fundings ≡ reader.fundings) }
 {
-    let mut found = read_channels(
-        alloc,
-        book,
-        &reading.learnt,
-        height,
-        block,
-        knowns,
-        &mut reading.watches,
-    )?;
-    teach_all(knowns, &found.learnt)?;
-    reading.jobs.append(&mut found.jobs)?;
-    reading.learnt.append(&mut found.learnt)?;
-    Ok(())
+    let mut reader = reader;
+    answer_all(alloc, book, block, &mut reader)?;
+    reader.read(alloc, height, block)
 }
 
 // Copies of the watches of all channels. The only error is that memory ran out.
@@ -324,44 +83,29 @@ fn copied_watches(alloc: Global, lines: &[Line]) -> Result<Vec<Watch>, AllocErro
     Ok(watches)
 }
 
-// What a side has read before it looks. The only error is that memory ran out.
-fn reading_of(alloc: Global, me: &Node) -> Result<Reading, AllocError>
-    ensures { IfOk result (λ r. r ≡ reading_of me.now) }
+// What a side has read before it looks, of which nobody asked yet what is known. The only error is that memory ran out.
+fn reader_of(alloc: Global, me: &Node) -> Result<Reader, AllocError>
+    ensures { IfOk result (λ r. r ≡ begun (fundings_of (replay me.now.history)) (map (λ line. line.seen) me.now.lines) me.now.learnt) }
 {
-    let watches = copied_watches(alloc, &me.lines)?;
+    let fundings = me.book.fundings(alloc)?;
     let learnt = Vec::from_slice(alloc, &me.learnt)?;
-    Ok(Reading {
-        watches,
-        learnt,
-        jobs: VecDeque::new(alloc),
-    })
-}
-
-// Of so many channels, nobody asked yet what is known of one. The only error is that memory ran out.
-fn nothing_known(alloc: Global, count: usize) -> Result<Vec<Option<Known>>, AllocError>
-    ensures { IfOk result (λ v. v.items ≡ replicate count None) }
-{
-    let mut knowns = Vec::new(alloc);
-    for _channel in 0..count {
-        knowns.push(None)?;
-    }
-    Ok(knowns)
+    let watches = copied_watches(alloc, &me.lines)?;
+    Reader::new(alloc, fundings, watches, learnt)
 }
 
 // A side reads all blocks that it has not read. The only error is that memory ran out.
-fn read_blocks(alloc: Global, me: &Node, chain: &Index) -> Result<Reading, AllocError>
-    ensures { IfOk result (Reads me.now.history (me.now.read + 1) (drop (me.now.read + 1) (reverse chain.now.blocks)) (reading_of me.now)) }
+fn read_blocks(alloc: Global, me: &Node, chain: &Index) -> Result<Reader, AllocError>
+    ensures { IfOk result (λ r. Reads me.now.history (me.now.read + 1) (drop (me.now.read + 1) (reverse chain.now.blocks)) (reading_of me.now) (reading_in r)) }
 {
-    let mut reading = reading_of(alloc, me)?;
-    let mut knowns = nothing_known(alloc, reading.watches.len())?;
+    let mut reader = reader_of(alloc, me)?;
     for read in me.read..chain.height() {
         let height = read + 1;
         let Some(block) = chain.block_at(height) else {
             unreachable!()
         };
-        read_block(alloc, &me.book, height, block, &mut knowns, &mut reading)?;
+        reader = read_block(alloc, &me.book, height, block, reader)?;
     }
-    Ok(reading)
+    Ok(reader)
 }
 
 // A channel has this watch.
@@ -383,28 +127,19 @@ fn put_watches(lines: &mut [Line], watches: Vec<Watch>)
     }
 }
 
-// What the claims of jobs are, for proofs: accepted ones.
-fn hold_whole_jobs(jobs: &VecDeque<DueClaim>)
-    ensures { AllByRecursion (λ j. IsWhole j.claim) jobs.now.items }
-{
-    for index in 0..jobs.len() {
-        let _ = jobs[index].claim.path();
-    }
-}
-
 // A side takes over what it has read up to a height. The only error is that memory ran out, which leaves it as it was.
-fn take_over(me: &mut Node, height: u64, reading: Reading) -> Result<(), AllocError>
-    requires lines { length reading.seen ≡ length me.old.lines }
-    requires jobs { AllByRecursion (λ j. IsWhole j.claim) reading.jobs }
-    ensures ok { OnOk result (me.new ≡ with_reading height reading me.old) }
+fn take_over(me: &mut Node, height: u64, parts: ReadParts) -> Result<(), AllocError>
+    requires lines { length parts.watches.items ≡ length me.old.lines }
+    requires jobs { AllByRecursion (λ j. IsWhole j.claim) parts.due.items }
+    ensures ok { OnOk result (me.new ≡ with_reading height (parts_read parts) me.old) }
     ensures err { OnErr result (me.new ≡ me.old) }
 {
-    let Reading {
+    let ReadParts {
         watches,
         learnt,
-        mut jobs,
-    } = reading;
-    me.jobs.append(&mut jobs)?;
+        mut due,
+    } = parts;
+    me.jobs.append(&mut due)?;
     me.learnt = learnt;
     put_watches(&mut me.lines, watches);
     me.read = me.read.max(height);
@@ -419,10 +154,9 @@ pub(crate) fn look(alloc: Global, me: &mut Node, chain: &Index) -> Result<u64, E
     ensures memory { IfErr result (λ e. e ≡ NoMemory) }
     ensures err { OnErr result (me.new ≡ me.old) }
 {
-    let reading = read_blocks(alloc, me, chain)?;
-    let count = reading.jobs.len() as u64;
-    hold_whole_jobs(&reading.jobs);
-    take_over(me, chain.height(), reading)?;
+    let parts = read_blocks(alloc, me, chain)?.into_parts();
+    let count = parts.due.len() as u64;
+    take_over(me, chain.height(), parts)?;
     Ok(count)
 }
 

@@ -2,8 +2,8 @@ use Rattle.std.proofs.Common.{Option, sym, ap, ◌∙◌, arith}
 use Rattle.std.specs.Prelude.{slice_set}
 use Rattle.std.proofs.lemmas.List.Edits.{map_over_more}
 use Rattle.resolve.specs.declared.known.Known.{Known}
-use Rattle.world.specs.Asking.{taught}
-use Rattle.world.proofs.looking.teach_all.Goals as goal
+use Rattle.side.specs.Due.{taught}
+use Rattle.side.proofs.reading.teach_all.Goals as goal
 
 pub loop-index-preserved : goal.loop-index-preserved
 loop-index-preserved c =

@@ -1,0 +1,48 @@
+-- What is due in a block by what is known of a channel.
+use Rattle.std.specs.Prelude.{◌≡◌, ℕ, List, [], ◌++◌, map, Option, Some, None}
+use Rattle.std.specs.List.{find, filter_map}
+use Rattle.std.specs.Str.{bytes_eq}
+use Rattle.sha2.specs.Sha256.{sha256}
+use Rattle.tx.specs.Fields.{Transaction}
+use Rattle.claim.specs.declared.parts.Slot.{Slot}
+use Rattle.claim.specs.declared.parts.Slot.TheVariants.{Preimage}
+use Rattle.claim.specs.Claims.{ClaimParts}
+use Rattle.resolve.specs.declared.known.Known.{Known}
+use Rattle.watch.specs.Watching.{Seen, seen_after}
+use Rattle.watch.specs.Sights.{IsSight}
+use Rattle.side.specs.declared.due.DueClaim.{DueClaim}
+
+-- ---- claims
+
+-- the first preimage of the hash that a slot asks for, and those of a claim's slots, in their order
+abbrev pub wanted_by : List (List ℕ) → Slot → Option (List ℕ)
+wanted_by preimages (Preimage hash) = find (λ p. bytes_eq (sha256 p) hash) preimages
+wanted_by preimages slot = None
+
+-- claims on a channel's outputs as due claims, each with the known preimages that it wants
+abbrev pub due_claims_of : ℕ → List (List ℕ) → List ClaimParts → List DueClaim
+due_claims_of c preimages claims = map (λ x. record { channel = c; claim = x; preimages = filter_map (wanted_by preimages) x.slots }) claims
+
+-- ---- one channel
+
+-- what is found by what is known: what was seen of the channel then, the due claims, and the preimages that the block shows
+pub record Finds (known : Known) (height : ℕ) (txs : List Transaction) (c : ℕ) (older newer : Seen) (jobs : List DueClaim) (shown : List (List ℕ)) : Type 0 where
+  pub claims : List ClaimParts
+  pub sight : IsSight older height txs known claims shown
+  pub seen : newer ≡ seen_after older height txs known
+  pub jobs_are : jobs ≡ due_claims_of c known.preimages claims
+
+-- the same, or nothing, where nobody asked
+abbrev pub FindsIf : Option Known → ℕ → List Transaction → ℕ → Seen → Seen → List DueClaim → List (List ℕ) → Type 0
+FindsIf None height txs c older newer jobs shown = (newer ≡ older) × (jobs ≡ []) × (shown ≡ [])
+FindsIf (Some known) height txs c older newer jobs shown = Finds known height txs c older newer jobs shown
+
+-- ---- what is known
+
+-- what is known has more preimages
+abbrev pub with_preimages : List (List ℕ) → Known → Known
+with_preimages shown known = record known { preimages = known.preimages ++ shown }
+
+abbrev pub taught : List (List ℕ) → Option Known → Option Known
+taught shown None = None
+taught shown (Some known) = Some (with_preimages shown known)

@@ -1,0 +1,379 @@
+//! The reading of blocks, in two halves: what is to be asked before a block is read, and what is read by the answers.
+
+ghost use Rattle.std.specs.Prelude.{◌≡◌, if◌then◌else◌, ◌∷◌, ◌++◌, [], map, replicate, length, reverse, None, IfOk, OnOk};
+ghost use Rattle.std.specs.List.{AllByRecursion, cons_option, filter_map};
+ghost use Rattle.claim.specs.Claims.{IsWhole};
+ghost use Rattle.side.specs.Due.{wanted_by, due_claims_of, Finds, FindsIf, taught, with_preimages};
+ghost use Rattle.side.specs.Reading.{is_to_ask, FindsBlock};
+
+use crate::due::DueClaim;
+use chain::Block;
+use claim::{Claim, Slot};
+use digest::sha256;
+use lists::List;
+use resolve::Known;
+use std::alloc::{AllocError, Global};
+use std::collections::VecDeque;
+use std::marker::Model;
+use tx::OutPoint;
+use watch::Watch;
+
+/// A reader of blocks for all channels of a node. By channel it has the funding output, the watch, and what is known of the channel, where that was answered; beside these the preimages that
+/// blocks showed so far, and the claims that they made due.
+///
+/// Before it reads a block, [`to_ask`](Reader::to_ask) says of which channels it wants to know more, and each is answered: a channel that nobody answered is read as one that stands.
+#[derive(Drop)]
+pub struct Reader {
+    fundings: Vec<OutPoint>,
+    watches: Vec<Watch>,
+    knowns: Vec<Option<Known>>,
+    learnt: Vec<[u8; 32]>,
+    due: VecDeque<DueClaim>,
+}
+
+impl Model for Reader {
+    ghost use Rattle.side.specs.Reading.{Reader as ReaderParts, IsInStep};
+
+    ghost Value = { ReaderParts };
+
+    ghost view = { λ r. record { fundings = r.fundings.items; seen = r.watches.items; knowns = r.knowns.items; learnt = r.learnt.items; jobs = r.due.items } };
+
+    ghost invariant = { λ r. IsInStep (record { fundings = r.fundings.items; seen = r.watches.items; knowns = r.knowns.items; learnt = r.learnt.items; jobs = r.due.items }) };
+}
+
+/// What a reader has once it is done.
+#[derive(Drop)]
+pub struct ReadParts {
+    /// By channel.
+    pub watches: Vec<Watch>,
+    /// The preimages that blocks showed, those that the reader began with first.
+    pub learnt: Vec<[u8; 32]>,
+    /// The claims that the blocks made due, in their order.
+    pub due: VecDeque<DueClaim>,
+}
+
+/// What blocks give: claims to be filled, and preimages.
+#[derive(Drop)]
+struct Found {
+    due: VecDeque<DueClaim>,
+    learnt: Vec<[u8; 32]>,
+}
+
+// Nothing, which takes no memory.
+fn nothing_found(alloc: Global) -> Found
+    ensures due { result.due.items ≡ [] }
+    ensures learnt { result.learnt.items ≡ [] }
+{
+    Found {
+        due: VecDeque::new(alloc),
+        learnt: Vec::new(alloc),
+    }
+}
+
+// The first of the preimages that a slot asks for.
+fn wanted_by(preimages: &[[u8; 32]], slot: &Slot) -> Option<[u8; 32]>
+    ensures { result ≡ wanted_by preimages.now slot.now }
+{
+    let Slot::Preimage(hash) = slot else {
+        return None;
+    };
+    for preimage in preimages {
+        if sha256(preimage) == *hash {
+            return Some(*preimage);
+        }
+    }
+    None
+}
+
+// Puts a preimage at the end, where there is one.
+fn push_some(preimages: &mut List<[u8; 32]>, preimage: Option<[u8; 32]>) -> Result<(), AllocError>
+    ensures { OnOk result (preimages.new ≡ preimages.old ++ cons_option preimage []) }
+{
+    if let Some(preimage) = preimage {
+        preimages.push(preimage)?;
+    }
+    Ok(())
+}
+
+// The preimages that slots ask for, in their order. The only error is that memory ran out.
+fn wanted_in(
+    alloc: Global,
+    preimages: &[[u8; 32]],
+    slots: &[Slot],
+) -> Result<List<[u8; 32]>, AllocError>
+    ensures { IfOk result (λ w. w ≡ filter_map (wanted_by preimages.now) slots.now) }
+{
+    let mut wanted = List::new(alloc);
+    for slot in slots {
+        push_some(&mut wanted, wanted_by(preimages, slot))?;
+    }
+    Ok(wanted)
+}
+
+// Claims on a channel's outputs as due claims. The only error is that memory ran out.
+fn due_claims_of(
+    alloc: Global,
+    channel: u64,
+    preimages: &[[u8; 32]],
+    claims: Vec<Claim>,
+) -> Result<VecDeque<DueClaim>, AllocError>
+    ensures { IfOk result (λ due. due.items ≡ due_claims_of channel preimages.now claims.items) }
+{
+    let mut due = VecDeque::new(alloc);
+    for claim in claims {
+        let preimages = wanted_in(alloc, preimages, claim.slots())?;
+        due.push_back(DueClaim {
+            channel,
+            claim,
+            preimages,
+        })?;
+    }
+    Ok(due)
+}
+
+// Puts preimages at the end. The only error is that memory ran out.
+fn push_all(preimages: &mut List<[u8; 32]>, more: &[[u8; 32]]) -> Result<(), AllocError>
+    ensures { OnOk result (preimages.new ≡ preimages.old ++ more.now) }
+{
+    for preimage in more {
+        preimages.push(*preimage)?;
+    }
+    Ok(())
+}
+
+// What is known of a channel, with these preimages too. The only error is that memory ran out.
+fn with_preimages(shown: &[[u8; 32]], known: Known) -> Result<Known, AllocError>
+    ensures { IfOk result (λ k. k ≡ with_preimages shown.now known) }
+{
+    let mut known = known;
+    push_all(&mut known.preimages, shown)?;
+    Ok(known)
+}
+
+// What is known of a channel has these preimages too, where it was asked. The only error is that memory ran out.
+fn teach(known: &mut Option<Known>, shown: &[[u8; 32]]) -> Result<(), AllocError>
+    ensures { OnOk result (known.new ≡ taught shown.now known.old) }
+{
+    if let Some(known) = known {
+        push_all(&mut known.preimages, shown)?;
+    }
+    Ok(())
+}
+
+// What is known of each channel has these preimages too. The only error is that memory ran out.
+fn teach_all(knowns: &mut [Option<Known>], shown: &[[u8; 32]]) -> Result<(), AllocError>
+    ensures { OnOk result (knowns.new ≡ map (taught shown.now) knowns.old) }
+{
+    for index in 0..knowns.len() {
+        teach(&mut knowns[index], shown)?;
+    }
+    Ok(())
+}
+
+// Whether it is to be asked what is known of a channel, before a block is read.
+fn is_to_ask(funding: &OutPoint, watch: &Watch, known: &Option<Known>, block: &Block) -> bool
+    ensures { result ≡ is_to_ask funding.now watch.now known.now (reverse block.now.transactions) }
+{
+    match known {
+        Some(_) => false,
+        None => watch.is_spent(funding, block),
+    }
+}
+
+// A watch reads a block by what is known of its channel. The only error is that memory ran out.
+fn look_by(
+    alloc: Global,
+    height: u64,
+    block: &Block,
+    channel: u64,
+    known: &Known,
+    watch: &mut Watch,
+) -> Result<Found, AllocError>
+    ensures { IfOk result (λ f. Finds known.now height (reverse block.now.transactions) channel watch.old watch.new f.due.items f.learnt.items) }
+{
+    let sight = watch.look(alloc, height, block, known)?;
+    let due = due_claims_of(alloc, channel, known.preimages.values(), sight.claims)?;
+    Ok(Found {
+        due,
+        learnt: sight.learnt,
+    })
+}
+
+// A block is read for one channel: nothing, where nobody asked what is known of it. The only error is that memory ran out.
+fn read_channel(
+    alloc: Global,
+    height: u64,
+    block: &Block,
+    channel: u64,
+    known: &Option<Known>,
+    watch: &mut Watch,
+) -> Result<Found, AllocError>
+    ensures { IfOk result (λ f. FindsIf known.now height (reverse block.now.transactions) channel watch.old watch.new f.due.items f.learnt.items) }
+{
+    match known {
+        Some(known) => look_by(alloc, height, block, channel, known, watch),
+        None => Ok(nothing_found(alloc)),
+    }
+}
+
+// Puts more at the end of what was found. The only error is that memory ran out.
+fn add(found: &mut Found, more: Found) -> Result<(), AllocError>
+    ensures due { OnOk result (found.new.due.items ≡ found.old.due.items ++ more.due.items) }
+    ensures learnt { OnOk result (found.new.learnt.items ≡ found.old.learnt.items ++ more.learnt.items) }
+{
+    let mut more = more;
+    found.due.append(&mut more.due)?;
+    found.learnt.append(&mut more.learnt)?;
+    Ok(())
+}
+
+// A block is read for all channels, by what is known of each. The only error is that memory ran out.
+fn read_channels(
+    alloc: Global,
+    height: u64,
+    block: &Block,
+    knowns: &[Option<Known>],
+    watches: &mut [Watch],
+) -> Result<Found, AllocError>
+    requires { length knowns.now ≡ length watches.old }
+    ensures { IfOk result (λ f. FindsBlock height (reverse block.now.transactions) 0 knowns.now watches.old watches.new f.due.items f.learnt.items) }
+{
+    let mut found = nothing_found(alloc);
+    for index in 0..watches.len() {
+        let channel = index as u64;
+        let known = &knowns[index];
+        let watch = &mut watches[index];
+        let more = read_channel(alloc, height, block, channel, known, watch)?;
+        add(&mut found, more)?;
+    }
+    Ok(found)
+}
+
+// Of so many channels, nobody asked yet what is known of one. The only error is that memory ran out.
+fn nothing_known(alloc: Global, count: usize) -> Result<Vec<Option<Known>>, AllocError>
+    ensures { IfOk result (λ v. v.items ≡ replicate count None) }
+{
+    let mut knowns = Vec::new(alloc);
+    for _channel in 0..count {
+        knowns.push(None)?;
+    }
+    Ok(knowns)
+}
+
+// What the claims of due claims are, for proofs: accepted ones.
+fn hold_whole(due: &VecDeque<DueClaim>)
+    ensures { AllByRecursion (λ j. IsWhole j.claim) due.now.items }
+{
+    for index in 0..due.len() {
+        let _ = due[index].claim.path();
+    }
+}
+
+// Puts a number at the end, where a test holds.
+fn push_if(numbers: &mut Vec<u64>, number: u64, holds: bool) -> Result<(), AllocError>
+    ensures { OnOk result (numbers.new.items ≡ numbers.old.items ++ (if holds then number ∷ [] else [])) }
+{
+    if holds {
+        numbers.push(number)?;
+    }
+    Ok(())
+}
+
+impl Reader {
+    ghost use Rattle.std.specs.Prelude.{◌≡◌, ◌<◌, length, reverse, IfOk, OnOk, OnErr};
+    ghost use Rattle.std.specs.List.{All, AllByRecursion};
+    ghost use Rattle.claim.specs.Claims.{IsWhole};
+    ghost use Rattle.side.specs.Reading.{IsInStep, begun, numbers_to_ask, with_answer, IsRead};
+
+    /// A reader that has read nothing yet, from the funding outputs and the watches by channel, of which there are as many, and the preimages that blocks showed before. The only error is that
+    /// memory ran out.
+    pub fn new(
+        alloc: Global,
+        fundings: Vec<OutPoint>,
+        watches: Vec<Watch>,
+        learnt: Vec<[u8; 32]>,
+    ) -> Result<Reader, AllocError>
+        requires { length fundings.items ≡ length watches.items }
+        ensures { IfOk result (λ r. r ≡ begun fundings.items watches.items learnt.items) }
+    {
+        let knowns = nothing_known(alloc, watches.len())?;
+        Ok(Reader {
+            fundings,
+            watches,
+            knowns,
+            learnt,
+            due: VecDeque::new(alloc),
+        })
+    }
+
+    /// The channels, rising, of which it is to be asked what is known before a block is read: nobody answered yet, and a transaction that spends the funding output was read or stands in the
+    /// block. The only error is that memory ran out.
+    pub fn to_ask(&self, alloc: Global, block: &Block) -> Result<Vec<u64>, AllocError>
+        ensures exact { IfOk result (λ v. v.items ≡ numbers_to_ask 0 self.now.fundings self.now.seen self.now.knowns (reverse block.now.transactions)) }
+        ensures within { IfOk result (λ v. All (λ c. c < length self.now.seen) v.items) }
+        ensures in_step { IsInStep self.now }
+    {
+        let mut channels = Vec::new(alloc);
+        for index in 0..self.watches.len() {
+            let funding = &self.fundings[index];
+            let asks = is_to_ask(funding, &self.watches[index], &self.knowns[index], block);
+            push_if(&mut channels, index as u64, asks)?;
+        }
+        Ok(channels)
+    }
+
+    /// Takes what is known of a channel, to which the preimages go that blocks showed so far. The only error is that memory ran out, which leaves the reader as it was.
+    pub fn answer(&mut self, channel: u64, known: Known) -> Result<(), AllocError>
+        requires { channel < length self.old.seen }
+        ensures ok { OnOk result (self.new ≡ with_answer channel known self.old) }
+        ensures err { OnErr result (self.new ≡ self.old) }
+    {
+        let known = with_preimages(&self.learnt, known)?;
+        drop(self.knowns[channel as usize].replace(known));
+        Ok(())
+    }
+
+    // The same as `read`, in place: after a refusal the reader is of no more use.
+    fn read_on(&mut self, alloc: Global, height: u64, block: &Block) -> Result<(), AllocError>
+        ensures { OnOk result (IsRead height (reverse block.now.transactions) self.old self.new) }
+    {
+        let mut found = read_channels(alloc, height, block, &self.knowns, &mut self.watches)?;
+        teach_all(&mut self.knowns, &found.learnt)?;
+        self.due.append(&mut found.due)?;
+        self.learnt.append(&mut found.learnt)?;
+        Ok(())
+    }
+
+    /// Reads the block at a height, above the blocks that it read before, by what was answered of each channel: what is due comes to the due claims, each with the preimages that its slots want,
+    /// where they are known. What the block shows is known of all channels from the next block on. The only error is that memory ran out, which lets the reader go.
+    pub fn read(self, alloc: Global, height: u64, block: &Block) -> Result<Reader, AllocError>
+        ensures { IfOk result (IsRead height (reverse block.now.transactions) self) }
+    {
+        let mut reader = self;
+        match reader.read_on(alloc, height, block) {
+            Ok(()) => Ok(reader),
+            Err(error) => Err(error),
+        }
+    }
+
+    /// What it has once it is done. The claims are accepted ones.
+    pub fn into_parts(self) -> ReadParts
+        ensures watches { result.watches.items ≡ self.seen }
+        ensures learnt { result.learnt.items ≡ self.learnt }
+        ensures due { result.due.items ≡ self.jobs }
+        ensures whole { AllByRecursion (λ j. IsWhole j.claim) result.due.items }
+    {
+        hold_whole(&self.due);
+        let Reader {
+            watches,
+            learnt,
+            due,
+            ..
+        } = self;
+        ReadParts {
+            watches,
+            learnt,
+            due,
+        }
+    }
+}
