@@ -1,4 +1,4 @@
-//! Tests of what is due on the chain and of the watch that finds it: `resolve` and `watch`. They stand apart so that each library is proved
+//! Tests of what is due on the chain and of the watch and the reader that find it: `resolve`, `watch` and `side`. They stand apart so that each library is proved
 //! without them.
 #![tactic(auto)]
 
@@ -8,5 +8,7 @@ mod fixtures;
 mod knowledge;
 #[cfg(test)]
 mod lookouts;
+#[cfg(test)]
+mod readers;
 #[cfg(test)]
 mod watches;

@@ -1,6 +1,6 @@
 -- What a side reads in blocks, channel by channel.
 use Rattle.std.proofs.Common.{◌≡◌, ℕ, zero, suc, ◌+◌, ◌<◌, ◌≤◌, Bool, true, false, if◌then◌else◌, List, [], ◌∷◌, ◌++◌, map, take, drop, set, get_or, replicate, length, reverse, Option, Some, None, refl, sym, ap, subst, ◌∙◌, arith, zero-add, add-zero, add-one, append_assoc}
-use Rattle.std.specs.Prelude.{slice_get}
+use Rattle.std.specs.Prelude.{slice_get, Result, Ok, Err, IfOk}
 use Rattle.std.specs.List.{AllByRecursion}
 use Rattle.std.proofs.lemmas.List.{drop_all, drop_more, drop-set-lt, take_more_set, get_or-map, get_or-replicate, length-map, length-replicate, take-append-drop}
 use Rattle.std.proofs.lemmas.Option.{none-some, same_Some}
@@ -15,10 +15,11 @@ use Rattle.book.specs.declared.calls.Entry.{Entry}
 use Rattle.book.specs.Books.{ChannelBook, is_kept, replay, fundings_of}
 use Rattle.book.specs.Knowing.{IsKnownOf, IsKnownIn, preimages_in}
 use Rattle.side.specs.declared.due.DueClaim.{DueClaim}
+use Rattle.side.specs.declared.reading.ReadParts.{ReadParts}
 use Rattle.side.specs.Due.{FindsIf, with_preimages, taught}
 use Rattle.side.specs.Reading.{Reader, is_to_ask, numbers_to_ask, with_answer, FindsBlock, no_more, channel, IsRead}
 use Rattle.world.specs.Worlds.{Line, Node, IsNode}
-use Rattle.world.specs.Looking.{Knows, is_closed, ReadsChannel, quiet, sees, ReadsBlock, no_more as none_read, channel as one_read, Reading, IsAfter, Reads, all_read, block, reading_of, reading_in, with_seen}
+use Rattle.world.specs.Looking.{Knows, is_closed, ReadsChannel, quiet, sees, ReadsBlock, no_more as none_read, channel as one_read, Reading, IsAfter, Reads, all_read, block, reading_of, reading_in, parts_read, with_seen}
 use Rattle.world.specs.Asking.{IfKnown, AreKnown, IsReady, AreReady}
 use Rattle.world.proofs.Whole.{all_append}
 
@@ -72,13 +73,9 @@ set_keeps P (x ∷ xs) zero y each here (suc c) l d = each (suc c) l d
 set_keeps P (x ∷ xs) (suc i) y each here zero l d = each zero (omega arith) d
 set_keeps P (x ∷ xs) (suc i) y each here (suc c) l d = set_keeps (λ n. P (suc n)) xs i y (λ k m e. each (suc k) (omega (arith, m)) e) here c (omega (arith, l)) d
 
-ready_known : (history : List Entry) (learnt : List (List ℕ)) (c : ℕ) (seen : Seen) (txs : List Transaction) (o : Option Known) → IsReady history learnt c seen txs o → IfKnown history learnt c o
-ready_known history learnt c seen txs None is = tt
-ready_known history learnt c seen txs (Some k) is = is
-
-pub known_then : (history : List Entry) (learnt : List (List ℕ)) (knowns : List (Option Known)) (c : ℕ) (seen : Seen) (txs : List Transaction) (o : Option Known) → AreKnown history learnt knowns
-    → IsReady history learnt c seen txs o → AreKnown history learnt (set knowns c o)
-known_then history learnt knowns c seen txs o are ready = set_keeps (IfKnown history learnt) knowns c o are (ready_known history learnt c seen txs o ready)
+known_then : (history : List Entry) (learnt : List (List ℕ)) (knowns : List (Option Known)) (c : ℕ) (known : Known) → AreKnown history learnt knowns → Knows history learnt c known
+    → AreKnown history learnt (set knowns c (Some known))
+known_then history learnt knowns c known are is = set_keeps (IfKnown history learnt) knowns c (Some known) are is
 
 -- ---- one channel
 
@@ -137,6 +134,18 @@ answered r next txs n rest left known l e w =
     let after = asked_then 0 r.fundings r.seen r.knowns txs n n rest (with_preimages r.learnt known) (omega arith) (sym e ∙ l) in
     sym after ∙ ap (λ (x : Reader). numbers_to_ask 0 x.fundings x.seen x.knowns txs) (sym w)
 
+-- nothing but what is known changes
+pub answered_same : (first r next : Reader) (n : ℕ) (known : Known) → r ≡ record first { knowns = r.knowns } → next ≡ with_answer n known r → next ≡ record first { knowns = next.knowns }
+answered_same first r next n known e w =
+    let is : next ≡ with_answer n known (record first { knowns = r.knowns }) = w ∙ ap (with_answer n known) e in is ∙ sym (ap (λ (x : Reader). record first { knowns = x.knowns }) is)
+
+-- what the book tells is what the side knows
+pub answered_known : (history : List Entry) (r next : Reader) (n : ℕ) (known : Known) → AreKnown history r.learnt r.knowns
+    → IsKnownIn history n (slice_get (replay history) n) known → next ≡ with_answer n known r → AreKnown history next.learnt next.knowns
+answered_known history r next n known are is w =
+    let told = knows history r.learnt n known (slice_get (replay history) n) refl is in
+    subst (λ (x : Reader). AreKnown history x.learnt x.knowns) (sym w) (known_then history r.learnt r.knowns n (with_preimages r.learnt known) are told)
+
 -- where none is left, each channel is ready
 none_asked : (b : Bool) (c : ℕ) (xs : List ℕ) → (if b then c ∷ xs else xs) ≡ [] → (b ≡ false) × (xs ≡ [])
 none_asked true c xs e = absurd (cc)
@@ -191,6 +200,11 @@ pub reads_by_book : {history : List Entry} {learnt : List (List ℕ)} {height : 
     {shown : List (List ℕ)} → AreReady history learnt c knowns older txs → FindsBlock height txs c knowns older newer jobs shown → ReadsBlock history learnt height txs c older newer jobs shown
 reads_by_book ready no_more = none_read
 reads_by_book {history} {learnt} {height} {txs} {c} ready (channel jobs shown one rest) = one_read (reads_channel history learnt height txs c _ _ jobs shown _ ready.0 one) (reads_by_book ready.1 rest)
+
+-- what follows from each result that is Ok
+pub if_ok_then : {A E : Type 0} (P Q : A → Type 0) (result : Result A E) → ((a : A) → P a → Q a) → IfOk result P → IfOk result Q
+if_ok_then P Q (Ok a) f h = f a h
+if_ok_then P Q (Err e) f h = tt
 
 -- a block was read by the answers, and what it showed is known from then on
 pub after_read : (history : List Entry) (height : ℕ) (txs : List Transaction) (r asked next : Reader) → AreReady history r.learnt 0 asked.knowns r.seen txs → asked ≡ record r { knowns = asked.knowns }
@@ -251,6 +265,10 @@ as_many_after history height txs r next after = as_many after.channels
 as_many_reads : {history : List Entry} {height : ℕ} {blocks : List Contents} {r done : Reading} → Reads history height blocks r done → length done.seen ≡ length r.seen
 as_many_reads all_read = refl
 as_many_reads (block after rest) = as_many_reads rest ∙ as_many after.channels
+
+-- what a reader has once it is done is what it has read
+pub parts_are : (p : ReadParts) (r : Reader) → p.watches.items ≡ r.seen → p.learnt.items ≡ r.learnt → p.due.items ≡ r.jobs → parts_read p ≡ reading_in r
+parts_are p r s l j = rw (s, l, j) refl
 
 -- what was read from a side on is of each of its channels
 pub each_line : (n : Node) (height : ℕ) (blocks : List Contents) (r : Reading) → Reads n.history height blocks (reading_of n) r → length r.seen ≡ length n.lines

@@ -1,16 +1,26 @@
-use Rattle.std.proofs.Common.{rules, ◌+◌, ap, ◌∙◌}
-use Rattle.world.specs.Looking.{with_reading}
-use Rattle.world.proofs.Readings.{each_line}
+use Rattle.std.proofs.Common.{rules, ◌≡◌, ◌+◌, length, ap, ◌∙◌}
+use Rattle.chain.specs.Blocks.{height_of}
+use Rattle.world.specs.Looking.{Reading, reading_in, parts_read, with_reading}
+use Rattle.world.proofs.Readings.{each_line, parts_are}
 use Rattle.world.proofs.looking.look.Goals as goal
 
 pub take_over-requires-clause-lines : goal.take_over-requires-clause-lines
 take_over-requires-clause-lines c =
-    let me = c.args.me.now in each_line me (me.read + 1) _ c.in_ok-reading.reading c.in_ok-reading.ensures
+    let me = c.args.me.now in
+    let reader = c.in_ok-read_blocks.field-0 in
+    ap length c.into_parts-parts.ensures.watches ∙ each_line me (me.read + 1) _ (reading_in reader) c.in_ok-read_blocks.ensures
 
 pub returns-clause-looks : goal.returns-clause-looks
-returns-clause-looks c = record {
-  found = c.in_ok-reading.reading;
-  reads = c.in_ok-reading.ensures;
-  after = c.in_ok-take_over.ensures.ok ∙ ap (λ n. with_reading n c.in_ok-reading.reading c.args.me.now) c.height.ensures;
-  count = search rules;
-}
+returns-clause-looks c =
+    let reader = c.in_ok-read_blocks.field-0 in
+    let parts = c.into_parts-parts.result in
+    let same = parts_are parts reader c.into_parts-parts.ensures.watches c.into_parts-parts.ensures.learnt c.into_parts-parts.ensures.due in
+    record {
+      found = reading_in reader;
+      reads = c.in_ok-read_blocks.ensures;
+      after =
+          c.in_ok-take_over.ensures.ok
+          ∙ ap (λ n. with_reading n (parts_read parts) c.args.me.now) c.height.ensures
+          ∙ ap (λ (r : Reading). with_reading (height_of c.args.chain.now.blocks) r c.args.me.now) same;
+      count = search (rules, ap (λ (r : Reading). length r.jobs) same);
+    }

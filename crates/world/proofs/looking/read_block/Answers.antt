@@ -1,22 +1,31 @@
-use Rattle.std.proofs.Common.{◌≡◌, length, reverse, subst, arith}
-use Rattle.std.specs.Vec.{with_items}
-use Rattle.std.proofs.lemmas.List.{with_items_is}
-use Rattle.world.specs.Looking.{Reading, IsAfter}
-use Rattle.world.proofs.Readings.{after_block, known_after}
+use Rattle.std.proofs.Common.{◌≡◌, reverse, ap, ◌∙◌}
+use Rattle.side.specs.Reading.{Reader, IsRead}
+use Rattle.world.specs.Looking.{IsAfter, reading_in}
+use Rattle.world.specs.Asking.{AreKnown}
+use Rattle.world.proofs.Readings.{after_read, known_read, if_ok_then}
 use Rattle.world.proofs.looking.read_block.Goals as goal
 
 pub returns-clause-after : goal.returns-clause-after
 returns-clause-after c =
-    let i = c.reading.inside in
-    let r : Reading = record { seen = i.watches.items; learnt = i.learnt.items; jobs = i.jobs.items } in
-    let next : Reading = record { seen = (with_items i.watches c.read_channels.new.watches).items; learnt = c.append-2.new.self.items; jobs = c.append.new.self.items } in
-    let as_long : length c.read_channels.new.watches ≡ i.watches.len = omega arith in
-    subst (λ (x : Reading). IsAfter c.args.book.now c.args.height (reverse c.args.block.now.transactions) x next) c.reading.view_is
-    (after_block c.args.book.now c.args.height (reverse c.args.block.now.transactions) r next c.deref.result.now c.deref_mut.result.now c.read_channels.new.watches c.in_ok-found.found.jobs.items
-    c.in_ok-found.found.learnt.items c.in_ok-found.ensures.read c.deref.ensures.value c.deref_mut.ensures.value (with_items_is i.watches c.read_channels.new.watches as_long)
-    c.in_ok-append.ensures.items c.in_ok-append-2.ensures.items)
+    let history = c.args.book.now in
+    let txs = reverse c.args.block.now.transactions in
+    let r = c.args.reader in
+    let asked = c.answer_all.new.reader in
+    if_ok_then (IsRead c.args.height txs asked) (λ (n : Reader). IsAfter history c.args.height txs (reading_in r) (reading_in n)) c.read.result
+    (λ n is. after_read history c.args.height txs r asked n c.in_ok-answer_all.ensures.ready c.in_ok-answer_all.ensures.same is) c.read.ensures
 
 pub returns-clause-known : goal.returns-clause-known
 returns-clause-known c =
-    known_after c.args.book.now c.deref.result.now c.reading.inside.learnt.items c.in_ok-found.found.learnt.items c.deref-2.result.now c.append-2.new.self.items c.read_channels.new.knowns
-    c.teach_all.new.knowns c.in_ok-found.ensures.known c.deref.ensures.value c.in_ok-teach_all.ensures c.deref-2.ensures.value c.in_ok-append-2.ensures.items
+    let history = c.args.book.now in
+    let txs = reverse c.args.block.now.transactions in
+    let r = c.args.reader in
+    let asked = c.answer_all.new.reader in
+    if_ok_then (IsRead c.args.height txs asked) (λ (n : Reader). AreKnown history n.learnt n.knowns) c.read.result
+    (λ n is. known_read history c.args.height txs r asked n c.in_ok-answer_all.ensures.known c.in_ok-answer_all.ensures.same is) c.read.ensures
+
+pub returns-clause-fundings : goal.returns-clause-fundings
+returns-clause-fundings c =
+    let txs = reverse c.args.block.now.transactions in
+    let asked = c.answer_all.new.reader in
+    if_ok_then (IsRead c.args.height txs asked) (λ (n : Reader). n.fundings ≡ c.args.reader.fundings) c.read.result
+    (λ n is. is.fundings_are ∙ ap (λ (x : Reader). x.fundings) c.in_ok-answer_all.ensures.same) c.read.ensures
