@@ -1,2 +1,4 @@
 pub mod Readings
 pub mod ReadingExamples
+pub mod BatchExamples
+pub mod ActExamples

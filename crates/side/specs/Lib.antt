@@ -1,2 +1,4 @@
 pub mod Due
 pub mod Reading
+pub mod Batches
+pub mod Acts

@@ -1,0 +1,30 @@
+-- The call that takes each message, and the messages that each answer has.
+use Rattle.std.proofs.Common.{◌≡◌, ℕ, List, [], ◌∷◌, map, Ok, Err, refl}
+use Rattle.updates.specs.declared.changes.Update.{Update}
+use Rattle.filling.specs.Filled.{Filling}
+use Rattle.keys.specs.declared.compressed.Key.{Key}
+use Rattle.channel.specs.declared.messages.Message.{Message}
+use Rattle.channel.specs.declared.messages.Message.TheVariants.{Updated, CommitmentSigned, RevokeAndAck}
+use Rattle.channel.specs.declared.messages.Tokens.{Tokens}
+use Rattle.book.specs.declared.calls.Call.TheVariants.{Step, Revoke}
+use Rattle.book.specs.declared.calls.Step.TheVariants.{Updated as UpdatedStep, Signed}
+use Rattle.book.specs.declared.errors.OpenError.{OpenError}
+use Rattle.book.specs.declared.errors.StepError.{StepError}
+use Rattle.book.specs.declared.errors.SignError.{SignError}
+use Rattle.book.specs.declared.errors.KeepError.{KeepError}
+use Rattle.book.specs.declared.errors.ReleaseError.{ReleaseError}
+use Rattle.book.specs.Replies.{opened, stepped, signed, revoked, kept, released}
+use Rattle.side.specs.Acts.{call_of, messages_in}
+
+module _ (update : Update) (tokens : Tokens) (secret : List ℕ) (point : Key) where
+  taken : map (call_of 7) (Updated update ∷ CommitmentSigned tokens ∷ RevokeAndAck secret point ∷ []) ≡ Step 7 (UpdatedStep update) ∷ Step 7 (Signed tokens) ∷ Revoke 7 secret point ∷ []
+  taken = refl
+
+module _ (m : Message) (filling : Filling) where
+  given : map messages_in (opened (Ok 0) ∷ stepped (Ok []) ∷ stepped (Ok (m ∷ [])) ∷ signed (Ok m) ∷ revoked (Ok 0) ∷ kept (Ok tt) ∷ released (Ok filling) ∷ [])
+      ≡ [] ∷ [] ∷ (m ∷ []) ∷ (m ∷ []) ∷ [] ∷ [] ∷ [] ∷ []
+  given = refl
+
+module _ (o : OpenError) (s : StepError) (g : SignError) (k : KeepError) (r : ReleaseError) where
+  refused : map messages_in (opened (Err o) ∷ stepped (Err s) ∷ signed (Err g) ∷ revoked (Err s) ∷ kept (Err k) ∷ released (Err r) ∷ []) ≡ [] ∷ [] ∷ [] ∷ [] ∷ [] ∷ [] ∷ []
+  refused = refl

@@ -1,0 +1,51 @@
+//! Messages, as a book takes and answers them.
+
+ghost use Rattle.std.specs.Prelude.{◌≡◌, true, false, [], IfOk, MatchResult};
+ghost use Rattle.std.specs.List.{cons_option};
+ghost use Rattle.book.specs.Replies.{is_accepted};
+ghost use Rattle.book.specs.Dispatch.{reply_form};
+ghost use Rattle.side.specs.Acts.{call_of, messages_in};
+
+use book::{Call, Reply, Step};
+use channel::{Message, Tokens};
+use lists::List;
+use std::alloc::{AllocError, Global};
+
+/// The call by which a book takes a message in a channel, with a copy of the message. The only error is that memory ran out.
+pub fn call_of(alloc: Global, channel: u64, message: &Message) -> Result<Call, AllocError>
+    ensures { IfOk result (λ c. c ≡ call_of channel message.now) }
+{
+    match message {
+        Message::Updated(update) => Ok(Call::Step {
+            channel,
+            step: Step::Updated(*update),
+        }),
+        Message::CommitmentSigned(tokens) => {
+            let htlcs = Vec::from_slice(alloc, tokens.htlcs.values())?;
+            let step = Step::Signed(Tokens {
+                commitment: tokens.commitment,
+                htlcs: List::from_vec(htlcs),
+            });
+            Ok(Call::Step { channel, step })
+        }
+        Message::RevokeAndAck { secret, next_point } => Ok(Call::Revoke {
+            channel,
+            secret: *secret,
+            next_point: *next_point,
+        }),
+    }
+}
+
+/// The message that an accepted reply has for the peer, if there is one: of all that a release gives nothing is left. A refused reply is handed back.
+pub fn message_of(reply: Reply) -> Result<Option<Message>, Reply>
+    ensures { let form = reply_form reply in
+        MatchResult result (λ m. (is_accepted form ≡ true) × (messages_in form ≡ cons_option m [])) (λ r. (is_accepted form ≡ false) × (r ≡ reply)) }
+{
+    match reply {
+        Reply::Stepped(Ok(message)) => Ok(message),
+        Reply::Signed(Ok(message)) => Ok(Some(message)),
+        Reply::Opened(Ok(_)) | Reply::Revoked(Ok(_)) | Reply::Kept(Ok(())) => Ok(None),
+        Reply::Released(Ok(_)) => Ok(None),
+        refused => Err(refused),
+    }
+}
