@@ -1,4 +1,4 @@
-use Rattle.std.proofs.Common.{◌≡◌, List, None, Bor, subst, Err, Ok, refl, sym, ap, ◌∙◌}
+use Rattle.std.proofs.Common.{◌≡◌, List, None, Bor, subst, Err, Ok, sym, ap, ◌∙◌}
 use Rattle.std.proofs.lemmas.Option.{same_Some}
 use Rattle.claim.specs.Claims.{ClaimParts}
 use Rattle.penalty.specs.declared.states.RevokedState.{RevokedState}
