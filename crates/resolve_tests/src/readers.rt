@@ -1,5 +1,7 @@
 //! A reader that reads a block.
 
+ghost use Rattle.std.specs.Prelude.{◌≡◌, length, IfOk};
+
 use crate::fixtures::known;
 use chain::{Block, Coins, Index};
 use parties::FUNDING;
@@ -9,7 +11,9 @@ use std::alloc::{AllocError, Global};
 use watch::Watch;
 
 // A reader of one channel, which learnt one preimage before.
-fn reader_of_one(alloc: Global) -> Result<Reader, AllocError> {
+fn reader_of_one(alloc: Global) -> Result<Reader, AllocError>
+    ensures { IfOk result (λ r. length r.seen ≡ 1) }
+{
     let fundings = Vec::from_slice(alloc, &[FUNDING])?;
     let mut watches = Vec::new(alloc);
     watches.push(Watch::new(alloc))?;
