@@ -3,7 +3,7 @@ use Rattle.std.specs.Prelude.{ℕ, zero, suc, Bool, ◌&&◌, nat_le, ◌==◌, 
 use Rattle.std.specs.List.{find}
 use Rattle.std.specs.Str.{bytes_eq}
 use Rattle.sha2.specs.Sha256.{sha256}
-use Rattle.digest.specs.Hash.{sha256d}
+use Rattle.digest.specs.Hash.{sha256d, hash160}
 use Rattle.script.specs.declared.opcode.Op.{Op}
 use Rattle.script.specs.declared.opcode.Op.TheVariants.{Push, Number, If, NotIf, Else, EndIf, Drop, Dup, Swap, Size, Equal, EqualVerify, Hash160, CheckSig, CheckMultiSig, CheckLockTimeVerify, CheckSequenceVerify}
 use Rattle.script.specs.declared.spending.Spend.{Spend}
@@ -43,6 +43,14 @@ ops_within (suc n) (b ∷ rest) =
 -- the opcodes of a script, where the bytes are one: at most 10,000, and split into opcodes
 unfoldable pub script_ops : List ℕ → Option (List Op)
 script_ops bytes = if nat_le (length bytes) max_script_size then ops_within (length bytes) bytes else None
+
+-- the program of a key's hash (BIP 141, "Witness program"): version 0 and the key's HASH160
+unfoldable pub key_hash_program : List ℕ → List ℕ
+key_hash_program key = 0x00 ∷ 0x14 ∷ hash160 key
+
+-- the program of a script's hash: version 0 and the script's SHA-256
+unfoldable pub script_hash_program : List ℕ → List ℕ
+script_hash_program script = 0x00 ∷ 0x20 ∷ sha256 script
 
 -- version 0 and the hash of a key
 abbrev pub is_key_hash_program : List ℕ → Bool

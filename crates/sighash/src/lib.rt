@@ -1,4 +1,4 @@
-//! What a signature signs (BIP 143), and the tokens that stand for signatures.
+//! What a signature signs (BIP 143), the tokens that stand for signatures, and the witness programs of version 0 (BIP 141), in [`programs`].
 //!
 //! The main contract is that of [`digest_of`]: it is SHA-256 twice over the list of fields of BIP 143 for hash type ALL. Whoever signs more than one input of
 //! a transaction makes a [`SighashCache`] first.
@@ -26,6 +26,7 @@
 
 mod errors;
 pub mod laws;
+pub mod programs;
 mod signing;
 mod token;
 
