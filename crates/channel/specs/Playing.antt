@@ -3,18 +3,16 @@ use Rattle.std.specs.Prelude.{◌≡◌, List, [], ◌∷◌, ◌++◌, Option, 
 use Rattle.terms.specs.declared.sides.Side.{Side}
 use Rattle.terms.specs.declared.sides.Side.TheVariants.{A, B}
 use Rattle.updates.specs.declared.changes.Update.{Update}
-use Rattle.updates.specs.declared.changes.Update.TheVariants.{Add, Fee, Fulfil as Fulfilling, Fail as Failing}
 use Rattle.updates.specs.declared.refusals.Refusal.{Refusal}
 use Rattle.updates.specs.declared.refusals.Refusal.TheVariants.{NoMemory}
-use Rattle.updates.specs.Steady.{next_htlc}
 use Rattle.channel.specs.declared.messages.Message.{Message}
 use Rattle.channel.specs.declared.messages.Message.TheVariants.{Updated}
 use Rattle.channel.specs.declared.plays.Action.{Action}
-use Rattle.channel.specs.declared.plays.Action.TheVariants.{Offer, Fulfil, Fail, SetFee, Sign, Deliver}
+use Rattle.channel.specs.declared.plays.Action.TheVariants.{Own, Sign, Deliver}
 use Rattle.channel.specs.declared.plays.PairStep.{PairStep}
 use Rattle.channel.specs.declared.plays.Outcome.{Outcome}
 use Rattle.channel.specs.declared.plays.Outcome.TheVariants.{Done, Refused, NoMessage}
-use Rattle.channel.specs.States.{Signing, State, update_refusal, sign_refusal, receive_refusal, after_update, after_sign, after, answers, signature_message}
+use Rattle.channel.specs.States.{Signing, State, update_of, update_refusal, sign_refusal, receive_refusal, after_update, after_sign, after, answers, signature_message}
 use Rattle.channel.specs.Peers.{World}
 
 pub record Played : Type 0 where
@@ -51,10 +49,7 @@ delivered_to tokens_of w side [] = record { world = w; outcome = NoMessage }
 delivered_to tokens_of w side (m ∷ rest) = unless (receive_refusal tokens_of (state_of side w) m) w (moved side w (after (state_of side w) m) rest (answers (state_of side w) m))
 
 abbrev pub acted : Signing → World → Side → Action → Played
-acted tokens_of w side (Offer amount hash expiry) = updated_by w side (Add (next_htlc (state_of side w).held.own amount hash expiry))
-acted tokens_of w side (Fulfil id preimage) = updated_by w side (Fulfilling id preimage)
-acted tokens_of w side (Fail id) = updated_by w side (Failing id)
-acted tokens_of w side (SetFee rate) = updated_by w side (Fee rate)
+acted tokens_of w side (Own u) = updated_by w side (update_of (state_of side w) u)
 acted tokens_of w side Sign = signed_by tokens_of w side
 acted tokens_of w side Deliver = delivered_to tokens_of w side (queue_of side w)
 

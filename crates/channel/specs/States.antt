@@ -7,12 +7,15 @@ use Rattle.terms.specs.declared.sides.Side.{Side}
 use Rattle.terms.specs.declared.agreement.Terms.{Terms}
 use Rattle.terms.specs.Sides.{other}
 use Rattle.updates.specs.declared.changes.Update.{Update}
+use Rattle.updates.specs.declared.changes.Update.TheVariants.{Add, Fulfil as Fulfilling, Fail as Failing, Fee}
+use Rattle.updates.specs.declared.changes.OwnUpdate.{OwnUpdate}
+use Rattle.updates.specs.declared.changes.OwnUpdate.TheVariants.{Offer, Fulfil, Fail, SetFee}
 use Rattle.updates.specs.declared.refusals.Refusal.{Refusal}
 use Rattle.updates.specs.declared.refusals.Refusal.TheVariants.{NoUpdates, BadSignature, WrongSecret, NotYourTurn}
 use Rattle.updates.specs.Views.{view_by}
 use Rattle.updates.specs.Stages.{Stages}
 use Rattle.updates.specs.Refusals.{Test, first_refusal, covers_nothing}
-use Rattle.updates.specs.Steady.{Held, own_tests, their_tests, holding_none, holding_made, holding_signed, holding_update, holding_signature, holding_revocation}
+use Rattle.updates.specs.Steady.{Held, next_htlc, own_tests, their_tests, holding_none, holding_made, holding_signed, holding_update, holding_signature, holding_revocation}
 use Rattle.channel.specs.declared.commitments.CommitmentState.{CommitmentState}
 use Rattle.channel.specs.declared.messages.Tokens.{Tokens}
 use Rattle.channel.specs.declared.messages.Message.{Message}
@@ -101,6 +104,13 @@ sign_refusal s = first_refusal (sign_tests s)
 
 abbrev pub receive_refusal : Signing → State → Message → Option Refusal
 receive_refusal tokens_of s m = first_refusal (receive_tests tokens_of s m)
+
+-- the update that a side in this state makes: an offer has the next id
+abbrev pub update_of : State → OwnUpdate → Update
+update_of s (Offer amount hash expiry) = Add (next_htlc s.held.own amount hash expiry)
+update_of s (Fulfil id preimage) = Fulfilling id preimage
+update_of s (Fail id) = Failing id
+update_of s (SetFee rate) = Fee rate
 
 -- the state after an update of one's own, after a signature given out, and after a received message; a received signature is answered at once by a
 -- revocation

@@ -11,7 +11,7 @@ use sighash::Token;
 use std::alloc::{AllocError, Global};
 use std::marker::Model;
 use terms::{Side, Terms};
-use updates::{Ledger, Refusal, Update};
+use updates::{Ledger, OwnUpdate, Refusal, Update};
 
 /// One side of a channel: its updates, the numbers of both sides' commitments, the peer's points and secrets, and every commitment that was signed. A
 /// contract sees it as its `State`.
@@ -83,7 +83,7 @@ impl Channel {
     ghost use Rattle.keys.specs.Rights.{MaySign};
     ghost use Rattle.updates.specs.Shares.{IsSoundIn};
     ghost use Rattle.channel.specs.Tokens.{IsBuilt, opening_tests, peer_tokens as tokens_of};
-    ghost use Rattle.channel.specs.States.{opened, peers_next, own_next, update_refusal, sign_refusal, receive_refusal, receive_tests, after_update, after_sign, after, answers, signature_message};
+    ghost use Rattle.channel.specs.States.{opened, peers_next, own_next, update_of, update_refusal, sign_refusal, receive_refusal, receive_tests, after_update, after_sign, after, answers, signature_message};
 
     /// A side of a new channel, with the peer's points for 0 and 1, and the peer's token on this side's commitment 0: BadSignature where it is
     /// another. The signer learnt nothing yet, and its funding and HTLC base keys stand in the terms.
@@ -282,6 +282,26 @@ impl Channel {
         match self.ledger.set_fee(rate) {
             Ok(()) => Ok(Message::Updated(Update::Fee { rate })),
             Err(refusal) => Err(refusal),
+        }
+    }
+
+    /// Makes an update, and gives the message: refused as [`offer`](Channel::offer), [`fulfil`](Channel::fulfil), [`fail`](Channel::fail) and
+    /// [`set_fee`](Channel::set_fee). A refusal leaves the channel as it was.
+    pub fn make(&mut self, update: &OwnUpdate) -> Result<Message, Refusal>
+        ensures message { IfOk result (λ m. m ≡ Updated (update_of self.old update.now)) }
+        ensures ok { IfOk result (λ _. self.new ≡ after_update (update_of self.old update.now) self.old) }
+        ensures tested { let first = update_refusal self.old (update_of self.old update.now) in MatchResult result (λ _. first ≡ None) (IsRefusal first) }
+        ensures err { OnErr result (self.new ≡ self.old) }
+    {
+        match update {
+            OwnUpdate::Offer {
+                amount,
+                hash,
+                expiry,
+            } => self.offer(*amount, *hash, *expiry),
+            OwnUpdate::Fulfil { id, preimage } => self.fulfil(*id, *preimage),
+            OwnUpdate::Fail { id } => self.fail(*id),
+            OwnUpdate::SetFee { rate } => self.set_fee(*rate),
         }
     }
 

@@ -117,14 +117,7 @@ fn turn(
         return Outcome::Refused(Refusal::NoMemory);
     }
     match *action {
-        Action::Offer {
-            amount,
-            hash,
-            expiry,
-        } => send(to_peer, me.offer(amount, hash, expiry)),
-        Action::Fulfil { id, preimage } => send(to_peer, me.fulfil(id, preimage)),
-        Action::Fail { id } => send(to_peer, me.fail(id)),
-        Action::SetFee { rate } => send(to_peer, me.set_fee(rate)),
+        Action::Own(update) => send(to_peer, me.make(&update)),
         Action::Sign => send(to_peer, me.signed()),
         Action::Deliver => deliver(me, to_me, to_peer),
     }

@@ -1,30 +1,13 @@
 //! Steps of two peers.
 
 use terms::Side;
-use updates::Refusal;
+use updates::{OwnUpdate, Refusal};
 
 /// What one of two peers does.
 #[derive(Clone, Copy, Debug, PartialEq, Eq, Drop)]
 pub enum Action {
-    /// Offers an HTLC of so many millisatoshis.
-    Offer {
-        amount: u64,
-        hash: [u8; 32],
-        expiry: u32,
-    },
-    /// Fulfils an HTLC of its peer.
-    Fulfil {
-        id: u64,
-        preimage: [u8; 32],
-    },
-    /// Fails an HTLC of its peer.
-    Fail {
-        id: u64,
-    },
-    /// Changes the feerate.
-    SetFee {
-        rate: u32,
-    },
+    /// Makes an update.
+    Own(OwnUpdate),
     /// Signs its peer's next commitment.
     Sign,
     /// Receives the oldest message that is on its way to it, and sends the answer.

@@ -5,3 +5,4 @@ pub mod Views
 pub mod Numbers
 pub mod Scripts
 pub mod Bases
+pub mod Proposals

@@ -2,6 +2,7 @@
 //!
 //! [`Terms`] are the values of `open_channel` and `accept_channel`, the funding outpoint and both sides' base keys. Their type keeps what
 //! everything above rests on: the capacity is at most 21,000,000 bitcoins, and what the two sides begin with is the capacity.
+//! [`ProposedTerms`] are what a text may ask for, without the funding outpoint and the keys, and unchecked.
 //! A [`View`] is what one commitment pays: each side's balance, its HTLCs, and the feerate.
 //!
 //! [`mask`], [`obscure`] and [`number_of`] are the number of a commitment and the fields of its transaction that carry it.
@@ -20,6 +21,7 @@ mod errors;
 mod htlcs;
 pub mod laws;
 mod numbers;
+mod proposals;
 mod sides;
 mod views;
 
@@ -28,5 +30,6 @@ pub use amounts::MSAT_PER_SAT;
 pub use errors::TermsError;
 pub use htlcs::Htlc;
 pub use numbers::{Obscured, mask, number_of, obscure};
+pub use proposals::{ProposedParty, ProposedTerms};
 pub use sides::Side;
 pub use views::{Share, View};

@@ -14,3 +14,30 @@ pub enum Update {
     /// `update_fee`: changes the feerate.
     Fee { rate: u32 },
 }
+
+/// An update as the side that makes it decides on it: the channel gives an offer its id.
+#[derive(Clone, Copy, Debug, PartialEq, Eq, Drop)]
+pub enum OwnUpdate {
+    /// Offers an HTLC.
+    Offer {
+        /// Millisatoshis.
+        amount: u64,
+        /// SHA-256 of the payment preimage.
+        hash: [u8; 32],
+        /// The height from which on it can be timed out.
+        expiry: u32,
+    },
+    /// Fulfils an HTLC of the peer.
+    Fulfil {
+        id: u64,
+        preimage: [u8; 32],
+    },
+    /// Fails an HTLC of the peer.
+    Fail {
+        id: u64,
+    },
+    /// Changes the feerate, in satoshis for 1,000 units of weight.
+    SetFee {
+        rate: u32,
+    },
+}

@@ -33,7 +33,7 @@ mod refusals;
 mod shares;
 mod stages;
 
-pub use changes::Update;
+pub use changes::{OwnUpdate, Update};
 pub use ledger::Ledger;
 pub use limits::{EXPIRY_END, MAX_HTLCS};
 pub use refusals::Refusal;

@@ -6,6 +6,7 @@ use channel::{Action, Outcome, Pair, PairStep};
 use digest::sha256;
 use std::alloc::Global;
 use terms::Side;
+use updates::OwnUpdate;
 
 /// The HTLCs that a side offered: how many, and the ids of those that its peer removed not yet.
 #[derive(Drop)]
@@ -80,19 +81,19 @@ impl Game {
         let rest = number >> 9;
         let id = theirs.choose(rest);
         let action = match (number >> 1) % 16 {
-            0 | 1 => Action::Offer {
+            0 | 1 => Action::Own(OwnUpdate::Offer {
                 amount: rest,
                 hash: sha256(&PREIMAGE),
                 expiry: 500,
-            },
-            2 => Action::Fail { id },
-            3 => Action::Fulfil {
+            }),
+            2 => Action::Own(OwnUpdate::Fail { id }),
+            3 => Action::Own(OwnUpdate::Fulfil {
                 id,
                 preimage: PREIMAGE,
-            },
-            4 => Action::SetFee {
+            }),
+            4 => Action::Own(OwnUpdate::SetFee {
                 rate: 1000 + (rest % 1000) as u32,
-            },
+            }),
             5 | 6 => Action::Sign,
             _ => Action::Deliver,
         };
@@ -107,25 +108,33 @@ impl Game {
         }
     }
 
-    /// The step was done.
-    fn note(&mut self, step: &PairStep) -> Result<()> {
-        match step.action {
-            Action::Offer { .. } => {
+    /// An update of a side was made.
+    fn note_update(&mut self, side: Side, update: &OwnUpdate) -> Result<()> {
+        match *update {
+            OwnUpdate::Offer { .. } => {
                 self.counts.offers = self.counts.offers.saturating_add(1);
-                match step.side {
+                match side {
                     Side::A => self.of_a.add()?,
                     Side::B => self.of_b.add()?,
                 }
             }
-            Action::Fulfil { id, .. } => {
+            OwnUpdate::Fulfil { id, .. } => {
                 self.counts.fulfilments = self.counts.fulfilments.saturating_add(1);
-                self.remove(step.side, id);
+                self.remove(side, id);
             }
-            Action::Fail { id } => {
+            OwnUpdate::Fail { id } => {
                 self.counts.failures = self.counts.failures.saturating_add(1);
-                self.remove(step.side, id);
+                self.remove(side, id);
             }
-            Action::SetFee { .. } => self.counts.fees = self.counts.fees.saturating_add(1),
+            OwnUpdate::SetFee { .. } => self.counts.fees = self.counts.fees.saturating_add(1),
+        }
+        Ok(())
+    }
+
+    /// The step was done.
+    fn note(&mut self, step: &PairStep) -> Result<()> {
+        match &step.action {
+            Action::Own(update) => self.note_update(step.side, update)?,
             Action::Sign => self.counts.signatures = self.counts.signatures.saturating_add(1),
             Action::Deliver => self.counts.deliveries = self.counts.deliveries.saturating_add(1),
         }

@@ -4,29 +4,39 @@ use anyhow::{Result, bail};
 use channel::{Action, PairStep};
 use digest::sha256;
 use terms::Side;
+use updates::OwnUpdate;
 
 /// The preimage of every HTLC.
 pub const PREIMAGE: [u8; 32] = [9; 32];
+
+/// The update that a step's words say: its name, and the words after it.
+fn update_of(name: &str, first: Option<&str>, second: Option<&str>) -> Result<OwnUpdate> {
+    let update = match (name, first, second) {
+        ("offer", Some(amount), Some(expiry)) => OwnUpdate::Offer {
+            amount: amount.parse()?,
+            hash: sha256(&PREIMAGE),
+            expiry: expiry.parse()?,
+        },
+        ("fulfil", Some(id), None) => OwnUpdate::Fulfil {
+            id: id.parse()?,
+            preimage: PREIMAGE,
+        },
+        ("fail", Some(id), None) => OwnUpdate::Fail { id: id.parse()? },
+        ("fee", Some(rate), None) => OwnUpdate::SetFee {
+            rate: rate.parse()?,
+        },
+        _ => bail!("no such action"),
+    };
+    Ok(update)
+}
 
 /// What a step's words after its side say.
 fn action_of(words: &str) -> Result<Action> {
     let mut words = words.split(' ');
     let action = match (words.next(), words.next(), words.next()) {
-        (Some("offer"), Some(amount), Some(expiry)) => Action::Offer {
-            amount: amount.parse()?,
-            hash: sha256(&PREIMAGE),
-            expiry: expiry.parse()?,
-        },
-        (Some("fulfil"), Some(id), None) => Action::Fulfil {
-            id: id.parse()?,
-            preimage: PREIMAGE,
-        },
-        (Some("fail"), Some(id), None) => Action::Fail { id: id.parse()? },
-        (Some("fee"), Some(rate), None) => Action::SetFee {
-            rate: rate.parse()?,
-        },
         (Some("sign"), None, None) => Action::Sign,
         (Some("deliver"), None, None) => Action::Deliver,
+        (Some(name), first, second) => Action::Own(update_of(name, first, second)?),
         _ => bail!("no such action"),
     };
     Ok(action)

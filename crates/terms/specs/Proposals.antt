@@ -1,0 +1,39 @@
+-- Proposed terms: whether two sides can agree on them, and the terms that they then have.
+use Rattle.std.specs.Prelude.{◌≡◌, ◌+◌, ◌*◌, ◌==◌, ◌&&◌, nat_le, Bool, true, false, refl, Option, Some, None}
+use Rattle.std.proofs.lemmas.Bool.{and_parts, leb-true, eqb-true}
+use Rattle.tx.specs.Limits.{max_value}
+use Rattle.tx.specs.declared.input.OutPoint.{OutPoint}
+use Rattle.terms.specs.declared.amounts.TheConstants.{MSAT_PER_SAT}
+use Rattle.terms.specs.declared.agreement.BaseKeys.{BaseKeys}
+use Rattle.terms.specs.declared.agreement.Party.{Party}
+use Rattle.terms.specs.declared.agreement.Terms.{Terms}
+use Rattle.terms.specs.declared.proposals.ProposedParty.{ProposedParty}
+use Rattle.terms.specs.declared.proposals.ProposedTerms.{ProposedTerms}
+
+-- the capacity is within the limit of a value, and what the two sides begin with is the capacity
+abbrev pub can_agree : ProposedTerms → Bool
+can_agree t = nat_le t.capacity max_value && t.a.start + t.b.start == MSAT_PER_SAT * t.capacity
+
+-- what a side with these base keys brings
+abbrev pub party_of : ProposedParty → BaseKeys → Party
+party_of p bases = record { dust = p.dust; delay = p.delay; minimum = p.minimum; start = p.start; bases = bases }
+
+-- the terms with a funding output and both sides' base keys, where the sides can agree on them
+abbrev pub terms_with : OutPoint → (a b : BaseKeys) → (t : ProposedTerms) → can_agree t ≡ true → Terms
+terms_with funding a b t h = record {
+  funding = funding;
+  capacity = t.capacity;
+  opener = t.opener;
+  feerate = t.feerate;
+  a = party_of t.a a;
+  b = party_of t.b b;
+  limited = leb-true t.capacity max_value (and_parts (nat_le t.capacity max_value) (t.a.start + t.b.start == MSAT_PER_SAT * t.capacity) h).0;
+  whole = eqb-true (t.a.start + t.b.start) (MSAT_PER_SAT * t.capacity) (and_parts (nat_le t.capacity max_value) (t.a.start + t.b.start == MSAT_PER_SAT * t.capacity) h).1;
+}
+
+abbrev pub terms_if : OutPoint → (a b : BaseKeys) → (t : ProposedTerms) (agreed : Bool) → can_agree t ≡ agreed → Option Terms
+terms_if funding a b t true h = Some (terms_with funding a b t h)
+terms_if funding a b t false h = None
+
+unfoldable pub agreed_terms : OutPoint → (a b : BaseKeys) → ProposedTerms → Option Terms
+agreed_terms funding a b t = terms_if funding a b t (can_agree t) refl

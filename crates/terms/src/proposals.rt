@@ -1,0 +1,79 @@
+//! Terms that are proposed, before there are a funding output and keys.
+
+ghost use Rattle.std.specs.Prelude.{◌≡◌};
+ghost use Rattle.terms.specs.Proposals.{party_of};
+
+use crate::agreement::{BaseKeys, Party, Terms};
+use crate::amounts::MSAT_PER_SAT;
+use crate::sides::Side;
+use tx::{MAX_VALUE, OutPoint};
+
+/// What one side would bring to the terms, without its keys.
+#[derive(Clone, Copy, Debug, PartialEq, Eq, Drop)]
+pub struct ProposedParty {
+    /// Satoshis below which its own commitments have no output (`dust_limit_satoshis`).
+    pub dust: u64,
+    /// Blocks that it waits for its own delayed outputs (the peer's `to_self_delay`).
+    pub delay: u16,
+    /// Millisatoshis that an HTLC offered to it has at least (`htlc_minimum_msat`).
+    pub minimum: u64,
+    /// Millisatoshis that it begins with.
+    pub start: u64,
+}
+
+/// The terms of a channel without its funding output and keys. Two sides may be unable to agree on them.
+#[derive(Clone, Copy, Debug, PartialEq, Eq, Drop)]
+pub struct ProposedTerms {
+    /// Satoshis.
+    pub capacity: u64,
+    /// Who opens the channel.
+    pub opener: Side,
+    /// Satoshis for 1,000 units of weight.
+    pub feerate: u32,
+    pub a: ProposedParty,
+    pub b: ProposedParty,
+}
+
+// What a side with these base keys brings.
+fn party_of(proposed: &ProposedParty, bases: BaseKeys) -> Party
+    ensures { result ≡ party_of proposed.now bases }
+{
+    Party {
+        dust: proposed.dust,
+        delay: proposed.delay,
+        minimum: proposed.minimum,
+        start: proposed.start,
+        bases,
+    }
+}
+
+impl ProposedTerms {
+    ghost use Rattle.std.specs.Prelude.{◌≡◌, IfSome, is_some};
+    ghost use Rattle.terms.specs.Agreement.{HasFields};
+    ghost use Rattle.terms.specs.Proposals.{can_agree, party_of, agreed_terms};
+
+    /// Whether two sides can agree on the terms: the capacity is at most 21,000,000 bitcoins, and is what the two sides begin with.
+    pub fn can_agree(&self) -> bool
+        ensures { result ≡ can_agree self.now }
+    {
+        let capacity = self.capacity;
+        let (a, b) = (self.a.start, self.b.start);
+        capacity <= MAX_VALUE
+            && u128::from(a) + u128::from(b) == u128::from(MSAT_PER_SAT) * u128::from(capacity)
+    }
+
+    /// The terms with a funding output and both sides' base keys; `None` where the sides can't agree.
+    pub fn agreed(&self, funding: OutPoint, a: BaseKeys, b: BaseKeys) -> Option<Terms>
+        ensures terms { result ≡ agreed_terms funding a b self.now }
+        ensures some { is_some result ≡ can_agree self.now }
+        ensures fields { IfSome result (λ t.
+            HasFields t funding self.now.capacity self.now.opener self.now.feerate (party_of self.now.a a) (party_of self.now.b b)) }
+    {
+        let a = party_of(&self.a, a);
+        let b = party_of(&self.b, b);
+        match Terms::new(funding, self.capacity, self.opener, self.feerate, a, b) {
+            Ok(terms) => Some(terms),
+            Err(_) => None,
+        }
+    }
+}
