@@ -2,13 +2,12 @@
 use crate::plain::{HASH, plain_terms};
 use claim::{Shell, Slot};
 use lists::{ByteString, List};
+use scenario::{Event, PlainScenario};
 use serde_json::Value;
 use std::alloc::Global;
 use std::process::Abort;
 use terms::{Htlc, Side};
-use texts::{
-    Event, FromValue, PlainClaim, PlainScenario, PlainTerms, ReadValue, ShapeError, WriteValue,
-};
+use texts::{FromValue, OwnUpdate, PlainClaim, PlainTerms, ReadValue, ShapeError, WriteValue};
 use tx::{OutPoint, TxOut};
 use updates::Update;
 
@@ -46,51 +45,50 @@ fn check_event(rt: &impl Abort, alloc: Global, text: &str, event: Event) {
     assert!(rt; read(rt, alloc, text) == Some(event));
 }
 
+// An update of side A in channel 3.
+fn own(update: OwnUpdate) -> Event {
+    Event::Own {
+        side: Side::A,
+        channel: 3,
+        update,
+    }
+}
+
 #[test]
 fn reads_channel_events(rt: HostRuntime) {
-    let (side, channel, id) = (Side::A, 3, 4);
-    let (amount, expiry, hash) = (1_000_000, 500, HASH);
-    let offer = Event::Offer {
-        side,
-        channel,
-        amount,
-        hash,
-        expiry,
+    let (side, channel) = (Side::A, 3);
+    let offer = OwnUpdate::Offer {
+        amount: 1_000_000,
+        hash: HASH,
+        expiry: 500,
     };
     check_event(
         &rt,
         rt.alloc(),
         "[\"offer\",\"A\",3,1000000,\"66687aadf862bd776c8fc18b8e9f8e20089714856ee233b3902a591d0d5f2925\",500]",
-        offer,
+        own(offer),
     );
-    let preimage = [0; 32];
-    let fulfil = Event::Fulfil {
-        side,
-        channel,
-        id,
-        preimage,
+    let fulfil = OwnUpdate::Fulfil {
+        id: 4,
+        preimage: [0; 32],
     };
     check_event(
         &rt,
         rt.alloc(),
         "[\"fulfil\",\"A\",3,4,\"0000000000000000000000000000000000000000000000000000000000000000\"]",
-        fulfil,
+        own(fulfil),
     );
     check_event(
         &rt,
         rt.alloc(),
         "[\"fail\",\"A\",3,4]",
-        Event::Fail { side, channel, id },
+        own(OwnUpdate::Fail { id: 4 }),
     );
     check_event(
         &rt,
         rt.alloc(),
         "[\"fee\",\"A\",3,4]",
-        Event::Fee {
-            side,
-            channel,
-            rate: 4,
-        },
+        own(OwnUpdate::SetFee { rate: 4 }),
     );
     check_event(
         &rt,

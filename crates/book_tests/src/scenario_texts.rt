@@ -1,11 +1,11 @@
 // The first scenario that a text has whole, and texts on both sides of each limit.
 
 use crate::plain::{HASH, plain_terms};
-use scenario::{Scenario, ScenarioError, Seeds};
+use scenario::{Event, Scenario, ScenarioError, Seeds};
 use std::alloc::Global;
 use std::process::Abort;
 use terms::Side;
-use texts::Event;
+use texts::OwnUpdate;
 
 const FRONT: &str =
     "{\"seeds\":[\"0a0a0a0a0a0a0a0a0a0a0a0a0a0a0a0a0a0a0a0a0a0a0a0a0a0a0a0a0a0a0a0a\",\"0b0b0b0b0b0b0b0b0b0b0b0b0b0b0b0b0b0b0b0b0b0b0b0b0b0b0b0b0b0b0b0b\"],\"channels\":[";
@@ -65,12 +65,14 @@ fn reads_a_scenario(rt: HostRuntime) {
         b: [0x0b; 32],
     };
     let terms = plain_terms(80_000_000, 20_000_000);
-    let offer = Event::Offer {
+    let offer = Event::Own {
         side: Side::A,
         channel: 0,
-        amount: 1_000_000,
-        hash: HASH,
-        expiry: 501,
+        update: OwnUpdate::Offer {
+            amount: 1_000_000,
+            hash: HASH,
+            expiry: 501,
+        },
     };
     assert!(rt; scenario.seeds == seeds);
     assert!(rt; scenario.channels.values() == [terms].as_slice());

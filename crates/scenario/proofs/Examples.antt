@@ -5,12 +5,13 @@ use Rattle.hex.proofs.OnLiterals.{hex_on_literals}
 use Rattle.serde_json.proofs.OnLiterals.{serde_json_on_literals}
 use Rattle.terms.specs.declared.sides.Side.TheVariants.{A, B}
 use Rattle.texts.specs.declared.agreement.PlainTerms.{PlainTerms}
-use Rattle.texts.specs.declared.events.Event.{Event}
-use Rattle.texts.specs.declared.events.Event.TheVariants.{Offer, Fulfil, Fail, Fee, Sign, Deliver, Keep, Broadcast, BroadcastHtlc, Blocks, Look, Take, Release, Reorg}
-use Rattle.texts.specs.declared.scenarios.PlainScenario.{PlainScenario}
-use Rattle.texts.specs.Scenarios.{scenario_of}
+use Rattle.texts.specs.declared.steps.OwnUpdate.TheVariants.{Offer, Fulfil, Fail, SetFee}
+use Rattle.scenario.specs.declared.events.Event.{Event}
+use Rattle.scenario.specs.declared.events.Event.TheVariants.{Own, Sign, Deliver, Keep, Broadcast, BroadcastHtlc, Blocks, Look, Take, Release, Reorg}
+use Rattle.scenario.specs.declared.plain.PlainScenario.{PlainScenario}
+use Rattle.scenario.specs.Scenarios.{scenario_of}
 use Rattle.texts.specs.Terms.{terms_of}
-use Rattle.texts.specs.Events.{event_of, event_named, blocks_of as blocks_event_of, sign_of}
+use Rattle.scenario.specs.Events.{event_of, event_named, blocks_of as blocks_event_of, sign_of}
 use Rattle.scenario.specs.declared.errors.ScenarioError.TheVariants.{NoMemory, NotJson, BadShape, OverLimit, BadTerms}
 use Rattle.scenario.specs.Limits.{max_channels, max_events, max_blocks}
 use Rattle.scenario.specs.Refusals.{refusal_number}
@@ -32,7 +33,7 @@ abbrev hash : List ℕ
 hash = replicate 32 9
 
 blocks : (map has_few_blocks (Blocks 0 ∷ Blocks 10000 ∷ Blocks 10001 ∷ Blocks 18446744073709551615 ∷ []) ≡ true ∷ true ∷ false ∷ false ∷ [])
-    × (map has_few_blocks (Offer A 20000 20000 hash 20000 ∷ Fulfil A 20000 20000 hash ∷ Fail A 20000 20000 ∷ Fee A 20000 20000 ∷ Sign A 20000 ∷ Deliver A 20000 ∷ Keep A 20000 20000 ∷ [])
+    × (map has_few_blocks (Own A 20000 (Offer 20000 hash 20000) ∷ Own A 20000 (Fulfil 20000 hash) ∷ Own A 20000 (Fail 20000) ∷ Own A 20000 (SetFee 20000) ∷ Sign A 20000 ∷ Deliver A 20000 ∷ Keep A 20000 20000 ∷ [])
     ≡ replicate 7 true)
     × (map has_few_blocks (Broadcast A 20000 20000 ∷ BroadcastHtlc A 20000 20000 20000 ∷ Look A ∷ Take A 20000 ∷ Release A 20000 ∷ Reorg 20000 20000 ∷ []) ≡ replicate 6 true)
 blocks = (refl, refl, refl)

@@ -1,3 +1,4 @@
+mod EventExamples
 mod Examples
 pub mod Tested
 pub mod Values

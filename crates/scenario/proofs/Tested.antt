@@ -3,7 +3,7 @@ use Rattle.std.proofs.Common.{◌≡◌, ◌≤◌, ◌+◌, ℕ, Bool, true, fa
 use Rattle.std.specs.List.{list_all, position_from}
 use Rattle.std.proofs.lemmas.Bool.{and_parts, leb-true}
 use Rattle.texts.specs.declared.agreement.PlainTerms.{PlainTerms}
-use Rattle.texts.specs.declared.events.Event.{Event}
+use Rattle.scenario.specs.declared.events.Event.{Event}
 use Rattle.texts.specs.Calls.{can_agree}
 use Rattle.scenario.specs.Limits.{max_channels, max_events}
 use Rattle.scenario.specs.Testing.{have_few_blocks, is_within_limits}

@@ -3,8 +3,8 @@ use Rattle.std.specs.Prelude.{◌≡◌, ℕ, if◌then◌else◌, List, Option,
 use Rattle.std.specs.Str.{is_utf8}
 use Rattle.serde_json.specs.Data.{Data}
 use Rattle.serde_json.specs.Read.{read}
-use Rattle.texts.specs.declared.scenarios.PlainScenario.{PlainScenario}
-use Rattle.texts.specs.Scenarios.{scenario_of}
+use Rattle.scenario.specs.declared.plain.PlainScenario.{PlainScenario}
+use Rattle.scenario.specs.Scenarios.{scenario_of}
 use Rattle.scenario.specs.declared.errors.ScenarioError.{ScenarioError}
 use Rattle.scenario.specs.declared.errors.ScenarioError.TheVariants.{NoMemory, NotJson, BadShape}
 use Rattle.scenario.specs.declared.scenarios.Scenario.{Scenario}

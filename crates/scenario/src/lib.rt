@@ -12,12 +12,16 @@
 #![tactic(auto)]
 
 mod errors;
+mod events;
 mod limits;
+mod plain;
 mod reading;
 mod scenarios;
 mod seeds;
 
 pub use errors::ScenarioError;
+pub use events::Event;
 pub use limits::{MAX_BLOCKS, MAX_CHANNELS, MAX_EVENTS};
+pub use plain::PlainScenario;
 pub use scenarios::Scenario;
 pub use seeds::Seeds;

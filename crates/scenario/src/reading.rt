@@ -6,9 +6,10 @@ ghost use Rattle.scenario.specs.declared.errors.ScenarioError.TheVariants.{NotJs
 ghost use Rattle.scenario.specs.Reading.{Reads, value_in, plain_in};
 
 use crate::errors::ScenarioError;
+use crate::plain::PlainScenario;
 use serde_json::Value;
 use std::alloc::Global;
-use texts::{PlainScenario, ReadValue, ShapeError};
+use texts::{ReadValue, ShapeError};
 
 // The value that bytes are.
 fn value_in(alloc: Global, bytes: &[u8]) -> Result<Value, ScenarioError>

@@ -7,12 +7,14 @@ ghost use Rattle.scenario.specs.Limits.{max_channels, max_events};
 ghost use Rattle.scenario.specs.Testing.{blocks_of, have_few_blocks, is_within_limits, first_bad_terms};
 
 use crate::errors::ScenarioError;
+use crate::events::Event;
 use crate::limits::{MAX_BLOCKS, MAX_CHANNELS, MAX_EVENTS};
+use crate::plain::PlainScenario;
 use crate::reading::plain_in;
 use crate::seeds::Seeds;
 use lists::List;
 use std::alloc::Global;
-use texts::{Event, PlainScenario, PlainTerms};
+use texts::PlainTerms;
 
 /// A scenario.
 #[derive(Debug, Drop)]

@@ -1,4 +1,4 @@
--- Claims and scenarios with unlike values in all their parts, and values that are near their forms.
+-- Claims with unlike values in all their parts, and values that are near their forms.
 use Rattle.std.proofs.Common.{◌≡◌, ℕ, true, false, List, [], ◌∷◌, Option, Some, None, codes, refl}
 use Rattle.std.specs.Prelude.{replicate, is_some}
 use Rattle.hex.proofs.OnLiterals.{hex_on_literals}
@@ -7,13 +7,9 @@ use Rattle.script.specs.Token.{is_key, is_token}
 use Rattle.keys.specs.declared.compressed.Key.{Key}
 use Rattle.claim.specs.declared.parts.Slot.TheVariants.{Sig, Preimage, Exact}
 use Rattle.claim.specs.declared.parts.Shell.TheVariants.{Open, Fixed}
-use Rattle.terms.specs.declared.sides.Side.TheVariants.{A}
-use Rattle.texts.specs.declared.events.Event.TheVariants.{Blocks}
 use Rattle.texts.specs.Keys.{key_of, base_keys_of, token_bytes_of}
 use Rattle.texts.specs.Outpoints.{digits_from, outpoint_in}
 use Rattle.texts.specs.Claims.{sig_of, preimage_of, exact_of, slot_named, slot_of, witness_item_of, shell_of, claim_of}
-use Rattle.texts.specs.Events.{blocks_of, event_named, event_of}
-use Rattle.texts.specs.Scenarios.{scenario_of}
 
 abbrev n : ℕ → Data
 n k = number (unsigned k)
@@ -80,9 +76,3 @@ claims : (claim_of (object (member (codes "outpoint") (text (codes "090909090909
     × (claim_of (object (member (codes "age") (n 1) (member (codes "outpoint") (text (codes "0909090909090909090909090909090909090909090909090909090909090909:1")) others))) ≡ None)
 unfolding claim_of sig_of slot_named slot_of shell_of outpoint_in digits_from is_key hex_on_literals
 claims = (refl, refl, refl)
-
-scenarios : (scenario_of (object (member (codes "channels") (array no_items) (member (codes "events") (array (item (pair (text (codes "blocks")) (n 3)) no_items))
-    (member (codes "seeds") (pair hash_text (text (codes "0808080808080808080808080808080808080808080808080808080808080808"))) no_members)))) ≡ Some (record { seed_a = replicate 32 9; seed_b = replicate 32 8; channels = []; events = Blocks 3 ∷ [] }))
-    × (scenario_of (object (member (codes "channels") (array no_items) (member (codes "events") (array no_items) no_members))) ≡ None)
-unfolding scenario_of blocks_of event_named event_of hex_on_literals
-scenarios = (refl, refl)

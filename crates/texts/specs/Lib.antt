@@ -4,12 +4,10 @@ pub mod Names
 pub mod Outpoints
 pub mod Keys
 pub mod Terms
-pub mod Events
 pub mod Messages
 pub mod Outputs
 pub mod Claims
 pub mod ClaimEnds
-pub mod Scenarios
 pub mod Writing
 pub mod Compound
 pub mod ClaimWriting

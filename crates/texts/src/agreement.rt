@@ -2,8 +2,11 @@
 
 ghost use Rattle.std.specs.Prelude.{◌≡◌};
 
+use crate::allocating::ReadValue;
+use crate::errors::ShapeError;
 use crate::values::{FromValue, member, object_of};
 use serde_json::Value;
+use std::alloc::Global;
 use terms::{MSAT_PER_SAT, Side};
 use tx::MAX_VALUE;
 
@@ -80,5 +83,15 @@ impl FromValue for PlainTerms {
             a,
             b,
         })
+    }
+}
+
+impl ReadValue for PlainTerms {
+    ghost use Rattle.texts.specs.Terms.{terms_of};
+
+    ghost reads = { terms_of };
+
+    fn read_value(_alloc: Global, value: &Value) -> Result<PlainTerms, ShapeError> {
+        PlainTerms::from_value(value).ok_or(ShapeError::BadShape)
     }
 }

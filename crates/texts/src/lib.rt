@@ -1,12 +1,13 @@
-//! Readers and writers of the forms that texts have: scenarios, messages and claims, over the JSON values of `serde_json` (RFC 8259).
+//! Readers and writers of the forms that texts have: terms, updates, claims, and the calls and dumps of books, over the JSON values of
+//! `serde_json` (RFC 8259). What a scenario adds to them, the crate `scenario` reads.
 //!
 //! A value is read exactly where it has the form. A member that is missing, one that the form has not, and one of another kind leave the
-//! whole value without it. Forms are plain: whether what was read is lawful, a channel or a claim says later. What takes no memory is read by
-//! [`FromValue`], the rest by [`ReadValue`]; [`WriteValue`] writes the value that is read as the same.
+//! whole value without it. Readers check shape only; callers validate. What takes no memory is read by [`FromValue`], the rest by
+//! [`ReadValue`]; [`WriteValue`] writes the value that is read as the same.
 //!
 //! ```rust
-//! let value = Value::from_str(alloc, "[\"blocks\",10001]")?;
-//! assert!(rt; Event::from_value(&value) == Some(Event::Blocks { count: 10_001 }));
+//! let value = Value::from_str(alloc, "[\"fee\",253]")?;
+//! assert!(rt; Update::from_value(&value) == Some(Update::Fee { rate: 253 }));
 //! ```
 #![tactic(auto)]
 
@@ -18,13 +19,11 @@ mod claim_writing;
 mod claims;
 mod compound;
 mod errors;
-mod events;
 mod key_bytes;
 pub mod laws;
 mod messages;
 mod outpoints;
 mod outputs;
-mod scenarios;
 mod steps;
 mod values;
 mod writing;
@@ -38,8 +37,6 @@ pub use call_writing::{
 pub use calls::{PlainCall, PlainDump, PlainEntry, PlainOpening};
 pub use claims::PlainClaim;
 pub use errors::ShapeError;
-pub use events::Event;
-pub use scenarios::PlainScenario;
-pub use steps::{OwnUpdate, PlainReceived, PlainRevocation, PlainSignature, PlainStep};
+pub use steps::{OwnUpdate, PlainReceived, PlainRevocation, PlainSignature, PlainStep, own_named};
 pub use values::{FromValue, array_of, item, member, name_at, object_of, tag_of};
 pub use writing::{WriteValue, write_bytes, write_each};

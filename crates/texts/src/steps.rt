@@ -183,9 +183,9 @@ fn own_fee_of(value: &Value) -> Option<OwnUpdate>
     })
 }
 
-// An update of this side, by its name.
+/// An update of a side, by its name: what belongs to it stands from the fourth item on.
 #[tactic(auto, unfolding(crate::specs::Steps::own_named))]
-fn own_named(name: &str, value: &Value) -> Option<OwnUpdate>
+pub fn own_named(name: &str, value: &Value) -> Option<OwnUpdate>
     ensures { result ≡ own_named name.now (view value.now) }
 {
     if name == "offer" {

@@ -5,8 +5,7 @@ use Rattle.std.proofs.lemmas.Option.{none-some}
 use Rattle.terms.specs.declared.sides.Side.{Side}
 use Rattle.terms.specs.declared.sides.Side.TheVariants.{A}
 use Rattle.terms.specs.Sides.{other}
-use Rattle.texts.specs.declared.events.Event.{Event}
-use Rattle.texts.specs.declared.steps.OwnUpdate.TheVariants.{Offer, Fulfil, Fail, SetFee}
+use Rattle.scenario.specs.declared.events.Event.{Event}
 use Rattle.channel.specs.declared.messages.Message.{Message}
 use Rattle.channel.specs.declared.messages.Message.TheVariants.{Updated, CommitmentSigned, RevokeAndAck}
 use Rattle.channel.specs.Tokens.{peer_tokens}
@@ -29,7 +28,7 @@ use Rattle.world.specs.Keeping.{IsKept}
 use Rattle.world.specs.Releasing.{with_taken, without_taken, IsReleased}
 use Rattle.world.specs.Pairing.{AgreeBy}
 use Rattle.world.specs.Looking.{Looks, back_to}
-use Rattle.world.specs.Steps.{own_call, call_refusal, called as after_calling, receipt_refusal, received as after_receipt, refusal_of, Happens, offers, fulfils, fails, sets_fee, signs, receives, keeps, broadcasts, broadcasts_htlc, mines, looks, takes, releases, reorganises, WorldSteps, happens, refuses, runs_out}
+use Rattle.world.specs.Steps.{own_call, call_refusal, called as after_calling, receipt_refusal, received as after_receipt, refusal_of, Happens, updates, signs, receives, keeps, broadcasts, broadcasts_htlc, mines, looks, takes, releases, reorganises, WorldSteps, happens, refuses, runs_out}
 use Rattle.world.specs.Theorem.{StepsKeep}
 use Rattle.world.proofs.Inboxes.{inboxes_sent, inboxes_received, got_of_map, inboxes_read, inboxes_back}
 use Rattle.world.proofs.Calls.{received, filed, released_by}
@@ -136,10 +135,7 @@ going_back height a b fit = record {
 -- ---- each event
 
 happening : (w v : World) (e : Event) (o : Outcome) → AreFitting w.a w.b → refusal_of w e ≡ None → Happens w e v o → AreFitting v.a v.b
-happening w v e o fit none (offers {s} {c} {amount} {hash} {expiry}) = calling s c (own_call c (Offer amount hash expiry)) w (own_sends c (Offer amount hash expiry)) fit none
-happening w v e o fit none (fulfils {s} {c} {id} {preimage}) = calling s c (own_call c (Fulfil id preimage)) w (own_sends c (Fulfil id preimage)) fit none
-happening w v e o fit none (fails {s} {c} {id}) = calling s c (own_call c (Fail id)) w (own_sends c (Fail id)) fit none
-happening w v e o fit none (sets_fee {s} {c} {rate}) = calling s c (own_call c (SetFee rate)) w (own_sends c (SetFee rate)) fit none
+happening w v e o fit none (updates {s} {c} {update}) = calling s c (own_call c update) w (own_sends c update) fit none
 happening w v e o fit none (signs {s} {c}) = calling s c (calls.Sign c) w (sign_sends c) fit none
 happening w v e o fit none (receives {s} {c}) = receiving s c w fit none
 happening w v e o fit none (keeps {s} {c} {n} {after} kept) = keeping s c n after w fit kept

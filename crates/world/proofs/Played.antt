@@ -14,8 +14,8 @@ use Rattle.mempool.specs.declared.errors.ReorgError.{ReorgError}
 use Rattle.mempool.specs.declared.errors.ReorgError.TheVariants as reorgs
 use Rattle.mempool.specs.Mining.{Mined, mined_by}
 use Rattle.mempool.specs.Reorganising.{reorg_refusal, IsReorganised, IsRefusal as IsReorgRefusal}
-use Rattle.texts.specs.declared.events.Event.{Event}
-use Rattle.texts.specs.declared.events.Event.TheVariants as events
+use Rattle.scenario.specs.declared.events.Event.{Event}
+use Rattle.scenario.specs.declared.events.Event.TheVariants as events
 use Rattle.book.specs.declared.calls.Call.{Call}
 use Rattle.book.specs.declared.calls.Call.TheVariants as calls
 use Rattle.world.specs.declared.errors.EventError.{EventError}
@@ -42,10 +42,7 @@ use Rattle.world.specs.Steps.{
   both_back,
   refusal_of,
   Happens,
-  offers,
-  fulfils,
-  fails,
-  sets_fee,
+  updates,
   signs,
   receives,
   keeps,
@@ -125,17 +122,8 @@ is_received w s c r o me peer by is peers =
 -- an update
 pub is_updated : (w v : World) (e : Event) (own : Own) (r : Result (Unit {0}) EventError) (o : Result Outcome EventError) → Some own ≡ own_of e → o ≡ done_by r
     → IsEvent (call_refusal own.side own.channel (own_call own.channel own.update) w) r w (called own.side own.channel (own_call own.channel own.update) w) v → IsPlayed w e o v
-is_updated w v (events.Offer s c amount hash expiry) own r o asked by event =
-    acted w _ v (events.Offer s c amount hash expiry) r o by offers
-    (subst (λ (x : Own). IsEvent (call_refusal x.side x.channel (own_call x.channel x.update) w) r w (called x.side x.channel (own_call x.channel x.update) w) v) (same_Some own _ asked) event)
-is_updated w v (events.Fulfil s c id preimage) own r o asked by event =
-    acted w _ v (events.Fulfil s c id preimage) r o by fulfils
-    (subst (λ (x : Own). IsEvent (call_refusal x.side x.channel (own_call x.channel x.update) w) r w (called x.side x.channel (own_call x.channel x.update) w) v) (same_Some own _ asked) event)
-is_updated w v (events.Fail s c id) own r o asked by event =
-    acted w _ v (events.Fail s c id) r o by fails
-    (subst (λ (x : Own). IsEvent (call_refusal x.side x.channel (own_call x.channel x.update) w) r w (called x.side x.channel (own_call x.channel x.update) w) v) (same_Some own _ asked) event)
-is_updated w v (events.Fee s c rate) own r o asked by event =
-    acted w _ v (events.Fee s c rate) r o by sets_fee
+is_updated w v (events.Own s c update) own r o asked by event =
+    acted w _ v (events.Own s c update) r o by updates
     (subst (λ (x : Own). IsEvent (call_refusal x.side x.channel (own_call x.channel x.update) w) r w (called x.side x.channel (own_call x.channel x.update) w) v) (same_Some own _ asked) event)
 is_updated w v (events.Sign s c) own r o asked by event = absurd (none-some own (sym asked))
 is_updated w v (events.Deliver s c) own r o asked by event = absurd (none-some own (sym asked))

@@ -2,7 +2,7 @@
 use Rattle.std.proofs.Common.{◌≡◌, ℕ, ◌+◌, ◌<◌, ◌≤◌, cond, List, [], ◌∷◌, ◌++◌, length, take, get_or, Result, Ok, Err, sym, subst}
 use Rattle.std.specs.Prelude.{is_ok}
 use Rattle.std.proofs.lemmas.List.{take_more, take_all}
-use Rattle.texts.specs.declared.events.Event.{Event}
+use Rattle.scenario.specs.declared.events.Event.{Event}
 use Rattle.world.specs.declared.outcomes.Outcome.{Outcome}
 use Rattle.world.specs.Worlds.{World}
 use Rattle.world.specs.Steps.{WorldSteps, Runs, ends, goes_on}

@@ -10,7 +10,8 @@ use Rattle.watch.specs.declared.spends.Spend.{Spend}
 use Rattle.watch.specs.declared.unclaimed.Given.{Given}
 use Rattle.watch.specs.Watching.{Seen}
 use Rattle.texts.specs.declared.agreement.PlainTerms.{PlainTerms}
-use Rattle.texts.specs.declared.events.Event.TheVariants as events
+use Rattle.texts.specs.declared.steps.OwnUpdate.TheVariants.{Offer, Fulfil, Fail, SetFee}
+use Rattle.scenario.specs.declared.events.Event.TheVariants as events
 use Rattle.book.specs.declared.calls.Batch.{Batch}
 use Rattle.book.specs.declared.calls.Call.TheVariants.{Keep, Release}
 use Rattle.world.specs.declared.errors.EventError.TheVariants.{NoSuchChannel, NoMessage, NoSuchTx, NoJob, TooDeep}
@@ -71,7 +72,7 @@ nothing_found = record { seen = []; learnt = []; jobs = [] }
 
 -- each channel is missing, no job is there, and the first block stays
 none_there : map (refusal_of beginning)
-    (events.Offer A 0 1000 [] 9 ∷ events.Fulfil B 0 0 [] ∷ events.Fail A 0 0 ∷ events.Fee B 0 253 ∷ events.Sign A 0 ∷ events.Deliver B 0 ∷ events.Keep A 0 0 ∷ events.Broadcast B 0 0
+    (events.Own A 0 (Offer 1000 [] 9) ∷ events.Own B 0 (Fulfil 0 []) ∷ events.Own A 0 (Fail 0) ∷ events.Own B 0 (SetFee 253) ∷ events.Sign A 0 ∷ events.Deliver B 0 ∷ events.Keep A 0 0 ∷ events.Broadcast B 0 0
     ∷ events.BroadcastHtlc A 0 0 0 ∷ [])
     ≡ Some NoSuchChannel ∷ Some NoSuchChannel ∷ Some NoSuchChannel ∷ Some NoSuchChannel ∷ Some NoSuchChannel ∷ Some NoSuchChannel ∷ Some NoSuchChannel ∷ Some NoSuchChannel ∷ Some NoSuchChannel ∷ []
 none_there = refl

@@ -3,10 +3,9 @@ use Rattle.std.specs.Prelude.{◌≡◌, ℕ, ◌-◌, List, [], ◌∷◌, ◌+
 use Rattle.tx.specs.Fields.{Transaction}
 use Rattle.terms.specs.declared.sides.Side.{Side}
 use Rattle.terms.specs.Sides.{other}
-use Rattle.texts.specs.declared.events.Event.{Event}
-use Rattle.texts.specs.declared.events.Event.TheVariants as events
+use Rattle.scenario.specs.declared.events.Event.{Event}
+use Rattle.scenario.specs.declared.events.Event.TheVariants as events
 use Rattle.texts.specs.declared.steps.OwnUpdate.{OwnUpdate}
-use Rattle.texts.specs.declared.steps.OwnUpdate.TheVariants.{Offer, Fulfil, Fail, SetFee}
 use Rattle.chain.specs.Blocks.{height_of}
 use Rattle.mempool.specs.Mining.{Mined, mined_by, reorganised}
 use Rattle.mempool.specs.Reorganising.{reorg_refusal}
@@ -71,10 +70,7 @@ both_back height w = record w { a = back_to height w.a; b = back_to height w.b }
 
 -- why an event is refused, memory aside
 abbrev pub refusal_of : World → Event → Option EventError
-refusal_of w (events.Offer s c amount hash expiry) = call_refusal s c (own_call c (Offer amount hash expiry)) w
-refusal_of w (events.Fulfil s c id preimage) = call_refusal s c (own_call c (Fulfil id preimage)) w
-refusal_of w (events.Fail s c id) = call_refusal s c (own_call c (Fail id)) w
-refusal_of w (events.Fee s c rate) = call_refusal s c (own_call c (SetFee rate)) w
+refusal_of w (events.Own s c update) = call_refusal s c (own_call c update) w
 refusal_of w (events.Sign s c) = call_refusal s c (calls.Sign c) w
 refusal_of w (events.Deliver s c) = receipt_refusal s c w
 refusal_of w (events.Keep s c n) = keep_refusal n (channel_of (node_of s w) c)
@@ -88,11 +84,7 @@ refusal_of w (events.Reorg depth forgotten) = option_map by_reorg (reorg_refusal
 
 -- what happens where nothing refuses the event
 pub data Happens (w : World) : Event → World → Outcome → Type 0 where
-  offers : {s : Side} {c amount : ℕ} {hash : List ℕ} {expiry : ℕ}
-      → Happens w (events.Offer s c amount hash expiry) (called s c (own_call c (Offer amount hash expiry)) w) Done
-  fulfils : {s : Side} {c id : ℕ} {preimage : List ℕ} → Happens w (events.Fulfil s c id preimage) (called s c (own_call c (Fulfil id preimage)) w) Done
-  fails : {s : Side} {c id : ℕ} → Happens w (events.Fail s c id) (called s c (own_call c (Fail id)) w) Done
-  sets_fee : {s : Side} {c rate : ℕ} → Happens w (events.Fee s c rate) (called s c (own_call c (SetFee rate)) w) Done
+  updates : {s : Side} {c : ℕ} {update : OwnUpdate} → Happens w (events.Own s c update) (called s c (own_call c update) w) Done
   signs : {s : Side} {c : ℕ} → Happens w (events.Sign s c) (called s c (calls.Sign c) w) Done
   receives : {s : Side} {c : ℕ} → Happens w (events.Deliver s c) (received s c w) Done
   keeps : {s : Side} {c n : ℕ} {after : Node} → IsKept (node_of s w) c n after → Happens w (events.Keep s c n) (with_node s after w) Done

@@ -13,8 +13,8 @@ use Rattle.terms.specs.declared.sides.Side.TheVariants.{A}
 use Rattle.claim.specs.Claims.{ClaimParts, IsWhole}
 use Rattle.channel.specs.declared.messages.Message.{Message}
 use Rattle.channel.specs.Tokens.{peer_tokens}
-use Rattle.texts.specs.declared.events.Event.{Event}
-use Rattle.texts.specs.declared.events.Event.TheVariants.{Deliver}
+use Rattle.scenario.specs.declared.events.Event.{Event}
+use Rattle.scenario.specs.declared.events.Event.TheVariants.{Deliver}
 use Rattle.book.specs.Accepted.{all_accepted, IsHistory}
 use Rattle.book.specs.Guarding.{is_guarded}
 use Rattle.book.specs.Replies.{is_accepted}

@@ -32,4 +32,5 @@ mod worlds;
 
 pub use claimed::check_claimed;
 pub use outcomes::Outcome;
+pub use scenario::{Event, Scenario, Seeds};
 pub use worlds::World;

@@ -3,8 +3,9 @@
 ghost use Rattle.std.specs.Prelude.{◌≡◌};
 ghost use Rattle.world.specs.Owning.{own_of};
 
+use scenario::Event;
 use terms::Side;
-use texts::{Event, OwnUpdate};
+use texts::OwnUpdate;
 
 /// An update that a side makes in a channel.
 #[derive(Drop)]
@@ -19,44 +20,14 @@ pub(crate) fn own_of(event: &Event) -> Option<Own>
     ensures { result ≡ own_of event.now }
 {
     match *event {
-        Event::Offer {
+        Event::Own {
             side,
             channel,
-            amount,
-            hash,
-            expiry,
+            update,
         } => Some(Own {
             side,
             channel,
-            update: OwnUpdate::Offer {
-                amount,
-                hash,
-                expiry,
-            },
-        }),
-        Event::Fulfil {
-            side,
-            channel,
-            id,
-            preimage,
-        } => Some(Own {
-            side,
-            channel,
-            update: OwnUpdate::Fulfil { id, preimage },
-        }),
-        Event::Fail { side, channel, id } => Some(Own {
-            side,
-            channel,
-            update: OwnUpdate::Fail { id },
-        }),
-        Event::Fee {
-            side,
-            channel,
-            rate,
-        } => Some(Own {
-            side,
-            channel,
-            update: OwnUpdate::SetFee { rate },
+            update,
         }),
         _ => None,
     }

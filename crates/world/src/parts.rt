@@ -12,10 +12,10 @@ use crate::own::{Own, own_of};
 use crate::{delivering, keeping, looking, publishing, releasing};
 use chain::{Coins, Index};
 use mempool::{Reorganised, mine, reorganise};
+use scenario::Event;
 use std::alloc::Global;
 use std::marker::Model;
 use terms::Side;
-use texts::Event;
 use tx::Tx;
 
 /// The two sides, and the chain with its pool.
@@ -306,9 +306,7 @@ impl Parts {
             Event::Take { side, count } => self.take(side, count),
             Event::Release { side, count } => self.release(side, count),
             Event::Reorg { depth, forgotten } => self.reorganise(depth, forgotten),
-            Event::Offer { .. } | Event::Fulfil { .. } | Event::Fail { .. } | Event::Fee { .. } => {
-                unreachable!()
-            }
+            Event::Own { .. } => unreachable!(),
         }
     }
 

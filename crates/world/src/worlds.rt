@@ -7,11 +7,11 @@ use crate::outcomes::Outcome;
 use crate::parts::Parts;
 use book::Book;
 use chain::Index;
-use scenario::{MAX_CHANNELS, Seeds};
+use scenario::{Event, MAX_CHANNELS, Seeds};
 use std::alloc::{AllocError, Global};
 use std::marker::Model;
 use terms::Side;
-use texts::{Event, PlainTerms};
+use texts::PlainTerms;
 
 /// The world of two sides: their books and watches, the messages on their way, and the chain with its pool.
 #[derive(Drop)]

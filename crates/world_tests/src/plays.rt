@@ -2,9 +2,10 @@
 
 use crate::worlds::first_world;
 use book::errors::KeepError;
+use scenario::Event;
 use std::process::Abort;
 use terms::Side;
-use texts::Event;
+use texts::OwnUpdate;
 use world::errors::EventError;
 use world::{Outcome, World};
 
@@ -36,12 +37,14 @@ const DELIVER_B: Event = Event::Deliver {
 
 // From the offer on to the revocation of the commitment that has it on both sides.
 const OFFERED: [Event; 8] = [
-    Event::Offer {
+    Event::Own {
         side: Side::A,
         channel: 0,
-        amount: 10_000_000,
-        hash: HASH,
-        expiry: 5,
+        update: OwnUpdate::Offer {
+            amount: 10_000_000,
+            hash: HASH,
+            expiry: 5,
+        },
     },
     DELIVER_B,
     SIGN_A,
@@ -58,11 +61,13 @@ const KEEP_A: Event = Event::Keep {
     number: 0,
 };
 
-const FULFIL: Event = Event::Fulfil {
+const FULFIL: Event = Event::Own {
     side: Side::B,
     channel: 0,
-    id: 0,
-    preimage: [0; 32],
+    update: OwnUpdate::Fulfil {
+        id: 0,
+        preimage: [0; 32],
+    },
 };
 
 const KEEP_B: Event = Event::Keep {

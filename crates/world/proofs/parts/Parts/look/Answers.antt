@@ -1,7 +1,7 @@
 use Rattle.std.proofs.Common.{sym, subst}
 use Rattle.terms.specs.declared.sides.Side.{Side}
 use Rattle.terms.specs.declared.sides.Side.TheVariants.{A, B}
-use Rattle.texts.specs.declared.events.Event.TheVariants as events
+use Rattle.scenario.specs.declared.events.Event.TheVariants as events
 use Rattle.world.specs.Worlds.{World, with_node}
 use Rattle.world.specs.Steps.{IsPlayed}
 use Rattle.world.proofs.Played.{is_looked}

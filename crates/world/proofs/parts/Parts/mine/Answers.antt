@@ -1,6 +1,6 @@
 use Rattle.std.proofs.Common.{◌≡◌, Ok, subst}
 use Rattle.mempool.specs.Mining.{Mined, mined_by}
-use Rattle.texts.specs.declared.events.Event.TheVariants as events
+use Rattle.scenario.specs.declared.events.Event.TheVariants as events
 use Rattle.world.specs.declared.outcomes.Outcome.TheVariants.{Mined as MinedBlocks}
 use Rattle.world.specs.Worlds.{World}
 use Rattle.world.specs.Steps.{IsPlayed}

@@ -1,13 +1,10 @@
 //! Scenarios, as a text has them.
 
-use crate::agreement::PlainTerms;
-use crate::allocating::{ReadValue, read_member};
-use crate::errors::ShapeError;
 use crate::events::Event;
-use crate::values::{FromValue, member, object_of};
 use lists::List;
 use serde_json::Value;
 use std::alloc::Global;
+use texts::{FromValue, PlainTerms, ReadValue, ShapeError, member, object_of, read_member};
 
 /// A scenario as a text has it: the seeds of the two sides, the terms of their channels, and what happens. Whether there are too many of
 /// something, or the two sides do not agree on terms, is not tested yet.
@@ -19,18 +16,8 @@ pub struct PlainScenario {
     pub events: List<Event>,
 }
 
-impl ReadValue for PlainTerms {
-    ghost use Rattle.texts.specs.Terms.{terms_of};
-
-    ghost reads = { terms_of };
-
-    fn read_value(_alloc: Global, value: &Value) -> Result<PlainTerms, ShapeError> {
-        PlainTerms::from_value(value).ok_or(ShapeError::BadShape)
-    }
-}
-
 impl ReadValue for Event {
-    ghost use Rattle.texts.specs.Events.{event_of};
+    ghost use Rattle.scenario.specs.Events.{event_of};
 
     ghost reads = { event_of };
 
@@ -41,7 +28,7 @@ impl ReadValue for Event {
 
 /// An object of three members: `channels`, `events` and `seeds`.
 impl ReadValue for PlainScenario {
-    ghost use Rattle.texts.specs.Scenarios.{scenario_of};
+    ghost use Rattle.scenario.specs.Scenarios.{scenario_of};
 
     ghost reads = { scenario_of };
 

@@ -2,44 +2,20 @@
 
 ghost use Rattle.std.specs.Prelude.{◌≡◌};
 ghost use Rattle.serde_json.specs.View.{view};
-ghost use Rattle.texts.specs.Events.{offer_of, fulfil_of, fail_of, fee_of, sign_of, deliver_of, keep_of, commitment_of, htlc_transaction_of, broadcast_of, blocks_of, look_of, take_of, release_of, reorg_of};
+ghost use Rattle.scenario.specs.Events.{own_of, sign_of, deliver_of, keep_of, commitment_of, htlc_transaction_of, broadcast_of, blocks_of, look_of, take_of, release_of, reorg_of};
 
-use crate::values::{FromValue, array_of, item, tag_of};
 use serde_json::Value;
 use terms::Side;
+use texts::{FromValue, OwnUpdate, array_of, item, own_named, tag_of};
 
 /// An event of a scenario. Channels are named by their index among the scenario's terms.
 #[derive(Clone, Copy, Debug, PartialEq, Eq, Drop)]
 pub enum Event {
-    /// A side offers an HTLC.
-    Offer {
+    /// A side makes an update.
+    Own {
         side: Side,
         channel: u64,
-        /// Millisatoshis.
-        amount: u64,
-        /// SHA-256 of the payment preimage.
-        hash: [u8; 32],
-        /// The height from which on it can be timed out.
-        expiry: u32,
-    },
-    /// A side fulfils an HTLC of its peer.
-    Fulfil {
-        side: Side,
-        channel: u64,
-        id: u64,
-        preimage: [u8; 32],
-    },
-    /// A side fails an HTLC of its peer.
-    Fail {
-        side: Side,
-        channel: u64,
-        id: u64,
-    },
-    /// A side changes the feerate, in satoshis for 1,000 units of weight.
-    Fee {
-        side: Side,
-        channel: u64,
-        rate: u32,
+        update: OwnUpdate,
     },
     /// A side signs its peer's next commitment.
     Sign {
@@ -95,54 +71,17 @@ pub enum Event {
     },
 }
 
-#[tactic(auto, unfolding(crate::specs::Events::offer_of))]
-fn offer_of(value: &Value) -> Option<Event>
-    ensures { result ≡ offer_of (view value.now) }
+// An update of a side, by its name: the side and the channel stand before what belongs to it.
+#[tactic(auto, unfolding(crate::specs::Events::own_of))]
+fn own_of(name: &str, value: &Value) -> Option<Event>
+    ensures { result ≡ own_of name.now (view value.now) }
 {
-    let form = array_of(value, 6)?;
-    Some(Event::Offer {
-        side: item(form, 1)?,
-        channel: item(form, 2)?,
-        amount: item(form, 3)?,
-        hash: item(form, 4)?,
-        expiry: item(form, 5)?,
-    })
-}
-
-#[tactic(auto, unfolding(crate::specs::Events::fulfil_of))]
-fn fulfil_of(value: &Value) -> Option<Event>
-    ensures { result ≡ fulfil_of (view value.now) }
-{
-    let form = array_of(value, 5)?;
-    Some(Event::Fulfil {
-        side: item(form, 1)?,
-        channel: item(form, 2)?,
-        id: item(form, 3)?,
-        preimage: item(form, 4)?,
-    })
-}
-
-#[tactic(auto, unfolding(crate::specs::Events::fail_of))]
-fn fail_of(value: &Value) -> Option<Event>
-    ensures { result ≡ fail_of (view value.now) }
-{
-    let form = array_of(value, 4)?;
-    Some(Event::Fail {
-        side: item(form, 1)?,
-        channel: item(form, 2)?,
-        id: item(form, 3)?,
-    })
-}
-
-#[tactic(auto, unfolding(crate::specs::Events::fee_of))]
-fn fee_of(value: &Value) -> Option<Event>
-    ensures { result ≡ fee_of (view value.now) }
-{
-    let form = array_of(value, 4)?;
-    Some(Event::Fee {
-        side: item(form, 1)?,
-        channel: item(form, 2)?,
-        rate: item(form, 3)?,
+    let side = item(value, 1)?;
+    let channel = item(value, 2)?;
+    Some(Event::Own {
+        side,
+        channel,
+        update: own_named(name, value)?,
     })
 }
 
@@ -270,22 +209,14 @@ fn reorg_of(value: &Value) -> Option<Event>
 
 /// An array with the event's name at its front.
 impl FromValue for Event {
-    ghost use Rattle.texts.specs.Events.{event_of};
+    ghost use Rattle.scenario.specs.Events.{event_of};
 
     ghost reads = { event_of };
 
     #[tactic(auto, unfolding(crate::specs::Events::event_of, crate::specs::Events::event_named))]
     fn from_value(value: &Value) -> Option<Event> {
         let name = tag_of(value)?;
-        if name == "offer" {
-            offer_of(value)
-        } else if name == "fulfil" {
-            fulfil_of(value)
-        } else if name == "fail" {
-            fail_of(value)
-        } else if name == "fee" {
-            fee_of(value)
-        } else if name == "sign" {
+        if name == "sign" {
             sign_of(value)
         } else if name == "deliver" {
             deliver_of(value)
@@ -304,7 +235,7 @@ impl FromValue for Event {
         } else if name == "reorg" {
             reorg_of(value)
         } else {
-            None
+            own_of(name, value)
         }
     }
 }

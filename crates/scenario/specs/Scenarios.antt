@@ -1,10 +1,10 @@
 -- Scenarios in a text.
 use Rattle.std.specs.Prelude.{ℕ, Option, Some, codes}
 use Rattle.serde_json.specs.Data.{Data}
-use Rattle.texts.specs.declared.scenarios.PlainScenario.{PlainScenario}
+use Rattle.scenario.specs.declared.plain.PlainScenario.{PlainScenario}
 use Rattle.texts.specs.Values.{◌>>=◌, object_of, member_of, pair_of, list_of, bytes_of_len}
 use Rattle.texts.specs.Terms.{terms_of}
-use Rattle.texts.specs.Events.{event_of}
+use Rattle.scenario.specs.Events.{event_of}
 
 -- an object of these three members
 unfoldable pub scenario_of : Data → Option PlainScenario

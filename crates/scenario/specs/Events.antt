@@ -2,44 +2,18 @@
 use Rattle.std.specs.Prelude.{ℕ, ◌^◌, Bool, if◌then◌else◌, List, [], ◌∷◌, Option, Some, None, codes}
 use Rattle.std.specs.Str.{bytes_eq}
 use Rattle.serde_json.specs.Data.{Data}
-use Rattle.texts.specs.declared.events.Event.{Event}
-use Rattle.texts.specs.declared.events.Event.TheVariants.{Offer, Fulfil, Fail, Fee, Sign, Deliver, Keep, Broadcast, BroadcastHtlc, Blocks, Look, Take, Release, Reorg}
-use Rattle.texts.specs.Values.{◌>>=◌, first_some, array_of, item_of, tag_of, u64_of, u32_of, side_of, bytes_of_len}
+use Rattle.scenario.specs.declared.events.Event.{Event}
+use Rattle.scenario.specs.declared.events.Event.TheVariants.{Own, Sign, Deliver, Keep, Broadcast, BroadcastHtlc, Blocks, Look, Take, Release, Reorg}
+use Rattle.texts.specs.Values.{◌>>=◌, first_some, array_of, item_of, tag_of, u64_of, side_of}
+use Rattle.texts.specs.Steps.{own_named}
 
-unfoldable pub offer_of : Data → Option Event
-offer_of d = do
-  form ← array_of 6 d
-  side ← item_of 1 side_of form
-  channel ← item_of 2 u64_of form
-  amount ← item_of 3 u64_of form
-  hash ← item_of 4 (bytes_of_len 32) form
-  expiry ← item_of 5 u32_of form
-  Some (Offer side channel amount hash expiry)
-
-unfoldable pub fulfil_of : Data → Option Event
-fulfil_of d = do
-  form ← array_of 5 d
-  side ← item_of 1 side_of form
-  channel ← item_of 2 u64_of form
-  id ← item_of 3 u64_of form
-  preimage ← item_of 4 (bytes_of_len 32) form
-  Some (Fulfil side channel id preimage)
-
-unfoldable pub fail_of : Data → Option Event
-fail_of d = do
-  form ← array_of 4 d
-  side ← item_of 1 side_of form
-  channel ← item_of 2 u64_of form
-  id ← item_of 3 u64_of form
-  Some (Fail side channel id)
-
-unfoldable pub fee_of : Data → Option Event
-fee_of d = do
-  form ← array_of 4 d
-  side ← item_of 1 side_of form
-  channel ← item_of 2 u64_of form
-  rate ← item_of 3 u32_of form
-  Some (Fee side channel rate)
+-- an update of a side: behind its name stand the side and the channel, and then what a book's step has there, too
+unfoldable pub own_of : List ℕ → Data → Option Event
+own_of name d = do
+  side ← item_of 1 side_of d
+  channel ← item_of 2 u64_of d
+  update ← own_named name d
+  Some (Own side channel update)
 
 unfoldable pub sign_of : Data → Option Event
 sign_of d = do
@@ -120,11 +94,7 @@ broadcast_of d = first_some (commitment_of d) (htlc_transaction_of d)
 -- the events by their names
 unfoldable pub event_named : List ℕ → Data → Option Event
 event_named name d =
-    if bytes_eq name (codes "offer") then offer_of d
-    else if bytes_eq name (codes "fulfil") then fulfil_of d
-    else if bytes_eq name (codes "fail") then fail_of d
-    else if bytes_eq name (codes "fee") then fee_of d
-    else if bytes_eq name (codes "sign") then sign_of d
+    if bytes_eq name (codes "sign") then sign_of d
     else if bytes_eq name (codes "deliver") then deliver_of d
     else if bytes_eq name (codes "keep") then keep_of d
     else if bytes_eq name (codes "broadcast") then broadcast_of d
@@ -133,7 +103,7 @@ event_named name d =
     else if bytes_eq name (codes "take") then take_of d
     else if bytes_eq name (codes "release") then release_of d
     else if bytes_eq name (codes "reorg") then reorg_of d
-    else None
+    else own_of name d
 
 -- an array with the event's name at its front
 unfoldable pub event_of : Data → Option Event
