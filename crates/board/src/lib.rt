@@ -1,11 +1,13 @@
 //! The board: two words that threads share.
 //!
-//! One word is the top, the greatest [`Mark`] that any seat raised; the other counts the tickets that were drawn. Each thread
-//! has a [`Seat`] of its own, and `raise`, `look` and `draw` are one atomic step each: a maximum, a load and an addition. None of
-//! them waits for another thread, tries again or takes memory.
+//! One word is the top, the greatest [`Mark`] that any seat raised; the other counts the tickets that were drawn.
+//! Each thread has a [`Seat`] of its own, and `raise`, `look` and `draw` are one atomic step each: a maximum, a load
+//! and an addition. None of them waits for another thread, tries again or takes memory. Between any two steps the
+//! tickets that the seats drew are the numbers below the count, each once, and the top is the greatest mark that any
+//! seat raised, (0, 0) before (`IsDrawnOnce` of `specs/Rule.antt`).
 //!
-//! Between any two steps the tickets that the seats drew are the numbers below the count, each once, and the top is the greatest
-//! mark that any seat raised, (0, 0) before (`IsDrawnOnce` of `specs/Rule.antt`).
+//! It stands on the library `atomic_table`, and no crate but `thread_tests` stands on it. It is for a node's threads:
+//! the top tells them the newest round and height of the chain.
 //!
 //! ```text
 //! let (board, mut seats) = Board::new(alloc, 2)?;
@@ -18,7 +20,7 @@
 //! assert_eq!(rt; board.draw(&mut watcher)?, 1);
 //! ```
 //!
-//! Tested in `thread_tests`.
+//! The test `an_older_round_is_no_match` of `thread_tests` makes these calls.
 #![tactic(auto)]
 
 mod board;

@@ -1,9 +1,18 @@
-//! A node's book: what it did, in order.
+//! A node's book: the history of the calls that it accepted, and the gate before its signatures.
 //!
-//! [`Book`] has six calls that may change it: `open`, `step`, `sign`, `revoke`, `keep` and `release`. Each answers what `reply_of` says of the history, and leaves the history that `history_after` says, or
-//! memory ran out and the history is as before: an accepted call adds one entry, and a refused one changes nothing. [`Book::call`] makes any of them. The signing gate, [`laws::signing_is_guarded`], holds of each history: each signature
-//! stands where every revocation that came in its channel has the penalties of the revoked commitment kept between the two. [`Book::entries`] hands this out. [`matching::is_set`] tells
-//! whether claims are a penalty set. [`Book::known`] hands out what the node knows of a channel, for what is due on the chain, and [`Book::revoked`] the state of a revoked commitment, for its penalties to be built. What [`Book::dump`] gives, [`Book::load`] loads as the same history.
+//! [`Book`] has six calls that may change it: `open`, `step`, `sign`, `revoke`, `keep` and `release`; [`Book::call`]
+//! makes any of them. Each answers what `reply_of` says of the history, and leaves the history that `history_after`
+//! says, or memory ran out and the history is as before: an accepted call adds one entry, and a refused one changes
+//! nothing. The signing gate, [`laws::signing_is_guarded`], holds of each history: each signature stands where every
+//! revocation that came in its channel has the penalties of the revoked commitment kept between the two.
+//! [`Book::entries`] hands this out. What [`Book::dump`] gives, [`Book::load`] loads as the same history.
+//!
+//! Long work is done outside the book. [`Book::revoked`] hands out the state for a penalty set, and
+//! [`Book::keep_set`] keeps the set that was built, as `keep` does its claims; [`Book::known`] hands out what the
+//! node knows of a channel, and [`filled`] fills a batch as `release` does.
+//!
+//! `channel` does what each call says, `texts` has the shapes of a dump, and `filling` makes what a release gives.
+//! `side` stands between the book and the chain, and `world` plays two books.
 //!
 //! ```rust
 //! assert!(rt; a.revoke(0, 0, came.secret, came.next_point).is_ok());
@@ -12,7 +21,8 @@
 //! assert!(rt; a.sign(0, 0).is_ok());
 //! ```
 //!
-//! The test `signs_once_penalties_are_kept` of `book_tests` has these lines; an update of one's own stands before the first signature.
+//! The test `signs_once_penalties_are_kept` of `book_tests` has these lines; an update of one's own stands before the
+//! first signature.
 #![tactic(auto)]
 
 pub mod calling;

@@ -1,6 +1,9 @@
 //! Two nodes with a book each, for programs that play with books.
 //!
-//! Beside each channel of a book a node has one that goes along with it: from it come the penalties that the book keeps. What one node sends waits until the other receives it.
+//! Beside each channel of a book a node has a second one that takes the same steps: from it come the penalties that
+//! the book keeps. What one node sends waits until the other receives it. No clause says what becomes of a step.
+//!
+//! `parties` has the terms, and `book` the two books. The program `plays` plays them, line by line.
 //!
 //! ```rust
 //! let mut peers = Peers::new(alloc);
@@ -9,7 +12,7 @@
 //! peers.act(Side::B, 0, Act::Deliver)?;
 //! ```
 //!
-//! The program `plays` plays so, line by line.
+//! The part `== book` of `plays` plays so.
 #![tactic(auto)]
 
 mod nodes;

@@ -1,6 +1,7 @@
 //! Tests of the libraries `texts`, `scenario`, `book` and `openings`.
 //!
-//! They stand in a crate of their own, so that each of these libraries is proved once. The examples of the libraries' pages are among them.
+//! They stand in a crate of their own, so that each of these libraries is proved once. The examples of the libraries'
+//! pages are among them.
 #![tactic(auto)]
 
 #[cfg(test)]

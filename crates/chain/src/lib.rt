@@ -1,10 +1,15 @@
-//! The simulated chain: blocks of transactions, the outputs that they create and spend, time locks, and blocks taken off again.
+//! The simulated chain: blocks of transactions, the outputs that they create and spend, time locks, and blocks taken
+//! off again.
 //!
-//! [`Coins`] has the calls. A call speaks of the list of blocks as it stands: an input passes exactly where its output was created and
-//! is unspent, its locks are reached (BIP 65, BIP 68), and the output's program runs clean on its witness (BIP 141); a block is connected
-//! exactly where each of its transactions passes, and else the first at fault is named and nothing changes. [`Scan`] looks through its
-//! blocks for every answer; [`Index`], which is the [`Chain`], keeps a map of the outputs and a set of the ids beside them. Both are proved
+//! [`Coins`] has the calls, each of which speaks of the list of blocks as it stands. An input passes exactly where
+//! its output was created and is unspent, its locks are reached (BIP 65, BIP 68), and the output's program runs clean
+//! on its witness (BIP 141), barring out-of-memory. A block is connected exactly where each of its transactions
+//! passes; else the first at fault is named and nothing changes. [`Scan`] looks through its blocks for every answer;
+//! [`Index`], which is the [`Chain`], keeps a map of the outputs and a set of the ids beside them. Both are proved
 //! against the same clauses. [`replay_commands`] makes calls that are values, one after another.
+//!
+//! `filling` and `publish` make the transactions, and `machine` runs their scripts here: the walk of a script ends.
+//! The walk of a block begins: `mempool` makes it of what waits, and `watch` reads it.
 //!
 //! ```rust
 //! /// Grants an output, and spends it in the next block.
@@ -13,6 +18,8 @@
 //!     chain.connect(tx)
 //! }
 //! ```
+//!
+//! The test `spends_a_grant` of `chain_tests` calls this function.
 #![tactic(auto)]
 
 mod blocks;

@@ -1,5 +1,6 @@
-//! Tests of the simulated chain and of what waits for its blocks: `chain` and `mempool`. They stand apart so that each library is proved without
-//! them.
+//! Tests of the simulated chain and of what waits for its blocks: `chain` and `mempool`.
+//!
+//! They stand apart so that each library is proved without them. The examples of the libraries' pages are among them.
 #![tactic(auto)]
 
 #[cfg(test)]

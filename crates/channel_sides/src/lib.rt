@@ -1,6 +1,9 @@
 //! The two sides of a new channel, for programs that play with it.
 //!
-//! [`open_sides`] makes both from one value of the terms, each with the other's points and token; a contract says so by `AreOpened`.
+//! [`open_sides`] makes both from one value of the terms, each with the other's points and token; a contract says so
+//! by `AreOpened`.
+//!
+//! `parties` has the keys and the terms, and `channel` the two ends. The program `vectors` plays them as a `Pair`.
 //!
 //! ```rust
 //! /// Whether A may offer 1,000 satoshis of its 80,000.
@@ -9,6 +12,8 @@
 //!     Ok(sides.a.offer(1_000_000, [9; 32], 500).is_ok())
 //! }
 //! ```
+//!
+//! The part `== channel` of `vectors` opens its channels so.
 #![tactic(auto)]
 
 ghost use Rattle.std.specs.Prelude.{◌≡◌, IfOk};

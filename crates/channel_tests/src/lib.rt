@@ -1,5 +1,6 @@
-//! Tests of a channel's calls and of what they stand on: `commit`, `channel`, `penalty` and `publish`. They stand apart so that each library is
-//! proved without them.
+//! Tests of a channel's calls and of what they stand on: `commit`, `channel`, `penalty` and `publish`.
+//!
+//! They stand apart so that each library is proved without them. The examples of the libraries' pages are among them.
 #![tactic(auto)]
 
 #[cfg(test)]

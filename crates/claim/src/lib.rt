@@ -1,7 +1,13 @@
 //! Claims on outputs, accepted before use.
 //!
-//! [`accept`] alone makes a [`Claim`]: a path through a checked script with a filling of each of its slots, on an output whose program stands for
-//! the script. Whatever fits an accepted claim meets its path, and so runs the script clean.
+//! A [`Claim`] is a path through a checked script on an output (its [`Place`]), with what each slot of the path is
+//! filled with: a signature, a preimage, or given bytes ([`Slot`]). Its [`Shell`] is open, for any transaction of
+//! version 2 with a lock time that the claim asks for, or is one fixed transaction. [`accept`] alone makes a claim,
+//! and refuses it unless the place's program is the script's and the slots meet the path. Whatever fits an accepted
+//! claim meets its path, and so runs the script clean.
+//!
+//! `paths` hands it the checked script; `penalty` and `resolve` accept their claims with the slots of `forms`.
+//! `filling` makes the transaction that spends the outputs.
 //!
 //! ```rust
 //! let script = Script::parse(alloc, &[0xac])?; // CHECKSIG
@@ -10,6 +16,8 @@
 //! let claim = accept(alloc, checked, 0, slots, place, Shell::Open)?;
 //! assert_eq!(rt; claim.needs_age(), 0);
 //! ```
+//!
+//! The test `claims_a_checksig` of `claim_tests` makes this claim.
 #![tactic(auto)]
 
 pub mod accepting;

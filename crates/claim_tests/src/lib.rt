@@ -1,5 +1,7 @@
-//! Tests of the libraries that list the ways through a script and that make, name and fill claims: `paths`, `claim`, `forms` and `filling`. They
-//! stand apart so that each library is proved without them.
+//! Tests of the libraries that list the ways through a script and that make, name and fill claims: `paths`, `claim`,
+//! `forms` and `filling`.
+//!
+//! They stand apart so that each library is proved without them. The examples of the libraries' pages are among them.
 #![tactic(auto)]
 
 #[cfg(test)]

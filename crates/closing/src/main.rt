@@ -1,7 +1,11 @@
-//! Claims on outputs of a chain, from the form of the script to the block that takes the claim's transaction: the eight kinds of claims on the forms
-//! of BOLT 3, and the funding output with both signatures. A line says what comes of each, first with nothing wrong, and then with one thing wrong.
+//! Claims on outputs of a chain, from the form of the script to the block that takes the claim's transaction.
 //!
-//! What must be printed is what an independent model of BOLT 3 and of BIP 65, 68, 112, 141 and 143 prints, with keys, tokens, facts and refusals as `docs/` has them.
+//! It makes the eight kinds of claims on the forms of BOLT 3, and the funding output with both signatures. A line
+//! says what comes of each, first with nothing wrong, and then with one thing wrong. So it goes the whole walk of a
+//! script: `paths`, `forms`, `claim`, `filling`, `chain`. Nothing stands on it.
+//!
+//! What must be printed is what an independent model of BOLT 3 and of BIP 65, 68, 112, 141 and 143 prints, with keys,
+//! tokens, facts and refusals as `docs/` has them.
 #![tactic(auto)]
 
 mod cases;

@@ -1,14 +1,20 @@
 //! Commitments, and the transactions that spend their HTLCs (BOLT 3).
 //!
-//! A commitment belongs to one of the two sides, its owner. [`build`] gives the owner's commitment of a view, exactly that of the definition
-//! `commitment_of`: its outputs with their scripts in their order, its transaction and its id. [`htlc_tx`] gives the HTLC transaction of each HTLC, and
-//! [`signing_digests`] what the owner's peer signs. [`commitment_amounts`] is what the commitment pays, before any script.
+//! A commitment belongs to one of the two sides, its owner. Barring out-of-memory, [`build`] gives the owner's
+//! commitment of a view, exactly that of the definition `commitment_of`: its outputs with their scripts in their
+//! order, its transaction and its id. [`htlc_tx`] gives the HTLC transaction of each HTLC, and [`signing_digests`]
+//! what the owner's peer signs. [`commitment_amounts`] is what the commitment pays, before any script.
+//!
+//! `terms` has the view and what the sides agreed on, `keys` derives the commitment's keys. `channel` signs what is
+//! built here, `penalty` and `resolve` claim its outputs, and `publish` adds both signatures.
 //!
 //! ```
 //! let amounts = commitment_amounts(rt.alloc(), &terms, &view, Side::B)?;
 //! assert_eq!(rt; amounts.fee, commitment_fee(13 * count, 1000));
 //! assert_eq!(rt; amounts.to_local, Some(3_000_000));
 //! ```
+//!
+//! The test `every_count_of_htlcs_has_amounts` of `channel_tests` has these lines.
 #![tactic(auto)]
 
 mod amounts;

@@ -1,4 +1,7 @@
-//! RIPEMD-160 for programs in C: a static library, which `bench/ripemd160.sh` times beside OpenSSL's.
+//! RIPEMD-160 for programs in C, as a static library.
+//!
+//! Its one function writes what `digest::ripemd160` gives. `bench/ripemd160.sh` times it beside OpenSSL's. No crate
+//! stands on it.
 #![tactic(auto)]
 
 ghost use Rattle.std.specs.Prelude.{◌≡◌};

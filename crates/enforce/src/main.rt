@@ -1,7 +1,8 @@
-//! The programs of a node operator: `enforce ripemd HEX` hashes a message, `enforce paths HEX` lists the ways through a script, and `enforce run` plays the scenario
-//! on standard input.
+//! The program of a node operator: `enforce ripemd HEX` hashes a message, `enforce paths HEX` lists the ways through
+//! a script, and `enforce run` plays the scenario on standard input.
 //!
-//! `enforce_words::run_words` does what the words say, and answers a status of at most 2.
+//! `enforce_words::run_words` does what the words say, and answers a status of at most 2. Here stand the streams and
+//! the arguments alone.
 #![tactic(auto)]
 
 use enforce_words::{refuse_memory, refuse_words, run_words};

@@ -1,4 +1,6 @@
-//! The rows of the programs, as texts and statuses: what `enforce_words::run_words` prints and answers.
+//! Tests of the program `enforce`: what `enforce_words::run_words` prints and answers, as texts and statuses.
+//!
+//! They stand apart so that the library is proved without them.
 #![tactic(auto)]
 
 #[cfg(test)]

@@ -1,7 +1,11 @@
 //! The words of the program `enforce`, from which come a status and text.
 //!
-//! `enforce ripemd HEX` hashes a message, `enforce paths HEX` lists the ways through a script, and `enforce run` plays the scenario on standard input.
-//! [`run_words`] does what the words say, over any reader and writers, and answers a status of at most 2.
+//! `enforce ripemd HEX` hashes a message, `enforce paths HEX` lists the ways through a script, and `enforce run`
+//! plays the scenario on standard input. [`run_words`] does what the words say, over any reader and writers, and
+//! answers a status of at most 2. What it prints is tested, not proved.
+//!
+//! `digest` hashes, `paths` lists, and `world` plays what `scenario` reads. The programs `enforce` and `runs` hand it
+//! the words.
 //!
 //! ```rust
 //! let status = run_words(alloc, words, &mut input, &mut out, &mut err);

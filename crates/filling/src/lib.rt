@@ -1,11 +1,17 @@
-//! Fillings: transactions that open the outputs of accepted claims.
+//! Fillings: transactions that spend the outputs of accepted claims.
 //!
-//! [`fill`] makes one transaction of claims: each input of the [`Filled`] fits its claim, and so runs clean.
+//! [`fill`] makes one transaction of 1 to 4,000 claims, exactly that of the definition `filling_of`, or names the
+//! first refusal that holds, barring out-of-memory. Each input of the [`Filled`] fits its claim, and so runs clean.
+//!
+//! `claim` hands it the claims, and `keys` the signer that fills the slots of keys. `book` releases claims by it, and
+//! `chain` takes the transaction.
 //!
 //! ```rust
 //! let filled = fill(alloc, &[&claim], outputs, &signer, &[])?;
 //! assert_eq!(rt; filled.tx().inputs().len(), 1);
 //! ```
+//!
+//! The test `fills_a_claim` of `claim_tests` has these lines.
 #![tactic(auto)]
 
 pub mod errors;

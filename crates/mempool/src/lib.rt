@@ -1,7 +1,11 @@
-//! The transactions that wait for a block of a simulated chain, and the blocks that take them.
+//! The transactions that wait for a block of the simulated chain, and the blocks that take them.
 //!
-//! [`mine`] makes blocks, each of which takes in the order of the pool what the chain allows: exactly those, with each other left to wait or dropped by what it was refused
-//! for. [`reorganise`] lets the newest blocks give way to others.
+//! [`mine`] makes blocks. Each takes, in the order of the pool, exactly what the chain allows; each other transaction
+//! waits or is dropped, by what it was refused for. [`reorganise`] lets the newest blocks give way to others. Where
+//! memory ran out, the chain is as it was.
+//!
+//! `chain` tests and connects the transactions. `world` keeps the pool, puts broadcasts and released claims in it,
+//! and mines.
 //!
 //! ```rust
 //! /// How many of the waiting transactions the next block takes.
@@ -10,6 +14,8 @@
 //!     Ok(mined.txs)
 //! }
 //! ```
+//!
+//! The test `the_next_block_takes_one` of `chain_tests` calls this function.
 #![tactic(auto)]
 
 mod errors;

@@ -1,7 +1,10 @@
-//! What tests and programs open channels with: keys, parties and terms.
+//! Keys, parties and terms with which tests and programs open channels.
 //!
-//! [`party`] is a side by its signer: its base keys are those of the signer's seed (`IsSeedOf`), so that a channel, and a book, opens by it. [`party_with`] is a
-//! side with any base keys, for what no signer takes part in.
+//! [`party`] is a side by its signer: its base keys are those of the signer's seed (`IsSeedOf`), so that a channel,
+//! and a book, opens by it. [`party_with`] is a side with any base keys, where no signer takes part.
+//!
+//! It fills the types of `keys` and `terms`. `channel_sides` and `book_peers` open channels with it, and so do the
+//! crates of tests.
 //!
 //! ```rust
 //! /// The terms of a channel of 100,000 satoshis, of which A has 80,000.
@@ -10,6 +13,8 @@
 //!     terms_of(FUNDING, 100_000, party(&a, 80_000_000), party(&b, 20_000_000))
 //! }
 //! ```
+//!
+//! The tests of `channel_tests` open their channels so.
 #![tactic(auto)]
 
 ghost use Rattle.std.specs.Prelude.{◌≡◌, ◌∷◌, IfOk, IfSome, replicate};

@@ -1,14 +1,21 @@
-//! Penalties: all that a revoked commitment lets its owner's peer claim (BOLT 5, "Revoked Transaction Close Handling").
+//! Penalties: all that a revoked commitment lets its owner's peer claim (BOLT 5, "Revoked Transaction Close
+//! Handling").
 //!
-//! [`penalties`] gives one accepted claim for each output of the commitment, to_local, to_remote and each HTLC, and behind each HTLC's claim one
-//! for the output of the HTLC transaction with which the cheater may get there first. That these are exactly the definition's
-//! (`claimable_of`), in its order, is a fact of the type [`PenaltySet`].
+//! [`penalties`] gives one accepted claim for each output of the commitment, to_local, to_remote and each HTLC. After
+//! each HTLC's claim stands one for the output of the HTLC transaction with which the cheater may get there first.
+//! That the claims are on exactly the definition's outputs (`claimable_of`), in its order, is a fact of the type
+//! [`PenaltySet`]. Running out of memory is the only error.
+//!
+//! `commit` builds the revoked commitment, and `claim` accepts each claim. `resolve` gives the set as what is due,
+//! `side` builds it for a node, and `book` keeps it.
 //!
 //! ```rust
 //! let state = RevokedState::new(terms, view, Side::A, 7, secret)?; // of a view with one HTLC
 //! let set = penalties(alloc, &state)?;
 //! assert_eq!(rt; set.claims().len(), 4);
 //! ```
+//!
+//! The test `claims_all_that_a_commitment_pays` of `channel_tests` builds this set.
 #![tactic(auto)]
 
 mod building;

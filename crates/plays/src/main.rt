@@ -1,11 +1,14 @@
 //! Plays with books, and with what is due of a channel: `stdin` asks, and `stdout` is what must be printed.
 //!
-//! A line `== WORD` begins a part, and is printed again. The lines behind it are the part's own, up to the next such line:
+//! A line `== WORD` begins a part, and is printed again. The lines after it are the part's own, up to the next such
+//! line:
 //!
 //! - `book`: calls of two books, their dumps, and what changed dumps are loaded as
-//! - `due`: transactions of a channel, the claims that are due by each verdict, and claims in one transaction; it has no lines
+//! - `due`: transactions of a channel, the claims that are due by each verdict, and claims in one transaction; it has
+//!   no lines
 //!
-//! Each word's module says what its lines are.
+//! Each word's module says what its lines are. Nothing stands on the program: it plays the two nodes of `book_peers`,
+//! and asks `resolve` and `filling`.
 #![tactic(auto)]
 
 mod books;

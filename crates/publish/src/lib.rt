@@ -1,11 +1,15 @@
-//! The transactions that one side of a channel can broadcast: its commitments with both signatures, and their HTLC transactions (BOLT 3).
+//! The transactions that one side of a channel can broadcast: its commitments with both signatures, and their HTLC
+//! transactions (BOLT 3).
 //!
-//! [`signed_commitment`] gives this side's commitment of a number, and [`signed_htlc_tx`] the HTLC transaction of its `k`-th HTLC that isn't trimmed: HTLC-timeout for
-//! one that this side offered, and HTLC-success for one that was offered to it, where the preimage is among those that are given. Each is exactly that of the
-//! definitions `signed_commitment_of` and `signed_htlc_tx_of`, witness included.
+//! [`signed_commitment`] gives this side's commitment of a number, and [`signed_htlc_tx`] the HTLC transaction of its
+//! `k`-th HTLC that isn't trimmed: HTLC-timeout for one that this side offered, and HTLC-success for one that was
+//! offered to it, where the preimage is among those that are given. Barring out-of-memory each is exactly that of the
+//! definitions `signed_commitment_of` and `signed_htlc_tx_of`, witness included. [`signed_commitment_in`] and
+//! [`signed_htlc_tx_in`] give the same by a `resolve::Known`, so that no channel is held. Its laws say when `chain`
+//! takes their inputs.
 //!
-//! [`signed_commitment_in`] and [`signed_htlc_tx_in`] give them by what is known of a channel (`resolve::Known`), so that no channel is held meanwhile: those of `commitment_known` and
-//! `htlc_tx_known`, where the signer has the right to the owner's key.
+//! `channel` has the commitments with the peer's tokens, and `commit` their HTLC transactions. `world` broadcasts
+//! what is made here.
 //!
 //! ```rust
 //! /// What closes a channel: this side's newest commitment.
@@ -13,6 +17,8 @@
 //!     signed_commitment(alloc, channel, channel.number())
 //! }
 //! ```
+//!
+//! The test `closes_with_its_newest_commitment` of `channel_tests` calls this function.
 #![tactic(auto)]
 
 mod known;

@@ -1,5 +1,6 @@
-//! Tests of what is due on the chain and of the watch and the reader that find it: `resolve`, `watch` and `side`. They stand apart so that each library is proved
-//! without them.
+//! Tests of what is due on the chain and of the watch and the reader that find it: `resolve`, `watch` and `side`.
+//!
+//! They stand apart so that each library is proved without them. The examples of the libraries' pages are among them.
 #![tactic(auto)]
 
 #[cfg(test)]

@@ -1,5 +1,8 @@
-//! Plays scenarios: a line of its input is one, and it prints what `enforce run` prints of it. A line `== NAME` is printed again. After a line `== chains` it prints, for the next scenario, what
-//! both ways to keep a chain answer to the calls that make the blocks with which it ends.
+//! Plays scenarios: a line of its input is one, and it prints what `enforce run` prints of it.
+//!
+//! A line `== NAME` is printed again. After a line `== chains` it prints, for the next scenario, what both ways to
+//! keep a chain answer to the calls that make the blocks with which it ends. Nothing stands on the program: it calls
+//! `enforce_words`, and `world` and `chain` for the blocks.
 #![tactic(auto)]
 
 mod chains;

@@ -1,9 +1,28 @@
 //! What one node does between its book and the chain.
 //!
-//! It has no book, no channel and no seat in its signatures, since two kinds of caller use it: the simulated world, which owns its books, and threads, which reach theirs over a lock.
-//! [`DueClaim`] is a claim that is due, with the preimages that its slots want. A [`Reader`] reads blocks, and says before each of which channels it has to be told more. [`worth_of`] and
-//! [`batch_of`] make the batch by which claims of a channel are released, [`set_of`] builds the penalty set of a revoked commitment, [`call_of`] is the call by which a book takes a message, and
-//! [`message_of`] what a reply has for the peer.
+//! A [`Reader`] reads blocks for all channels of a node: [`Reader::to_ask`] says before each block of which channels
+//! more has to be known, [`Reader::answer`] takes it, and [`Reader::read`] reads. The main contract is that of
+//! `read`: barring out-of-memory, it gives just what each channel's watch finds by what was answered (`IsRead`).
+//! [`DueClaim`] is a claim that fell due, with the preimages that its slots want. [`worth_of`] and [`batch_of`] make
+//! the batch by which due claims of a channel are released, and [`set_of`] builds the penalty set of a revoked
+//! commitment. [`call_of`] is the call by which a book takes a message, and [`message_of`] what a reply has for the
+//! peer.
+//!
+//! It has two callers: `world`, which owns its books, and threads, which reach theirs over a lock. So no book, no
+//! channel and no seat stands in its signatures.
+//!
+//! A message comes from a peer's `channel`, and goes to `book` as a call. A block comes from `chain` to this side's
+//! `watch`es; what they find goes back to `book` as a batch to release.
+//!
+//! ```rust
+//! let asked = reader.to_ask(alloc, block)?;
+//! assert_eq!(rt; asked.len(), 0); // the funding output stands
+//! reader.answer(0, known)?;
+//! let parts = reader.read(alloc, 0, block)?.into_parts();
+//! assert_eq!(rt; parts.due.len(), 0);
+//! ```
+//!
+//! The test `reads_a_block` of `resolve_tests` has these calls.
 #![tactic(auto)]
 
 mod acts;

@@ -1,11 +1,16 @@
-//! What the two sides of a channel agreed on, and the words that its updates and its commitments share (BOLT 2, BOLT 3).
+//! What the two sides of a channel agreed on, and the words that its updates and its commitments share (BOLT 2, BOLT
+//! 3).
 //!
-//! [`Terms`] are the values of `open_channel` and `accept_channel`, the funding outpoint and both sides' base keys. Their type keeps what
-//! everything above rests on: the capacity is at most 21,000,000 bitcoins, and what the two sides begin with is the capacity.
-//! [`ProposedTerms`] are what a text may ask for, without the funding outpoint and the keys, and unchecked.
-//! A [`View`] is what one commitment pays: each side's balance, its HTLCs, and the feerate.
+//! [`Terms`] are the values of `open_channel` and `accept_channel`, the funding outpoint and both sides' base keys.
+//! Their type keeps what everything above rests on: the capacity is at most 21,000,000 bitcoins, and what the two
+//! sides begin with is the capacity. [`ProposedTerms`], with a [`ProposedParty`] for each side, are what a channel's
+//! opening proposes, before there are a funding output and keys; two sides may be unable to agree on them. A [`View`]
+//! is what one commitment pays: each side's balance, its HTLCs, and the feerate. [`mask`], [`obscure`] and
+//! [`number_of`] are the number of a commitment and the fields of its transaction that carry it. `specs/Scripts.antt`
+//! has the opcodes of BOLT 3's five scripts, for `commit` to spell and `forms` to list.
 //!
-//! [`mask`], [`obscure`] and [`number_of`] are the number of a commitment and the fields of its transaction that carry it.
+//! `keys` has the base keys. `updates` makes the views, `commit` the commitment of a view, and `texts` reads and
+//! writes what is proposed.
 //!
 //! ```rust
 //! /// Whether a transaction is commitment number `n` of the channel.
@@ -13,6 +18,8 @@
 //!     number_of(terms, tx) == Some(n)
 //! }
 //! ```
+//!
+//! The test `commitments_have_numbers` of `tx_tests` calls this function.
 #![tactic(auto)]
 
 mod agreement;

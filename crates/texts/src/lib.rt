@@ -1,14 +1,20 @@
-//! Readers and writers of the forms that texts have: terms, updates, claims, and the calls and dumps of books, over the JSON values of
-//! `serde_json` (RFC 8259). What a scenario adds to them, the crate `scenario` reads.
+//! Readers and writers of the JSON shapes of a node: terms, updates, messages, claims, and the calls of a dump (RFC
+//! 8259).
 //!
-//! A value is read exactly where it has the form. A member that is missing, one that the form has not, and one of another kind leave the
-//! whole value without it. Readers check shape only; callers validate. What takes no memory is read by [`FromValue`], the rest by
-//! [`ReadValue`]; [`WriteValue`] writes the value that is read as the same.
+//! A value is read exactly where it has the shape, barring out-of-memory. A missing member, a member that the shape
+//! lacks, or one of another kind refuses the whole value. Readers check shape only; callers test what was read, as
+//! `claim` does a claim and `book` a call. What takes no memory is read by [`FromValue`], the rest by [`ReadValue`];
+//! [`WriteValue`] writes the value that is read as the same.
+//!
+//! `serde_json` has the values, and `terms`, `updates` and `claim` the types that are read and written. `scenario`
+//! reads scenarios with these shapes, and `book` writes and loads its dump.
 //!
 //! ```rust
-//! let value = Value::from_str(alloc, "[\"fee\",253]")?;
-//! assert!(rt; Update::from_value(&value) == Some(Update::Fee { rate: 253 }));
+//! let value = Value::from_str(alloc, "[\"fail\",1]")?;
+//! assert!(rt; Update::from_value(&value) == Some(Update::Fail { id: 1 }));
 //! ```
+//!
+//! The test `reads_updates` of `book_tests` reads this value.
 #![tactic(auto)]
 
 mod agreement;

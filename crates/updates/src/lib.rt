@@ -1,24 +1,25 @@
-//! The updates of a channel, how far each has come, and what a commitment pays by them (BOLT 2, "Normal Operation"; BOLT 3).
+//! The updates of a channel, how far each has come, and what a commitment pays by them (BOLT 2, "Normal Operation";
+//! BOLT 3).
 //!
-//! A [`Ledger`] holds both sides' updates as one side knows them. Each call tests an update in the order of its [`Refusal`]s and says
-//! exactly which is the first; its views are exactly those of the updates in a commitment. Whatever the peer sends, in each view no
-//! balance is below 0, and balances and HTLCs sum to the capacity.
+//! [`OwnUpdate`] is what a side decides: it offers, fulfils or fails an HTLC, or sets the feerate. [`Update`] is what
+//! it tells its peer. A [`Ledger`] holds both sides' updates as one side knows them. Barring out-of-memory, each call
+//! tests an update in the order of its refusals and names the first that holds, and each view is exactly that of the
+//! updates in a commitment. Whatever the peer sends, in each view no balance is below 0, and balances and HTLCs sum
+//! to the capacity. The time of a call grows with the HTLCs that are pending, not with all that ever were; no clause
+//! says so.
 //!
-//! It keeps every update, and beside them the HTLCs whose removal has not passed all stages: so a call costs what is pending, and not
-//! what ever was.
+//! `terms` has HTLCs and views. `channel` keeps a ledger, sends its updates, and has `commit` build what its views
+//! pay.
 //!
 //! ```rust
 //! /// Offers an HTLC, and says what this side has in the commitment that it signs next.
-//! fn offer_and_see(
-//!     ledger: &mut Ledger,
-//!     amount: u64,
-//!     hash: [u8; 32],
-//!     expiry: u32,
-//! ) -> Result<u64, Refusal> {
+//! fn offer_and_see(ledger: &mut Ledger, amount: u64, hash: [u8; 32], expiry: u32) -> Result<u64, Refusal> {
 //!     ledger.offer(amount, hash, expiry)?;
 //!     Ok(ledger.view_to_sign()?.share(ledger.side()).balance)
 //! }
 //! ```
+//!
+//! The test `an_offer_lowers_the_balance` of `tx_tests` calls this function.
 #![tactic(auto)]
 
 mod adding;

@@ -1,15 +1,18 @@
-//! Compares what the libraries write with texts that were published, or that independent programs wrote: `stdin` asks, and `stdout` is what must be printed.
+//! Compares what the libraries write with texts that were published, or that independent programs wrote: `stdin`
+//! asks, and `stdout` is what must be printed.
 //!
-//! A line `== WORD` begins a part, and is printed again. The lines behind it are the part's own, up to the next such line:
+//! A line `== WORD` begins a part, and is printed again. The lines after it are the part's own, up to the next such
+//! line:
 //!
 //! - `tx`: transactions, and the digests that signatures sign
 //! - `patterns`: patterns of scripts, and what fills them
-//! - `penalties`: revoked states, and what takes what they pay
-//! - `commitments`: commitments of so many HTLCs
+//! - `penalties`: revoked states, and the transaction that takes what they pay
+//! - `commitments`: commitments of a given number of HTLCs
 //! - `channel`: steps of two peers
 //! - `publishing`: what either side of a channel can broadcast; it has no lines
 //!
-//! Each word's module says what its lines are.
+//! Each word's module says what its lines are. Nothing stands on the program: it calls `tx`, `paths`, `commit`,
+//! `penalty` and `publish`, and plays what `channel_sides` opens.
 #![tactic(auto)]
 
 mod commitments;

@@ -1,21 +1,22 @@
-//! What a watcher finds in blocks: which commitment closed a channel, what is due by it, and the preimages that spends of its HTLCs show.
+//! What a watcher finds in blocks: which commitment closed a channel, what is due by it, and the preimages that
+//! spends of its HTLCs show.
 //!
-//! [`verdict`] names the known commitment that a transaction is, by its id. A [`Watch`] serves one channel: [`Watch::look`] reads a block and gives a
-//! [`Sight`], the claims that are due and that it hasn't given yet, and what it learnt; [`Watch::back`] forgets blocks that were taken off.
-//! A [`Lookout`] is a watch with what is known of its channel: it reads many blocks by the same knowledge, and works out once what no block changes.
+//! [`verdict`] names the known commitment that a transaction is, by its id. A [`Watch`] serves one channel:
+//! [`Watch::look`] reads a block and gives a [`Sight`], the claims that are due and that it hasn't given yet, and
+//! what it learnt; [`Watch::back`] forgets blocks that were taken off. A [`Lookout`] is a watch with what is known of
+//! its channel: it reads many blocks by the same knowledge, and works out once what no block changes.
+//!
+//! `chain` hands it blocks, and `resolve` says what is due. `side` has a watch for each channel of a node; what is
+//! known of the channel comes from `book`.
 //!
 //! ```rust
 //! /// Reads the block at a height, and tells how many claims are to be filled after it.
-//! fn count(
-//!     alloc: Global,
-//!     watch: &mut Watch,
-//!     height: u64,
-//!     block: &Block,
-//!     known: &Known,
-//! ) -> Result<usize, AllocError> {
+//! fn count(alloc: Global, watch: &mut Watch, height: u64, block: &Block, known: &Known) -> Result<usize, AllocError> {
 //!     Ok(watch.look(alloc, height, block, known)?.claims.len())
 //! }
 //! ```
+//!
+//! The test `copies_what_it_read` of `resolve_tests` calls this function.
 #![tactic(auto)]
 
 pub mod laws;

@@ -1,16 +1,24 @@
 //! The world of two sides on one chain, and the Enforcement theorem over every run of it.
 //!
-//! [`World::new`] grants the funding outputs of channels and opens them in both sides' books, and [`World::play`] plays events: offers, fulfils, fails, fees, signatures, deliveries, kept
-//! penalties, broadcasts, blocks, looks, takes, releases and reorganisations. What `play` ensures is the theorem (`specs/Theorem.antt`, which a stranger reads first): it is a run of the
-//! relation `WorldSteps`, one case for each event, and at each moment of it both books are guarded, each claim that a side has is an accepted one, whatever fits an accepted claim passes
-//! and runs clean once it is due, and the oldest message on its way to a side is taken.
+//! [`World::new`] grants the funding outputs of channels and opens them in both sides' books, and [`World::play`]
+//! plays events: offers, fulfils, fails, fees, signatures, deliveries, kept penalties, broadcasts, blocks, looks,
+//! takes, releases and reorganisations. What `play` ensures is the theorem (`specs/Theorem.antt`, which a stranger
+//! reads first): it is a run of the relation `WorldSteps`, one case for each event, and at each moment of it both
+//! books are guarded, each claim that a side has is an accepted one, whatever fits an accepted claim passes and runs
+//! clean once it is due, and the oldest message on its way to a side is taken.
+//!
+//! The walks of a message and of a block meet here. `side` reads blocks, makes batches and penalty sets, and turns
+//! messages into calls of each side's `book`; `scenario` has the events, `publish` the broadcasts, and `mempool`
+//! mines them on the `chain`. `enforce_words` prints what became of each event.
 //!
 //! ```rust
 //! let mut world = World::new(alloc, &scenario.seeds, scenario.channels.values())?;
 //! for outcome in world.play(scenario.events.values())? {
-//!     println!("{outcome}");
+//!     println!(rt; "{outcome}")?;
 //! }
 //! ```
+//!
+//! The test `plays_on_after_a_refusal` of `world_tests` plays five events.
 #![tactic(auto)]
 
 mod batches;

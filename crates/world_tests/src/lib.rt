@@ -1,6 +1,6 @@
 //! Tests of the library `world`.
 //!
-//! They stand in a crate of their own, so that the library is proved once. The example of its page is among them.
+//! They stand in a crate of their own, so that the library is proved once.
 #![tactic(auto)]
 
 #[cfg(test)]
