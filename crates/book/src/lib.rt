@@ -9,7 +9,7 @@
 //!
 //! Long work is done outside the book. [`Book::revoked`] hands out the state for a penalty set, and
 //! [`Book::keep_set`] keeps the set that was built, as `keep` does its claims; [`Book::known`] hands out what the
-//! node knows of a channel, and [`filled`] fills a batch as `release` does.
+//! node knows of a channel, and [`filled`] fills a batch by a signer, as `release` does by the channel's.
 //!
 //! `channel` does what each call says, `texts` has the shapes of a dump, and `filling` makes what a release gives.
 //! `side` stands between the book and the chain, and `world` plays two books.

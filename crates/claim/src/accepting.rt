@@ -27,7 +27,7 @@ fn bare(shell: Shell) -> Shell
 }
 
 /// Accepts a claim on a path of a checked script, in whose program the output stands: the slots are filled as they say, the top of the
-/// stack first. Whatever fits the claim opens the output. A claim keeps a fixed transaction without its witness.
+/// stack first. Whatever fits the claim spends the output. A claim keeps a fixed transaction without its witness.
 ///
 /// It is refused, in this order, as `NoSuchPath`, `WrongArity`, `WrongProgram`, `WrongShell`, `Contradiction` and `Unmet` with the first fact of the
 /// path that the slots do not show; `NoMemory` where that fact cannot be copied.

@@ -99,7 +99,7 @@ impl Claim {
         self.index
     }
 
-    /// The path that the claim takes. Whatever meets it runs clean, and whatever fits the claim meets it and opens the output.
+    /// The path that the claim takes. Whatever meets it runs clean, and whatever fits the claim meets it and spends the output.
     pub fn path(&self) -> &Path
         ensures value { TakesPath self.now result.now }
         ensures at { path_of self.now ≡ Some result.now }

@@ -5,7 +5,7 @@ use lists::List;
 use std::marker::Model;
 use tx::Tx;
 
-/// A transaction that opens the outputs of accepted claims, with their places. `fill` alone makes one: each of its inputs runs clean.
+/// A transaction that spends the outputs of accepted claims, with their places. `fill` alone makes one: each of its inputs runs clean.
 #[derive(Drop)]
 pub struct Filled {
     tx: Tx,

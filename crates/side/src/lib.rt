@@ -11,8 +11,8 @@
 //! It has two callers: `world`, which owns its books, and threads, which reach theirs over a lock. So no book, no
 //! channel and no seat stands in its signatures.
 //!
-//! A message comes from a peer's `channel`, and goes to `book` as a call. A block comes from `chain` to this side's
-//! `watch`es; what they find goes back to `book` as a batch to release.
+//! A message comes from a peer's `channel`, and goes to `book` as a call. A block comes from `chain` to a `watch` for
+//! each channel; what these find goes to `book` as a batch to release.
 //!
 //! ```rust
 //! let asked = reader.to_ask(alloc, block)?;

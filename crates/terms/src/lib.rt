@@ -1,5 +1,5 @@
-//! What the two sides of a channel agreed on, and the words that its updates and its commitments share (BOLT 2, BOLT
-//! 3).
+//! What the two sides of a channel agreed on, and the words that its updates and its commitments share (BOLT 2,
+//! BOLT 3).
 //!
 //! [`Terms`] are the values of `open_channel` and `accept_channel`, the funding outpoint and both sides' base keys.
 //! Their type keeps what everything above rests on: the capacity is at most 21,000,000 bitcoins, and what the two

@@ -1,5 +1,5 @@
-//! Readers and writers of the JSON shapes of a node: terms, updates, messages, claims, and the calls of a dump (RFC
-//! 8259).
+//! Readers and writers of the JSON shapes of a node: terms, updates, messages, claims, and the calls of a dump
+//! (RFC 8259).
 //!
 //! A value is read exactly where it has the shape, barring out-of-memory. A missing member, a member that the shape
 //! lacks, or one of another kind refuses the whole value. Readers check shape only; callers test what was read, as
