@@ -18,7 +18,7 @@ use Rattle.channel.specs.declared.messages.Tokens.{Tokens}
 use Rattle.channel.specs.declared.messages.Message.TheVariants.{Updated as UpdateMessage, CommitmentSigned, RevokeAndAck}
 use Rattle.channel.specs.Points.{secret_at, point_at, is_foreign}
 use Rattle.channel.specs.States.{Signing, State, opened as opened_state, after_update, after_sign, after}
-use Rattle.texts.specs.declared.steps.OwnUpdate.TheVariants.{Offer}
+use Rattle.updates.specs.declared.changes.OwnUpdate.TheVariants.{Offer}
 use Rattle.terms.specs.Agreement.{party}
 use Rattle.book.specs.declared.calls.Opening.{Opening}
 use Rattle.book.specs.declared.calls.Batch.{Batch}

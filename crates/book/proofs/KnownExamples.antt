@@ -1,7 +1,7 @@
 -- What is known, part by part: which preimages, at which numbers, and the numbers of the refusals.
 use Rattle.std.proofs.Common.{◌≡◌, ℕ, ◌*◌, true, false, List, [], ◌∷◌, Some, None, refl}
 use Rattle.updates.specs.declared.changes.Update.TheVariants.{Fulfil as Fulfilling, Fail as Failing}
-use Rattle.texts.specs.declared.steps.OwnUpdate.TheVariants.{Fulfil, Fail}
+use Rattle.updates.specs.declared.changes.OwnUpdate.TheVariants.{Fulfil, Fail}
 use Rattle.book.specs.declared.calls.Step.TheVariants.{Own, Updated}
 use Rattle.book.specs.declared.calls.Call.{Call}
 use Rattle.book.specs.declared.calls.Call.TheVariants.{Step as Stepping, Sign}

@@ -24,7 +24,8 @@ use Rattle.texts.specs.declared.calls.PlainCall.TheVariants as plain
 use Rattle.texts.specs.Values.{each_of}
 use Rattle.texts.specs.Messages.{update_of}
 use Rattle.texts.specs.Steps.{received_of}
-use Rattle.texts.specs.Calls.{can_agree, are_within, call_of as call_in, entry_of as entry_in}
+use Rattle.terms.specs.Proposals.{can_agree, party_of}
+use Rattle.texts.specs.Calls.{are_within, call_of as call_in, entry_of as entry_in}
 use Rattle.texts.specs.Writing.{update_data}
 use Rattle.texts.specs.ClaimWriting.{plain_claim}
 use Rattle.texts.specs.CallWriting.{CanOpen, open_data, receive_data, release_data, entry_data}
@@ -39,7 +40,7 @@ use Rattle.book.specs.declared.calls.Step.TheVariants.{Own, Updated, Signed}
 use Rattle.book.specs.declared.calls.Entry.{Entry}
 use Rattle.book.specs.declared.errors.LoadError.TheVariants as loads
 use Rattle.book.specs.Accepted.{is_taken, first_refused_after, all_accepted}
-use Rattle.book.specs.Openings.{bases_of, own_or_others, party_of, terms_with, owns, opening_if, opening_of, batch_of}
+use Rattle.book.specs.Openings.{bases_of, own_or_others, terms_with, owns, opening_if, opening_of, batch_of}
 use Rattle.book.specs.Loading.{checked_of, claim_of, claims_of, call_of, with_seat, entry_of}
 use Rattle.book.specs.Dumping.{plain_party, plain_terms, plain_opening, plain_step, plain_call, plain_entry, step_data, call_data, history_entry_data, history_data}
 use Rattle.book.specs.Loaded.{with_entry, history_after_plain, loaded}

@@ -14,19 +14,19 @@ use Rattle.keys.specs.declared.compressed.Key.{Key}
 use Rattle.terms.specs.declared.amounts.TheConstants.{MSAT_PER_SAT}
 use Rattle.terms.specs.declared.sides.Side.{Side}
 use Rattle.terms.specs.declared.sides.Side.TheVariants.{A, B}
-use Rattle.texts.specs.declared.agreement.PlainParty.{PlainParty}
 use Rattle.terms.specs.declared.agreement.BaseKeys.{BaseKeys}
 use Rattle.terms.specs.declared.agreement.Party.{Party}
 use Rattle.terms.specs.declared.agreement.Terms.{Terms}
 use Rattle.terms.specs.Agreement.{CanAgree, HasFields, party}
 use Rattle.claim.specs.Claims.{ClaimParts}
 use Rattle.texts.specs.declared.calls.PlainOpening.{PlainOpening}
-use Rattle.texts.specs.declared.agreement.PlainTerms.{PlainTerms}
-use Rattle.texts.specs.Calls.{can_agree, are_within}
+use Rattle.terms.specs.declared.proposals.ProposedTerms.{ProposedTerms}
+use Rattle.terms.specs.Proposals.{can_agree, terms_if, agreed_terms}
+use Rattle.texts.specs.Calls.{are_within}
 use Rattle.terms.specs.Bases.{IsSeedOf}
 use Rattle.book.specs.Bounds.{CanRelease}
 use Rattle.book.specs.Calls.{IsOpenedBy, IsBatchOf}
-use Rattle.book.specs.Openings.{bases_of, own_or_others, party_of, terms_with, terms_if, terms_of, owns, opening_if, opening_of, batch_if, batch_of}
+use Rattle.book.specs.Openings.{bases_of, bases_at, terms_with, terms_of, owns, opening_if, opening_of, batch_if, batch_of}
 use Rattle.book.specs.declared.calls.Opening.{Opening}
 use Rattle.book.specs.declared.calls.Batch.{Batch}
 
@@ -85,65 +85,24 @@ same_batch b c h =
 
 -- ---- what the constructors answer
 
-pub agrees : (t : PlainTerms) → CanAgree t.capacity t.a.start t.b.start → can_agree t ≡ true
+pub agrees : (t : ProposedTerms) → CanAgree t.capacity t.a.start t.b.start → can_agree t ≡ true
 agrees t h = and_from (nat_le t.capacity max_value) _ (le-leb t.capacity max_value h.limited) (eq-eqb (t.a.start + t.b.start) (MSAT_PER_SAT * t.capacity) h.whole)
 
-agreed : (t : PlainTerms) → can_agree t ≡ true → CanAgree t.capacity t.a.start t.b.start
-agreed t h =
-    let parts = and_parts (nat_le t.capacity max_value) (t.a.start + t.b.start == MSAT_PER_SAT * t.capacity) h in
-    record { limited = leb-true t.capacity max_value parts.0; whole = eqb-true (t.a.start + t.b.start) (MSAT_PER_SAT * t.capacity) parts.1 }
-
-pub terms_are : (o : PlainOpening) (t : Terms) → CanAgree o.terms.capacity o.terms.a.start o.terms.b.start
-    → HasFields t o.funding o.terms.capacity o.terms.opener o.terms.feerate (party_of o.terms.a (own_or_others o.side A (bases_of o.seed) o.bases)) (party_of o.terms.b (own_or_others o.side B (bases_of o.seed) o.bases))
-    → terms_of o ≡ Some t
-unfolding terms_of
-terms_are o t can fields = go (can_agree o.terms) refl
-  where
-    go : (b : Bool) (h : can_agree o.terms ≡ b) → terms_if o b h ≡ Some t
-    go true h = ap Some (sym (same_terms t (terms_with o.side o h) fields))
-    go false h = absurd (true≢false (sym (agrees o.terms can) ∙ h))
-
-pub no_terms : (o : PlainOpening) → (CanAgree o.terms.capacity o.terms.a.start o.terms.b.start → ⊥) → terms_of o ≡ None
-unfolding terms_of
-no_terms o cannot = go (can_agree o.terms) refl
-  where
-    go : (b : Bool) (h : can_agree o.terms ≡ b) → terms_if o b h ≡ None
-    go true h = absurd (cannot (agreed o.terms h))
-    go false h = refl
-
--- of these parties
-abbrev IsParty : PlainOpening → Side → PlainParty → Party → Type 0
-IsParty o side p party = party ≡ party_of p (own_or_others o.side side (bases_of o.seed) o.bases)
-
-pub is_party : (o : PlainOpening) (side : Side) (p : PlainParty) (own bases : BaseKeys) (party : Party) → own ≡ bases_of o.seed → bases ≡ own_or_others o.side side own o.bases → party ≡ party_of p bases
-    → IsParty o side p party
-is_party o side p own bases party e f g = g ∙ ap (party_of p) (f ∙ ap (λ b. own_or_others o.side side b o.bases) e)
-
-pub terms_ok : (o : PlainOpening) (t : Terms) (a b : Party) → IsParty o A o.terms.a a → IsParty o B o.terms.b b → CanAgree o.terms.capacity a.start b.start
-    → HasFields t o.funding o.terms.capacity o.terms.opener o.terms.feerate a b → Some t ≡ terms_of o
-terms_ok o t a b ea eb can fields =
-    sym
-    (terms_are o t (subst (λ (p : Party). CanAgree o.terms.capacity p.start o.terms.b.start) ea (subst (λ (p : Party). CanAgree o.terms.capacity a.start p.start) eb can))
-    (subst (λ (p : Party). HasFields t o.funding o.terms.capacity o.terms.opener o.terms.feerate p (party_of o.terms.b (own_or_others o.side B (bases_of o.seed) o.bases))) ea
-    (subst (λ (p : Party). HasFields t o.funding o.terms.capacity o.terms.opener o.terms.feerate a p) eb fields)))
-
-pub terms_err : (o : PlainOpening) (a b : Party) → IsParty o A o.terms.a a → IsParty o B o.terms.b b → (CanAgree o.terms.capacity a.start b.start → ⊥) → None ≡ terms_of o
-terms_err o a b ea eb cannot =
-    sym
-    (no_terms o
-    (λ can. cannot (subst (λ (p : Party). CanAgree o.terms.capacity p.start b.start) (sym ea) (subst (λ (p : Party). CanAgree o.terms.capacity o.terms.a.start p.start) (sym eb) can))))
+-- the terms of an opening, by whether the sides can agree on them
+abbrev terms_by : (o : PlainOpening) (agreed : Bool) → can_agree o.terms ≡ agreed → Option Terms
+terms_by o agreed h = terms_if o.funding (bases_at o.side A o) (bases_at o.side B o) o.terms agreed h
 
 pub no_opening : (o : PlainOpening) → terms_of o ≡ None → None ≡ opening_of o
-unfolding terms_of opening_of
+unfolding agreed_terms opening_of
 no_opening o none = go (can_agree o.terms) refl none
   where
-    go : (b : Bool) (h : can_agree o.terms ≡ b) → terms_if o b h ≡ None → None ≡ opening_if o b h
+    go : (b : Bool) (h : can_agree o.terms ≡ b) → terms_by o b h ≡ None → None ≡ opening_if o b h
     go true h e = absurd (cc)
     go false h e = refl
 
 pub opening_is : (o : PlainOpening) (t : Terms) (r : Option Opening) → terms_of o ≡ Some t → IsSome r ↔ IsSeedOf o.seed (party o.side t).bases
     → IfSome r (IsOpenedBy t o.side o.seed o.first_point o.next_point o.token) → r ≡ opening_of o
-unfolding terms_of opening_of
+unfolding agreed_terms opening_of
 opening_is o t r terms some parts = go (can_agree o.terms) refl terms r some parts
   where
     made : (h : can_agree o.terms ≡ true) (u : Terms) → terms_with o.side o h ≡ u → (r : Option Opening) → IsSome r ↔ IsSeedOf o.seed (party o.side u).bases
@@ -154,7 +113,7 @@ opening_is o t r terms some parts = go (can_agree o.terms) refl terms r some par
         (same_opening x (record { terms = terms_with o.side o h; side = o.side; seed = o.seed; first_point = o.first_point; next_point = o.next_point; token = o.token; own = owns o.side o h })
         (subst (λ (v : Terms). IsOpenedBy v o.side o.seed o.first_point o.next_point o.token x) (sym same) parts))
 
-    go : (b : Bool) (h : can_agree o.terms ≡ b) → terms_if o b h ≡ Some t → (r : Option Opening) → IsSome r ↔ IsSeedOf o.seed (party o.side t).bases
+    go : (b : Bool) (h : can_agree o.terms ≡ b) → terms_by o b h ≡ Some t → (r : Option Opening) → IsSome r ↔ IsSeedOf o.seed (party o.side t).bases
         → IfSome r (IsOpenedBy t o.side o.seed o.first_point o.next_point o.token) → r ≡ opening_if o b h
     go true h e r some parts = let same : terms_with o.side o h ≡ t = cc in made h t same r some parts
     go false h e r some parts = absurd (cc)

@@ -24,7 +24,8 @@ use Rattle.texts.specs.Outputs.{output_of}
 use Rattle.texts.specs.Terms.{terms_of}
 use Rattle.texts.specs.Claims.{claim_of as claim_in}
 use Rattle.texts.specs.Steps.{revocation_of, step_of as step_in}
-use Rattle.texts.specs.Calls.{can_agree, are_within, opening_of as opening_in, open_of, step_call_of, sign_of, revoke_of, keep_of, release_of as release_in, call_named, call_of as call_in, entry_of as entry_in, is_version, dump_of}
+use Rattle.terms.specs.Proposals.{can_agree}
+use Rattle.texts.specs.Calls.{are_within, opening_of as opening_in, open_of, step_call_of, sign_of, revoke_of, keep_of, release_of as release_in, call_named, call_of as call_in, entry_of as entry_in, is_version, dump_of}
 use Rattle.book.specs.declared.errors.EntryError.{EntryError}
 use Rattle.book.specs.declared.errors.EntryError.TheVariants as entries
 use Rattle.book.specs.declared.errors.LoadError.{LoadError}

@@ -15,8 +15,8 @@ use Rattle.claim.specs.declared.parts.Slot.TheVariants.{Sig, Preimage, Exact}
 use Rattle.claim.specs.declared.parts.Shell.{Shell}
 use Rattle.claim.specs.declared.parts.Shell.TheVariants.{Open as OpenShell, Fixed}
 use Rattle.claim.specs.Claims.{ClaimParts}
-use Rattle.texts.specs.declared.steps.OwnUpdate.{OwnUpdate}
-use Rattle.texts.specs.declared.steps.OwnUpdate.TheVariants.{Offer, Fulfil, Fail, SetFee}
+use Rattle.updates.specs.declared.changes.OwnUpdate.{OwnUpdate}
+use Rattle.updates.specs.declared.changes.OwnUpdate.TheVariants.{Offer, Fulfil, Fail, SetFee}
 use Rattle.texts.specs.Writing.{bytes_data, side_data, terms_data, output_data, add_data, update_data}
 use Rattle.texts.specs.ClaimWriting.{outpoint_data, slot_data, shell_data, claim_data}
 use Rattle.texts.specs.CallWriting.{signature_data, revocation_data, open_data, own_data, receive_data, sign_data, revoke_data, keep_data, release_data, entry_data, dump_data}

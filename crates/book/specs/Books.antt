@@ -3,12 +3,7 @@ use Rattle.std.specs.Prelude.{ℕ, zero, suc, ◌+◌, ◌==◌, nat_lt, Bool, i
 use Rattle.std.specs.List.{list_any}
 use Rattle.tx.specs.declared.input.OutPoint.{OutPoint}
 use Rattle.channel.specs.declared.messages.Message.TheVariants.{Updated as UpdateMessage, CommitmentSigned, RevokeAndAck}
-use Rattle.channel.specs.States.{State, opened, after_update, after_sign, after}
-use Rattle.updates.specs.declared.changes.Update.{Update}
-use Rattle.updates.specs.declared.changes.Update.TheVariants.{Add, Fulfil as Fulfilling, Fail as Failing, Fee}
-use Rattle.updates.specs.Steady.{next_htlc}
-use Rattle.texts.specs.declared.steps.OwnUpdate.{OwnUpdate}
-use Rattle.texts.specs.declared.steps.OwnUpdate.TheVariants.{Offer, Fulfil, Fail, SetFee}
+use Rattle.channel.specs.States.{State, update_of, opened, after_update, after_sign, after}
 use Rattle.book.specs.declared.calls.Opening.{Opening}
 use Rattle.book.specs.declared.calls.Step.{Step}
 use Rattle.book.specs.declared.calls.Step.TheVariants.{Own, Updated, Signed}
@@ -30,13 +25,6 @@ abbrev pub at_index : {A : Type 0} → (A → A) → ℕ → List A → List A
 at_index f n [] = []
 at_index f zero (x ∷ xs) = f x ∷ xs
 at_index f (suc n) (x ∷ xs) = x ∷ at_index f n xs
-
--- the update that a side in this state makes: an offer has the next id
-abbrev pub update_of : State → OwnUpdate → Update
-update_of s (Offer amount hash expiry) = Add (next_htlc s.held.own amount hash expiry)
-update_of s (Fulfil id preimage) = Fulfilling id preimage
-update_of s (Fail id) = Failing id
-update_of s (SetFee rate) = Fee rate
 
 abbrev pub stepped : Step → State → State
 stepped (Own u) s = after_update (update_of s u) s

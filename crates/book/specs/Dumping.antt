@@ -8,8 +8,8 @@ use Rattle.terms.specs.declared.agreement.Terms.{Terms}
 use Rattle.terms.specs.Agreement.{party}
 use Rattle.terms.specs.Sides.{other}
 use Rattle.channel.specs.declared.messages.Tokens.{Tokens}
-use Rattle.texts.specs.declared.agreement.PlainParty.{PlainParty}
-use Rattle.texts.specs.declared.agreement.PlainTerms.{PlainTerms}
+use Rattle.terms.specs.declared.proposals.ProposedParty.{ProposedParty}
+use Rattle.terms.specs.declared.proposals.ProposedTerms.{ProposedTerms}
 use Rattle.texts.specs.declared.steps.PlainSignature.{PlainSignature}
 use Rattle.texts.specs.declared.steps.PlainRevocation.{PlainRevocation}
 use Rattle.texts.specs.declared.steps.PlainReceived.TheVariants.{Updated as UpdateMessage, Signed as SignatureMessage}
@@ -29,10 +29,10 @@ use Rattle.book.specs.declared.calls.Call.{Call}
 use Rattle.book.specs.declared.calls.Call.TheVariants.{Open, Step as Stepping, Sign, Revoke, Keep, Release}
 use Rattle.book.specs.declared.calls.Entry.{Entry}
 
-abbrev pub plain_party : Party → PlainParty
+abbrev pub plain_party : Party → ProposedParty
 plain_party p = record { dust = p.dust; delay = p.delay; minimum = p.minimum; start = p.start }
 
-abbrev pub plain_terms : Terms → PlainTerms
+abbrev pub plain_terms : Terms → ProposedTerms
 plain_terms t = record { capacity = t.capacity; opener = t.opener; feerate = t.feerate; a = plain_party t.a; b = plain_party t.b }
 
 -- an opening without its own base keys, which its seed gives

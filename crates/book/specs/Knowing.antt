@@ -7,7 +7,7 @@ use Rattle.terms.specs.declared.agreement.Terms.{Terms}
 use Rattle.terms.specs.declared.views.View.{View}
 use Rattle.terms.specs.Sides.{other}
 use Rattle.updates.specs.declared.changes.Update.TheVariants.{Fulfil as Fulfilling}
-use Rattle.texts.specs.declared.steps.OwnUpdate.TheVariants.{Fulfil}
+use Rattle.updates.specs.declared.changes.OwnUpdate.TheVariants.{Fulfil}
 use Rattle.commit.specs.Commitments.{Contents}
 use Rattle.channel.specs.declared.commitments.CommitmentState.{CommitmentState}
 use Rattle.channel.specs.declared.messages.Tokens.{Tokens}

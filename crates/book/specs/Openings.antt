@@ -1,24 +1,22 @@
 -- The openings and batches that plain forms stand for: one's own base keys are those of the seed.
-use Rattle.std.specs.Prelude.{◌≡◌, ℕ, ◌+◌, ◌*◌, ◌==◌, ◌&&◌, nat_le, nat_lt, Bool, true, false, refl, List, length, Option, Some, None}
-use Rattle.std.proofs.lemmas.Bool.{and_parts, leb-true, ltb-true, eqb-true}
-use Rattle.tx.specs.Limits.{max_value, max_inputs, max_outputs}
+use Rattle.std.specs.Prelude.{◌≡◌, ℕ, ◌&&◌, nat_le, nat_lt, Bool, true, false, refl, List, length, Option, Some, None}
+use Rattle.std.proofs.lemmas.Bool.{and_parts, leb-true, ltb-true}
+use Rattle.tx.specs.Limits.{max_inputs, max_outputs}
 use Rattle.tx.specs.Parts.{Output}
 use Rattle.keys.specs.declared.compressed.Key.{Key}
 use Rattle.keys.specs.declared.bases.Base.{Base}
 use Rattle.keys.specs.declared.bases.Base.TheVariants.{Funding, Payment, Delayed, Htlc, Revocation}
 use Rattle.keys.specs.Derivation.{seed_secret, number_of}
 use Rattle.channel.specs.Points.{point_key}
-use Rattle.terms.specs.declared.amounts.TheConstants.{MSAT_PER_SAT}
 use Rattle.terms.specs.declared.sides.Side.{Side}
 use Rattle.terms.specs.declared.sides.Side.TheVariants.{A, B}
 use Rattle.terms.specs.declared.agreement.BaseKeys.{BaseKeys}
-use Rattle.terms.specs.declared.agreement.Party.{Party}
 use Rattle.terms.specs.declared.agreement.Terms.{Terms}
 use Rattle.terms.specs.Agreement.{party}
 use Rattle.claim.specs.Claims.{ClaimParts}
-use Rattle.texts.specs.declared.agreement.PlainParty.{PlainParty}
 use Rattle.texts.specs.declared.calls.PlainOpening.{PlainOpening}
-use Rattle.texts.specs.Calls.{can_agree, are_within}
+use Rattle.terms.specs.Proposals.{can_agree, terms_with as proposed_with, agreed_terms}
+use Rattle.texts.specs.Calls.{are_within}
 use Rattle.terms.specs.Bases.{IsSeedOf}
 use Rattle.book.specs.declared.calls.Opening.{Opening}
 use Rattle.book.specs.declared.calls.Batch.{Batch}
@@ -37,28 +35,16 @@ own_or_others A B own others = others
 own_or_others B A own others = others
 own_or_others B B own others = own
 
-abbrev pub party_of : PlainParty → BaseKeys → Party
-party_of p bases = record { dust = p.dust; delay = p.delay; minimum = p.minimum; start = p.start; bases = bases }
+-- the base keys of a side, by whose opening it is
+abbrev pub bases_at : Side → Side → PlainOpening → BaseKeys
+bases_at whose side o = own_or_others whose side (bases_of o.seed) o.bases
 
 -- the terms with both sides' base keys, where the sides can agree on them
 abbrev pub terms_with : Side → (o : PlainOpening) → can_agree o.terms ≡ true → Terms
-terms_with side o h = record {
-  funding = o.funding;
-  capacity = o.terms.capacity;
-  opener = o.terms.opener;
-  feerate = o.terms.feerate;
-  a = party_of o.terms.a (own_or_others side A (bases_of o.seed) o.bases);
-  b = party_of o.terms.b (own_or_others side B (bases_of o.seed) o.bases);
-  limited = leb-true o.terms.capacity max_value (and_parts (nat_le o.terms.capacity max_value) (o.terms.a.start + o.terms.b.start == MSAT_PER_SAT * o.terms.capacity) h).0;
-  whole = eqb-true (o.terms.a.start + o.terms.b.start) (MSAT_PER_SAT * o.terms.capacity) (and_parts (nat_le o.terms.capacity max_value) (o.terms.a.start + o.terms.b.start == MSAT_PER_SAT * o.terms.capacity) h).1;
-}
+terms_with whose o h = proposed_with o.funding (bases_at whose A o) (bases_at whose B o) o.terms h
 
-abbrev pub terms_if : (o : PlainOpening) (agreed : Bool) → can_agree o.terms ≡ agreed → Option Terms
-terms_if o true h = Some (terms_with o.side o h)
-terms_if o false h = None
-
-unfoldable pub terms_of : PlainOpening → Option Terms
-terms_of o = terms_if o (can_agree o.terms) refl
+abbrev pub terms_of : PlainOpening → Option Terms
+terms_of o = agreed_terms o.funding (bases_at o.side A o) (bases_at o.side B o) o.terms
 
 pub are_seeds : (seed : List ℕ) → IsSeedOf seed (bases_of seed)
 are_seeds seed = record { funding = refl; payment = refl; delayed = refl; htlc = refl; revocation = refl }

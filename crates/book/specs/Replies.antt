@@ -12,7 +12,7 @@ use Rattle.channel.specs.declared.limits.TheConstants.{LAST_NUMBER}
 use Rattle.channel.specs.declared.messages.Message.{Message}
 use Rattle.channel.specs.declared.messages.Message.TheVariants.{Updated as UpdateMessage, CommitmentSigned, RevokeAndAck}
 use Rattle.channel.specs.Points.{point_at}
-use Rattle.channel.specs.States.{Signing, State, first_of, update_refusal, receive_refusal, answers, signature_message}
+use Rattle.channel.specs.States.{Signing, State, update_of, first_of, update_refusal, receive_refusal, answers, signature_message}
 use Rattle.book.specs.declared.limits.TheConstants.{MAX_CHANNELS}
 use Rattle.book.specs.declared.calls.Opening.{Opening}
 use Rattle.book.specs.declared.calls.Step.{Step}
@@ -31,7 +31,7 @@ use Rattle.book.specs.declared.errors.KeepError.TheVariants.{NotRevoked, Already
 use Rattle.book.specs.declared.errors.ReleaseError.{ReleaseError}
 use Rattle.book.specs.declared.errors.ReleaseError.TheVariants.{Unfilled, NoSuchChannel as NoChannelToRelease}
 use Rattle.book.specs.Penalties.{same_outpoint, is_penalty_set}
-use Rattle.book.specs.Books.{ChannelBook, Channels, update_of, is_kept, first_missing, replay}
+use Rattle.book.specs.Books.{ChannelBook, Channels, is_kept, first_missing, replay}
 use Rattle.channel.specs.Rights.{rights_of}
 use Rattle.book.specs.Signers.{fill_refusal}
 

@@ -12,9 +12,8 @@ use lists::List;
 use sighash::Token;
 use std::alloc::Global;
 use terms::{BaseKeys, Side, Terms};
-use texts::OwnUpdate;
 use tx::{MAX_INPUTS, MAX_OUTPUTS, TxOut};
-use updates::Update;
+use updates::{OwnUpdate, Update};
 
 /// How a side opens a channel: the terms, in which its own base keys are those of the seed, and what its peer sent before the channel is there.
 #[derive(Clone, Copy, Debug)]

@@ -16,16 +16,16 @@ use crate::calls::{Call, Entry, Opening, Step};
 use claim::Claim;
 use serde_json::Value;
 use std::alloc::{AllocError, Global};
-use terms::{Party, Terms};
+use terms::{Party, ProposedParty, ProposedTerms, Terms};
 use texts::{
-    PlainOpening, PlainParty, PlainRevocation, PlainTerms, WriteValue, write_dump, write_entry,
-    write_keep, write_own, write_receive, write_release, write_revoke, write_sign, write_signature,
+    PlainOpening, PlainRevocation, WriteValue, write_dump, write_entry, write_keep, write_own,
+    write_receive, write_release, write_revoke, write_sign, write_signature,
 };
 
-fn plain_party(party: &Party) -> PlainParty
+fn plain_party(party: &Party) -> ProposedParty
     ensures { result ≡ plain_party party.now }
 {
-    PlainParty {
+    ProposedParty {
         dust: party.dust,
         delay: party.delay,
         minimum: party.minimum,
@@ -33,10 +33,10 @@ fn plain_party(party: &Party) -> PlainParty
     }
 }
 
-fn plain_terms(terms: &Terms) -> PlainTerms
+fn plain_terms(terms: &Terms) -> ProposedTerms
     ensures { result ≡ plain_terms terms.now }
 {
-    PlainTerms {
+    ProposedTerms {
         capacity: terms.capacity,
         opener: terms.opener,
         feerate: terms.feerate,

@@ -21,8 +21,7 @@ use resolve::{
 };
 use std::alloc::{AllocError, Global};
 use terms::Terms;
-use texts::OwnUpdate;
-use updates::Update;
+use updates::{OwnUpdate, Update};
 
 // A commitment that a channel recorded.
 fn known_commitment(

@@ -4,8 +4,7 @@ ghost use Rattle.std.specs.Prelude.{◌≡◌, [], IfOk, OnErr, MatchResult, Som
 ghost use Rattle.std.specs.List.{cons_option};
 ghost use Rattle.updates.specs.Refusals.{IsRefusal};
 ghost use Rattle.channel.specs.Tokens.{peer_tokens as tokens_of};
-ghost use Rattle.channel.specs.States.{after_update};
-ghost use Rattle.book.specs.Books.{update_of, stepped};
+ghost use Rattle.book.specs.Books.{stepped};
 ghost use Rattle.book.specs.Replies.{step_refusal, messages_of};
 
 use crate::calls::{Batch, Opening, Step};
@@ -24,7 +23,6 @@ use penalty::RevokedState;
 use resolve::Known;
 use std::alloc::{AllocError, Global};
 use std::marker::Model;
-use texts::OwnUpdate;
 use updates::Refusal;
 
 /// A channel, and which of the peer's revoked commitments have their penalties kept. A contract sees it as its `ChannelBook`.
@@ -55,25 +53,6 @@ impl Model for OpenChannel {
 pub(crate) struct Taken {
     pub(crate) step: Step,
     pub(crate) message: Option<Message>,
-}
-
-// The channel makes an update, and gives the message.
-fn make(channel: &mut Channel, update: &OwnUpdate) -> Result<Message, Refusal>
-    ensures message { IfOk result (λ m. m ≡ Message.Updated (update_of channel.old update.now)) }
-    ensures ok { IfOk result (λ _. channel.new ≡ after_update (update_of channel.old update.now) channel.old) }
-    ensures tested { let first = step_refusal tokens_of channel.old (Step.Own update.now) in MatchResult result (λ _. first ≡ None) (IsRefusal first) }
-    ensures err { OnErr result (channel.new ≡ channel.old) }
-{
-    match update {
-        OwnUpdate::Offer {
-            amount,
-            hash,
-            expiry,
-        } => channel.offer(*amount, *hash, *expiry),
-        OwnUpdate::Fulfil { id, preimage } => channel.fulfil(*id, *preimage),
-        OwnUpdate::Fail { id } => channel.fail(*id),
-        OwnUpdate::SetFee { rate } => channel.set_fee(*rate),
-    }
 }
 
 // The channel receives tokens. Gives them back, with the message that answers them.
@@ -107,7 +86,7 @@ fn take(channel: &mut Channel, step: Step) -> Result<Taken, Refusal>
     ensures err { OnErr result (channel.new ≡ channel.old) }
 {
     match step {
-        Step::Own(update) => match make(channel, &update) {
+        Step::Own(update) => match channel.make(&update) {
             Ok(message) => Ok(Taken {
                 step: Step::Own(update),
                 message: Some(message),

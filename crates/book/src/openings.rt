@@ -1,13 +1,13 @@
 // Openings from their plain forms.
 
 ghost use Rattle.std.specs.Prelude.{◌≡◌};
-ghost use Rattle.book.specs.Openings.{bases_of, own_or_others, party_of, terms_of, opening_of};
+ghost use Rattle.book.specs.Openings.{bases_of, own_or_others, terms_of, opening_of};
 
 use crate::calls::Opening;
 use keys::Signer;
 use std::alloc::Global;
-use terms::{BaseKeys, Party, Side, Terms};
-use texts::{PlainOpening, PlainParty};
+use terms::{BaseKeys, Side, Terms};
+use texts::PlainOpening;
 
 // The base keys of a seed.
 fn bases_of(alloc: Global, seed: &[u8; 32]) -> BaseKeys
@@ -15,18 +15,6 @@ fn bases_of(alloc: Global, seed: &[u8; 32]) -> BaseKeys
 {
     let signer = Signer::new(alloc, seed);
     BaseKeys::of(&signer)
-}
-
-fn party_of(plain: &PlainParty, bases: BaseKeys) -> Party
-    ensures { result ≡ party_of plain.now bases }
-{
-    Party {
-        dust: plain.dust,
-        delay: plain.delay,
-        minimum: plain.minimum,
-        start: plain.start,
-        bases,
-    }
 }
 
 // The base keys of a side, by whose opening it is.
@@ -44,20 +32,9 @@ fn terms_of(alloc: Global, plain: &PlainOpening) -> Option<Terms>
     ensures { result ≡ terms_of plain.now }
 {
     let own = bases_of(alloc, &plain.seed);
-    let terms = &plain.terms;
-    let a = party_of(&terms.a, bases_at(plain.side, Side::A, own, plain.bases));
-    let b = party_of(&terms.b, bases_at(plain.side, Side::B, own, plain.bases));
-    match Terms::new(
-        plain.funding,
-        terms.capacity,
-        terms.opener,
-        terms.feerate,
-        a,
-        b,
-    ) {
-        Ok(terms) => Some(terms),
-        Err(_) => None,
-    }
+    let a = bases_at(plain.side, Side::A, own, plain.bases);
+    let b = bases_at(plain.side, Side::B, own, plain.bases);
+    plain.terms.agreed(plain.funding, a, b)
 }
 
 /// The opening of a plain one, with the base keys of its seed as its own; `None` where the sides can't agree on the terms. It takes no memory.

@@ -12,8 +12,7 @@ use lists::List;
 use penalty::{RevokedState, penalties};
 use std::alloc::Global;
 use std::collections::VecDeque;
-use texts::OwnUpdate;
-use updates::Refusal;
+use updates::OwnUpdate;
 
 /// The seat of all calls.
 pub const SEAT: u32 = 0;
@@ -31,20 +30,6 @@ pub struct Node {
     alloc: Global,
     pub book: Book,
     lines: Vec<Line>,
-}
-
-// A channel makes an update.
-fn update(channel: &mut Channel, update: &OwnUpdate) -> Result<Message, Refusal> {
-    match update {
-        OwnUpdate::Offer {
-            amount,
-            hash,
-            expiry,
-        } => channel.offer(*amount, *hash, *expiry),
-        OwnUpdate::Fulfil { id, preimage } => channel.fulfil(*id, *preimage),
-        OwnUpdate::Fail { id } => channel.fail(*id),
-        OwnUpdate::SetFee { rate } => channel.set_fee(*rate),
-    }
 }
 
 // What the secret of the peer's commitment of a number revokes.
@@ -141,7 +126,7 @@ impl Node {
 
     // The channel beside the book's makes an update.
     fn update_along(&mut self, index: usize, own: &OwnUpdate) -> Result<Message> {
-        Ok(update(&mut self.line(index)?.channel, own)?)
+        Ok(self.line(index)?.channel.make(own)?)
     }
 
     /// Makes an update, and gives the message for the peer.

@@ -8,7 +8,7 @@ use channel::Message;
 use digest::sha256;
 use std::alloc::Global;
 use terms::Side;
-use texts::OwnUpdate;
+use updates::OwnUpdate;
 
 /// The preimage of every HTLC.
 pub const PREIMAGE: [u8; 32] = [0; 32];

@@ -8,7 +8,7 @@ use resolve::Known;
 use std::alloc::Global;
 use std::process::Abort;
 use terms::Side;
-use texts::OwnUpdate;
+use updates::OwnUpdate;
 
 // A preimage, and its SHA-256 (Python's hashlib).
 const PREIMAGE: [u8; 32] = [5; 32];

@@ -1,14 +1,13 @@
 // Plain terms that tests share, and a hash: SHA-256 of 32 zero bytes (Python's hashlib).
-use terms::Side;
-use texts::{PlainParty, PlainTerms};
+use terms::{ProposedParty, ProposedTerms, Side};
 
 pub(crate) const HASH: [u8; 32] = [
     0x66, 0x68, 0x7a, 0xad, 0xf8, 0x62, 0xbd, 0x77, 0x6c, 0x8f, 0xc1, 0x8b, 0x8e, 0x9f, 0x8e, 0x20,
     0x08, 0x97, 0x14, 0x85, 0x6e, 0xe2, 0x33, 0xb3, 0x90, 0x2a, 0x59, 0x1d, 0x0d, 0x5f, 0x29, 0x25,
 ];
 
-pub(crate) fn plain_party(start: u64) -> PlainParty {
-    PlainParty {
+pub(crate) fn plain_party(start: u64) -> ProposedParty {
+    ProposedParty {
         dust: 546,
         delay: 144,
         minimum: 1000,
@@ -17,8 +16,8 @@ pub(crate) fn plain_party(start: u64) -> PlainParty {
 }
 
 // The terms of 100,000 satoshis, with the millisatoshis that the two sides begin with.
-pub(crate) fn plain_terms(a: u64, b: u64) -> PlainTerms {
-    PlainTerms {
+pub(crate) fn plain_terms(a: u64, b: u64) -> ProposedTerms {
+    ProposedTerms {
         capacity: 100_000,
         opener: Side::A,
         feerate: 1000,

@@ -6,10 +6,10 @@ use scenario::{Event, PlainScenario};
 use serde_json::Value;
 use std::alloc::Global;
 use std::process::Abort;
-use terms::{Htlc, Side};
-use texts::{FromValue, OwnUpdate, PlainClaim, PlainTerms, ReadValue, ShapeError, WriteValue};
+use terms::{Htlc, ProposedTerms, Side};
+use texts::{FromValue, PlainClaim, ReadValue, ShapeError, WriteValue};
 use tx::{OutPoint, TxOut};
-use updates::Update;
+use updates::{OwnUpdate, Update};
 
 /// What a text stands for.
 fn read<T: FromValue + Drop>(rt: &impl Abort, alloc: Global, text: &str) -> Option<T> {
@@ -29,7 +29,7 @@ fn read_all<T: ReadValue + Drop>(
 
 #[test]
 fn reads_terms(rt: HostRuntime) {
-    let terms = PlainTerms {
+    let terms = ProposedTerms {
         opener: Side::B,
         ..plain_terms(80_000_000, 20_000_000)
     };
@@ -38,7 +38,7 @@ fn reads_terms(rt: HostRuntime) {
     assert!(rt; read(&rt, rt.alloc(), text) == Some(terms));
     let longer =
         "{\"capacity\":100000,\"opener\":\"B\",\"feerate\":1000,\"dust\":[546,546],\"delay\":[144,144],\"minimum\":[1000,1000],\"start\":[80000000,20000000],\"reserve\":0}";
-    assert!(rt; read::<PlainTerms>(&rt, rt.alloc(), longer).is_none());
+    assert!(rt; read::<ProposedTerms>(&rt, rt.alloc(), longer).is_none());
 }
 
 fn check_event(rt: &impl Abort, alloc: Global, text: &str, event: Event) {
@@ -349,5 +349,5 @@ fn writes_what_it_reads(rt: HostRuntime) {
     );
     let terms =
         "{\"capacity\":1,\"delay\":[2,3],\"dust\":[4,5],\"feerate\":6,\"minimum\":[7,8],\"opener\":\"B\",\"start\":[9,10]}";
-    check_back::<PlainTerms>(&rt, rt.alloc(), terms);
+    check_back::<ProposedTerms>(&rt, rt.alloc(), terms);
 }

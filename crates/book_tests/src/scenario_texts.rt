@@ -5,7 +5,7 @@ use scenario::{Event, Scenario, ScenarioError, Seeds};
 use std::alloc::Global;
 use std::process::Abort;
 use terms::Side;
-use texts::OwnUpdate;
+use updates::OwnUpdate;
 
 const FRONT: &str =
     "{\"seeds\":[\"0a0a0a0a0a0a0a0a0a0a0a0a0a0a0a0a0a0a0a0a0a0a0a0a0a0a0a0a0a0a0a0a\",\"0b0b0b0b0b0b0b0b0b0b0b0b0b0b0b0b0b0b0b0b0b0b0b0b0b0b0b0b0b0b0b0b\"],\"channels\":[";

@@ -16,8 +16,7 @@ use penalty::{RevokedState, penalties};
 use std::alloc::Global;
 use std::process::Abort;
 use terms::{Side, Terms};
-use texts::OwnUpdate;
-use updates::Update;
+use updates::{OwnUpdate, Update};
 
 // The channel of two signers.
 fn terms_of(rt: &impl Abort, a: &Signer, b: &Signer) -> Terms

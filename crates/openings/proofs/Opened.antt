@@ -27,7 +27,7 @@ use Rattle.channel.specs.Tokens.{peer_tokens}
 use Rattle.channel.specs.Peers.{at_opening, opened_both, IsReached}
 use Rattle.channel.specs.Playing.{placed}
 use Rattle.channel.specs.Agreeing.{IsPaired}
-use Rattle.texts.specs.declared.agreement.PlainTerms.{PlainTerms}
+use Rattle.terms.specs.declared.proposals.ProposedTerms.{ProposedTerms}
 use Rattle.book.specs.declared.limits.TheConstants.{MAX_CHANNELS}
 use Rattle.book.specs.declared.calls.Opening.{Opening}
 use Rattle.book.specs.declared.calls.Call.{Call}
@@ -60,7 +60,7 @@ made : (long big : Bool) (o : Output) → big ≡ false → result_ok (if long t
 made true big o h = refl
 made false big o h = rw (h) refl
 
-pub funded : (seeds : Seeds) (c : ℕ) (p : PlainTerms) (script : List ℕ) → script ≡ (funding_output seeds c p).script
+pub funded : (seeds : Seeds) (c : ℕ) (p : ProposedTerms) (script : List ℕ) → script ≡ (funding_output seeds c p).script
     → result_ok (if nat_lt max_value p.capacity then Err ValueTooLarge else if nat_lt max_bytes (length script) then Err OverLimit else Ok (record { value = p.capacity; script = script }))
     ≡ funding_if_within seeds c p
 funded seeds c p script e =

@@ -3,8 +3,8 @@ use Rattle.std.proofs.Common.{◌≡◌, ℕ, [], ◌∷◌, replicate, Some, No
 use Rattle.sha2.specs.Sha256.{sha256, digest_bytes, hash_after, compress, rounds, schedule, first_words}
 use Rattle.tx.specs.Spelling.{number}
 use Rattle.terms.specs.declared.sides.Side.TheVariants.{A}
-use Rattle.texts.specs.declared.agreement.PlainParty.{PlainParty}
-use Rattle.texts.specs.declared.agreement.PlainTerms.{PlainTerms}
+use Rattle.terms.specs.declared.proposals.ProposedParty.{ProposedParty}
+use Rattle.terms.specs.declared.proposals.ProposedTerms.{ProposedTerms}
 use Rattle.scenario.specs.declared.seeds.Seeds.{Seeds}
 use Rattle.openings.specs.Opening.{channel_seed, funding_output, funding_if_within}
 
@@ -17,8 +17,8 @@ unfolding channel_seed number sha256 digest_bytes hash_after compress rounds sch
 far = refl
 
 -- 21,000,000 bitcoins are funded, and no satoshi more
-module _ (seeds : Seeds) (channel : ℕ) (a b : PlainParty) where
-  abbrev terms : ℕ → PlainTerms
+module _ (seeds : Seeds) (channel : ℕ) (a b : ProposedParty) where
+  abbrev terms : ℕ → ProposedTerms
   terms capacity = record { capacity = capacity; opener = A; feerate = 1000; a = a; b = b }
 
   limit : (funding_if_within seeds channel (terms 2100000000000000) ≡ Some (funding_output seeds channel (terms 2100000000000000)))

@@ -10,7 +10,7 @@ use Rattle.commit.specs.Signing.{funding_script}
 use Rattle.channel.specs.Tokens.{peer_tokens}
 use Rattle.channel.specs.Playing.{placed}
 use Rattle.channel.specs.Agreeing.{IsPaired}
-use Rattle.texts.specs.declared.agreement.PlainTerms.{PlainTerms}
+use Rattle.terms.specs.declared.proposals.ProposedTerms.{ProposedTerms}
 use Rattle.book.specs.declared.calls.Opening.{Opening}
 use Rattle.book.specs.declared.calls.Call.{Call}
 use Rattle.book.specs.declared.calls.Entry.{Entry}
@@ -22,7 +22,7 @@ use Rattle.openings.specs.Opening.{funding_output, AreTermsOf, IsOpeningOf}
 -- the funding output is the one that the commitments of these terms spend
 abbrev pub FundingsAreSpent : Type 0
 FundingsAreSpent =
-    (seeds : Seeds) (channel : ℕ) (outpoint : OutPoint) (plain : PlainTerms) (terms : Terms) → AreTermsOf seeds channel outpoint plain terms
+    (seeds : Seeds) (channel : ℕ) (outpoint : OutPoint) (plain : ProposedTerms) (terms : Terms) → AreTermsOf seeds channel outpoint plain terms
     → funding_output seeds channel plain ≡ record { value = terms.capacity; script = script_hash_program (funding_script terms) }
 
 -- the channels that the two sides open are the two ends of one, with nothing on its way

@@ -19,11 +19,12 @@ use Rattle.commit.specs.Outputs.{script_hash_program}
 use Rattle.channel.specs.Points.{point_at}
 use Rattle.channel.specs.States.{first_of}
 use Rattle.channel.specs.Tokens.{peer_tokens}
-use Rattle.texts.specs.declared.agreement.PlainTerms.{PlainTerms}
+use Rattle.terms.specs.declared.proposals.ProposedTerms.{ProposedTerms}
 use Rattle.book.specs.declared.calls.Opening.{Opening}
 use Rattle.terms.specs.Bases.{IsSeedOf}
 use Rattle.book.specs.Calls.{IsOpenedBy}
-use Rattle.book.specs.Openings.{bases_of, party_of}
+use Rattle.terms.specs.Proposals.{party_of}
+use Rattle.book.specs.Openings.{bases_of}
 use Rattle.scenario.specs.declared.seeds.Seeds.{Seeds}
 use Rattle.scenario.specs.Seeds.{seed_of}
 use Rattle.openings.specs.declared.sides.Both.{Both}
@@ -36,18 +37,18 @@ abbrev pub seed_in : Seeds → ℕ → Side → List ℕ
 seed_in seeds channel side = channel_seed (seed_of side seeds) channel
 
 -- the funding output (BOLT 3): the capacity, for the base keys of both sides
-abbrev pub funding_output : Seeds → ℕ → PlainTerms → Output
+abbrev pub funding_output : Seeds → ℕ → ProposedTerms → Output
 funding_output seeds channel plain = record {
   value = plain.capacity;
   script = script_hash_program (spelling (funding (base_key (seed_in seeds channel A) Funding) (base_key (seed_in seeds channel B) Funding)));
 }
 
 -- it, where an output may have the value
-abbrev pub funding_if_within : Seeds → ℕ → PlainTerms → Option Output
+abbrev pub funding_if_within : Seeds → ℕ → ProposedTerms → Option Output
 funding_if_within seeds channel plain = if nat_lt max_value plain.capacity then None else Some (funding_output seeds channel plain)
 
 -- the terms are the scenario's, with the funding output's outpoint and the base keys of both sides
-abbrev pub AreTermsOf : Seeds → ℕ → OutPoint → PlainTerms → Terms → Type 0
+abbrev pub AreTermsOf : Seeds → ℕ → OutPoint → ProposedTerms → Terms → Type 0
 AreTermsOf seeds channel outpoint plain terms =
     HasFields terms outpoint plain.capacity plain.opener plain.feerate (party_of plain.a (bases_of (seed_in seeds channel A))) (party_of plain.b (bases_of (seed_in seeds channel B)))
 
@@ -68,7 +69,7 @@ IsOpeningOf seeds channel side terms opening =
     IsOpenedBy terms side (seed_in seeds channel side) (point_in seeds channel (other side) 0) (point_in seeds channel (other side) 1) (token_in seeds channel side terms) opening
 
 -- how both sides open a channel: there are terms as the scenario has them, which each side opens
-pub record AreOpeningsOf (seeds : Seeds) (channel : ℕ) (outpoint : OutPoint) (plain : PlainTerms) (both : Both) : Type 0 where
+pub record AreOpeningsOf (seeds : Seeds) (channel : ℕ) (outpoint : OutPoint) (plain : ProposedTerms) (both : Both) : Type 0 where
   pub terms : Terms
   pub agreed : AreTermsOf seeds channel outpoint plain terms
   pub by_a : IsOpeningOf seeds channel A terms both.a

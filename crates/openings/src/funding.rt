@@ -13,7 +13,7 @@ use keys::Key;
 use lists::ByteString;
 use scenario::Seeds;
 use std::alloc::{AllocError, Global};
-use texts::PlainTerms;
+use terms::ProposedTerms;
 use tx::TxOut;
 
 // The program of a script (BIP 141): version 0, and its SHA-256.
@@ -42,7 +42,7 @@ pub fn funding_output(
     alloc: Global,
     seeds: &Seeds,
     channel: u32,
-    plain: &PlainTerms,
+    plain: &ProposedTerms,
 ) -> Result<Option<TxOut>, AllocError>
     ensures { IfOk result (λ output. output ≡ funding_if_within seeds.now channel plain.now) }
 {

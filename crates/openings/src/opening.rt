@@ -1,8 +1,7 @@
 //! How both sides open a channel.
 
 ghost use Rattle.std.specs.Prelude.{◌≡◌, true, IfOk, IfErr, IfSome, is_some};
-ghost use Rattle.texts.specs.Calls.{can_agree};
-ghost use Rattle.book.specs.Openings.{party_of as party_with};
+ghost use Rattle.terms.specs.Proposals.{can_agree};
 ghost use Rattle.openings.specs.Opening.{AreTermsOf, HaveKeys, IsOpeningOf, AreOpeningsOf};
 
 use crate::sides::Both;
@@ -12,22 +11,8 @@ use channel::{opening_points, opening_token};
 use keys::Signer;
 use scenario::Seeds;
 use std::alloc::{AllocError, Global};
-use terms::{BaseKeys, Party, Side, Terms};
-use texts::{PlainParty, PlainTerms};
+use terms::{ProposedTerms, Side, Terms};
 use tx::OutPoint;
-
-// What a side brings to the terms.
-fn party_of(plain: &PlainParty, bases: BaseKeys) -> Party
-    ensures { result ≡ party_with plain.now bases }
-{
-    Party {
-        dust: plain.dust,
-        delay: plain.delay,
-        minimum: plain.minimum,
-        start: plain.start,
-        bases,
-    }
-}
 
 // The terms of a channel with its funding output and both sides' base keys; `None` where the two sides can't agree on them. It takes no memory.
 fn agreed_terms(
@@ -35,18 +20,15 @@ fn agreed_terms(
     seeds: &Seeds,
     channel: u32,
     outpoint: OutPoint,
-    plain: &PlainTerms,
+    plain: &ProposedTerms,
 ) -> Option<Terms>
     ensures some { is_some result ≡ can_agree plain.now }
     ensures terms { IfSome result (AreTermsOf seeds.now channel outpoint plain.now) }
     ensures keys { IfSome result (HaveKeys seeds.now channel) }
 {
-    let a = party_of(&plain.a, bases_in(alloc, &seeds.a, channel));
-    let b = party_of(&plain.b, bases_in(alloc, &seeds.b, channel));
-    match Terms::new(outpoint, plain.capacity, plain.opener, plain.feerate, a, b) {
-        Ok(terms) => Some(terms),
-        Err(_) => None,
-    }
+    let a = bases_in(alloc, &seeds.a, channel);
+    let b = bases_in(alloc, &seeds.b, channel);
+    plain.agreed(outpoint, a, b)
 }
 
 // How a side opens a channel of these terms: with its peer's points, and its peer's token on its own commitment 0. The only error is that memory ran out.
@@ -83,7 +65,7 @@ pub fn open_both(
     seeds: &Seeds,
     channel: u32,
     outpoint: OutPoint,
-    plain: &PlainTerms,
+    plain: &ProposedTerms,
 ) -> Result<Option<Both>, AllocError>
     ensures some { IfOk result (λ both. is_some both ≡ can_agree plain.now) }
     ensures openings { IfOk result (λ both. IfSome both (AreOpeningsOf seeds.now channel outpoint plain.now)) }

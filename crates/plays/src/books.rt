@@ -14,7 +14,7 @@ use loading::{print_damages, print_loaded, print_stored, print_version, read_beg
 use random::play_games;
 use std::alloc::Global;
 use terms::Side;
-use texts::OwnUpdate;
+use updates::OwnUpdate;
 
 // A line, and its words after the side.
 #[derive(Clone, Copy, Drop)]

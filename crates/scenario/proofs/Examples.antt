@@ -4,8 +4,8 @@ use Rattle.std.specs.Str.{chars, is_utf8}
 use Rattle.hex.proofs.OnLiterals.{hex_on_literals}
 use Rattle.serde_json.proofs.OnLiterals.{serde_json_on_literals}
 use Rattle.terms.specs.declared.sides.Side.TheVariants.{A, B}
-use Rattle.texts.specs.declared.agreement.PlainTerms.{PlainTerms}
-use Rattle.texts.specs.declared.steps.OwnUpdate.TheVariants.{Offer, Fulfil, Fail, SetFee}
+use Rattle.terms.specs.declared.proposals.ProposedTerms.{ProposedTerms}
+use Rattle.updates.specs.declared.changes.OwnUpdate.TheVariants.{Offer, Fulfil, Fail, SetFee}
 use Rattle.scenario.specs.declared.events.Event.{Event}
 use Rattle.scenario.specs.declared.events.Event.TheVariants.{Own, Sign, Deliver, Keep, Broadcast, BroadcastHtlc, Blocks, Look, Take, Release, Reorg}
 use Rattle.scenario.specs.declared.plain.PlainScenario.{PlainScenario}
@@ -39,7 +39,7 @@ blocks : (map has_few_blocks (Blocks 0 ∷ Blocks 10000 ∷ Blocks 10001 ∷ Blo
 blocks = (refl, refl, refl)
 
 -- terms whose sides begin with 999 and this many millisatoshis, of one satoshi
-abbrev terms : ℕ → PlainTerms
+abbrev terms : ℕ → ProposedTerms
 terms b = record {
   capacity = 1;
   opener = A;
@@ -48,7 +48,7 @@ terms b = record {
   b = record { dust = 5; delay = 3; minimum = 8; start = b };
 }
 
-abbrev scenario : List PlainTerms → List Event → PlainScenario
+abbrev scenario : List ProposedTerms → List Event → PlainScenario
 scenario channels events = record { seed_a = replicate 32 10; seed_b = replicate 32 11; channels = channels; events = events }
 
 within : (is_within_limits (replicate 8 (terms 1)) [] ≡ true)

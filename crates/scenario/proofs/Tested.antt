@@ -2,27 +2,27 @@
 use Rattle.std.proofs.Common.{◌≡◌, ◌≤◌, ◌+◌, ℕ, Bool, true, false, not, ◌&&◌, nat_le, cond, List, [], ◌∷◌, length, Option, Some, None, refl}
 use Rattle.std.specs.List.{list_all, position_from}
 use Rattle.std.proofs.lemmas.Bool.{and_parts, leb-true}
-use Rattle.texts.specs.declared.agreement.PlainTerms.{PlainTerms}
+use Rattle.terms.specs.declared.proposals.ProposedTerms.{ProposedTerms}
 use Rattle.scenario.specs.declared.events.Event.{Event}
-use Rattle.texts.specs.Calls.{can_agree}
+use Rattle.terms.specs.Proposals.{can_agree}
 use Rattle.scenario.specs.Limits.{max_channels, max_events}
 use Rattle.scenario.specs.Testing.{have_few_blocks, is_within_limits}
 
-pub record AreWithin (channels : List PlainTerms) (events : List Event) : Type 0 where
+pub record AreWithin (channels : List ProposedTerms) (events : List Event) : Type 0 where
   pub few_channels : length channels ≤ max_channels
   pub few_events : length events ≤ max_events
   pub few_blocks : have_few_blocks events ≡ true
 
-pub are_within : (channels : List PlainTerms) (events : List Event) → is_within_limits channels events ≡ true → AreWithin channels events
+pub are_within : (channels : List ProposedTerms) (events : List Event) → is_within_limits channels events ≡ true → AreWithin channels events
 are_within channels events h =
     let all = and_parts (nat_le (length channels) max_channels && nat_le (length events) max_events) (have_few_blocks events) h in
     let ends = and_parts (nat_le (length channels) max_channels) (nat_le (length events) max_events) all.0 in
     record { few_channels = leb-true (length channels) max_channels ends.0; few_events = leb-true (length events) max_events ends.1; few_blocks = all.1 }
 
-abbrev first_bad_from : ℕ → List PlainTerms → Option ℕ
+abbrev first_bad_from : ℕ → List ProposedTerms → Option ℕ
 first_bad_from i channels = position_from (λ terms. not (can_agree terms)) i channels
 
-pub no_bad_terms : (i : ℕ) (channels : List PlainTerms) → first_bad_from i channels ≡ None → list_all can_agree channels ≡ true
+pub no_bad_terms : (i : ℕ) (channels : List ProposedTerms) → first_bad_from i channels ≡ None → list_all can_agree channels ≡ true
 no_bad_terms i [] h = refl
 no_bad_terms i (t ∷ ts) h = go (can_agree t) (no_bad_terms (i + 1) ts) h
   where

@@ -1,11 +1,11 @@
 -- What is tested of a scenario that has the form: its limits first, and then the terms of its channels in order.
 use Rattle.std.specs.Prelude.{ℕ, Bool, not, ◌&&◌, nat_le, if◌then◌else◌, List, length, Option, Some, None, Result, Ok, Err}
 use Rattle.std.specs.List.{list_all, position_from}
-use Rattle.texts.specs.declared.agreement.PlainTerms.{PlainTerms}
+use Rattle.terms.specs.declared.proposals.ProposedTerms.{ProposedTerms}
 use Rattle.scenario.specs.declared.events.Event.{Event}
 use Rattle.scenario.specs.declared.events.Event.TheVariants.{Blocks}
 use Rattle.scenario.specs.declared.plain.PlainScenario.{PlainScenario}
-use Rattle.texts.specs.Calls.{can_agree}
+use Rattle.terms.specs.Proposals.{can_agree}
 use Rattle.scenario.specs.declared.errors.ScenarioError.{ScenarioError}
 use Rattle.scenario.specs.declared.errors.ScenarioError.TheVariants.{OverLimit, BadTerms}
 use Rattle.scenario.specs.Limits.{max_channels, max_events, max_blocks}
@@ -21,11 +21,11 @@ has_few_blocks event = nat_le (blocks_of event) max_blocks
 abbrev pub have_few_blocks : List Event → Bool
 have_few_blocks events = list_all has_few_blocks events
 
-abbrev pub is_within_limits : List PlainTerms → List Event → Bool
+abbrev pub is_within_limits : List ProposedTerms → List Event → Bool
 is_within_limits channels events = nat_le (length channels) max_channels && nat_le (length events) max_events && have_few_blocks events
 
 -- the first channel on whose terms the two sides can't agree, counted from 0
-abbrev pub first_bad_terms : List PlainTerms → Option ℕ
+abbrev pub first_bad_terms : List ProposedTerms → Option ℕ
 first_bad_terms channels = position_from (λ terms. not (can_agree terms)) 0 channels
 
 abbrev pub unless_bad : PlainScenario → Option ℕ → Result PlainScenario ScenarioError

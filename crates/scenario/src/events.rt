@@ -6,7 +6,8 @@ ghost use Rattle.scenario.specs.Events.{own_of, sign_of, deliver_of, keep_of, co
 
 use serde_json::Value;
 use terms::Side;
-use texts::{FromValue, OwnUpdate, array_of, item, own_named, tag_of};
+use texts::{FromValue, array_of, item, own_named, tag_of};
+use updates::OwnUpdate;
 
 /// An event of a scenario. Channels are named by their index among the scenario's terms.
 #[derive(Clone, Copy, Debug, PartialEq, Eq, Drop)]

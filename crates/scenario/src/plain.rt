@@ -4,7 +4,8 @@ use crate::events::Event;
 use lists::List;
 use serde_json::Value;
 use std::alloc::Global;
-use texts::{FromValue, PlainTerms, ReadValue, ShapeError, member, object_of, read_member};
+use terms::ProposedTerms;
+use texts::{FromValue, ReadValue, ShapeError, member, object_of, read_member};
 
 /// A scenario as a text has it: the seeds of the two sides, the terms of their channels, and what happens. Whether there are too many of
 /// something, or the two sides do not agree on terms, is not tested yet.
@@ -12,7 +13,7 @@ use texts::{FromValue, PlainTerms, ReadValue, ShapeError, member, object_of, rea
 pub struct PlainScenario {
     pub seed_a: [u8; 32],
     pub seed_b: [u8; 32],
-    pub channels: List<PlainTerms>,
+    pub channels: List<ProposedTerms>,
     pub events: List<Event>,
 }
 

@@ -2,7 +2,7 @@
 
 ghost use Rattle.std.specs.Prelude.{◌≡◌, ◌≤◌, length, IsTrue};
 ghost use Rattle.std.specs.List.{list_all};
-ghost use Rattle.texts.specs.Calls.{can_agree};
+ghost use Rattle.terms.specs.Proposals.{can_agree};
 ghost use Rattle.scenario.specs.Limits.{max_channels, max_events};
 ghost use Rattle.scenario.specs.Testing.{blocks_of, have_few_blocks, is_within_limits, first_bad_terms};
 
@@ -14,14 +14,14 @@ use crate::reading::plain_in;
 use crate::seeds::Seeds;
 use lists::List;
 use std::alloc::Global;
-use texts::PlainTerms;
+use terms::ProposedTerms;
 
 /// A scenario.
 #[derive(Debug, Drop)]
 pub struct Scenario {
     pub seeds: Seeds,
     /// The terms of at most 8 channels, on which the two sides can agree.
-    pub channels: List<PlainTerms>,
+    pub channels: List<ProposedTerms>,
     /// At most 10,000, in order, each with at most 10,000 blocks.
     pub events: List<Event>,
     pub ghost few_channels: { length channels ≤ max_channels },
@@ -48,14 +48,14 @@ fn have_few_blocks(events: &[Event]) -> bool
 }
 
 // Whether there are no more channels, events, and blocks in one event than the limits allow.
-fn is_within_limits(channels: &[PlainTerms], events: &[Event]) -> bool
+fn is_within_limits(channels: &[ProposedTerms], events: &[Event]) -> bool
     ensures { result ≡ is_within_limits channels.now events.now }
 {
     channels.len() <= MAX_CHANNELS && events.len() <= MAX_EVENTS && have_few_blocks(events)
 }
 
 // The first channel on whose terms the two sides can't agree.
-fn first_bad_terms(channels: &[PlainTerms]) -> Option<usize>
+fn first_bad_terms(channels: &[ProposedTerms]) -> Option<usize>
     ensures { result ≡ first_bad_terms channels.now }
 {
     channels.iter().position(|terms| !terms.can_agree())

@@ -8,8 +8,8 @@ use Rattle.tx.specs.Parts.{Output}
 use Rattle.keys.specs.declared.compressed.Key.{Key}
 use Rattle.terms.specs.declared.sides.Side.TheVariants.{A, B}
 use Rattle.updates.specs.declared.changes.Update.TheVariants.{Fail as Failing, Fee}
-use Rattle.texts.specs.declared.agreement.PlainTerms.{PlainTerms}
-use Rattle.texts.specs.declared.steps.OwnUpdate.TheVariants.{Offer, Fulfil, Fail, SetFee}
+use Rattle.terms.specs.declared.proposals.ProposedTerms.{ProposedTerms}
+use Rattle.updates.specs.declared.changes.OwnUpdate.TheVariants.{Offer, Fulfil, Fail, SetFee}
 use Rattle.texts.specs.declared.steps.PlainReceived.TheVariants.{Updated, Signed}
 use Rattle.texts.specs.declared.steps.PlainStep.TheVariants.{Own, Receive}
 use Rattle.texts.specs.declared.calls.PlainCall.TheVariants.{Open, Step, Sign, Revoke, Keep, Release}
@@ -20,7 +20,7 @@ use Rattle.texts.specs.Keys.{base_keys_of}
 use Rattle.texts.specs.Terms.{terms_of}
 use Rattle.texts.specs.Messages.{fail_of, fee_of, update_named, update_of}
 use Rattle.texts.specs.Steps.{signature_in, revocation_in, revocation_of, received_named, received_of, own_offer_of, own_fulfil_of, own_fail_of, own_fee_of, own_named, receive_of, step_named, step_of}
-use Rattle.texts.specs.Calls.{can_agree, opening_of, open_of, step_call_of, sign_of, revoke_of, keep_of, are_within, release_of, call_named, call_of, entry_of, dump_of}
+use Rattle.texts.specs.Calls.{opening_of, open_of, step_call_of, sign_of, revoke_of, keep_of, are_within, release_of, call_named, call_of, entry_of, dump_of}
 
 abbrev n : ℕ → Data
 n k = number (unsigned k)
@@ -118,22 +118,14 @@ releases : (call_of (five (text (codes "release")) (n 3) (array no_items) (array
 unfolding call_of call_named release_of
 releases = (refl, refl, refl, refl, refl, refl)
 
-abbrev terms : ℕ → ℕ → ℕ → PlainTerms
-terms capacity a b = record {
-  capacity = capacity;
+abbrev proposed : ProposedTerms
+proposed = record {
+  capacity = 1;
   opener = A;
   feerate = 6;
-  a = record { dust = 4; delay = 2; minimum = 7; start = a };
-  b = record { dust = 5; delay = 3; minimum = 8; start = b };
+  a = record { dust = 4; delay = 2; minimum = 7; start = 999 };
+  b = record { dust = 5; delay = 3; minimum = 8; start = 1 };
 }
-
--- the capacity is what the sides begin with, and at most 21,000,000 bitcoins
-agreements : (can_agree (terms 1 999 1) ≡ true)
-    × (can_agree (terms 1 999 2) ≡ false)
-    × (can_agree (terms 1 999 0) ≡ false)
-    × (can_agree (terms 2100000000000000 2099999999999999999 1) ≡ true)
-    × (can_agree (terms 2100000000000001 2100000000000001000 0) ≡ false)
-agreements = (refl, refl, refl, refl, refl)
 
 abbrev terms_text : ℕ → Data
 terms_text b =
@@ -153,7 +145,7 @@ open_text b =
     (item (five key_text key_text other_key_text key_text key_text) (item (two key_text other_key_text) (item token_text no_items))))))))
 
 openings : (call_of (open_text 1) ≡ Some (Open (record {
-  terms = terms 1 999 1;
+  terms = proposed;
   funding = record { txid = replicate 32 9; index = 1 };
   side = B;
   seed = replicate 32 9;

@@ -10,7 +10,7 @@ use Rattle.tx.specs.Limits.{max_value, max_bytes}
 use Rattle.tx.specs.Parts.{Output, IsOutput}
 use Rattle.updates.specs.declared.changes.Update.{Update}
 use Rattle.updates.specs.declared.changes.Update.TheVariants.{Add, Fulfil, Fail, Fee}
-use Rattle.texts.specs.declared.agreement.PlainTerms.{PlainTerms}
+use Rattle.terms.specs.declared.proposals.ProposedTerms.{ProposedTerms}
 use Rattle.terms.specs.declared.htlcs.Htlc.{Htlc}
 use Rattle.texts.specs.Values.{◌>>=◌, below, u16_of, u32_of, bytes_of, bytes_of_len, side_of}
 use Rattle.texts.specs.Terms.{terms_of}
@@ -36,7 +36,7 @@ bytes_back bytes each = ap result_ok (decode_of-encode_lower bytes each)
 pub sized_back : (bytes : List ℕ) → IsBytes bytes → bytes_of_len (length bytes) (bytes_data bytes) ≡ Some bytes
 sized_back bytes each = ap result_ok (decode_sized-encode_lower bytes (length bytes) refl each)
 
-pub terms_again : (t : PlainTerms) → (u16_of (number_data t.a.delay) ≡ Some t.a.delay) × (u16_of (number_data t.b.delay) ≡ Some t.b.delay)
+pub terms_again : (t : ProposedTerms) → (u16_of (number_data t.a.delay) ≡ Some t.a.delay) × (u16_of (number_data t.b.delay) ≡ Some t.b.delay)
     → u32_of (number_data t.feerate) ≡ Some t.feerate → side_of (side_data t.opener) ≡ Some t.opener → terms_of (terms_data t) ≡ Some t
 unfolding terms_of terms_data
 terms_again t delay feerate opener = rw (delay.0, delay.1, opener, feerate) refl

@@ -12,8 +12,8 @@ use Rattle.updates.specs.declared.changes.Update.{Update}
 use Rattle.claim.specs.Claims.{ClaimParts}
 use Rattle.texts.specs.declared.steps.PlainSignature.{PlainSignature}
 use Rattle.texts.specs.declared.steps.PlainRevocation.{PlainRevocation}
-use Rattle.texts.specs.declared.steps.OwnUpdate.{OwnUpdate}
-use Rattle.texts.specs.declared.steps.OwnUpdate.TheVariants.{Offer, Fulfil, Fail, SetFee}
+use Rattle.updates.specs.declared.changes.OwnUpdate.{OwnUpdate}
+use Rattle.updates.specs.declared.changes.OwnUpdate.TheVariants.{Offer, Fulfil, Fail, SetFee}
 use Rattle.texts.specs.declared.steps.PlainReceived.{PlainReceived}
 use Rattle.texts.specs.declared.steps.PlainReceived.TheVariants.{Updated, Signed}
 use Rattle.texts.specs.declared.steps.PlainStep.{PlainStep}
@@ -27,7 +27,8 @@ use Rattle.texts.specs.Writing.{number_data, bytes_data, side_data, pair_data, t
 use Rattle.texts.specs.ClaimWriting.{outpoint_data, claim_data, plain_claim, IsOutPoint, IsClaim}
 use Rattle.texts.specs.Messages.{update_of}
 use Rattle.texts.specs.Steps.{received_of}
-use Rattle.texts.specs.Calls.{can_agree, are_within, call_of, entry_of, dump_of}
+use Rattle.terms.specs.Proposals.{can_agree}
+use Rattle.texts.specs.Calls.{are_within, call_of, entry_of, dump_of}
 
 abbrev pub key_data : Key → Data
 key_data k = bytes_data k.bytes

@@ -1,15 +1,14 @@
 -- The calls of a book in a text, and the dump of its history. A call is an array with its name at the front.
-use Rattle.std.specs.Prelude.{ℕ, ◌+◌, ◌*◌, ◌==◌, Bool, true, false, not, ◌&&◌, ◌||◌, nat_le, nat_lt, if◌then◌else◌, List, length, Option, Some, None, codes}
+use Rattle.std.specs.Prelude.{ℕ, ◌==◌, Bool, true, false, not, ◌&&◌, ◌||◌, nat_le, nat_lt, if◌then◌else◌, List, length, Option, Some, None, codes}
 use Rattle.std.specs.Str.{bytes_eq}
 use Rattle.std.specs.List.{list_any}
 use Rattle.serde_json.specs.Data.{Data}
-use Rattle.tx.specs.Limits.{max_value, max_inputs, max_outputs}
-use Rattle.terms.specs.declared.amounts.TheConstants.{MSAT_PER_SAT}
+use Rattle.tx.specs.Limits.{max_inputs, max_outputs}
 use Rattle.updates.specs.declared.changes.Update.{Update}
 use Rattle.updates.specs.declared.changes.Update.TheVariants.{Add, Fulfil as Fulfilling, Fail as Failing, Fee}
-use Rattle.texts.specs.declared.agreement.PlainTerms.{PlainTerms}
-use Rattle.texts.specs.declared.steps.OwnUpdate.{OwnUpdate}
-use Rattle.texts.specs.declared.steps.OwnUpdate.TheVariants.{Offer, Fulfil, Fail, SetFee}
+use Rattle.terms.specs.Proposals.{can_agree}
+use Rattle.updates.specs.declared.changes.OwnUpdate.{OwnUpdate}
+use Rattle.updates.specs.declared.changes.OwnUpdate.TheVariants.{Offer, Fulfil, Fail, SetFee}
 use Rattle.texts.specs.declared.steps.PlainReceived.{PlainReceived}
 use Rattle.texts.specs.declared.steps.PlainReceived.TheVariants.{Updated, Signed}
 use Rattle.texts.specs.declared.steps.PlainStep.{PlainStep}
@@ -26,10 +25,6 @@ use Rattle.texts.specs.Outputs.{output_of}
 use Rattle.texts.specs.Terms.{terms_of}
 use Rattle.texts.specs.Claims.{claim_of}
 use Rattle.texts.specs.Steps.{revocation_of, step_of}
-
--- the capacity is within the limit of a value, and what the two sides begin with is the capacity
-abbrev pub can_agree : PlainTerms → Bool
-can_agree t = nat_le t.capacity max_value && t.a.start + t.b.start == MSAT_PER_SAT * t.capacity
 
 -- of the peer: its five base keys, its points for the commitments 0 and 1, and its token on this side's commitment 0
 unfoldable pub opening_of : Data → Option PlainOpening

@@ -5,8 +5,8 @@ use Rattle.serde_json.specs.Data.{Data}
 use Rattle.serde_json.specs.Find.{as_str}
 use Rattle.texts.specs.declared.steps.PlainSignature.{PlainSignature}
 use Rattle.texts.specs.declared.steps.PlainRevocation.{PlainRevocation}
-use Rattle.texts.specs.declared.steps.OwnUpdate.{OwnUpdate}
-use Rattle.texts.specs.declared.steps.OwnUpdate.TheVariants.{Offer, Fulfil, Fail, SetFee}
+use Rattle.updates.specs.declared.changes.OwnUpdate.{OwnUpdate}
+use Rattle.updates.specs.declared.changes.OwnUpdate.TheVariants.{Offer, Fulfil, Fail, SetFee}
 use Rattle.texts.specs.declared.steps.PlainReceived.{PlainReceived}
 use Rattle.texts.specs.declared.steps.PlainReceived.TheVariants.{Updated, Signed}
 use Rattle.texts.specs.declared.steps.PlainStep.{PlainStep}

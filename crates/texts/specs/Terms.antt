@@ -1,15 +1,15 @@
 -- The terms of a channel in a text.
 use Rattle.std.specs.Prelude.{ℕ, Option, Some, codes}
 use Rattle.serde_json.specs.Data.{Data}
-use Rattle.texts.specs.declared.agreement.PlainParty.{PlainParty}
-use Rattle.texts.specs.declared.agreement.PlainTerms.{PlainTerms}
+use Rattle.terms.specs.declared.proposals.ProposedParty.{ProposedParty}
+use Rattle.terms.specs.declared.proposals.ProposedTerms.{ProposedTerms}
 use Rattle.texts.specs.Values.{◌>>=◌, object_of, member_of, pair_of, u64_of, u32_of, u16_of, side_of}
 
-abbrev pub party_of : ℕ → ℕ → ℕ → ℕ → PlainParty
+abbrev pub party_of : ℕ → ℕ → ℕ → ℕ → ProposedParty
 party_of dust delay minimum start = record { dust = dust; delay = delay; minimum = minimum; start = start }
 
 -- an object of these seven members, of which the pairs have the value of side A first
-unfoldable pub terms_of : Data → Option PlainTerms
+unfoldable pub terms_of : Data → Option ProposedTerms
 terms_of d = do
   form ← object_of 7 d
   dust ← member_of (codes "dust") (pair_of u64_of) form

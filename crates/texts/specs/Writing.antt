@@ -8,7 +8,7 @@ use Rattle.terms.specs.declared.htlcs.Htlc.{Htlc}
 use Rattle.tx.specs.Parts.{Output, IsOutput}
 use Rattle.updates.specs.declared.changes.Update.{Update}
 use Rattle.updates.specs.declared.changes.Update.TheVariants.{Add, Fulfil, Fail, Fee}
-use Rattle.texts.specs.declared.agreement.PlainTerms.{PlainTerms}
+use Rattle.terms.specs.declared.proposals.ProposedTerms.{ProposedTerms}
 use Rattle.texts.specs.Terms.{terms_of}
 use Rattle.texts.specs.Messages.{update_of}
 use Rattle.texts.specs.Outputs.{output_of}
@@ -27,7 +27,7 @@ side_data B = string (codes "B")
 abbrev pub pair_data : {A : Type 0} → (A → Data) → A × A → Data
 pair_data form pair = array (item (form pair.0) (item (form pair.1) no_items))
 
-unfoldable pub terms_data : PlainTerms → Data
+unfoldable pub terms_data : ProposedTerms → Data
 terms_data t =
     object (member (codes "capacity") (number_data t.capacity) (member (codes "delay") (pair_data number_data (t.a.delay, t.b.delay)) (member (codes "dust") (pair_data number_data (t.a.dust, t.b.dust))
     (member (codes "feerate") (number_data t.feerate) (member (codes "minimum") (pair_data number_data (t.a.minimum, t.b.minimum)) (member (codes "opener") (side_data t.opener)
@@ -48,7 +48,7 @@ update_data (Fee rate) = array (item (string (codes "fee")) (item (number_data r
 -- ---- what was written is read as the same
 
 -- the widths of the numbers of terms
-pub record HasWidths (t : PlainTerms) : Type 0 where
+pub record HasWidths (t : ProposedTerms) : Type 0 where
   pub feerate : t.feerate < 2 ^ 32
   pub delay_a : t.a.delay < 2 ^ 16
   pub delay_b : t.b.delay < 2 ^ 16
@@ -65,7 +65,7 @@ IsUpdate (Fail id) = ⊤
 IsUpdate (Fee rate) = rate < 2 ^ 32
 
 abbrev pub TermsComeBack : Type 0
-TermsComeBack = (t : PlainTerms) → HasWidths t → terms_of (terms_data t) ≡ Some t
+TermsComeBack = (t : ProposedTerms) → HasWidths t → terms_of (terms_data t) ≡ Some t
 
 abbrev pub OutputsComeBack : Type 0
 OutputsComeBack = (o : Output) → IsOutput o → IsBytes o.script → output_of (output_data o) ≡ Some o

@@ -18,7 +18,7 @@ ghost use Rattle.texts.specs.CallWriting.{AreTokens, base_keys_data, call_front,
 
 use crate::calls::PlainOpening;
 use crate::compound::{ArrayWriter, ObjectWriter};
-use crate::steps::{OwnUpdate, PlainRevocation, PlainSignature};
+use crate::steps::{PlainRevocation, PlainSignature};
 use crate::writing::{WriteValue, write_bytes};
 use claim::Claim;
 use keys::Key;
@@ -27,6 +27,7 @@ use sighash::Token;
 use std::alloc::{AllocError, Global};
 use terms::BaseKeys;
 use tx::TxOut;
+use updates::OwnUpdate;
 
 /// The bytes in hexadecimal.
 impl WriteValue for Key {

@@ -5,25 +5,24 @@ ghost use Rattle.serde_json.specs.View.{view};
 ghost use Rattle.texts.specs.Values.{Gives};
 ghost use Rattle.texts.specs.Calls.{opening_of, open_of, step_call_of, sign_of, revoke_of, keep_of, are_within, release_of, is_fee, changes_fee, has_fee, any_fee, is_version};
 
-use crate::agreement::PlainTerms;
 use crate::allocating::{ReadValue, read_item, read_member};
 use crate::claims::PlainClaim;
 use crate::errors::ShapeError;
-use crate::steps::{OwnUpdate, PlainReceived, PlainRevocation, PlainStep};
+use crate::steps::{PlainReceived, PlainRevocation, PlainStep};
 use crate::values::{FromValue, array_of, item, member, object_of, tag_of};
 use keys::Key;
 use lists::List;
 use serde_json::Value;
 use sighash::Token;
 use std::alloc::Global;
-use terms::{BaseKeys, Side};
+use terms::{BaseKeys, ProposedTerms, Side};
 use tx::{MAX_INPUTS, MAX_OUTPUTS, OutPoint, TxOut};
-use updates::Update;
+use updates::{OwnUpdate, Update};
 
 /// How a side opens a channel, as a text has it: the terms without what its own seed gives, and what its peer sent before the channel is there.
 #[derive(Clone, Copy, Debug)]
 pub struct PlainOpening {
-    pub terms: PlainTerms,
+    pub terms: ProposedTerms,
     pub funding: OutPoint,
     /// Which side of the channel this is.
     pub side: Side,
@@ -103,7 +102,7 @@ impl FromValue for PlainOpening {
     #[tactic(auto, unfolding(crate::specs::Calls::opening_of))]
     fn from_value(value: &Value) -> Option<PlainOpening> {
         let form = array_of(value, 8)?;
-        let terms: PlainTerms = item(form, 1)?;
+        let terms: ProposedTerms = item(form, 1)?;
         let funding = item(form, 2)?;
         let side = item(form, 3)?;
         let seed = item(form, 4)?;

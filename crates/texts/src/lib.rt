@@ -34,7 +34,6 @@ mod steps;
 mod values;
 mod writing;
 
-pub use agreement::{PlainParty, PlainTerms};
 pub use allocating::{ReadValue, bytes_of, list_of, read_item, read_member};
 pub use call_writing::{
     write_dump, write_entry, write_keep, write_own, write_receive, write_release, write_revoke,
@@ -43,6 +42,6 @@ pub use call_writing::{
 pub use calls::{PlainCall, PlainDump, PlainEntry, PlainOpening};
 pub use claims::PlainClaim;
 pub use errors::ShapeError;
-pub use steps::{OwnUpdate, PlainReceived, PlainRevocation, PlainSignature, PlainStep, own_named};
+pub use steps::{PlainReceived, PlainRevocation, PlainSignature, PlainStep, own_named};
 pub use values::{FromValue, array_of, item, member, name_at, object_of, tag_of};
 pub use writing::{WriteValue, write_bytes, write_each};

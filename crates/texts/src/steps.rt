@@ -13,7 +13,7 @@ use lists::List;
 use serde_json::Value;
 use sighash::Token;
 use std::alloc::Global;
-use updates::Update;
+use updates::{OwnUpdate, Update};
 
 /// A `commitment_signed` as a text has it (BOLT 2).
 #[derive(Debug, Drop)]
@@ -31,33 +31,6 @@ pub struct PlainRevocation {
     pub secret: [u8; 32],
     /// The point for the second number after it.
     pub next_point: Key,
-}
-
-/// An update that a side makes.
-#[derive(Clone, Copy, Debug, PartialEq, Eq, Drop)]
-pub enum OwnUpdate {
-    /// Offers an HTLC.
-    Offer {
-        /// Millisatoshis.
-        amount: u64,
-        /// SHA-256 of the payment preimage.
-        hash: [u8; 32],
-        /// The height from which on it can be timed out.
-        expiry: u32,
-    },
-    /// Fulfils an HTLC of the peer.
-    Fulfil {
-        id: u64,
-        preimage: [u8; 32],
-    },
-    /// Fails an HTLC of the peer.
-    Fail {
-        id: u64,
-    },
-    /// Changes the feerate, in satoshis for 1,000 units of weight.
-    SetFee {
-        rate: u32,
-    },
 }
 
 /// A message that a step receives: one that is no revocation.

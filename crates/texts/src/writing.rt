@@ -10,12 +10,11 @@ ghost use Rattle.texts.specs.Values.{bytes_of, bytes_of_len};
 ghost use Rattle.texts.specs.Messages.{update_of};
 ghost use Rattle.texts.specs.Writing.{bytes_data, add_data};
 
-use crate::agreement::PlainTerms;
 use crate::compound::{ArrayWriter, ObjectWriter};
 use lists::ByteString;
 use serde_json::Value;
 use std::alloc::{AllocError, Global};
-use terms::{Htlc, Side};
+use terms::{Htlc, ProposedTerms, Side};
 use tx::TxOut;
 use updates::Update;
 
@@ -171,7 +170,7 @@ impl<T: WriteValue> WriteValue for (T, T) {
 }
 
 /// An object of seven members.
-impl WriteValue for PlainTerms {
+impl WriteValue for ProposedTerms {
     ghost use Rattle.std.specs.Prelude.{◌≡◌, Some};
     ghost use Rattle.texts.specs.Terms.{terms_of};
     ghost use Rattle.texts.specs.Writing.{terms_data};

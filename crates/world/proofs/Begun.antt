@@ -17,8 +17,8 @@ use Rattle.chain.specs.Connecting.{with_grant, is_program}
 use Rattle.terms.specs.declared.sides.Side.{Side}
 use Rattle.terms.specs.declared.sides.Side.TheVariants.{A, B}
 use Rattle.terms.specs.declared.agreement.Terms.{Terms}
-use Rattle.texts.specs.declared.agreement.PlainTerms.{PlainTerms}
-use Rattle.texts.specs.Calls.{can_agree}
+use Rattle.terms.specs.declared.proposals.ProposedTerms.{ProposedTerms}
+use Rattle.terms.specs.Proposals.{can_agree}
 use Rattle.scenario.specs.declared.seeds.Seeds.{Seeds}
 use Rattle.book.specs.declared.calls.Opening.{Opening}
 use Rattle.book.specs.declared.calls.Call.TheVariants.{Open}
@@ -63,7 +63,7 @@ pub record IsOpen (c : ℕ) (opening : Opening) (n : Node) : Type 0 where
   pub channels : replay (with_opened opening n).history ≡ replay n.history ++ opened_by opening ∷ []
   pub stands : fundings_of (replay (with_opened opening n).history) ≡ first_grants (suc c)
 
-pub is_open : OpeningsAreTaken → (seeds : Seeds) (c : ℕ) (side : Side) (plain : PlainTerms) (terms : Terms) (opening : Opening) (n : Node) → AreTermsOf seeds c (grant_outpoint c) plain terms
+pub is_open : OpeningsAreTaken → (seeds : Seeds) (c : ℕ) (side : Side) (plain : ProposedTerms) (terms : Terms) (opening : Opening) (n : Node) → AreTermsOf seeds c (grant_outpoint c) plain terms
     → IsOpeningOf seeds c side terms opening → c < 8 → fundings_of (replay n.history) ≡ first_grants c → IsOpen c opening n
 is_open taken seeds c side plain terms opening n are is few stands =
     let t = taken seeds c SEAT terms side opening n.history is are.funding_is few stands in
@@ -82,7 +82,7 @@ agree_on w a b c of_a of_b agree more =
     (subst (λ ys. ArePaired A (replay (with_opened a w.a).history) ys (inboxes w.a ++ [] ∷ []) (inboxes w.b ++ [] ∷ [])) (sym of_b.channels)
     (subst (λ xs. ArePaired A xs (replay w.b.history ++ opened_by b ∷ []) (inboxes w.a ++ [] ∷ []) (inboxes w.b ++ [] ∷ [])) (sym of_a.channels) more)))
 
-after : OpeningsArePaired → OpeningsAreTaken → (seeds : Seeds) (c : ℕ) (plain : PlainTerms) (w : World) (both : Both) → c < 8 → HasBegun c w → AreOpeningsOf seeds c (grant_outpoint c) plain both
+after : OpeningsArePaired → OpeningsAreTaken → (seeds : Seeds) (c : ℕ) (plain : ProposedTerms) (w : World) (both : Both) → c < 8 → HasBegun c w → AreOpeningsOf seeds c (grant_outpoint c) plain both
     → HasBegun (suc c) (record w { a = with_opened both.a w.a; b = with_opened both.b w.b; chain = granted (funding_output seeds c plain) w.chain })
 after paired taken seeds c plain w both few begun are =
     let a = is_open taken seeds c A plain are.terms both.a w.a are.agreed are.by_a few begun.a_stands in
@@ -99,7 +99,7 @@ after paired taken seeds c plain w both few begun are =
           (paired seeds c are.terms A both.a both.b are.by_a are.by_b) begun.agree);
     }
 
-pub has_begun : OpeningsArePaired → OpeningsAreTaken → (seeds : Seeds) (c : ℕ) (plain : PlainTerms) (w v : World) → c < 8 → HasBegun c w → Begins seeds c plain w v → HasBegun (c + 1) v
+pub has_begun : OpeningsArePaired → OpeningsAreTaken → (seeds : Seeds) (c : ℕ) (plain : ProposedTerms) (w v : World) → c < 8 → HasBegun c w → Begins seeds c plain w v → HasBegun (c + 1) v
 has_begun paired taken seeds c plain w v few begun b =
     subst (λ n. HasBegun n v) (next c) (subst (HasBegun (suc c)) (sym b.after) (after paired taken seeds c plain w b.both few begun b.openings))
 
@@ -115,15 +115,15 @@ left_from zero (y ∷ xs) x e = ap (λ z. z ∷ xs) (same_Some y x e)
 left_from (suc i) (y ∷ xs) x e = left_from i xs x e
 
 -- what begins from a channel on is all that begins
-abbrev pub IsLeft : Seeds → List PlainTerms → ℕ → World → Type 0
+abbrev pub IsLeft : Seeds → List ProposedTerms → ℕ → World → Type 0
 IsLeft seeds terms i w = (end : World) → AllBegin seeds i (drop i terms) w end → AllBegin seeds 0 terms empty_world end
 
-pub begin_next : (seeds : Seeds) (terms : List PlainTerms) (i : ℕ) (plain : PlainTerms) (w v : World) → slice_get terms i ≡ Some plain → Begins seeds i plain w v → IsLeft seeds terms i w
+pub begin_next : (seeds : Seeds) (terms : List ProposedTerms) (i : ℕ) (plain : ProposedTerms) (w v : World) → slice_get terms i ≡ Some plain → Begins seeds i plain w v → IsLeft seeds terms i w
     → IsLeft seeds terms (i + 1) v
 begin_next seeds terms i plain w v there b left end more =
     left end (subst (λ ps. AllBegin seeds i ps w end) (sym (left_from i terms plain there ∙ ap (λ n. plain ∷ drop n terms) (next i))) (AllBegin.begins b more))
 
-pub all_left : (seeds : Seeds) (terms : List PlainTerms) (i : ℕ) (w : World) → length terms ≤ i → IsLeft seeds terms i w → AllBegin seeds 0 terms empty_world w
+pub all_left : (seeds : Seeds) (terms : List ProposedTerms) (i : ℕ) (w : World) → length terms ≤ i → IsLeft seeds terms i w → AllBegin seeds 0 terms empty_world w
 all_left seeds terms i w past left = left w (subst (λ ps. AllBegin seeds i ps w w) (sym (drop-all i terms past)) AllBegin.all_begun)
 
 -- ---- the funding output
@@ -143,11 +143,11 @@ found_output : (over : Bool) (o p : Output) → Some p ≡ (if over then None el
 found_output true o p e = absurd cc
 found_output false o p e = cc
 
-pub funded_by : (seeds : Seeds) (c : ℕ) (plain : PlainTerms) (o : Output) (r : Option Output) → r ≡ funding_if_within seeds c plain → r ≡ Some o → o ≡ funding_output seeds c plain
+pub funded_by : (seeds : Seeds) (c : ℕ) (plain : ProposedTerms) (o : Output) (r : Option Output) → r ≡ funding_if_within seeds c plain → r ≡ Some o → o ≡ funding_output seeds c plain
 funded_by seeds c plain o r is some = found_output (nat_lt max_value plain.capacity) (funding_output seeds c plain) o (sym some ∙ is)
 
 -- a chain grants it
-pub is_granted : (seeds : Seeds) (c : ℕ) (plain : PlainTerms) (o : Output) → o ≡ funding_output seeds c plain → is_program o.script ≡ false → ⊥
+pub is_granted : (seeds : Seeds) (c : ℕ) (plain : ProposedTerms) (o : Output) → o ≡ funding_output seeds c plain → is_program o.script ≡ false → ⊥
 is_granted seeds c plain o same not_one = true≢false (sym (ap (λ (x : Output). is_program x.script) same ∙ is_script_program _) ∙ not_one)
 
 -- ---- a channel
@@ -156,23 +156,23 @@ is_granted seeds c plain o same not_one = true≢false (sym (ap (λ (x : Output)
 stands_at : (w : World) (c : ℕ) (o : OutPoint) → HasBegun c w → o ≡ grant_outpoint (grants_in w.chain.blocks) → o ≡ grant_outpoint c
 stands_at w c o begun is = is ∙ ap grant_outpoint begun.grants
 
-opens_here : (seeds : Seeds) (c : ℕ) (plain : PlainTerms) (w : World) (o : OutPoint) (both : Both) → HasBegun c w → o ≡ grant_outpoint (grants_in w.chain.blocks) → AreOpeningsOf seeds c o plain both
+opens_here : (seeds : Seeds) (c : ℕ) (plain : ProposedTerms) (w : World) (o : OutPoint) (both : Both) → HasBegun c w → o ≡ grant_outpoint (grants_in w.chain.blocks) → AreOpeningsOf seeds c o plain both
     → AreOpeningsOf seeds c (grant_outpoint c) plain both
 opens_here seeds c plain w o both begun is are = subst (λ p. AreOpeningsOf seeds c p plain both) (stands_at w c o begun is) are
 
-pub a_takes : OpeningsAreTaken → (seeds : Seeds) (c : ℕ) (plain : PlainTerms) (w : World) (o : OutPoint) (both : Both) → HasBegun c w → c < 8 → o ≡ grant_outpoint (grants_in w.chain.blocks)
+pub a_takes : OpeningsAreTaken → (seeds : Seeds) (c : ℕ) (plain : ProposedTerms) (w : World) (o : OutPoint) (both : Both) → HasBegun c w → c < 8 → o ≡ grant_outpoint (grants_in w.chain.blocks)
     → AreOpeningsOf seeds c o plain both → is_accepted (answer_to w.a (Open both.a)) ≡ true
 a_takes taken seeds c plain w o both begun few is are =
     let here = opens_here seeds c plain w o both begun is are in
     (is_open taken seeds c A plain here.terms both.a w.a here.agreed here.by_a few begun.a_stands).accepted
 
-pub b_takes : OpeningsAreTaken → (seeds : Seeds) (c : ℕ) (plain : PlainTerms) (w : World) (o : OutPoint) (both : Both) → HasBegun c w → c < 8 → o ≡ grant_outpoint (grants_in w.chain.blocks)
+pub b_takes : OpeningsAreTaken → (seeds : Seeds) (c : ℕ) (plain : ProposedTerms) (w : World) (o : OutPoint) (both : Both) → HasBegun c w → c < 8 → o ≡ grant_outpoint (grants_in w.chain.blocks)
     → AreOpeningsOf seeds c o plain both → is_accepted (answer_to w.b (Open both.b)) ≡ true
 b_takes taken seeds c plain w o both begun few is are =
     let here = opens_here seeds c plain w o both begun is are in
     (is_open taken seeds c B plain here.terms both.b w.b here.agreed here.by_b few begun.b_stands).accepted
 
-pub begun_by : (seeds : Seeds) (c : ℕ) (plain : PlainTerms) (w : World) (o : OutPoint) (both : Both) (chain : Standing) (a b : Node) → HasBegun c w → o ≡ grant_outpoint (grants_in w.chain.blocks)
+pub begun_by : (seeds : Seeds) (c : ℕ) (plain : ProposedTerms) (w : World) (o : OutPoint) (both : Both) (chain : Standing) (a b : Node) → HasBegun c w → o ≡ grant_outpoint (grants_in w.chain.blocks)
     → chain ≡ granted (funding_output seeds c plain) w.chain → AreOpeningsOf seeds c o plain both → a ≡ with_opened both.a w.a → b ≡ with_opened both.b w.b
     → Begins seeds c plain w (record w { a = a; b = b; chain = chain })
 begun_by seeds c plain w o both chain a b begun is grown are of_a of_b = record {
@@ -182,7 +182,7 @@ begun_by seeds c plain w o both chain a b begun is grown are of_a of_b = record 
 }
 
 -- and the same of a world that is equal to it
-pub begun_from : (seeds : Seeds) (c : ℕ) (plain : PlainTerms) (old w : World) (o : OutPoint) (both : Both) (chain : Standing) (a b : Node) → w ≡ old → HasBegun c old → o ≡ grant_outpoint (grants_in w.chain.blocks)
+pub begun_from : (seeds : Seeds) (c : ℕ) (plain : ProposedTerms) (old w : World) (o : OutPoint) (both : Both) (chain : Standing) (a b : Node) → w ≡ old → HasBegun c old → o ≡ grant_outpoint (grants_in w.chain.blocks)
     → chain ≡ granted (funding_output seeds c plain) w.chain → AreOpeningsOf seeds c o plain both → a ≡ with_opened both.a w.a → b ≡ with_opened both.b w.b
     → Begins seeds c plain old (record w { a = a; b = b; chain = chain })
 begun_from seeds c plain old w o both chain a b same begun is grown are of_a of_b =
@@ -194,15 +194,15 @@ on_ok (Err e) f p = p
 
 -- ---- terms
 
-abbrev bad_from : ℕ → List PlainTerms → Option ℕ
+abbrev bad_from : ℕ → List ProposedTerms → Option ℕ
 bad_from i terms = position_from (λ t. not (can_agree t)) i terms
 
 -- where no terms are bad, each can be agreed on
-pub agreed_each : (i : ℕ) (terms : List PlainTerms) → bad_from i terms ≡ None → (k : ℕ) (plain : PlainTerms) → slice_get terms k ≡ Some plain → can_agree plain ≡ true
+pub agreed_each : (i : ℕ) (terms : List ProposedTerms) → bad_from i terms ≡ None → (k : ℕ) (plain : ProposedTerms) → slice_get terms k ≡ Some plain → can_agree plain ≡ true
 agreed_each i [] none k plain there = absurd (none-some plain there)
 agreed_each i (t ∷ ts) none k plain there = go (agreed_each (i + 1) ts) (can_agree t) refl none k there
   where
-    go : (bad_from (i + 1) ts ≡ None → (n : ℕ) (p : PlainTerms) → slice_get ts n ≡ Some p → can_agree p ≡ true) → (good : Bool) → can_agree t ≡ good
+    go : (bad_from (i + 1) ts ≡ None → (n : ℕ) (p : ProposedTerms) → slice_get ts n ≡ Some p → can_agree p ≡ true) → (good : Bool) → can_agree t ≡ good
         → cond (not good) (Some i) (bad_from (i + 1) ts) ≡ None → (n : ℕ) → slice_get (t ∷ ts) n ≡ Some plain → can_agree plain ≡ true
     go later true is left zero here = ap can_agree (sym (same_Some t plain here)) ∙ is
     go later true is left (suc n) here = later left n plain here

@@ -4,18 +4,18 @@ use Rattle.std.specs.Prelude.{drop, slice_get}
 use Rattle.std.proofs.lemmas.List.{reverse-append}
 use Rattle.std.proofs.lemmas.Option.{none-some, same_Some}
 use Rattle.terms.specs.declared.sides.Side.{Side}
-use Rattle.texts.specs.declared.steps.OwnUpdate.{OwnUpdate}
+use Rattle.updates.specs.declared.changes.OwnUpdate.{OwnUpdate}
 use Rattle.updates.specs.declared.refusals.Refusal.{Refusal}
 use Rattle.channel.specs.declared.messages.Message.{Message}
 use Rattle.channel.specs.declared.messages.Message.TheVariants.{Updated, CommitmentSigned, RevokeAndAck}
 use Rattle.channel.specs.Tokens.{peer_tokens}
-use Rattle.channel.specs.States.{State, update_refusal, receive_refusal, after_sign, after, answers, signature_message}
+use Rattle.channel.specs.States.{update_of, State, update_refusal, receive_refusal, after_sign, after, answers, signature_message}
 use Rattle.channel.specs.Peers.{Acts, updates, signs, receives}
 use Rattle.book.specs.declared.calls.Step.TheVariants.{Own}
 use Rattle.book.specs.declared.calls.Call.{Call}
 use Rattle.book.specs.declared.calls.Call.TheVariants.{Step as Stepping, Sign, Keep, Release}
 use Rattle.book.specs.declared.calls.Entry.{Entry}
-use Rattle.book.specs.Books.{ChannelBook, Channels, at_index, with_state, with_kept, update_of, stepped as state_stepped, channels_after, replayed, replay}
+use Rattle.book.specs.Books.{ChannelBook, Channels, at_index, with_state, with_kept, stepped as state_stepped, channels_after, replayed, replay}
 use Rattle.book.specs.Replies.{stepped, signed, is_accepted, answer_of, reply_of, extended, history_after, unless, asked, sign_refusal}
 use Rattle.std.specs.Prelude.{nat_le}
 use Rattle.updates.specs.Refusals.{first_refusal, covers_nothing}

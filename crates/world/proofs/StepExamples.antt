@@ -9,8 +9,8 @@ use Rattle.mempool.specs.Mining.{mined_by, reorganised, blocks_after}
 use Rattle.watch.specs.declared.spends.Spend.{Spend}
 use Rattle.watch.specs.declared.unclaimed.Given.{Given}
 use Rattle.watch.specs.Watching.{Seen}
-use Rattle.texts.specs.declared.agreement.PlainTerms.{PlainTerms}
-use Rattle.texts.specs.declared.steps.OwnUpdate.TheVariants.{Offer, Fulfil, Fail, SetFee}
+use Rattle.terms.specs.declared.proposals.ProposedTerms.{ProposedTerms}
+use Rattle.updates.specs.declared.changes.OwnUpdate.TheVariants.{Offer, Fulfil, Fail, SetFee}
 use Rattle.scenario.specs.declared.events.Event.TheVariants as events
 use Rattle.book.specs.declared.calls.Batch.{Batch}
 use Rattle.book.specs.declared.calls.Call.TheVariants.{Keep, Release}
@@ -31,7 +31,7 @@ world_numbers : map world_error_number (worlds.NoMemory ∷ worlds.BadTerms 7 �
 world_numbers = refl
 
 -- terms of 1 satoshi, of which side A has 999 millisatoshis and side B so many
-abbrev terms_with : ℕ → PlainTerms
+abbrev terms_with : ℕ → ProposedTerms
 terms_with b = record {
   capacity = 1;
   opener = A;

@@ -5,7 +5,7 @@ use Rattle.chain.specs.Blocks.{Standing, empty_block, grants_in, grant_outpoint}
 use Rattle.chain.specs.Connecting.{with_grant}
 use Rattle.terms.specs.declared.sides.Side.TheVariants.{A}
 use Rattle.channel.specs.Tokens.{peer_tokens}
-use Rattle.texts.specs.declared.agreement.PlainTerms.{PlainTerms}
+use Rattle.terms.specs.declared.proposals.ProposedTerms.{ProposedTerms}
 use Rattle.scenario.specs.declared.seeds.Seeds.{Seeds}
 use Rattle.scenario.specs.Limits.{max_channels}
 use Rattle.scenario.specs.Testing.{first_bad_terms}
@@ -48,22 +48,22 @@ abbrev pub granted : Output → Standing → Standing
 granted output chain = record chain { blocks = with_grant chain.blocks output }
 
 -- a channel begins: its funding output is granted, and both sides open it there
-pub record Begins (seeds : Seeds) (channel : ℕ) (plain : PlainTerms) (w v : World) : Type 0 where
+pub record Begins (seeds : Seeds) (channel : ℕ) (plain : ProposedTerms) (w v : World) : Type 0 where
   pub both : Both
   pub openings : AreOpeningsOf seeds channel (grant_outpoint channel) plain both
   pub after : v ≡ record w { a = with_opened both.a w.a; b = with_opened both.b w.b; chain = granted (funding_output seeds channel plain) w.chain }
 
 -- channels from a number on begin, one after another
-pub data AllBegin (seeds : Seeds) : ℕ → List PlainTerms → World → World → Type 0 where
+pub data AllBegin (seeds : Seeds) : ℕ → List ProposedTerms → World → World → Type 0 where
   all_begun : {c : ℕ} {w : World} → AllBegin seeds c [] w w
-  begins : {c : ℕ} {plain : PlainTerms} {more : List PlainTerms} {w v end : World} → Begins seeds c plain w v → AllBegin seeds (c + 1) more v end → AllBegin seeds c (plain ∷ more) w end
+  begins : {c : ℕ} {plain : ProposedTerms} {more : List ProposedTerms} {w v end : World} → Begins seeds c plain w v → AllBegin seeds (c + 1) more v end → AllBegin seeds c (plain ∷ more) w end
 
 -- the world of these channels, in which nothing happened yet
-abbrev pub IsBeginning : Seeds → List PlainTerms → World → Type 0
+abbrev pub IsBeginning : Seeds → List ProposedTerms → World → Type 0
 IsBeginning seeds terms w = AllBegin seeds 0 terms empty_world w
 
 -- OverLimit: more than 8 channels; BadTerms: the first channel on whose terms the two sides can't agree
-abbrev pub beginning_refusal : List PlainTerms → Option WorldError
+abbrev pub beginning_refusal : List ProposedTerms → Option WorldError
 beginning_refusal terms = if nat_lt max_channels (length terms) then Some OverLimit else option_map BadTerms (first_bad_terms terms)
 
 abbrev pub IsBeginningRefusal : Option WorldError → WorldError → Type 0

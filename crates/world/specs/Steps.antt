@@ -5,7 +5,7 @@ use Rattle.terms.specs.declared.sides.Side.{Side}
 use Rattle.terms.specs.Sides.{other}
 use Rattle.scenario.specs.declared.events.Event.{Event}
 use Rattle.scenario.specs.declared.events.Event.TheVariants as events
-use Rattle.texts.specs.declared.steps.OwnUpdate.{OwnUpdate}
+use Rattle.updates.specs.declared.changes.OwnUpdate.{OwnUpdate}
 use Rattle.chain.specs.Blocks.{height_of}
 use Rattle.mempool.specs.Mining.{Mined, mined_by, reorganised}
 use Rattle.mempool.specs.Reorganising.{reorg_refusal}

@@ -1,8 +1,8 @@
 //! How a world begins.
 
 ghost use Rattle.std.specs.Prelude.{◌≡◌, ◌<◌, ◌≤◌, ◌+◌, ℕ, true, length, drop, slice_get, Some, IfOk, OnOk};
-ghost use Rattle.texts.specs.Calls.{can_agree};
-ghost use Rattle.texts.specs.declared.agreement.PlainTerms.{PlainTerms as Plain};
+ghost use Rattle.terms.specs.Proposals.{can_agree};
+ghost use Rattle.terms.specs.declared.proposals.ProposedTerms.{ProposedTerms as Plain};
 ghost use Rattle.chain.specs.Blocks.{grants_in, grant_outpoint};
 ghost use Rattle.book.specs.declared.calls.Call.TheVariants.{Open};
 ghost use Rattle.book.specs.Replies.{is_accepted};
@@ -22,11 +22,11 @@ use openings::laws::openings_agree;
 use openings::{Both, funding_output, open_both};
 use scenario::Seeds;
 use std::alloc::{AllocError, Global};
-use texts::PlainTerms;
+use terms::ProposedTerms;
 use tx::OutPoint;
 
 /// The first channel on whose terms the two sides can't agree.
-pub(crate) fn first_bad_terms(terms: &[PlainTerms]) -> Option<usize>
+pub(crate) fn first_bad_terms(terms: &[ProposedTerms]) -> Option<usize>
     ensures { result ≡ first_bad_terms terms.now }
 {
     terms.iter().position(|plain| !plain.can_agree())
@@ -52,7 +52,7 @@ fn grant_funding(
     chain: &mut Index,
     seeds: &Seeds,
     channel: u32,
-    plain: &PlainTerms,
+    plain: &ProposedTerms,
 ) -> Result<OutPoint, AllocError>
     requires { can_agree plain.now ≡ true }
     ensures outpoint { IfOk result (λ o. o ≡ grant_outpoint (grants_in chain.old.blocks)) }
@@ -76,7 +76,7 @@ fn both_of(
     seeds: &Seeds,
     channel: u32,
     outpoint: OutPoint,
-    plain: &PlainTerms,
+    plain: &ProposedTerms,
 ) -> Result<Both, AllocError>
     requires { can_agree plain.now ≡ true }
     ensures { IfOk result (AreOpeningsOf seeds.now channel outpoint plain.now) }
@@ -93,7 +93,7 @@ fn begin(
     parts: &mut Parts,
     seeds: &Seeds,
     channel: u32,
-    plain: &PlainTerms,
+    plain: &ProposedTerms,
 ) -> Result<(), AllocError>
     requires agreed { can_agree plain.now ≡ true }
     requires begun { HasBegun channel parts.old }
@@ -128,7 +128,7 @@ fn begin_each(
     alloc: Global,
     parts: &mut Parts,
     seeds: &Seeds,
-    terms: &[PlainTerms],
+    terms: &[ProposedTerms],
 ) -> Result<(), AllocError>
     requires few { length terms.now ≤ max_channels }
     requires agreed { (i : ℕ) (plain : Plain) → slice_get terms.now i ≡ Some plain → can_agree plain ≡ true }
@@ -148,7 +148,7 @@ fn begin_each(
 pub(crate) fn begin_all(
     alloc: Global,
     seeds: &Seeds,
-    terms: &[PlainTerms],
+    terms: &[ProposedTerms],
 ) -> Result<Parts, AllocError>
     requires few { length terms.now ≤ max_channels }
     requires agreed { (i : ℕ) (plain : Plain) → slice_get terms.now i ≡ Some plain → can_agree plain ≡ true }

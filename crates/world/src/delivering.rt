@@ -16,7 +16,7 @@ use keys::Key;
 use lists::List;
 use std::alloc::{AllocError, Global};
 use std::collections::VecDeque;
-use texts::OwnUpdate;
+use updates::OwnUpdate;
 
 /// A call of a book by which messages come or go.
 #[derive(Drop)]

@@ -5,7 +5,7 @@ ghost use Rattle.world.specs.Owning.{own_of};
 
 use scenario::Event;
 use terms::Side;
-use texts::OwnUpdate;
+use updates::OwnUpdate;
 
 /// An update that a side makes in a channel.
 #[derive(Drop)]

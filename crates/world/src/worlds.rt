@@ -10,8 +10,7 @@ use chain::Index;
 use scenario::{Event, MAX_CHANNELS, Seeds};
 use std::alloc::{AllocError, Global};
 use std::marker::Model;
-use terms::Side;
-use texts::PlainTerms;
+use terms::{ProposedTerms, Side};
 
 /// The world of two sides: their books and watches, the messages on their way, and the chain with its pool.
 #[derive(Drop)]
@@ -39,7 +38,7 @@ impl World {
 
     /// The world in which the funding outputs of these channels are granted in the first block and both sides opened them from seat 0, with the peer's token on commitment 0: OverLimit for
     /// more than 8 channels, and BadTerms with the first one on whose terms the two sides can't agree.
-    pub fn new(alloc: Global, seeds: &Seeds, terms: &[PlainTerms]) -> Result<World, WorldError>
+    pub fn new(alloc: Global, seeds: &Seeds, terms: &[ProposedTerms]) -> Result<World, WorldError>
         ensures { let first = beginning_refusal terms.now in MatchResult result (λ w. (first ≡ None) × IsBeginning seeds.now terms.now w) (IsBeginningRefusal first) }
     {
         if terms.len() > MAX_CHANNELS {

@@ -5,7 +5,7 @@ use book::errors::KeepError;
 use scenario::Event;
 use std::process::Abort;
 use terms::Side;
-use texts::OwnUpdate;
+use updates::OwnUpdate;
 use world::errors::EventError;
 use world::{Outcome, World};
 

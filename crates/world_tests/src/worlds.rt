@@ -3,8 +3,7 @@
 use scenario::Seeds;
 use std::alloc::Global;
 use std::process::Abort;
-use terms::Side;
-use texts::{PlainParty, PlainTerms};
+use terms::{ProposedParty, ProposedTerms, Side};
 use world::World;
 use world::errors::WorldError;
 
@@ -13,8 +12,8 @@ const SEEDS: Seeds = Seeds {
     b: [0x0b; 32],
 };
 
-fn party(start: u64) -> PlainParty {
-    PlainParty {
+fn party(start: u64) -> ProposedParty {
+    ProposedParty {
         dust: 546,
         delay: 144,
         minimum: 1000,
@@ -23,8 +22,8 @@ fn party(start: u64) -> PlainParty {
 }
 
 // The terms of 100,000 satoshis, of which B has so many millisatoshis at first: 20,000,000 are what is left to it.
-fn terms(start: u64) -> PlainTerms {
-    PlainTerms {
+fn terms(start: u64) -> ProposedTerms {
+    ProposedTerms {
         capacity: 100_000,
         opener: Side::A,
         feerate: 1000,

@@ -8,7 +8,7 @@ use book::{Book, Call, Step};
 use book_peers::{Act, PREIMAGE, Peers, Reply, offer};
 use std::alloc::Global;
 use terms::Side;
-use texts::OwnUpdate;
+use updates::OwnUpdate;
 
 /// How many steps make a history.
 const STEPS: u32 = 60;
