@@ -9,6 +9,7 @@ pub mod Collected
 pub mod Htlcs
 pub mod Limited
 pub mod Built
+pub mod Values
 pub mod Shared
 pub mod OrderExamples
 pub mod RefusalExamples

@@ -1,11 +1,11 @@
 -- A view that shares out the capacity has a commitment.
-use Rattle.std.proofs.Common.{◌≡◌, ℕ, ◌+◌, ◌*◌, ◌/◌, ◌≤◌, Bool, true, false, not, cond, ltb, List, [], ◌∷◌, ◌++◌, map, length, Option, Some, None, unwrap_or, refl, sym, ap, subst, ◌∙◌, arith, length-append}
-use Rattle.std.specs.List.{All, sum_by, list_any, filter}
+use Rattle.std.proofs.Common.{◌≡◌, ℕ, ◌+◌, ◌≤◌, Bool, true, false, not, cond, ltb, List, [], ◌∷◌, ◌++◌, map, length, Option, Some, None, refl, arith, length-append}
+use Rattle.std.specs.List.{All, list_any, filter}
 use Rattle.std.proofs.lemmas.Bool.{le-ltb}
 use Rattle.std.proofs.lemmas.List.{length-map}
-use Rattle.std.proofs.lemmas.List.Elements.{All-nil, All-cons, All-map}
+use Rattle.std.proofs.lemmas.List.Elements.{All-nil, All-cons}
 use Rattle.std.proofs.lemmas.List.Folds.{list_any_none}
-use Rattle.std.proofs.lemmas.List.Sums.{sum_by-append, sum_by-cons}
+use Rattle.std.proofs.lemmas.List.Sums.{sum_by-cons}
 use Rattle.std.proofs.lemmas.List.Sorted.{All-permutation, length_permutation}
 use Rattle.tx.specs.Limits.{max_value, max_outputs}
 use Rattle.terms.specs.declared.htlcs.Htlc.{Htlc}
@@ -14,14 +14,13 @@ use Rattle.terms.specs.declared.sides.Side.TheVariants.{A, B}
 use Rattle.terms.specs.declared.agreement.Terms.{Terms}
 use Rattle.terms.specs.declared.views.View.{View}
 use Rattle.terms.specs.Agreement.{party}
-use Rattle.commit.specs.declared.fees.Direction.{Direction}
 use Rattle.commit.specs.declared.fees.Direction.TheVariants.{Offered, Received}
 use Rattle.commit.specs.declared.amounts.Amounts.{Amounts}
 use Rattle.commit.specs.declared.outputs.CommitmentOutput.{CommitmentOutput as Output}
 use Rattle.commit.specs.declared.errors.BuildError.TheVariants.{TooManyOutputs, ValueTooLarge}
-use Rattle.commit.specs.Fees.{satoshis_of, is_trimmed_by}
+use Rattle.commit.specs.Fees.{is_trimmed_by}
 use Rattle.commit.specs.Amounts.{amounts_of}
-use Rattle.commit.specs.Sums.{paid_out, worth_of, fee_paid}
+use Rattle.commit.specs.Sums.{paid_out, fee_paid}
 use Rattle.commit.specs.Keys.{KeyBytes, keys_of}
 use Rattle.commit.specs.Outputs.{to_local_output, to_remote_output, htlc_output, where_paid, outputs_of}
 use Rattle.commit.specs.Order.{in_order}
@@ -29,42 +28,7 @@ use Rattle.commit.specs.Commitments.{commitment_of}
 use Rattle.commit.specs.Building.{refusal_of, SharedViewsHaveCommitments}
 use Rattle.commit.proofs.Ordered.{there_is_one}
 use Rattle.commit.proofs.Funds.{nothing_is_created}
-
-abbrev values : List Output → ℕ
-values os = sum_by (λ o. o.value) os
-
--- the values of all outputs are what is paid out
-of_htlcs : (k : KeyBytes) (direction : Direction) (hs : List Htlc) → values (map (htlc_output k direction) hs) ≡ worth_of hs
-of_htlcs k direction [] = refl
-of_htlcs k direction (h ∷ hs) =
-    let a = sum_by-cons (λ (o : Output). o.value) (htlc_output k direction h) (map (htlc_output k direction) hs) in
-    let b = sum_by-cons (λ (x : Htlc). satoshis_of x.amount) h hs in
-    let r : values (map (htlc_output k direction) hs) ≡ worth_of hs = of_htlcs k direction hs in
-    a ∙ ap (λ n. satoshis_of h.amount + n) r ∙ sym b
-
-of_local : (delay : ℕ) (k : KeyBytes) (v : Option ℕ) → values (where_paid (to_local_output delay k) v) ≡ unwrap_or v 0
-of_local delay k None = refl
-of_local delay k (Some v) = omega arith
-
-of_remote : (k : KeyBytes) (v : Option ℕ) → values (where_paid (to_remote_output k) v) ≡ unwrap_or v 0
-of_remote k None = refl
-of_remote k (Some v) = omega arith
-
-of_all : (delay : ℕ) (k : KeyBytes) (a : Amounts) → values (outputs_of delay k a) ≡ paid_out a
-unfolding outputs_of
-of_all delay k a =
-    let f : Output → ℕ = λ o. o.value in
-    let x = sum_by-append f ((map (htlc_output k Offered) a.offered ++ map (htlc_output k Received) a.received) ++ where_paid (to_local_output delay k) a.to_local) (where_paid (to_remote_output k) a.to_remote) in
-    let y = sum_by-append f (map (htlc_output k Offered) a.offered ++ map (htlc_output k Received) a.received) (where_paid (to_local_output delay k) a.to_local) in
-    let z = sum_by-append f (map (htlc_output k Offered) a.offered) (map (htlc_output k Received) a.received) in
-    let o = of_htlcs k Offered a.offered in
-    let r = of_htlcs k Received a.received in
-    let l = of_local delay k a.to_local in
-    let m = of_remote k a.to_remote in
-    added _ _ _ _ _ _ _ _ _ _ _ x y z o r l m
-  where
-    added : (w v u p q s t p' q' s' t' : ℕ) → w ≡ v + t → v ≡ u + s → u ≡ p + q → p ≡ p' → q ≡ q' → s ≡ s' → t ≡ t' → w ≡ p' + q' + (s' + t')
-    added w v u p q s t p' q' s' t' a b c d e f g = omega arith
+use Rattle.commit.proofs.Values.{values, of_all}
 
 -- none is above their sum
 each_below : (xs : List Output) (top : ℕ) → values xs ≤ top → All (λ o. o.value ≤ top) xs

@@ -15,10 +15,10 @@ use Rattle.sha2.specs.Sha256.{sha256}
 use Rattle.updates.specs.Stages.{Stages}
 use Rattle.updates.specs.Refusals.{Test, if_so, first_refusal, removable, to_remove, is_missing, is_wrong, update_tests, IsRefusal}
 use Rattle.updates.specs.declared.refusals.Refusal.{Refusal}
-use Rattle.updates.specs.declared.refusals.Refusal.TheVariants.{NoMemory, AmountZero, BelowMinimum, ExpiryTooLarge, WrongId, TooManyHtlcs, OverBalance, UnknownHtlc, WrongPreimage, NoUpdates, BadSignature, WrongSecret, NotYourTurn, NotOpener}
+use Rattle.updates.specs.declared.refusals.Refusal.TheVariants.{NoMemory}
 use Rattle.updates.proofs.Sums.{offers-append, spent_falls, live_count_falls, gained_of_more}
 use Rattle.updates.proofs.Numbering.{found_on}
-use Rattle.updates.specs.Steady.{IsBeginning, KnowsMore, ReceiversAccept}
+use Rattle.updates.specs.Steady.{KnowsMore, ReceiversAccept}
 
 -- all tests pass
 abbrev pub AllPass : List Test → Type 0
@@ -80,19 +80,7 @@ update_accepted terms by s o s' o' u k e = none_refuses _ (update_passes terms b
 -- an answer that names the first refusal
 refused : (first : Option Refusal) (r : Refusal) → first ≡ Some r → IsRefusal first r
 refused first NoMemory e = tt
-refused first AmountZero e = e
-refused first BelowMinimum e = e
-refused first ExpiryTooLarge e = e
-refused first WrongId e = e
-refused first TooManyHtlcs e = e
-refused first OverBalance e = e
-refused first UnknownHtlc e = e
-refused first WrongPreimage e = e
-refused first NoUpdates e = e
-refused first BadSignature e = e
-refused first WrongSecret e = e
-refused first NotYourTurn e = e
-refused first NotOpener e = e
+refused first r e = e
 
 pub answered : {A : Type 0} (r : Result A Refusal) (first : Option Refusal) → MatchResult r (λ x. first ≡ None) (λ e. first ≡ Some e) → MatchResult r (λ x. first ≡ None) (IsRefusal first)
 answered (Ok x) first h = h
