@@ -2,3 +2,4 @@ pub mod Readings
 pub mod ReadingExamples
 pub mod BatchExamples
 pub mod ActExamples
+mod Broadcasts

@@ -2,7 +2,7 @@
 use Rattle.std.specs.Prelude.{ℕ, ◌+◌, ◌==◌, Bool, true, ◌&&◌, not, nat_lt, List, [], ◌∷◌, ◌++◌, map, fold, Option, None, if◌then◌else◌}
 use Rattle.std.specs.List.{list_any, flat_map}
 use Rattle.std.specs.Str.{bytes_eq}
-use Rattle.digest.specs.Hash.{hash160}
+use Rattle.sighash.specs.Programs.{key_hash_program}
 use Rattle.tx.specs.Parts.{Output}
 use Rattle.tx.specs.Limits.{max_value}
 use Rattle.claim.specs.Claims.{ClaimParts}
@@ -47,10 +47,6 @@ claims_in due = map (λ d. d.claim) due
 abbrev pub preimages_for : List DueClaim → List (List ℕ)
 preimages_for due = each_once (flat_map (λ d. d.preimages) due)
 
--- the program that pays to the hash of a key (BIP 141, P2WPKH)
-abbrev pub payment_program : List ℕ → List ℕ
-payment_program key = 0x00 ∷ 0x14 ∷ hash160 key
-
 -- the output of the claims' whole value to the hash of a key (a fixed transaction, that keeps its own, does not read it)
 abbrev pub output_for : List ℕ → List DueClaim → Output
-output_for key due = record { value = value_of due; script = payment_program key }
+output_for key due = record { value = value_of due; script = key_hash_program key }

@@ -2,16 +2,17 @@
 
 ghost use Rattle.std.specs.Prelude.{◌≡◌, ◌+◌, ◌*◌, ◌≤◌, ◌^◌, [], ◌∷◌, map, fold, length, None, Some, IfOk, OnOk, MatchResult};
 ghost use Rattle.std.specs.List.{flat_map};
+ghost use Rattle.sighash.specs.Programs.{key_hash_program};
 ghost use Rattle.tx.specs.Limits.{max_inputs, max_value};
 ghost use Rattle.book.specs.Calls.{IsBatchOf};
-ghost use Rattle.side.specs.Batches.{are_of, value_of, batch_refusal, with_new, each_once, claims_in, preimages_for, payment_program, output_for};
+ghost use Rattle.side.specs.Batches.{are_of, value_of, batch_refusal, with_new, each_once, claims_in, preimages_for, output_for};
 
 use crate::due::DueClaim;
 use book::Batch;
 use claim::Claim;
-use digest::hash160;
 use keys::Key;
-use lists::{ByteString, List};
+use lists::List;
+use sighash::programs::key_hash_program;
 use std::alloc::{AllocError, Global};
 use thiserror::Error;
 use tx::{MAX_VALUE, TxOut};
@@ -124,24 +125,12 @@ fn preimages_of(alloc: Global, due: &[&DueClaim]) -> Result<List<[u8; 32]>, Allo
     Ok(preimages)
 }
 
-// The program of the hash of a key. The only error is that memory ran out.
-fn key_hash_program(alloc: Global, key: &Key) -> Result<ByteString, AllocError>
-    ensures value { IfOk result (λ program. program ≡ payment_program key.now.bytes) }
-    ensures short { IfOk result (λ program. length program ≡ 22) }
-{
-    let mut program = Vec::with_capacity(alloc, 22)?;
-    program.push(0x00)?;
-    program.push(0x14)?;
-    program.extend_from_slice(&hash160(&key.bytes))?;
-    Ok(ByteString::from_vec(program))
-}
-
 // The output that pays a value to the hash of a key. The only error is that memory ran out.
 fn payment_of(alloc: Global, payment: &Key, value: u64) -> Result<TxOut, AllocError>
     requires { value ≤ max_value }
-    ensures { IfOk result (λ o. o ≡ record { value = value; script = payment_program payment.now.bytes }) }
+    ensures { IfOk result (λ o. o ≡ record { value = value; script = key_hash_program payment.now.bytes }) }
 {
-    let program = key_hash_program(alloc, payment)?;
+    let program = key_hash_program(alloc, &payment.bytes)?;
     match TxOut::new(value, program) {
         Ok(output) => Ok(output),
         Err(_) => unreachable!(),

@@ -6,7 +6,7 @@
 //! [`DueClaim`] is a claim that fell due, with the preimages that its slots want. [`worth_of`] and [`batch_of`] make
 //! the batch by which due claims of a channel are released, and [`set_of`] builds the penalty set of a revoked
 //! commitment. [`call_of`] is the call by which a book takes a message, and [`message_of`] what a reply has for the
-//! peer.
+//! peer. [`laws::known_publishes`] says that what is known of a channel broadcasts what the channel itself would.
 //!
 //! It has two callers: `world`, which owns its books, and threads, which reach theirs over a lock. So no book, no
 //! channel and no seat stands in its signatures.
@@ -28,6 +28,7 @@
 mod acts;
 pub mod batches;
 mod due;
+pub mod laws;
 mod reading;
 mod sets;
 

@@ -13,7 +13,8 @@ use Rattle.book.specs.Replies.{Reply, opened, stepped, signed, revoked, kept, re
 use Rattle.world.specs.declared.errors.EventError.{EventError}
 use Rattle.world.specs.declared.errors.EventError.TheVariants.{NoSuchChannel, NoMessage}
 use Rattle.world.specs.Worlds.{World, Line, Node, IsNode, node_of, inboxes, answer_to}
-use Rattle.world.specs.Refusing.{refusal_in, call_of, oldest_of, oldest_in, delivery_refusal}
+use Rattle.side.specs.Acts.{call_of}
+use Rattle.world.specs.Refusing.{refusal_in, oldest_of, oldest_in, delivery_refusal}
 use Rattle.world.specs.Pairing.{DeliveriesAreTaken}
 use Rattle.world.specs.Enforcement.{ClaimsOpen}
 use Rattle.world.specs.Theorem.{IsWorld, WorldsHold}

@@ -3,7 +3,6 @@ use Rattle.std.proofs.Common.{◌≡◌, ℕ, ◌-◌, ◌+◌, ◌≤◌, ◌==
 use Rattle.std.specs.Prelude.{nat_lt, if◌then◌else◌, MatchResult, IfOk, IfErr, OnErr, slice_get, option_map}
 use Rattle.std.specs.List.{list_any}
 use Rattle.std.proofs.lemmas.Bool.Decides.{nat_tests}
-use Rattle.std.proofs.lemmas.Option.{none-some, same_Some}
 use Rattle.tx.specs.Fields.{Transaction}
 use Rattle.terms.specs.declared.sides.Side.{Side}
 use Rattle.terms.specs.declared.sides.Side.TheVariants.{A, B}
@@ -14,6 +13,7 @@ use Rattle.mempool.specs.declared.errors.ReorgError.{ReorgError}
 use Rattle.mempool.specs.declared.errors.ReorgError.TheVariants as reorgs
 use Rattle.mempool.specs.Mining.{Mined, mined_by}
 use Rattle.mempool.specs.Reorganising.{reorg_refusal, IsReorganised, IsRefusal as IsReorgRefusal}
+use Rattle.updates.specs.declared.changes.OwnUpdate.{OwnUpdate}
 use Rattle.scenario.specs.declared.events.Event.{Event}
 use Rattle.scenario.specs.declared.events.Event.TheVariants as events
 use Rattle.book.specs.declared.calls.Call.{Call}
@@ -22,14 +22,12 @@ use Rattle.world.specs.declared.errors.EventError.{EventError}
 use Rattle.world.specs.declared.errors.EventError.TheVariants as errors
 use Rattle.world.specs.declared.outcomes.Outcome.{Outcome}
 use Rattle.world.specs.declared.outcomes.Outcome.TheVariants.{Done, Mined as MinedBlocks, Refused}
-use Rattle.world.specs.declared.own.Own.{Own}
 use Rattle.world.specs.Worlds.{World, Node, node_of, with_node, with_nodes, channel_of, after_call}
 use Rattle.world.specs.Refusing.{by_reorg, sent_by, oldest_in, delivered, answered, IsRefusal, IsEvent}
 use Rattle.world.specs.Keeping.{keep_refusal, IsKept}
 use Rattle.world.specs.Publishing.{preimages_known, commitment_in, htlc_tx_in, refusal_by, IsAnswer}
 use Rattle.world.specs.Releasing.{take_refusal, with_taken, release_refusal, IsReleasedTo}
 use Rattle.world.specs.Looking.{Looks}
-use Rattle.world.specs.Owning.{own_of}
 use Rattle.world.specs.Steps.{
   own_call,
   call_refusal,
@@ -91,13 +89,20 @@ acted w done new e r o is it event = subst (λ (x : Result Outcome EventError). 
     by (Err x) event = event
 
 -- a call of which the peer is to hear
-pub is_called : (w : World) (s : Side) (c : ℕ) (call : Call) (r : Result (Unit {0}) EventError) (me peer : Node)
+is_called : (w : World) (s : Side) (c : ℕ) (call : Call) (r : Result (Unit {0}) EventError) (me peer : Node)
     → IsEvent (call_refusal s c call w) r (node_of s w) (after_call call (node_of s w)) me
     → IsEvent (call_refusal s c call w) r (node_of (other s) w) (sent_by c call (node_of s w) (node_of (other s) w)) peer
     → IsEvent (call_refusal s c call w) r w (called s c call w) (with_nodes s me peer w)
 is_called w s c call r me peer is peers =
     subst (λ (v : World). IsEvent (call_refusal s c call w) r v (called s c call w) (with_nodes s me peer w)) (same_sides s w)
     (of_both (λ m p. with_nodes s m p w) (call_refusal s c call w) r (node_of s w) (after_call call (node_of s w)) me (node_of (other s) w) (sent_by c call (node_of s w) (node_of (other s) w)) peer is peers)
+
+pub is_updated : (w : World) (s : Side) (c : ℕ) (u : OwnUpdate) (r : Result (Unit {0}) EventError) (o : Result Outcome EventError) (me peer : Node) → o ≡ done_by r
+    → IsEvent (call_refusal s c (own_call c u) w) r (node_of s w) (after_call (own_call c u) (node_of s w)) me
+    → IsEvent (call_refusal s c (own_call c u) w) r (node_of (other s) w) (sent_by c (own_call c u) (node_of s w) (node_of (other s) w)) peer
+    → IsPlayed w (events.Own s c u) o (with_nodes s me peer w)
+is_updated w s c u r o me peer by is peers =
+    acted w (called s c (own_call c u) w) (with_nodes s me peer w) (events.Own s c u) r o by updates (is_called w s c (own_call c u) r me peer is peers)
 
 pub is_signed : (w : World) (s : Side) (c : ℕ) (r : Result (Unit {0}) EventError) (o : Result Outcome EventError) (me peer : Node) → o ≡ done_by r
     → IsEvent (call_refusal s c (calls.Sign c) w) r (node_of s w) (after_call (calls.Sign c) (node_of s w)) me
@@ -118,23 +123,6 @@ is_received w s c r o me peer by is peers =
     in
     acted w (received s c w) (with_nodes s me peer w) (events.Deliver s c) r o by receives
     (subst (λ (v : World). IsEvent (receipt_refusal s c w) r v (received s c w) (with_nodes s me peer w)) (same_sides s w) event)
-
--- an update
-pub is_updated : (w v : World) (e : Event) (own : Own) (r : Result (Unit {0}) EventError) (o : Result Outcome EventError) → Some own ≡ own_of e → o ≡ done_by r
-    → IsEvent (call_refusal own.side own.channel (own_call own.channel own.update) w) r w (called own.side own.channel (own_call own.channel own.update) w) v → IsPlayed w e o v
-is_updated w v (events.Own s c update) own r o asked by event =
-    acted w _ v (events.Own s c update) r o by updates
-    (subst (λ (x : Own). IsEvent (call_refusal x.side x.channel (own_call x.channel x.update) w) r w (called x.side x.channel (own_call x.channel x.update) w) v) (same_Some own _ asked) event)
-is_updated w v (events.Sign s c) own r o asked by event = absurd (none-some own (sym asked))
-is_updated w v (events.Deliver s c) own r o asked by event = absurd (none-some own (sym asked))
-is_updated w v (events.Keep s c n) own r o asked by event = absurd (none-some own (sym asked))
-is_updated w v (events.Broadcast s c n) own r o asked by event = absurd (none-some own (sym asked))
-is_updated w v (events.BroadcastHtlc s c n k) own r o asked by event = absurd (none-some own (sym asked))
-is_updated w v (events.Blocks k) own r o asked by event = absurd (none-some own (sym asked))
-is_updated w v (events.Look s) own r o asked by event = absurd (none-some own (sym asked))
-is_updated w v (events.Take s k) own r o asked by event = absurd (none-some own (sym asked))
-is_updated w v (events.Release s k) own r o asked by event = absurd (none-some own (sym asked))
-is_updated w v (events.Reorg depth forgotten) own r o asked by event = absurd (none-some own (sym asked))
 
 -- ---- one side
 

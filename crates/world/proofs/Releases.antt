@@ -1,5 +1,5 @@
 -- Why claims are not released together, and by which batch they are.
-use Rattle.std.proofs.Common.{◌≡◌, ◌↔◌, ℕ, ◌≤◌, true, false, List, [], ◌∷◌, map, take, length, Option, Some, None, Ok, Err, refl, sym, ap, subst, ◌∙◌, arith}
+use Rattle.std.proofs.Common.{◌≡◌, ℕ, ◌≤◌, Bool, true, false, List, [], ◌∷◌, map, take, length, Option, Some, None, Result, Ok, Err, refl, sym, ap, subst, ◌∙◌, inl, inr, arith}
 use Rattle.std.specs.Prelude.{slice_get, option_map, nat_lt, not}
 use Rattle.std.proofs.lemmas.Bool.Decides.{nat_tests}
 use Rattle.std.proofs.lemmas.Option.{none-some, same_Some}
@@ -7,36 +7,58 @@ use Rattle.tx.specs.Parts.{Output}
 use Rattle.tx.specs.Fields.{Transaction}
 use Rattle.tx.specs.Limits.{max_value}
 use Rattle.claim.specs.Claims.{ClaimParts}
-use Rattle.keys.specs.Rights.{Rights, MaySign}
 use Rattle.filling.specs.declared.errors.FillError.{FillError}
 use Rattle.filling.specs.declared.errors.FillError.TheVariants as fills
 use Rattle.filling.specs.Filling.{filling_of}
-use Rattle.filling.specs.Filled.{Filling, IsFillingOf}
-use Rattle.filling.specs.Refusals.{IsFirstRefusal}
+use Rattle.filling.specs.Filled.{Filling}
 use Rattle.channel.specs.States.{State}
 use Rattle.channel.specs.Rights.{rights_of}
 use Rattle.book.specs.declared.calls.Batch.{Batch}
 use Rattle.book.specs.declared.calls.Call.TheVariants.{Release}
+use Rattle.book.specs.declared.calls.Entry.{Entry}
+use Rattle.book.specs.declared.calling.Reply.{Reply as Answer}
+use Rattle.book.specs.declared.calling.Reply.TheVariants as answers
+use Rattle.book.specs.declared.errors.ReleaseError.{ReleaseError}
 use Rattle.book.specs.declared.errors.ReleaseError.TheVariants.{NoSuchChannel, Unfilled}
 use Rattle.book.specs.Calls.{IsBatchOf}
-use Rattle.book.specs.Calling.{IsFillRefusal, filling_by}
+use Rattle.book.specs.Calling.{IsCall, IsFillRefusal, filling_by}
+use Rattle.book.specs.Dispatch.{no_memory_of, reply_form}
 use Rattle.book.specs.Signers.{fill_refusal}
 use Rattle.book.specs.Books.{ChannelBook}
-use Rattle.book.specs.Replies.{released, asked, unless, fill_answer, if_so}
-use Rattle.book.proofs.Released.{tested_by}
+use Rattle.book.specs.Replies.{Reply, released, asked, unless, fill_answer, if_so}
 use Rattle.world.specs.declared.errors.EventError.{EventError}
 use Rattle.world.specs.declared.errors.EventError.TheVariants as errors
 use Rattle.side.specs.declared.due.DueClaim.{DueClaim}
+use Rattle.world.specs.declared.limits.TheConstants.{SEAT}
 use Rattle.world.specs.Worlds.{Node, channel_of, answer_to, after_call}
-use Rattle.world.specs.Refusing.{by_release, refusal_in, IsRefusal}
-use Rattle.world.specs.Releasing.{are_of, value_of, claims_in, output_for, preimages_for, release_answer, refusal_of, is_no_count, release_refusal, without_taken, IsReady, IsReleased}
+use Rattle.side.specs.declared.batches.BatchError.{BatchError}
+use Rattle.side.specs.declared.batches.BatchError.TheVariants as batches
+use Rattle.side.specs.Batches.{are_of, value_of, batch_refusal, claims_in, preimages_for}
+use Rattle.world.specs.Refusing.{by_release, by_batch, refusal_in, IsRefusal}
+use Rattle.world.specs.Releasing.{output_for, release_answer, refusal_of, is_no_count, release_refusal, without_taken, IsReady, IsReleased}
+use Rattle.world.proofs.Answering.{refused, is_done, is_undone}
 
 pub first_of_map : {A B : Type 0} (f : A → B) (xs : List A) (x : A) → slice_get xs 0 ≡ Some x → slice_get (map f xs) 0 ≡ Some (f x)
 first_of_map f [] x found = absurd (none-some x found)
 first_of_map f (y ∷ ys) x found = ap (λ z. Some (f z)) (same_Some y x found)
 
-pub not_over : (m v : ℕ) → v ≤ m → nat_lt m v ≡ false
-not_over m v small = grind (arith, nat_tests)
+-- claims that can be released together are of one channel and are not worth too much
+pub record AreTogether (c : ℕ) (jobs : List DueClaim) : Type 0 where
+  pub all_of : are_of c jobs ≡ true
+  pub little : nat_lt max_value (value_of jobs) ≡ false
+
+pub are_together : (c : ℕ) (jobs : List DueClaim) → batch_refusal c jobs ≡ None → AreTogether c jobs
+are_together c jobs none =
+    let both = go (are_of c jobs) (nat_lt max_value (value_of jobs)) none in
+    record { all_of = both.0; little = both.1 }
+  where
+    go : (a b : Bool) → if_so (not a) batches.MixedChannels (if_so b batches.OverValue None) ≡ None → (a ≡ true) × (b ≡ false)
+    go true false e = (refl, refl)
+    go true true e = absurd (none-some batches.OverValue (sym e))
+    go false b e = absurd (none-some batches.MixedChannels (sym e))
+
+pub small_enough : (v : ℕ) → nat_lt max_value v ≡ false → v ≤ max_value
+small_enough v little = grind (arith, nat_tests)
 
 -- the first refusal, by the oldest of the claims
 by_first : (jobs : List DueClaim) (n : Node) (j : DueClaim) → slice_get jobs 0 ≡ Some j
@@ -52,7 +74,31 @@ by_value jobs n j found all = by_first jobs n j found ∙ ap (λ b. if_so (not b
 by_book : (jobs : List DueClaim) (n : Node) (j : DueClaim) → slice_get jobs 0 ≡ Some j → are_of j.channel jobs ≡ true → nat_lt max_value (value_of jobs) ≡ false → refusal_of jobs n ≡ refusal_in (release_answer j.channel jobs n)
 by_book jobs n j found all little = by_value jobs n j found all ∙ ap (λ b. if_so b errors.OverValue (refusal_in (release_answer j.channel jobs n))) little
 
+-- claims that can't be released together
+pub refused_together : (jobs : List DueClaim) (n : Node) (j : DueClaim) (e : BatchError) (x : EventError) → slice_get jobs 0 ≡ Some j → batch_refusal j.channel jobs ≡ Some e → x ≡ by_batch e
+    → IsRefusal (refusal_of jobs n) x
+refused_together jobs n j e x found is by =
+    refused _ x (by_first jobs n j found ∙ go (are_of j.channel jobs) (nat_lt max_value (value_of jobs)) (refusal_in (release_answer j.channel jobs n)) is ∙ ap Some (sym by))
+  where
+    go : (a b : Bool) (later : Option EventError) → if_so (not a) batches.MixedChannels (if_so b batches.OverValue None) ≡ Some e
+        → if_so (not a) errors.MixedChannels (if_so b errors.OverValue later) ≡ Some (by_batch e)
+    go false b later is = ap (λ (r : Option BatchError). option_map by_batch r) is
+    go true true later is = ap (λ (r : Option BatchError). option_map by_batch r) is
+    go true false later is = absurd (none-some e is)
+
 -- ---- the channel
+
+-- a channel that is not there
+pub not_there : (jobs : List DueClaim) (n : Node) (j : DueClaim) → slice_get jobs 0 ≡ Some j → batch_refusal j.channel jobs ≡ None → None ≡ option_map (λ (ch : ChannelBook). ch.state) (channel_of n j.channel)
+    → refusal_of jobs n ≡ Some errors.NoSuchChannel
+not_there jobs n j found none missing =
+    let t = are_together j.channel jobs none in
+    by_book jobs n j found t.all_of t.little ∙ go (channel_of n j.channel) missing
+  where
+    go : (o : Option ChannelBook) → None ≡ option_map (λ (ch : ChannelBook). ch.state) o
+        → refusal_in (released (asked NoSuchChannel o (λ ch. fill_answer ch.state (claims_in jobs) (output_for ch.state jobs ∷ []) (preimages_for jobs)))) ≡ Some errors.NoSuchChannel
+    go None missing = refl
+    go (Some ch) missing = absurd (none-some ch.state missing)
 
 abbrev pub answer_in : Option ChannelBook → (State → List Output) → List ClaimParts → List (List ℕ) → Option EventError
 answer_in o outputs claims preimages = refusal_in (released (asked NoSuchChannel o (λ ch. fill_answer ch.state claims (outputs ch.state) preimages)))
@@ -92,25 +138,6 @@ is_ready jobs n j s batch found all little there is =
     }
 
 -- ---- the filling
-
--- claims and outputs that are those of the batch give its filling
-pub is_filled : (b : Batch) (claims : List ClaimParts) (outputs : List Output) (preimages : List (List ℕ)) (r s : Rights) (f : Filling) → IsFillingOf claims outputs r preimages f
-    → ((key : List ℕ) → MaySign r key ↔ MaySign s key) → claims ≡ b.claims → outputs ≡ b.outputs → preimages ≡ b.preimages
-    → (fill_refusal b.claims b.outputs s b.preimages ≡ None) × (f.tx ≡ (filling_by b).tx)
-is_filled b claims outputs preimages r s f is same its own known =
-    let of_batch : IsFillingOf b.claims b.outputs r b.preimages f =
-    subst (λ (ps : List (List ℕ)). IsFillingOf b.claims b.outputs r ps f) known
-    (subst (λ (os : List Output). IsFillingOf b.claims os r preimages f) own (subst (λ (cs : List ClaimParts). IsFillingOf cs outputs r preimages f) its is))
-    in
-    (tested_by b r s (Ok f) same of_batch, of_batch.tx)
-
--- or its refusal
-pub is_unfilled : (b : Batch) (claims : List ClaimParts) (outputs : List Output) (preimages : List (List ℕ)) (r s : Rights) (e : FillError) → IsFirstRefusal claims outputs r preimages e
-    → ((key : List ℕ) → MaySign r key ↔ MaySign s key) → claims ≡ b.claims → outputs ≡ b.outputs → preimages ≡ b.preimages → IsFillRefusal (fill_refusal b.claims b.outputs s b.preimages) e
-is_unfilled b claims outputs preimages r s e is same its own known =
-    tested_by b r s (Err e) same
-    (subst (λ (ps : List (List ℕ)). IsFirstRefusal b.claims b.outputs r ps e) known
-    (subst (λ (os : List Output). IsFirstRefusal b.claims os r preimages e) own (subst (λ (cs : List ClaimParts). IsFirstRefusal cs outputs r preimages e) its is)))
 
 -- the refusal of the filling is that of the release
 answer_refused : (o : Option ChannelBook) (ch : ChannelBook) (b : Batch) (e : FillError) → o ≡ Some ch → fill_refusal b.claims b.outputs (rights_of ch.state) b.preimages ≡ Some e
@@ -167,3 +194,46 @@ whole k n mid new channel batch f t copy made counted ready none after answer tx
   done = record { channel = channel; batch = batch; filling = f; ready = ready; answer = answer; tx = tx; after = without ∙ ap (without_taken k) after };
   same = made ∙ sym (same_filling (channel_of n channel) batch f answer) ∙ sym tx;
 }
+
+-- ---- the book's reply
+
+abbrev is_release : Reply → Bool
+is_release (released r) = true
+is_release reply = false
+
+-- the reply to a release is one of a release
+pub always_released : (old new : List Entry) (channel : ℕ) (batch : Batch) (answer : Answer) → IsCall (no_memory_of (Release channel batch)) (reply_form answer) old new SEAT (Release channel batch)
+    → ((r : Result Filling ReleaseError) → answer ≡ answers.Released r → ⊥) → ⊥
+always_released old new channel batch answer is other = by answer (told is) other
+  where
+    told : IsCall (no_memory_of (Release channel batch)) (reply_form answer) old new SEAT (Release channel batch) → is_release (reply_form answer) ≡ true
+    told (inl (reply, same)) = ap is_release reply
+    told (inr (reply, after)) = ap is_release reply
+
+    by : (a : Answer) → is_release (reply_form a) ≡ true → ((r : Result Filling ReleaseError) → a ≡ answers.Released r → ⊥) → ⊥
+    by (answers.Opened r) e other = absurd cc
+    by (answers.Stepped (Ok m)) e other = absurd cc
+    by (answers.Stepped (Err x)) e other = absurd cc
+    by (answers.Signed r) e other = absurd cc
+    by (answers.Revoked r) e other = absurd cc
+    by (answers.Kept r) e other = absurd cc
+    by (answers.Released r) e other = absurd (other r refl)
+
+pub record IsFilled (n new : Node) (channel : ℕ) (batch : Batch) (f : Filling) : Type 0 where
+  pub none : refusal_in (answer_to n (Release channel batch)) ≡ None
+  pub after : new ≡ after_call (Release channel batch) n
+  pub answer : answer_to n (Release channel batch) ≡ released (Ok f)
+
+pub is_filled : (n new : Node) (channel : ℕ) (batch : Batch) (f : Filling) (answer : Answer) → answer ≡ answers.Released (Ok f)
+    → IsCall (no_memory_of (Release channel batch)) (reply_form answer) n.history new.history SEAT (Release channel batch) → new ≡ record n { history = new.history } → IsFilled n new channel batch f
+is_filled n new channel batch f answer told is rest =
+    let call = Release channel batch in
+    let d = is_done n new call (released (Ok f)) (subst (λ (a : Answer). IsCall (no_memory_of call) (reply_form a) n.history new.history SEAT call) told is) rest refl in
+    record { none = ap refusal_in d.answer; after = d.after; answer = d.answer }
+
+pub is_unfilled : (n new : Node) (channel : ℕ) (batch : Batch) (e : ReleaseError) (x : EventError) (answer : Answer) → answer ≡ answers.Released (Err e) → x ≡ by_release e
+    → IsCall (no_memory_of (Release channel batch)) (reply_form answer) n.history new.history SEAT (Release channel batch) → new ≡ record n { history = new.history }
+    → IsRefusal (refusal_in (answer_to n (Release channel batch))) x × (new ≡ n)
+is_unfilled n new channel batch e x answer told by is rest =
+    let call = Release channel batch in
+    is_undone n new call (released (Err e)) x refl (subst (λ (a : Answer). IsCall (no_memory_of call) (reply_form a) n.history new.history SEAT call) told is) rest refl (ap Some (sym by))

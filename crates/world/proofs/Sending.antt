@@ -1,16 +1,19 @@
 -- What messages that come and go make of a side.
-use Rattle.std.proofs.Common.{◌≡◌, ℕ, zero, suc, ◌<◌, ◌≤◌, Bool, false, List, [], ◌∷◌, ◌++◌, length, set, drop, Some, Result, Ok, Err, refl, sym, ap, subst, ◌∙◌, arith}
+use Rattle.std.proofs.Common.{◌≡◌, ℕ, zero, suc, ◌<◌, ◌≤◌, Bool, true, false, List, [], ◌∷◌, ◌++◌, length, set, drop, Some, Result, Ok, Err, refl, sym, ap, subst, ◌∙◌, arith}
 use Rattle.std.specs.Prelude.{slice_get, nat_le}
 use Rattle.std.proofs.lemmas.Bool.Decides.{nat_tests}
 use Rattle.std.proofs.lemmas.Option.{none-some, same_Some}
 use Rattle.channel.specs.declared.messages.Message.{Message}
+use Rattle.channel.specs.declared.messages.Message.TheVariants.{Updated, CommitmentSigned, RevokeAndAck}
 use Rattle.book.specs.declared.calls.Call.{Call}
 use Rattle.book.specs.Books.{at_index}
 use Rattle.book.specs.Replies.{if_so}
 use Rattle.world.specs.declared.errors.EventError.{EventError}
 use Rattle.world.specs.declared.errors.EventError.TheVariants.{NoSuchChannel}
-use Rattle.world.specs.Worlds.{Line, Node, answer_to, received_by}
-use Rattle.world.specs.Refusing.{refusal_in, messages_in, sending_refusal, sent_by, IsRefusal, IsEvent}
+use Rattle.world.specs.Worlds.{Line, Node, answer_to, received_by, opens_none}
+use Rattle.world.specs.Acts.{TakesOldest}
+use Rattle.side.specs.Acts.{call_of, messages_in}
+use Rattle.world.specs.Refusing.{refusal_in, sending_refusal, sent_by, IsRefusal, IsEvent}
 
 -- ---- lists
 
@@ -34,6 +37,16 @@ pub not_past : (n c : ℕ) → c < n → nat_le n c ≡ false
 not_past n c within = grind (arith, nat_tests)
 
 -- ---- a message came
+
+-- it is taken by a call that opens no channel
+opens_no_channel : (c : ℕ) (m : Message) → opens_none (call_of c m) ≡ true
+opens_no_channel c (Updated u) = refl
+opens_no_channel c (CommitmentSigned tokens) = refl
+opens_no_channel c (RevokeAndAck secret point) = refl
+
+pub takes_message : (c : ℕ) (oldest : Result Message EventError) (call : Call) → TakesOldest c oldest call → opens_none call ≡ true
+takes_message c (Ok m) call is = ap opens_none is ∙ opens_no_channel c m
+takes_message c (Err e) call is = absurd is
 
 pub took_off : (n : Node) (c : ℕ) (line : Line) (inbox : List Message) → slice_get n.lines c ≡ Some line → inbox ≡ drop 1 line.inbox
     → record n { lines = set n.lines c (record line { inbox = inbox }) } ≡ received_by c n

@@ -5,7 +5,6 @@ pub mod Worlds
 pub mod Refusing
 pub mod Releasing
 pub mod Acts
-pub mod Owning
 pub mod Beginning
 pub mod Keeping
 pub mod Looking

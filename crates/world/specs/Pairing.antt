@@ -8,7 +8,7 @@ use Rattle.channel.specs.Agreeing.{IsPaired}
 use Rattle.book.specs.declared.calls.Entry.{Entry}
 use Rattle.book.specs.Books.{Channels, replay}
 use Rattle.book.specs.Replies.{is_accepted, reply_of}
-use Rattle.world.specs.Refusing.{call_of}
+use Rattle.side.specs.Acts.{call_of}
 
 -- each channel of a side and the same one of its peer, with the messages on their way to each: they are what steps of two honest peers leave of a new channel
 abbrev pub ArePaired : Side → Channels → Channels → List (List Message) → List (List Message) → Type 0

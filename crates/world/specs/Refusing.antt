@@ -2,14 +2,11 @@
 use Rattle.std.specs.Prelude.{◌≡◌, ℕ, nat_le, List, [], ◌∷◌, length, Option, Some, None, Result, Ok, Err}
 use Rattle.std.specs.List.{cons_option}
 use Rattle.channel.specs.declared.messages.Message.{Message}
-use Rattle.channel.specs.declared.messages.Message.TheVariants.{Updated, CommitmentSigned, RevokeAndAck}
 use Rattle.updates.specs.declared.refusals.Refusal.TheVariants.{NoMemory as refusal_memory}
 use Rattle.filling.specs.declared.errors.FillError.TheVariants.{NoMemory as fill_memory}
 use Rattle.mempool.specs.declared.errors.ReorgError.{ReorgError}
 use Rattle.mempool.specs.declared.errors.ReorgError.TheVariants.{NoMemory as reorg_memory, TooDeep as reorg_depth, NoSuchTx as reorg_txs}
 use Rattle.book.specs.declared.calls.Call.{Call}
-use Rattle.book.specs.declared.calls.Call.TheVariants as calls
-use Rattle.book.specs.declared.calls.Step.TheVariants.{Updated as UpdatedStep, Signed}
 use Rattle.book.specs.declared.errors.StepError.{StepError}
 use Rattle.book.specs.declared.errors.StepError.TheVariants.{Refused, NoSuchChannel as NoChannelToStep}
 use Rattle.book.specs.declared.errors.SignError.{SignError}
@@ -19,8 +16,11 @@ use Rattle.book.specs.declared.errors.KeepError.TheVariants.{NoMemory as keep_me
 use Rattle.book.specs.declared.errors.ReleaseError.{ReleaseError}
 use Rattle.book.specs.declared.errors.ReleaseError.TheVariants.{Unfilled, NoSuchChannel as NoChannelToRelease}
 use Rattle.book.specs.Replies.{Reply, if_so, stepped, signed, revoked, kept, released}
+use Rattle.side.specs.declared.batches.BatchError.{BatchError}
+use Rattle.side.specs.declared.batches.BatchError.TheVariants.{MixedChannels as mixed_channels, OverValue as over_value}
+use Rattle.side.specs.Acts.{call_of, messages_in}
 use Rattle.world.specs.declared.errors.EventError.{EventError}
-use Rattle.world.specs.declared.errors.EventError.TheVariants.{NoMemory, NoSuchChannel, NoMessage, NoSuchTx, TooDeep, Channel, Sign, Keep, Fill}
+use Rattle.world.specs.declared.errors.EventError.TheVariants.{NoMemory, NoSuchChannel, NoMessage, NoSuchTx, MixedChannels, OverValue, TooDeep, Channel, Sign, Keep, Fill}
 use Rattle.world.specs.Worlds.{Line, Node, answer_to, after_call, sent_to, received_by}
 
 -- ---- refusals
@@ -46,6 +46,11 @@ by_release (Unfilled fill_memory) = NoMemory
 by_release (Unfilled refusal) = Fill refusal
 by_release NoChannelToRelease = NoSuchChannel
 
+-- that of claims to be released together
+abbrev pub by_batch : BatchError → EventError
+by_batch mixed_channels = MixedChannels
+by_batch over_value = OverValue
+
 -- and those of blocks to give way
 abbrev pub by_reorg : ReorgError → EventError
 by_reorg reorg_memory = NoMemory
@@ -60,12 +65,6 @@ refusal_in (revoked (Err e)) = Some (by_step e)
 refusal_in (kept (Err e)) = Some (by_keep e)
 refusal_in (released (Err e)) = Some (by_release e)
 refusal_in reply = None
-
--- the messages that a book answers
-abbrev pub messages_in : Reply → List Message
-messages_in (stepped (Ok messages)) = messages
-messages_in (signed (Ok message)) = message ∷ []
-messages_in reply = []
 
 -- a refusal is the first condition that holds, unless memory ran out
 abbrev pub IsRefusal : Option EventError → EventError → Type 0
@@ -94,12 +93,6 @@ oldest_of (m ∷ ms) = Ok m
 abbrev pub oldest_in : Option Line → Result Message EventError
 oldest_in None = Err NoSuchChannel
 oldest_in (Some line) = oldest_of line.inbox
-
--- the call by which a book takes a message
-abbrev pub call_of : ℕ → Message → Call
-call_of c (Updated u) = calls.Step c (UpdatedStep u)
-call_of c (CommitmentSigned tokens) = calls.Step c (Signed tokens)
-call_of c (RevokeAndAck secret point) = calls.Revoke c secret point
 
 -- why a message is not delivered to a side, what the side is once it is, and its peer
 abbrev pub delivery_refusal : ℕ → Result Message EventError → Node → Node → Option EventError

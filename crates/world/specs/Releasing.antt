@@ -20,6 +20,7 @@ use Rattle.book.specs.Replies.{Reply, released, asked, fill_answer, if_so}
 use Rattle.world.specs.declared.errors.EventError.{EventError}
 use Rattle.world.specs.declared.errors.EventError.TheVariants.{NoJob, MixedChannels, OverValue}
 use Rattle.side.specs.declared.due.DueClaim.{DueClaim}
+use Rattle.side.specs.Batches.{are_of, value_of, claims_in, preimages_for, output_for as output_to}
 use Rattle.world.specs.Worlds.{Node, channel_of, answer_to, after_call}
 use Rattle.world.specs.Refusing.{refusal_in}
 
@@ -32,36 +33,9 @@ with_taken k n = record n { jobs = drop k n.jobs; taken = n.taken ++ take k n.jo
 
 -- ---- releases
 
--- whether jobs are all of a channel
-abbrev pub are_of : ℕ → List DueClaim → Bool
-are_of c [] = true
-are_of c (j ∷ jobs) = j.channel == c && are_of c jobs
-
--- what claims are worth together, in satoshis
-abbrev pub value_of : List DueClaim → ℕ
-value_of [] = 0
-value_of (j ∷ jobs) = j.claim.place.value + value_of jobs
-
--- the values in order, each where it stands first
-abbrev pub with_new : List (List ℕ) → List ℕ → List (List ℕ)
-with_new xs x = if list_any (λ y. bytes_eq y x) xs then xs else xs ++ x ∷ []
-
-abbrev pub each_once : List (List ℕ) → List (List ℕ)
-each_once xs = fold with_new [] xs
-
--- what the claims are filled by: one output of their whole value to the hash of the side's payment key in the channel (which a fixed transaction, that keeps its own, does not read), and the preimages
--- that they want
-abbrev pub claims_in : List DueClaim → List ClaimParts
-claims_in jobs = map (λ j. j.claim) jobs
-
-abbrev pub payment_program : State → List ℕ
-payment_program s = 0x00 ∷ 0x14 ∷ hash160 (base_key s.seed Payment)
-
+-- the claims' whole value goes to the hash of the side's payment key in the channel
 abbrev pub output_for : State → List DueClaim → Output
-output_for s jobs = record { value = value_of jobs; script = payment_program s }
-
-abbrev pub preimages_for : List DueClaim → List (List ℕ)
-preimages_for jobs = each_once (flat_map (λ j. j.preimages) jobs)
+output_for s jobs = output_to (base_key s.seed Payment) jobs
 
 -- what the book answers to the release of claims of a channel
 abbrev pub release_answer : ℕ → List DueClaim → Node → Reply

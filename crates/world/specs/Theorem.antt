@@ -22,7 +22,7 @@ use Rattle.world.specs.declared.errors.EventError.{EventError}
 use Rattle.world.specs.declared.errors.EventError.TheVariants.{NoSuchChannel, NoMessage}
 use Rattle.world.specs.declared.outcomes.Outcome.{Outcome}
 use Rattle.world.specs.Worlds.{World, Node, IsNode, claims_by, node_of, inboxes, answer_to}
-use Rattle.world.specs.Refusing.{call_of}
+use Rattle.side.specs.Acts.{call_of}
 use Rattle.world.specs.Pairing.{AgreeBy}
 use Rattle.world.specs.Enforcement.{IsDue, Passes}
 use Rattle.world.specs.Steps.{refusal_of, WorldSteps, Runs}

@@ -1,5 +1,5 @@
 -- The world of two sides: what each has, and the chain with its pool.
-use Rattle.std.specs.Prelude.{◌≡◌, ℕ, List, [], ◌∷◌, ◌++◌, drop, length, map, Option, slice_get}
+use Rattle.std.specs.Prelude.{◌≡◌, ℕ, Bool, true, false, List, [], ◌∷◌, ◌++◌, drop, length, map, Option, slice_get}
 use Rattle.std.specs.List.{AllByRecursion}
 use Rattle.tx.specs.Fields.{Transaction}
 use Rattle.terms.specs.declared.sides.Side.{Side}
@@ -10,7 +10,7 @@ use Rattle.channel.specs.Tokens.{peer_tokens}
 use Rattle.chain.specs.Blocks.{Standing}
 use Rattle.watch.specs.Watching.{Seen, nothing_seen}
 use Rattle.book.specs.declared.calls.Call.{Call}
-use Rattle.book.specs.declared.calls.Call.TheVariants.{Keep, Release}
+use Rattle.book.specs.declared.calls.Call.TheVariants.{Open, Keep, Release}
 use Rattle.book.specs.declared.calls.Entry.{Entry}
 use Rattle.book.specs.Books.{ChannelBook, at_index, replay}
 use Rattle.book.specs.Replies.{Reply, reply_of, history_after}
@@ -37,6 +37,11 @@ abbrev pub claims_by : Call → List ClaimParts
 claims_by (Keep c n claims) = claims
 claims_by (Release c batch) = batch.claims
 claims_by call = []
+
+-- whether a call opens no channel
+abbrev pub opens_none : Call → Bool
+opens_none (Open o) = false
+opens_none call = true
 
 -- what holds of each side: it has a line for each channel of its book, and its claims were accepted
 pub record IsNode (n : Node) : Type 0 where

@@ -56,7 +56,8 @@ fn grant_funding(
 ) -> Result<OutPoint, AllocError>
     requires { can_agree plain.now ≡ true }
     ensures outpoint { IfOk result (λ o. o ≡ grant_outpoint (grants_in chain.old.blocks)) }
-    ensures chain { OnOk result (chain.new ≡ granted (funding_output_of seeds.now channel plain.now) chain.old) }
+    ensures chain { OnOk result (chain.new ≡ granted
+        (funding_output_of seeds.now channel plain.now) chain.old) }
 {
     let Some(output) = funding_output(alloc, seeds, channel, plain)? else {
         unreachable!()
@@ -131,7 +132,8 @@ fn begin_each(
     terms: &[ProposedTerms],
 ) -> Result<(), AllocError>
     requires few { length terms.now ≤ max_channels }
-    requires agreed { (i : ℕ) (plain : Plain) → slice_get terms.now i ≡ Some plain → can_agree plain ≡ true }
+    requires agreed { (i : ℕ) (plain : Plain) → slice_get terms.now i ≡ Some plain
+        → can_agree plain ≡ true }
     requires empty { parts.old ≡ empty_world }
     ensures begins { OnOk result (IsBeginning seeds.now terms.now parts.new) }
     ensures begun { OnOk result (HasBegun (length terms.now) parts.new) }
@@ -151,7 +153,8 @@ pub(crate) fn begin_all(
     terms: &[ProposedTerms],
 ) -> Result<Parts, AllocError>
     requires few { length terms.now ≤ max_channels }
-    requires agreed { (i : ℕ) (plain : Plain) → slice_get terms.now i ≡ Some plain → can_agree plain ≡ true }
+    requires agreed { (i : ℕ) (plain : Plain) → slice_get terms.now i ≡ Some plain
+        → can_agree plain ≡ true }
     ensures begins { IfOk result (IsBeginning seeds.now terms.now) }
     ensures world { IfOk result IsWorld }
 {

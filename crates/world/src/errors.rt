@@ -4,9 +4,11 @@ ghost use Rattle.std.specs.Prelude.{◌≡◌};
 ghost use Rattle.world.specs.declared.errors.EventError.TheVariants.{NoMemory};
 ghost use Rattle.world.specs.declared.errors.WorldError.TheVariants.{NoMemory as world_memory};
 
+use book::Reply;
 use book::errors::{KeepError, ReleaseError, SignError, StepError};
 use filling::FillError;
 use mempool::ReorgError;
+use side::BatchError;
 use std::alloc::{AllocError, AllocFailed};
 use thiserror::Error;
 use updates::Refusal;
@@ -53,8 +55,9 @@ pub enum EventError {
 }
 
 impl EventError {
-    ghost use Rattle.std.specs.Prelude.{◌≡◌};
-    ghost use Rattle.world.specs.Refusing.{by_step, by_sign, by_keep, by_release, by_reorg};
+    ghost use Rattle.std.specs.Prelude.{◌≡◌, true, Some, is_some};
+    ghost use Rattle.book.specs.Dispatch.{reply_form};
+    ghost use Rattle.world.specs.Refusing.{by_step, by_sign, by_keep, by_release, by_batch, by_reorg, refusal_in};
 
     /// The refusal of a step or of a revocation.
     pub(crate) fn of_step(error: StepError) -> EventError
@@ -112,6 +115,31 @@ impl EventError {
                 _ => EventError::Fill(refusal),
             },
             ReleaseError::NoSuchChannel => EventError::NoSuchChannel,
+        }
+    }
+
+    /// The refusal of claims to be released together.
+    pub(crate) fn of_batch(error: BatchError) -> EventError
+        ensures { result ≡ by_batch error }
+    {
+        match error {
+            BatchError::MixedChannels => EventError::MixedChannels,
+            BatchError::OverValue => EventError::OverValue,
+        }
+    }
+
+    /// The refusal in a book's reply.
+    pub(crate) fn of_reply(reply: Reply) -> EventError
+        requires { is_some (refusal_in (reply_form reply)) ≡ true }
+        ensures { refusal_in (reply_form reply) ≡ Some result }
+    {
+        match reply {
+            Reply::Stepped(Err(error)) => EventError::of_step(error),
+            Reply::Signed(Err(error)) => EventError::of_sign(error),
+            Reply::Revoked(Err(error)) => EventError::of_step(error),
+            Reply::Kept(Err(error)) => EventError::of_keep(error),
+            Reply::Released(Err(error)) => EventError::of_release(error),
+            _ => unreachable!(),
         }
     }
 }

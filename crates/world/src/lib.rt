@@ -32,7 +32,6 @@ mod limits;
 mod looking;
 mod nodes;
 mod outcomes;
-mod own;
 mod parts;
 mod publishing;
 mod releasing;

@@ -2,17 +2,15 @@
 
 ghost use Rattle.std.specs.List.{AllByRecursion};
 ghost use Rattle.claim.specs.Claims.{IsWhole};
+ghost use Rattle.world.specs.Worlds.{claims_by};
 
 use crate::errors::EventError;
 use crate::limits::SEAT;
 use book::errors::OpenError;
-use book::{Batch, Book, Opening, Step};
+use book::{Book, Call, Opening, Reply};
 use channel::Message;
 use claim::Claim;
-use filling::Filled;
-use keys::Key;
-use lists::List;
-use side::DueClaim;
+use side::{DueClaim, message_of};
 use std::alloc::Global;
 use std::collections::VecDeque;
 use std::marker::Model;
@@ -69,17 +67,35 @@ fn hold_whole(claims: &[Claim])
     }
 }
 
+// And those of a call.
+fn hold_whole_call(call: &Call)
+    ensures { AllByRecursion IsWhole (claims_by call.now) }
+{
+    match call {
+        Call::Keep { claims, .. } => hold_whole(claims.values()),
+        Call::Release { batch, .. } => hold_whole(batch.claims.values()),
+        _ => {}
+    }
+}
+
 impl Node {
-    ghost use Rattle.std.specs.Prelude.{◌≡◌, [], Ok, IfOk};
-    ghost use Rattle.book.specs.declared.calls.Call.TheVariants.{Step as Stepping, Sign as Signing, Revoke as Revoking, Keep as Keeping, Release as Releasing};
-    ghost use Rattle.book.specs.Replies.{released};
-    ghost use Rattle.world.specs.Worlds.{IsNode, answer_to, after_call};
+    ghost use Rattle.std.specs.Prelude.{◌≡◌, true, []};
+    ghost use Rattle.book.specs.Calling.{IsCall};
+    ghost use Rattle.book.specs.Dispatch.{no_memory_of, reply_form};
+    ghost use Rattle.world.specs.Worlds.{IsNode, opens_none};
     ghost use Rattle.world.specs.Beginning.{IsOpened};
-    ghost use Rattle.world.specs.Refusing.{refusal_in, IsEvent, IsAnswered};
+    ghost use Rattle.world.specs.Refusing.{IsAnswered};
 
     /// A side without channels, which has read the first block. It takes no memory.
     pub(crate) fn new(alloc: Global) -> Node
-        ensures { result ≡ record { history = []; lines = []; read = 0; learnt = []; jobs = []; taken = [] } }
+        ensures { result ≡ record {
+          history = [];
+          lines = [];
+          read = 0;
+          learnt = [];
+          jobs = [];
+          taken = [];
+        } }
     {
         Node {
             book: Book::new(alloc),
@@ -119,66 +135,25 @@ impl Node {
         Ok(())
     }
 
-    /// Its book takes a step of a channel, and gives the message that it sends or that answers it. A refusal leaves the side as it was.
-    pub(crate) fn step(&mut self, channel: u64, step: Step) -> Result<Option<Message>, EventError>
-        ensures { IsAnswered (Stepping channel step) result self.old self.new }
+    /// Its book makes a call that opens no channel. A refusal leaves the side as it was.
+    pub(crate) fn call(&mut self, call: Call) -> Reply
+        requires { opens_none call ≡ true }
+        ensures book { IsCall (no_memory_of call)
+            (reply_form result) self.old.history self.new.history SEAT call }
+        ensures rest { self.new ≡ record self.old { history = self.new.history } }
     {
-        match self.book.step(SEAT, channel, step) {
+        hold_whole_call(&call);
+        self.book.call(SEAT, call)
+    }
+
+    /// Its book makes a call that opens no channel, and gives the message that it sends: the refusal of the book. A refusal leaves the side as it was.
+    pub(crate) fn answer(&mut self, call: Call) -> Result<Option<Message>, EventError>
+        requires { opens_none call ≡ true }
+        ensures { IsAnswered call result self.old self.new }
+    {
+        match message_of(self.call(call)) {
             Ok(message) => Ok(message),
-            Err(error) => Err(EventError::of_step(error)),
-        }
-    }
-
-    /// Its book receives a `revoke_and_ack`, to which nothing is sent. A refusal leaves the side as it was.
-    pub(crate) fn revoke(
-        &mut self,
-        channel: u64,
-        secret: [u8; 32],
-        next_point: Key,
-    ) -> Result<Option<Message>, EventError>
-        ensures { IsAnswered (Revoking channel secret next_point) result self.old self.new }
-    {
-        match self.book.revoke(SEAT, channel, secret, next_point) {
-            Ok(_number) => Ok(None),
-            Err(error) => Err(EventError::of_step(error)),
-        }
-    }
-
-    /// Its book signs the peer's next commitment, and gives the message. A refusal leaves the side as it was.
-    pub(crate) fn sign(&mut self, channel: u64) -> Result<Option<Message>, EventError>
-        ensures { IsAnswered (Signing channel) result self.old self.new }
-    {
-        match self.book.sign(SEAT, channel) {
-            Ok(message) => Ok(Some(message)),
-            Err(error) => Err(EventError::of_sign(error)),
-        }
-    }
-
-    /// Its book keeps penalties: the refusal of the book. A refusal leaves the side as it was.
-    pub(crate) fn keep(
-        &mut self,
-        channel: u64,
-        number: u64,
-        claims: List<Claim>,
-    ) -> Result<(), EventError>
-        ensures { let call = Keeping channel number claims in IsEvent (refusal_in (answer_to self.old call)) result self.old (after_call call self.old) self.new }
-    {
-        hold_whole(claims.values());
-        match self.book.keep(SEAT, channel, number, claims) {
-            Ok(()) => Ok(()),
-            Err(error) => Err(EventError::of_keep(error)),
-        }
-    }
-
-    /// Its book fills the claims of a batch: the refusal of the book. A refusal leaves the side as it was.
-    pub(crate) fn release(&mut self, channel: u64, batch: Batch) -> Result<Filled, EventError>
-        ensures side { let call = Releasing channel batch in IsEvent (refusal_in (answer_to self.old call)) result self.old (after_call call self.old) self.new }
-        ensures filled { IfOk result (λ f. answer_to self.old (Releasing channel batch) ≡ released (Ok f)) }
-    {
-        hold_whole(batch.claims.values());
-        match self.book.release(SEAT, channel, batch) {
-            Ok(filled) => Ok(filled),
-            Err(error) => Err(EventError::of_release(error)),
+            Err(refused) => Err(EventError::of_reply(refused)),
         }
     }
 }

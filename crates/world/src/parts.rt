@@ -8,7 +8,6 @@ ghost use Rattle.world.specs.Steps.{done_by, looked_by};
 use crate::errors::EventError;
 use crate::nodes::Node;
 use crate::outcomes::Outcome;
-use crate::own::{Own, own_of};
 use crate::{delivering, keeping, looking, publishing, releasing};
 use chain::{Coins, Index};
 use mempool::{Reorganised, mine, reorganise};
@@ -17,6 +16,7 @@ use std::alloc::Global;
 use std::marker::Model;
 use terms::Side;
 use tx::Tx;
+use updates::OwnUpdate;
 
 /// The two sides, and the chain with its pool.
 #[derive(Drop)]
@@ -68,7 +68,12 @@ fn release(
     count: u64,
 ) -> Result<Outcome, EventError>
     ensures { let first = release_refusal count me.old in
-        MatchResult result (λ o. (first ≡ None) × (o ≡ Outcome.Done) × IsReleasedTo count me.old me.new pool.old.items released.old.items pool.new.items released.new.items) (λ e. IsRefusal first e × (me.new ≡ me.old) × (pool.new.items ≡ pool.old.items) × (released.new.items ≡ released.old.items)) }
+        MatchResult result
+        (λ o. (first ≡ None) × (o ≡ Outcome.Done)
+        × IsReleasedTo count me.old me.new pool.old.items released.old.items
+        pool.new.items released.new.items)
+        (λ e. IsRefusal first e × (me.new ≡ me.old) × (pool.new.items ≡ pool.old.items)
+        × (released.new.items ≡ released.old.items)) }
 {
     pool.reserve(1)?;
     released.reserve(1)?;
@@ -84,9 +89,7 @@ impl Parts {
     ghost use Rattle.mempool.specs.Mining.{Mined as MinedParts};
     ghost use Rattle.world.specs.declared.errors.EventError.TheVariants.{NoMemory};
     ghost use Rattle.world.specs.Worlds.{IsNode, node_of};
-    ghost use Rattle.world.specs.Refusing.{IsEvent};
-    ghost use Rattle.world.specs.Owning.{own_of as update_asked};
-    ghost use Rattle.world.specs.Steps.{own_call, call_refusal, called, with_waiting, with_mined, blocks_outcome, both_back, IsPlayed, WorldSteps};
+    ghost use Rattle.world.specs.Steps.{with_waiting, with_mined, blocks_outcome, both_back, IsPlayed, WorldSteps};
 
     /// What holds of both sides.
     pub(crate) fn hold_both(&self)
@@ -107,19 +110,13 @@ impl Parts {
         }
     }
 
-    // A side makes an update, and its peer is to hear of it: NoSuchChannel, else the refusal of the book.
-    fn update(&mut self, own: Own) -> Result<(), EventError>
-        ensures { let call = own_call own.channel own.update in
-            IsEvent (call_refusal own.side own.channel call self.old) result self.old (called own.side own.channel call self.old) self.new }
+    // A side makes an update.
+    fn update(&mut self, side: Side, channel: u64, update: OwnUpdate) -> Result<Outcome, EventError>
+        ensures { IsPlayed self.old (Event.Own side channel update) result self.new }
     {
-        let Own {
-            side,
-            channel,
-            update,
-        } = own;
         match side {
-            Side::A => delivering::update(&mut self.a, &mut self.b, channel, update),
-            Side::B => delivering::update(&mut self.b, &mut self.a, channel, update),
+            Side::A => done(delivering::update(&mut self.a, &mut self.b, channel, update)),
+            Side::B => done(delivering::update(&mut self.b, &mut self.a, channel, update)),
         }
     }
 
@@ -156,7 +153,9 @@ impl Parts {
 
     // A transaction waits for a block. The only error is that memory ran out, which changes nothing.
     fn publish(&mut self, tx: Tx) -> Result<Outcome, EventError>
-        ensures { MatchResult result (λ o. (o ≡ Outcome.Done) × (self.new ≡ with_waiting tx self.old)) (λ e. (e ≡ NoMemory) × (self.new ≡ self.old)) }
+        ensures { MatchResult result
+            (λ o. (o ≡ Outcome.Done) × (self.new ≡ with_waiting tx self.old))
+            (λ e. (e ≡ NoMemory) × (self.new ≡ self.old)) }
     {
         self.pool.push(tx)?;
         Ok(Outcome::Done)
@@ -246,8 +245,11 @@ impl Parts {
     // The chain and its pool are these, and both sides go back to the block below those that gave way.
     fn settle(&mut self, done: Reorganised, depth: u64) -> Outcome
         requires { depth ≤ height_of self.old.chain.blocks }
-        ensures world { self.new ≡ both_back (height_of self.old.chain.blocks - depth) (with_mined (record { chain = done.chain; waiting = done.pool.items; txs = done.txs }) self.old) }
-        ensures outcome { result ≡ blocks_outcome (record { chain = done.chain; waiting = done.pool.items; txs = done.txs }) }
+        ensures world { self.new ≡ both_back (height_of self.old.chain.blocks - depth)
+            (with_mined (record { chain = done.chain; waiting = done.pool.items; txs = done.txs })
+            self.old) }
+        ensures outcome { result ≡ blocks_outcome
+            (record { chain = done.chain; waiting = done.pool.items; txs = done.txs }) }
     {
         let fork = self.chain.height() - depth;
         looking::back(&mut self.a, fork);
@@ -277,12 +279,16 @@ impl Parts {
         }
     }
 
-    // What becomes of an event that asks for no update.
-    fn act(&mut self, event: &Event) -> Result<Outcome, EventError>
-        requires { update_asked event.now ≡ None }
+    // What becomes of an event, or why it is refused.
+    fn play(&mut self, event: &Event) -> Result<Outcome, EventError>
         ensures { IsPlayed self.old event.now result self.new }
     {
         match *event {
+            Event::Own {
+                side,
+                channel,
+                update,
+            } => self.update(side, channel, update),
             Event::Sign { side, channel } => self.sign(side, channel),
             Event::Deliver { side, channel } => self.deliver(side, channel),
             Event::Keep {
@@ -306,17 +312,6 @@ impl Parts {
             Event::Take { side, count } => self.take(side, count),
             Event::Release { side, count } => self.release(side, count),
             Event::Reorg { depth, forgotten } => self.reorganise(depth, forgotten),
-            Event::Own { .. } => unreachable!(),
-        }
-    }
-
-    // What becomes of an event, or why it is refused.
-    fn play(&mut self, event: &Event) -> Result<Outcome, EventError>
-        ensures { IsPlayed self.old event.now result self.new }
-    {
-        match own_of(event) {
-            Some(own) => done(self.update(own)),
-            None => self.act(event),
         }
     }
 

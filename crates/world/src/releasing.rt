@@ -1,19 +1,18 @@
 //! Jobs that a side takes, and claims that it releases.
 
-ghost use Rattle.std.specs.Prelude.{◌≡◌, ◌+◌, ◌*◌, ◌<◌, ◌≤◌, ◌^◌, [], ◌∷◌, ◌++◌, ℕ, length, take, drop, map, fold, None, IfOk, OnOk, MatchResult};
-ghost use Rattle.std.specs.List.{flat_map};
+ghost use Rattle.std.specs.Prelude.{◌≡◌, ◌+◌, ◌≤◌, ◌++◌, take, drop, map, None, Ok, IfOk, MatchResult};
 ghost use Rattle.std.specs.VecDeque.{deque_len, deque_capacity};
-ghost use Rattle.digest.specs.Hash.{hash160 as hash160_of};
-ghost use Rattle.world.specs.Refusing.{IsRefusal, IsEvent};
-ghost use Rattle.world.specs.Releasing.{take_refusal, with_taken, are_of, value_of, with_new, each_once, release_refusal, without_taken, IsReleased};
+ghost use Rattle.book.specs.declared.calls.Call.TheVariants.{Release as Releasing};
+ghost use Rattle.book.specs.Replies.{released};
+ghost use Rattle.world.specs.Worlds.{answer_to, after_call};
+ghost use Rattle.world.specs.Refusing.{refusal_in, IsRefusal, IsEvent};
+ghost use Rattle.world.specs.Releasing.{take_refusal, with_taken, release_refusal, without_taken, IsReleased};
 
 use crate::batches::release_of;
 use crate::errors::EventError;
 use crate::nodes::Node;
-use claim::Claim;
-use digest::hash160;
-use keys::Key;
-use lists::{ByteString, List};
+use book::{Batch, Call, Reply};
+use filling::Filled;
 use side::DueClaim;
 use std::alloc::{AllocError, Global};
 use std::collections::VecDeque;
@@ -63,85 +62,6 @@ pub(crate) fn oldest_of(
     Ok(jobs)
 }
 
-// Whether the claims are all of a channel.
-pub(crate) fn are_of(channel: u64, jobs: &[&DueClaim]) -> bool
-    ensures { result ≡ are_of channel (map (λ j. j.now) jobs.now) }
-{
-    for job in jobs {
-        if job.channel != channel {
-            return false;
-        }
-    }
-    true
-}
-
-// What the claims are worth, in satoshis. No number of them passes the width.
-pub(crate) fn value_of(jobs: &[&DueClaim]) -> u128
-    ensures value { result ≡ value_of (map (λ j. j.now) jobs.now) }
-    ensures bound { result ≤ length jobs.now * 2 ^ 64 }
-{
-    let mut total = 0;
-    for job in jobs {
-        let value = job.claim.place().value;
-        total += u128::from(value);
-    }
-    total
-}
-
-// Copies of the claims. The only error is that memory ran out.
-pub(crate) fn claims_of(alloc: Global, jobs: &[&DueClaim]) -> Result<List<Claim>, AllocError>
-    ensures { IfOk result (λ claims. claims ≡ map (λ j. j.claim) (map (λ j. j.now) jobs.now)) }
-{
-    let mut claims = List::new(alloc);
-    for job in jobs {
-        claims.push(job.claim.copy()?)?;
-    }
-    Ok(claims)
-}
-
-// A preimage goes to the end, where it does not stand there yet. Where memory ran out, all is as before.
-fn push_once(preimages: &mut List<[u8; 32]>, preimage: &[u8; 32]) -> Result<(), AllocError>
-    ensures { OnOk result (preimages.new ≡ with_new preimages.old preimage.now) }
-{
-    if preimages.values().contains(preimage) {
-        return Ok(());
-    }
-    preimages.push(*preimage)
-}
-
-// The preimages of a claim, each where it does not stand there yet.
-fn push_each_once(preimages: &mut List<[u8; 32]>, wanted: &[[u8; 32]]) -> Result<(), AllocError>
-    ensures { OnOk result (preimages.new ≡ fold with_new preimages.old wanted.now) }
-{
-    for preimage in wanted {
-        push_once(preimages, preimage)?;
-    }
-    Ok(())
-}
-
-// The preimages that the claims want, each once. The only error is that memory ran out.
-pub(crate) fn preimages_of(alloc: Global, jobs: &[&DueClaim]) -> Result<List<[u8; 32]>, AllocError>
-    ensures { IfOk result (λ preimages. preimages ≡ each_once (flat_map (λ j. j.preimages) (map (λ j. j.now) jobs.now))) }
-{
-    let mut preimages = List::new(alloc);
-    for job in jobs {
-        push_each_once(&mut preimages, job.preimages.values())?;
-    }
-    Ok(preimages)
-}
-
-// The program of the hash of a key. The only error is that memory ran out.
-pub(crate) fn key_hash_program(alloc: Global, key: &Key) -> Result<ByteString, AllocError>
-    ensures value { IfOk result (λ program. program ≡ 0x00 ∷ 0x14 ∷ hash160_of key.now.bytes) }
-    ensures short { IfOk result (λ program. length program ≡ 22) }
-{
-    let mut program = Vec::with_capacity(alloc, 22)?;
-    program.push(0x00)?;
-    program.push(0x14)?;
-    program.extend_from_slice(&hash160(&key.bytes))?;
-    Ok(ByteString::from_vec(program))
-}
-
 // The oldest claim is no longer taken.
 fn pop_job(taken: &mut VecDeque<DueClaim>)
     ensures { taken.new.items ≡ drop 1 taken.old.items }
@@ -165,6 +85,22 @@ fn drop_taken(me: &mut Node, count: u64)
     pop_oldest(&mut me.taken, count as usize);
 }
 
+// The side's book fills the claims of a batch: the refusal of the book. A refusal leaves the side as it was.
+fn filled_by(me: &mut Node, channel: u64, batch: Batch) -> Result<Filled, EventError>
+    ensures side { let call = Releasing channel batch in
+        IsEvent (refusal_in (answer_to me.old call)) result me.old (after_call call me.old) me.new }
+    ensures filled { let call = Releasing channel batch in
+        IfOk result (λ f. answer_to me.old call ≡ released (Ok f)) }
+{
+    match me.call(Call::Release { channel, batch }) {
+        Reply::Released(answer) => match answer {
+            Ok(filled) => Ok(filled),
+            Err(error) => Err(EventError::of_release(error)),
+        },
+        _ => unreachable!(),
+    }
+}
+
 /// The transaction that a release gives, twice.
 #[derive(Drop)]
 pub(crate) struct Released {
@@ -176,10 +112,12 @@ pub(crate) struct Released {
 /// its own output): NoJob, MixedChannels, OverValue, else the refusal of the book. A refusal leaves the side as it was.
 pub(crate) fn release(alloc: Global, me: &mut Node, count: u64) -> Result<Released, EventError>
     ensures { let first = release_refusal count me.old in
-        MatchResult result (λ r. (first ≡ None) × IsReleased count me.old me.new r.tx × (r.copy ≡ r.tx)) (λ e. IsRefusal first e × (me.new ≡ me.old)) }
+        MatchResult result
+        (λ r. (first ≡ None) × IsReleased count me.old me.new r.tx × (r.copy ≡ r.tx))
+        (λ e. IsRefusal first e × (me.new ≡ me.old)) }
 {
     let release = release_of(alloc, me, count)?;
-    let filled = me.release(release.channel, release.batch)?;
+    let filled = filled_by(me, release.channel, release.batch)?;
     drop_taken(me, count);
     Ok(Released {
         tx: filled.into_tx(),

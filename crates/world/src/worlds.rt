@@ -39,7 +39,9 @@ impl World {
     /// The world in which the funding outputs of these channels are granted in the first block and both sides opened them from seat 0, with the peer's token on commitment 0: OverLimit for
     /// more than 8 channels, and BadTerms with the first one on whose terms the two sides can't agree.
     pub fn new(alloc: Global, seeds: &Seeds, terms: &[ProposedTerms]) -> Result<World, WorldError>
-        ensures { let first = beginning_refusal terms.now in MatchResult result (λ w. (first ≡ None) × IsBeginning seeds.now terms.now w) (IsBeginningRefusal first) }
+        ensures { let first = beginning_refusal terms.now in
+            MatchResult result (λ w. (first ≡ None) × IsBeginning seeds.now terms.now w)
+            (IsBeginningRefusal first) }
     {
         if terms.len() > MAX_CHANNELS {
             return Err(WorldError::OverLimit);
@@ -89,7 +91,8 @@ impl World {
     /// Plays events in turn, and gives what became of each. A refused event leaves the world as it was, and the next one is played. The only error is that no memory was
     /// there for the outcomes: then no event was played.
     pub fn play(&mut self, events: &[Event]) -> Result<Vec<Outcome>, AllocError>
-        ensures { MatchResult result (λ outcomes. IsPlay self.old events.now outcomes.items self.new) (λ _. self.new ≡ self.old) }
+        ensures { MatchResult result (λ outcomes. IsPlay self.old events.now outcomes.items self.new)
+            (λ _. self.new ≡ self.old) }
     {
         let mut outcomes = Vec::with_capacity(self.parts.alloc, events.len())?;
         self.holds();

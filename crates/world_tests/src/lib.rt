@@ -1,6 +1,6 @@
-//! Tests of the library `world`.
+//! Tests of the libraries `world` and `side`.
 //!
-//! They stand in a crate of their own, so that the library is proved once.
+//! They stand in a crate of their own, so that each library is proved once.
 #![tactic(auto)]
 
 #[cfg(test)]
@@ -9,5 +9,7 @@ mod beginnings;
 mod claimed_inputs;
 #[cfg(test)]
 mod plays;
+#[cfg(test)]
+mod refused_batches;
 #[cfg(test)]
 mod worlds;

@@ -1,9 +1,8 @@
-use Rattle.std.proofs.Common.{◌≡◌, ◌≤◌, true, map, sym, subst, rules}
-use Rattle.tx.specs.Limits.{max_value}
+use Rattle.std.proofs.Common.{map, sym, subst}
 use Rattle.world.specs.Worlds.{Node}
 use Rattle.world.specs.Refusing.{IsRefusal}
-use Rattle.world.specs.Releasing.{are_of, value_of, refusal_of, IsReady}
-use Rattle.world.proofs.Releases.{first_of_map, not_over, is_ready, refused_by}
+use Rattle.world.specs.Releasing.{refusal_of, IsReady}
+use Rattle.world.proofs.Releases.{first_of_map, are_together, is_ready, refused_by}
 use Rattle.world.proofs.batches.release_by.Goals as goal
 
 pub returns-in-Ok : goal.returns-in-Ok
@@ -13,10 +12,9 @@ returns-in-Ok c =
     let j = c.in-Some.first.now.now in
     let jobs = map (λ r. r.now) c.args.jobs.now in
     let found = first_of_map (λ r. r.now) c.args.jobs.now c.in-Some.first.now (sym c.in-Some.ensures.value) in
-    let all : are_of j.channel jobs ≡ true = search rules in
-    let small : value_of jobs ≤ max_value = search rules in (
+    let together = are_together j.channel jobs c.in-Ok.ensures.0 in (
       subst (λ (m : Node). IsReady jobs m j.channel c.in_ok-batch.batch) c.me.view_is
-          (is_ready jobs n j c.in-Some-channel.state.now c.in_ok-batch.batch found all (not_over _ _ small) c.in-Some-channel.ensures c.in_ok-batch.ensures),
+          (is_ready jobs n j c.in-Some-channel.state.now c.in_ok-batch.batch found together.all_of together.little c.in-Some-channel.ensures c.in_ok-batch.ensures),
       c.in-Ok.ensures.1,
     )
 
@@ -27,10 +25,9 @@ returns-in-Err c =
     let j = c.in-Some.first.now.now in
     let jobs = map (λ r. r.now) c.args.jobs.now in
     let found = first_of_map (λ r. r.now) c.args.jobs.now c.in-Some.first.now (sym c.in-Some.ensures.value) in
-    let all : are_of j.channel jobs ≡ true = search rules in
-    let small : value_of jobs ≤ max_value = search rules in
+    let together = are_together j.channel jobs c.in-Ok.ensures.0 in
     let state = c.in-Some-channel.state.now in
     let batch = c.in_ok-batch.batch in
-    let ready = is_ready jobs n j state batch found all (not_over _ _ small) c.in-Some-channel.ensures c.in_ok-batch.ensures in
+    let ready = is_ready jobs n j state batch found together.all_of together.little c.in-Some-channel.ensures c.in_ok-batch.ensures in
     subst (λ (m : Node). IsRefusal (refusal_of jobs m) c.of_release.result) c.me.view_is
     (refused_by jobs n j.channel batch state c.in-Err.refusal c.of_release.result ready c.in-Some-channel.ensures c.in-Err.ensures c.of_release.ensures)

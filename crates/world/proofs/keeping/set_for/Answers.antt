@@ -1,15 +1,20 @@
 use Rattle.std.proofs.Common.{subst}
-use Rattle.std.specs.Prelude.{slice_get}
-use Rattle.book.specs.Books.{replay}
-use Rattle.world.specs.Worlds.{Node}
-use Rattle.world.specs.Keeping.{IsSetFor}
-use Rattle.world.proofs.Keeps.{is_open, set_for}
+use Rattle.world.specs.Worlds.{Node, channel_of}
+use Rattle.world.specs.Refusing.{IsRefusal}
+use Rattle.world.specs.Keeping.{keep_refusal, IsSetFor}
+use Rattle.world.proofs.Keeps.{set_for, refused_so}
 use Rattle.world.proofs.keeping.set_for.Goals as goal
 
 pub returns-in-Ok : goal.returns-in-Ok
 returns-in-Ok c =
     let i = c.me.inside in
     let n : Node = record { history = i.book; lines = i.lines.items; read = i.read; learnt = i.learnt.items; jobs = i.jobs.items; taken = i.taken.items } in
-    let s = c.in-Some.state.now in
-    let ready = is_open (slice_get (replay i.book) c.args.channel) c.args.number s c.in-Some-keeps.is_kept c.in-Some.ensures c.in-Some-keeps.ensures c.if-is_kept.false in
-    subst (λ (m : Node). IsSetFor m c.args.channel c.args.number c.in-Ok.claims) c.me.view_is (set_for n c.args.channel c.args.number s c.in-Ok.claims ready c.in-Ok.ensures)
+    subst (λ (m : Node). IsSetFor m c.args.channel c.args.number c.in-Ok-claims.claims) c.me.view_is
+    (set_for n c.args.channel c.args.number c.in-Ok.state c.in-Ok-claims.claims c.in-Ok.ensures c.in-Ok-claims.ensures)
+
+pub returns-in-Err : goal.returns-in-Err
+returns-in-Err c =
+    let i = c.me.inside in
+    let n : Node = record { history = i.book; lines = i.lines.items; read = i.read; learnt = i.learnt.items; jobs = i.jobs.items; taken = i.taken.items } in
+    subst (λ (m : Node). IsRefusal (keep_refusal c.args.number (channel_of m c.args.channel)) c.of_keep.result) c.me.view_is
+    (refused_so c.args.number (channel_of n c.args.channel) c.in-Err.error c.of_keep.result c.in-Err.ensures c.of_keep.ensures)

@@ -1,6 +1,0 @@
-use Rattle.std.proofs.Common.{◌≡◌, drop, fold}
-use Rattle.world.specs.Releasing.{with_new}
-use Rattle.world.proofs.releasing.push_each_once.Given as goal
-
-abbrev pub invariant-loop-preimage : goal.invariant-loop-preimage
-invariant-loop-preimage l = fold with_new l.preimages (drop l.preimage-index l.wanted) ≡ fold with_new l.initial.preimages l.wanted
