@@ -5,10 +5,12 @@ use Rattle.tx.specs.declared.input.OutPoint.{OutPoint}
 use Rattle.terms.specs.declared.sides.Side.TheVariants.{A, B}
 use Rattle.terms.specs.declared.agreement.BaseKeys.{BaseKeys}
 use Rattle.terms.specs.declared.agreement.Terms.{Terms}
+use Rattle.updates.specs.declared.changes.OwnUpdate.{OwnUpdate}
+use Rattle.updates.specs.declared.changes.OwnUpdate.TheVariants.{Offer, Fulfil, Fail, SetFee}
 use Rattle.updates.specs.declared.refusals.Refusal.TheVariants.{AmountZero, BelowMinimum, ExpiryTooLarge, OverBalance, UnknownHtlc, WrongPreimage, NoUpdates, NotYourTurn, NotOpener}
 use Rattle.channel.specs.declared.commitments.CommitmentState.{CommitmentState}
 use Rattle.channel.specs.declared.plays.Action.{Action}
-use Rattle.channel.specs.declared.plays.Action.TheVariants.{Offer, Fulfil, Fail, SetFee, Sign, Deliver}
+use Rattle.channel.specs.declared.plays.Action.TheVariants.{Own, Sign, Deliver}
 use Rattle.channel.specs.declared.plays.PairStep.{PairStep}
 use Rattle.channel.specs.declared.plays.Outcome.{Outcome}
 use Rattle.channel.specs.declared.plays.Outcome.TheVariants.{Done, Refused, NoMessage}
@@ -22,6 +24,13 @@ by_a action = record { side = A; action = action }
 
 abbrev by_b : Action → PairStep
 by_b action = record { side = B; action = action }
+
+-- an update of a side
+abbrev a_makes : OwnUpdate → PairStep
+a_makes u = by_a (Own u)
+
+abbrev b_makes : OwnUpdate → PairStep
+b_makes u = by_b (Own u)
 
 -- a preimage, its SHA-256, and another preimage
 abbrev preimage : List ℕ
@@ -59,16 +68,16 @@ terms_0 funding bases = record {
 
 abbrev steps_0 : List PairStep
 steps_0 =
-    by_a Deliver ∷ by_b Deliver ∷ by_a Sign ∷ by_b Deliver ∷ by_b (Offer 1 hash 500) ∷ by_a (Fulfil 1 preimage) ∷ by_a Deliver ∷
-    by_b Sign ∷ by_a Deliver ∷ by_b (Offer 500000 hash 500) ∷ by_b Deliver ∷ by_a Deliver ∷ by_b Sign ∷ by_a (Offer 999 hash 500) ∷
-    by_b Deliver ∷ by_a Sign ∷ by_a Sign ∷ by_b (Offer 200000 hash 500) ∷ by_a (Offer 0 hash 500) ∷ by_a Sign ∷ by_b Deliver ∷ by_b Sign ∷
-    by_a (Offer 1000000 hash 1) ∷ by_a Deliver ∷ by_b Deliver ∷ by_b (SetFee 77) ∷ by_a (Offer 999 hash 500) ∷ by_b Deliver ∷
-    by_b (Fail 1) ∷ by_b Sign ∷ by_b Sign ∷ by_a Deliver ∷ by_a Deliver ∷ by_a Deliver ∷ by_b Deliver ∷ by_b Deliver ∷
-    by_b (Offer 2000000 hash 499999999) ∷ by_b Deliver ∷ by_a Deliver ∷ by_a Sign ∷ by_b Deliver ∷ by_a (Fulfil 0 preimage) ∷ by_b Sign ∷
-    by_b Sign ∷ by_b Deliver ∷ by_a Deliver ∷ by_a Deliver ∷ by_b Deliver ∷ by_a (Offer 1000000 hash 500000000) ∷ by_a Deliver ∷
-    by_a (Fulfil 2 wrong) ∷ by_b Sign ∷ by_a (Fail 0) ∷ by_b Sign ∷ by_b (Fulfil 1 wrong) ∷ by_a Sign ∷ by_b Deliver ∷ by_b (Fail 1) ∷
-    by_a Deliver ∷ by_b (Fulfil 1 preimage) ∷ by_a Deliver ∷ by_a Deliver ∷ by_a Deliver ∷ by_a (Offer 2000000 hash 500) ∷ by_b (Fail 0) ∷
-    by_b Deliver ∷ by_a (Fail 2) ∷ by_b Deliver ∷ by_a Deliver ∷ by_a (Fulfil 1 wrong) ∷ []
+    by_a Deliver ∷ by_b Deliver ∷ by_a Sign ∷ by_b Deliver ∷ b_makes (Offer 1 hash 500) ∷ a_makes (Fulfil 1 preimage) ∷ by_a Deliver ∷
+    by_b Sign ∷ by_a Deliver ∷ b_makes (Offer 500000 hash 500) ∷ by_b Deliver ∷ by_a Deliver ∷ by_b Sign ∷ a_makes (Offer 999 hash 500) ∷
+    by_b Deliver ∷ by_a Sign ∷ by_a Sign ∷ b_makes (Offer 200000 hash 500) ∷ a_makes (Offer 0 hash 500) ∷ by_a Sign ∷ by_b Deliver ∷ by_b Sign ∷
+    a_makes (Offer 1000000 hash 1) ∷ by_a Deliver ∷ by_b Deliver ∷ b_makes (SetFee 77) ∷ a_makes (Offer 999 hash 500) ∷ by_b Deliver ∷
+    b_makes (Fail 1) ∷ by_b Sign ∷ by_b Sign ∷ by_a Deliver ∷ by_a Deliver ∷ by_a Deliver ∷ by_b Deliver ∷ by_b Deliver ∷
+    b_makes (Offer 2000000 hash 499999999) ∷ by_b Deliver ∷ by_a Deliver ∷ by_a Sign ∷ by_b Deliver ∷ a_makes (Fulfil 0 preimage) ∷ by_b Sign ∷
+    by_b Sign ∷ by_b Deliver ∷ by_a Deliver ∷ by_a Deliver ∷ by_b Deliver ∷ a_makes (Offer 1000000 hash 500000000) ∷ by_a Deliver ∷
+    a_makes (Fulfil 2 wrong) ∷ by_b Sign ∷ a_makes (Fail 0) ∷ by_b Sign ∷ b_makes (Fulfil 1 wrong) ∷ by_a Sign ∷ by_b Deliver ∷ b_makes (Fail 1) ∷
+    by_a Deliver ∷ b_makes (Fulfil 1 preimage) ∷ by_a Deliver ∷ by_a Deliver ∷ by_a Deliver ∷ a_makes (Offer 2000000 hash 500) ∷ b_makes (Fail 0) ∷
+    by_b Deliver ∷ a_makes (Fail 2) ∷ by_b Deliver ∷ by_a Deliver ∷ a_makes (Fulfil 1 wrong) ∷ []
 
 abbrev terms_1 : OutPoint → BaseKeys → Terms
 terms_1 funding bases = record {
@@ -84,16 +93,16 @@ terms_1 funding bases = record {
 
 abbrev steps_1 : List PairStep
 steps_1 =
-    by_b Deliver ∷ by_b (Offer 500000 hash 500) ∷ by_a Deliver ∷ by_a Deliver ∷ by_b Sign ∷ by_a Deliver ∷ by_b Sign ∷ by_b Deliver ∷
-    by_a (SetFee 0) ∷ by_b Deliver ∷ by_a (Offer 1000 hash 500) ∷ by_b Deliver ∷ by_a (Offer 600001 hash 500000000) ∷ by_a Deliver ∷
-    by_b (SetFee 0) ∷ by_b Sign ∷ by_b Sign ∷ by_b Sign ∷ by_a (Offer 200000 hash 500) ∷ by_b Deliver ∷ by_b (Fulfil 3 preimage) ∷
-    by_a Deliver ∷ by_a Sign ∷ by_b Deliver ∷ by_a Deliver ∷ by_a Sign ∷ by_b Deliver ∷ by_a (Offer 2000000 hash 1) ∷ by_a Deliver ∷
-    by_b Deliver ∷ by_b Deliver ∷ by_a (Offer 500000 hash 500) ∷ by_b (Fulfil 1 preimage) ∷ by_a (Fulfil 0 preimage) ∷ by_a Sign ∷
-    by_a (Offer 1 hash 500) ∷ by_b Deliver ∷ by_a (Fail 0) ∷ by_b Deliver ∷ by_b Sign ∷ by_b (Offer 1 hash 500) ∷ by_b Deliver ∷
-    by_a Deliver ∷ by_a Deliver ∷ by_a (Fulfil 0 wrong) ∷ by_b Deliver ∷ by_a Sign ∷ by_b Sign ∷ by_a (Offer 0 hash 500) ∷
-    by_a (SetFee 0) ∷ by_b Deliver ∷ by_a Deliver ∷ by_a Sign ∷ by_b Deliver ∷ by_b Sign ∷ by_b (Offer 2000000 hash 500) ∷ by_a Deliver ∷
-    by_b Deliver ∷ by_a (SetFee 0) ∷ by_a Deliver ∷ by_b Sign ∷ by_b (Fulfil 0 wrong) ∷ by_a (Offer 2000000 hash 499999999) ∷
-    by_b Deliver ∷ by_b Deliver ∷ by_a Deliver ∷ by_b (Offer 0 hash 1) ∷ by_b (Fulfil 2 preimage) ∷ by_b Sign ∷ by_a Sign ∷ []
+    by_b Deliver ∷ b_makes (Offer 500000 hash 500) ∷ by_a Deliver ∷ by_a Deliver ∷ by_b Sign ∷ by_a Deliver ∷ by_b Sign ∷ by_b Deliver ∷
+    a_makes (SetFee 0) ∷ by_b Deliver ∷ a_makes (Offer 1000 hash 500) ∷ by_b Deliver ∷ a_makes (Offer 600001 hash 500000000) ∷ by_a Deliver ∷
+    b_makes (SetFee 0) ∷ by_b Sign ∷ by_b Sign ∷ by_b Sign ∷ a_makes (Offer 200000 hash 500) ∷ by_b Deliver ∷ b_makes (Fulfil 3 preimage) ∷
+    by_a Deliver ∷ by_a Sign ∷ by_b Deliver ∷ by_a Deliver ∷ by_a Sign ∷ by_b Deliver ∷ a_makes (Offer 2000000 hash 1) ∷ by_a Deliver ∷
+    by_b Deliver ∷ by_b Deliver ∷ a_makes (Offer 500000 hash 500) ∷ b_makes (Fulfil 1 preimage) ∷ a_makes (Fulfil 0 preimage) ∷ by_a Sign ∷
+    a_makes (Offer 1 hash 500) ∷ by_b Deliver ∷ a_makes (Fail 0) ∷ by_b Deliver ∷ by_b Sign ∷ b_makes (Offer 1 hash 500) ∷ by_b Deliver ∷
+    by_a Deliver ∷ by_a Deliver ∷ a_makes (Fulfil 0 wrong) ∷ by_b Deliver ∷ by_a Sign ∷ by_b Sign ∷ a_makes (Offer 0 hash 500) ∷
+    a_makes (SetFee 0) ∷ by_b Deliver ∷ by_a Deliver ∷ by_a Sign ∷ by_b Deliver ∷ by_b Sign ∷ b_makes (Offer 2000000 hash 500) ∷ by_a Deliver ∷
+    by_b Deliver ∷ a_makes (SetFee 0) ∷ by_a Deliver ∷ by_b Sign ∷ b_makes (Fulfil 0 wrong) ∷ a_makes (Offer 2000000 hash 499999999) ∷
+    by_b Deliver ∷ by_b Deliver ∷ by_a Deliver ∷ b_makes (Offer 0 hash 1) ∷ b_makes (Fulfil 2 preimage) ∷ by_b Sign ∷ by_a Sign ∷ []
 
 abbrev terms_2 : OutPoint → BaseKeys → Terms
 terms_2 funding bases = record {
@@ -109,15 +118,15 @@ terms_2 funding bases = record {
 
 abbrev steps_2 : List PairStep
 steps_2 =
-    by_a (Offer 999 hash 500) ∷ by_b Deliver ∷ by_b Sign ∷ by_b Sign ∷ by_a Deliver ∷ by_a Sign ∷ by_b Sign ∷ by_a Deliver ∷ by_b Deliver ∷
-    by_b (Offer 250000000 hash 500) ∷ by_b (Fulfil 2 preimage) ∷ by_b Deliver ∷ by_b Sign ∷ by_b Sign ∷ by_a Deliver ∷ by_a Deliver ∷
-    by_b (Offer 1 hash 499999999) ∷ by_a Deliver ∷ by_a Sign ∷ by_b Deliver ∷ by_b Sign ∷ by_a Deliver ∷ by_b Deliver ∷ by_a (SetFee 0) ∷
-    by_b Sign ∷ by_a Deliver ∷ by_b (Offer 1000 hash 500) ∷ by_a Deliver ∷ by_a Deliver ∷ by_a Sign ∷ by_b Deliver ∷ by_b Deliver ∷
-    by_a Deliver ∷ by_a (Fulfil 1 wrong) ∷ by_b Deliver ∷ by_a (Offer 1000 hash 500) ∷ by_b Deliver ∷ by_a Sign ∷
-    by_a (Fulfil 0 preimage) ∷ by_b Deliver ∷ by_a Deliver ∷ by_b Sign ∷ by_a (Offer 500000000 hash 500) ∷ by_a Sign ∷ by_a Deliver ∷
-    by_a Sign ∷ by_a Sign ∷ by_b Deliver ∷ by_b Deliver ∷ by_a Deliver ∷ by_b Sign ∷ by_b Deliver ∷ by_b Sign ∷ by_a Sign ∷ by_a (Fail 1) ∷
-    by_a Sign ∷ by_a (Offer 250000000 hash 500) ∷ by_b Deliver ∷ by_b Sign ∷ by_b Deliver ∷ by_b Deliver ∷ by_b (Fulfil 0 preimage) ∷
-    by_a Deliver ∷ by_b Deliver ∷ by_a (Fulfil 1 preimage) ∷ by_a Deliver ∷ by_a Deliver ∷ by_a (Offer 999 hash 500000000) ∷ by_b Deliver ∷
+    a_makes (Offer 999 hash 500) ∷ by_b Deliver ∷ by_b Sign ∷ by_b Sign ∷ by_a Deliver ∷ by_a Sign ∷ by_b Sign ∷ by_a Deliver ∷ by_b Deliver ∷
+    b_makes (Offer 250000000 hash 500) ∷ b_makes (Fulfil 2 preimage) ∷ by_b Deliver ∷ by_b Sign ∷ by_b Sign ∷ by_a Deliver ∷ by_a Deliver ∷
+    b_makes (Offer 1 hash 499999999) ∷ by_a Deliver ∷ by_a Sign ∷ by_b Deliver ∷ by_b Sign ∷ by_a Deliver ∷ by_b Deliver ∷ a_makes (SetFee 0) ∷
+    by_b Sign ∷ by_a Deliver ∷ b_makes (Offer 1000 hash 500) ∷ by_a Deliver ∷ by_a Deliver ∷ by_a Sign ∷ by_b Deliver ∷ by_b Deliver ∷
+    by_a Deliver ∷ a_makes (Fulfil 1 wrong) ∷ by_b Deliver ∷ a_makes (Offer 1000 hash 500) ∷ by_b Deliver ∷ by_a Sign ∷
+    a_makes (Fulfil 0 preimage) ∷ by_b Deliver ∷ by_a Deliver ∷ by_b Sign ∷ a_makes (Offer 500000000 hash 500) ∷ by_a Sign ∷ by_a Deliver ∷
+    by_a Sign ∷ by_a Sign ∷ by_b Deliver ∷ by_b Deliver ∷ by_a Deliver ∷ by_b Sign ∷ by_b Deliver ∷ by_b Sign ∷ by_a Sign ∷ a_makes (Fail 1) ∷
+    by_a Sign ∷ a_makes (Offer 250000000 hash 500) ∷ by_b Deliver ∷ by_b Sign ∷ by_b Deliver ∷ by_b Deliver ∷ b_makes (Fulfil 0 preimage) ∷
+    by_a Deliver ∷ by_b Deliver ∷ a_makes (Fulfil 1 preimage) ∷ by_a Deliver ∷ by_a Deliver ∷ a_makes (Offer 999 hash 500000000) ∷ by_b Deliver ∷
     by_b Deliver ∷ []
 
 abbrev terms_3 : OutPoint → BaseKeys → Terms
@@ -134,16 +143,16 @@ terms_3 funding bases = record {
 
 abbrev steps_3 : List PairStep
 steps_3 =
-    by_b (Offer 200000 hash 500) ∷ by_a Sign ∷ by_b (SetFee 253) ∷ by_a Deliver ∷ by_a Deliver ∷ by_b (Offer 200000 hash 500) ∷
+    b_makes (Offer 200000 hash 500) ∷ by_a Sign ∷ b_makes (SetFee 253) ∷ by_a Deliver ∷ by_a Deliver ∷ b_makes (Offer 200000 hash 500) ∷
     by_a Deliver ∷ by_b Deliver ∷ by_b Deliver ∷ by_b Sign ∷ by_a Deliver ∷ by_b Deliver ∷ by_b Deliver ∷ by_b Deliver ∷ by_a Sign ∷
-    by_b Sign ∷ by_b Deliver ∷ by_a (Offer 1000000 hash 500) ∷ by_a (Fulfil 1 wrong) ∷ by_b Sign ∷ by_b Deliver ∷ by_b Sign ∷
-    by_a Deliver ∷ by_a Deliver ∷ by_a Sign ∷ by_b Deliver ∷ by_a Deliver ∷ by_a Deliver ∷ by_a (Fulfil 0 wrong) ∷ by_b (SetFee 77) ∷
-    by_b Deliver ∷ by_b Sign ∷ by_a Deliver ∷ by_a (SetFee 253) ∷ by_a Deliver ∷ by_a (Offer 999 hash 500000000) ∷
-    by_a (Offer 1 hash 500) ∷ by_b (Offer 1 hash 499999999) ∷ by_a (Fulfil 1 preimage) ∷ by_a Deliver ∷ by_a Sign ∷ by_b Deliver ∷
-    by_a (Fulfil 1 wrong) ∷ by_b (Fulfil 0 wrong) ∷ by_b Sign ∷ by_a Sign ∷ by_b (Offer 1000001 hash 500000000) ∷
-    by_b (Offer 0 hash 500000000) ∷ by_b (Fulfil 0 preimage) ∷ by_b Sign ∷ by_b Deliver ∷ by_b (Offer 200000 hash 500) ∷ by_b Sign ∷
-    by_a (Offer 999 hash 500) ∷ by_b (Fulfil 0 wrong) ∷ by_a Deliver ∷ by_b Deliver ∷ by_b Deliver ∷ by_a Deliver ∷ by_b Sign ∷
-    by_b (Offer 0 hash 500) ∷ by_b Sign ∷ by_b Sign ∷ by_b Sign ∷ by_a Deliver ∷ by_a Deliver ∷ by_a Deliver ∷ by_b Deliver ∷ by_a Sign ∷
+    by_b Sign ∷ by_b Deliver ∷ a_makes (Offer 1000000 hash 500) ∷ a_makes (Fulfil 1 wrong) ∷ by_b Sign ∷ by_b Deliver ∷ by_b Sign ∷
+    by_a Deliver ∷ by_a Deliver ∷ by_a Sign ∷ by_b Deliver ∷ by_a Deliver ∷ by_a Deliver ∷ a_makes (Fulfil 0 wrong) ∷ b_makes (SetFee 77) ∷
+    by_b Deliver ∷ by_b Sign ∷ by_a Deliver ∷ a_makes (SetFee 253) ∷ by_a Deliver ∷ a_makes (Offer 999 hash 500000000) ∷
+    a_makes (Offer 1 hash 500) ∷ b_makes (Offer 1 hash 499999999) ∷ a_makes (Fulfil 1 preimage) ∷ by_a Deliver ∷ by_a Sign ∷ by_b Deliver ∷
+    a_makes (Fulfil 1 wrong) ∷ b_makes (Fulfil 0 wrong) ∷ by_b Sign ∷ by_a Sign ∷ b_makes (Offer 1000001 hash 500000000) ∷
+    b_makes (Offer 0 hash 500000000) ∷ b_makes (Fulfil 0 preimage) ∷ by_b Sign ∷ by_b Deliver ∷ b_makes (Offer 200000 hash 500) ∷ by_b Sign ∷
+    a_makes (Offer 999 hash 500) ∷ b_makes (Fulfil 0 wrong) ∷ by_a Deliver ∷ by_b Deliver ∷ by_b Deliver ∷ by_a Deliver ∷ by_b Sign ∷
+    b_makes (Offer 0 hash 500) ∷ by_b Sign ∷ by_b Sign ∷ by_b Sign ∷ by_a Deliver ∷ by_a Deliver ∷ by_a Deliver ∷ by_b Deliver ∷ by_a Sign ∷
     by_b Deliver ∷ []
 
 abbrev terms_4 : OutPoint → BaseKeys → Terms
@@ -160,16 +169,16 @@ terms_4 funding bases = record {
 
 abbrev steps_4 : List PairStep
 steps_4 =
-    by_b (Offer 1 hash 500) ∷ by_a Deliver ∷ by_a (Offer 200000 hash 500) ∷ by_a Deliver ∷ by_a Sign ∷ by_b Deliver ∷
-    by_b (Offer 1000000 hash 500) ∷ by_b Deliver ∷ by_a Deliver ∷ by_a Deliver ∷ by_b Sign ∷ by_a Sign ∷ by_a Sign ∷
-    by_b (Fulfil 3 preimage) ∷ by_a (Offer 500000 hash 500) ∷ by_b (Offer 1000001 hash 500) ∷ by_b Deliver ∷ by_b Deliver ∷ by_a Deliver ∷
-    by_b Deliver ∷ by_b (Fulfil 0 wrong) ∷ by_b (Offer 200000 hash 500000000) ∷ by_b (Offer 200000 hash 500) ∷ by_b Sign ∷ by_a Deliver ∷
-    by_a Deliver ∷ by_a Sign ∷ by_b Deliver ∷ by_b Sign ∷ by_b (Fail 2) ∷ by_b Deliver ∷ by_b Deliver ∷ by_a Deliver ∷ by_b Sign ∷
-    by_a Sign ∷ by_a Deliver ∷ by_b (Offer 200000 hash 1) ∷ by_b (Fulfil 0 preimage) ∷ by_a Sign ∷ by_a (Offer 500000 hash 499999999) ∷
-    by_a Deliver ∷ by_b (Fulfil 0 preimage) ∷ by_a (Offer 1 hash 500) ∷ by_b Deliver ∷ by_a Deliver ∷ by_b Deliver ∷ by_b Deliver ∷
-    by_b Sign ∷ by_a Deliver ∷ by_b (Fail 1) ∷ by_a Deliver ∷ by_b (Fail 1) ∷ by_a (Fulfil 1 preimage) ∷ by_a Sign ∷ by_b Sign ∷
-    by_b Deliver ∷ by_b (Fulfil 1 preimage) ∷ by_b Sign ∷ by_a (SetFee 77) ∷ by_b (Fail 1) ∷ by_b Deliver ∷ by_a Deliver ∷ by_b Deliver ∷
-    by_b Sign ∷ by_a Deliver ∷ by_b Deliver ∷ by_b (SetFee 50000) ∷ by_a Sign ∷ by_b Deliver ∷ by_b (Offer 1000001 hash 500000000) ∷ []
+    b_makes (Offer 1 hash 500) ∷ by_a Deliver ∷ a_makes (Offer 200000 hash 500) ∷ by_a Deliver ∷ by_a Sign ∷ by_b Deliver ∷
+    b_makes (Offer 1000000 hash 500) ∷ by_b Deliver ∷ by_a Deliver ∷ by_a Deliver ∷ by_b Sign ∷ by_a Sign ∷ by_a Sign ∷
+    b_makes (Fulfil 3 preimage) ∷ a_makes (Offer 500000 hash 500) ∷ b_makes (Offer 1000001 hash 500) ∷ by_b Deliver ∷ by_b Deliver ∷ by_a Deliver ∷
+    by_b Deliver ∷ b_makes (Fulfil 0 wrong) ∷ b_makes (Offer 200000 hash 500000000) ∷ b_makes (Offer 200000 hash 500) ∷ by_b Sign ∷ by_a Deliver ∷
+    by_a Deliver ∷ by_a Sign ∷ by_b Deliver ∷ by_b Sign ∷ b_makes (Fail 2) ∷ by_b Deliver ∷ by_b Deliver ∷ by_a Deliver ∷ by_b Sign ∷
+    by_a Sign ∷ by_a Deliver ∷ b_makes (Offer 200000 hash 1) ∷ b_makes (Fulfil 0 preimage) ∷ by_a Sign ∷ a_makes (Offer 500000 hash 499999999) ∷
+    by_a Deliver ∷ b_makes (Fulfil 0 preimage) ∷ a_makes (Offer 1 hash 500) ∷ by_b Deliver ∷ by_a Deliver ∷ by_b Deliver ∷ by_b Deliver ∷
+    by_b Sign ∷ by_a Deliver ∷ b_makes (Fail 1) ∷ by_a Deliver ∷ b_makes (Fail 1) ∷ a_makes (Fulfil 1 preimage) ∷ by_a Sign ∷ by_b Sign ∷
+    by_b Deliver ∷ b_makes (Fulfil 1 preimage) ∷ by_b Sign ∷ a_makes (SetFee 77) ∷ b_makes (Fail 1) ∷ by_b Deliver ∷ by_a Deliver ∷ by_b Deliver ∷
+    by_b Sign ∷ by_a Deliver ∷ by_b Deliver ∷ b_makes (SetFee 50000) ∷ by_a Sign ∷ by_b Deliver ∷ b_makes (Offer 1000001 hash 500000000) ∷ []
 
 abbrev terms_5 : OutPoint → BaseKeys → Terms
 terms_5 funding bases = record {
@@ -185,16 +194,16 @@ terms_5 funding bases = record {
 
 abbrev steps_5 : List PairStep
 steps_5 =
-    by_b Sign ∷ by_b (Offer 999 hash 500) ∷ by_a Deliver ∷ by_a Deliver ∷ by_b Deliver ∷ by_a Sign ∷ by_b (Fulfil 0 preimage) ∷
-    by_a Deliver ∷ by_a Deliver ∷ by_b Deliver ∷ by_a (Offer 0 hash 500) ∷ by_a Deliver ∷ by_b Deliver ∷ by_b Sign ∷ by_a Deliver ∷
-    by_b Deliver ∷ by_a (Offer 999 hash 500) ∷ by_b Deliver ∷ by_b Sign ∷ by_b Deliver ∷ by_a Sign ∷ by_b (Offer 1250000 hash 500) ∷
-    by_b Sign ∷ by_a (Offer 1000 hash 500) ∷ by_b Sign ∷ by_b (Offer 5000000 hash 500000000) ∷ by_a Deliver ∷ by_b Deliver ∷ by_b Sign ∷
-    by_b Deliver ∷ by_a Sign ∷ by_a Deliver ∷ by_a Deliver ∷ by_a (Offer 1000 hash 500) ∷ by_a (Fail 0) ∷ by_a Sign ∷ by_b Deliver ∷
-    by_b Deliver ∷ by_b Deliver ∷ by_a (Offer 5000000 hash 1) ∷ by_a (Offer 0 hash 500) ∷ by_a (Offer 999 hash 500000000) ∷ by_b Deliver ∷
-    by_b Sign ∷ by_b Sign ∷ by_a Deliver ∷ by_a Deliver ∷ by_a Sign ∷ by_a (SetFee 50000) ∷ by_b Deliver ∷ by_b Sign ∷
-    by_a (Fulfil 1 wrong) ∷ by_b (Fulfil 0 preimage) ∷ by_a Deliver ∷ by_b Deliver ∷ by_b (Fulfil 1 preimage) ∷ by_a (Fulfil 0 preimage) ∷
-    by_b Sign ∷ by_a Deliver ∷ by_b (Fulfil 2 preimage) ∷ by_a Deliver ∷ by_a Deliver ∷ by_a Sign ∷ by_b Deliver ∷
-    by_a (Offer 2500001 hash 500) ∷ by_b Deliver ∷ by_a Deliver ∷ by_b (Fulfil 1 preimage) ∷ by_b (Fail 2) ∷ by_b Deliver ∷ []
+    by_b Sign ∷ b_makes (Offer 999 hash 500) ∷ by_a Deliver ∷ by_a Deliver ∷ by_b Deliver ∷ by_a Sign ∷ b_makes (Fulfil 0 preimage) ∷
+    by_a Deliver ∷ by_a Deliver ∷ by_b Deliver ∷ a_makes (Offer 0 hash 500) ∷ by_a Deliver ∷ by_b Deliver ∷ by_b Sign ∷ by_a Deliver ∷
+    by_b Deliver ∷ a_makes (Offer 999 hash 500) ∷ by_b Deliver ∷ by_b Sign ∷ by_b Deliver ∷ by_a Sign ∷ b_makes (Offer 1250000 hash 500) ∷
+    by_b Sign ∷ a_makes (Offer 1000 hash 500) ∷ by_b Sign ∷ b_makes (Offer 5000000 hash 500000000) ∷ by_a Deliver ∷ by_b Deliver ∷ by_b Sign ∷
+    by_b Deliver ∷ by_a Sign ∷ by_a Deliver ∷ by_a Deliver ∷ a_makes (Offer 1000 hash 500) ∷ a_makes (Fail 0) ∷ by_a Sign ∷ by_b Deliver ∷
+    by_b Deliver ∷ by_b Deliver ∷ a_makes (Offer 5000000 hash 1) ∷ a_makes (Offer 0 hash 500) ∷ a_makes (Offer 999 hash 500000000) ∷ by_b Deliver ∷
+    by_b Sign ∷ by_b Sign ∷ by_a Deliver ∷ by_a Deliver ∷ by_a Sign ∷ a_makes (SetFee 50000) ∷ by_b Deliver ∷ by_b Sign ∷
+    a_makes (Fulfil 1 wrong) ∷ b_makes (Fulfil 0 preimage) ∷ by_a Deliver ∷ by_b Deliver ∷ b_makes (Fulfil 1 preimage) ∷ a_makes (Fulfil 0 preimage) ∷
+    by_b Sign ∷ by_a Deliver ∷ b_makes (Fulfil 2 preimage) ∷ by_a Deliver ∷ by_a Deliver ∷ by_a Sign ∷ by_b Deliver ∷
+    a_makes (Offer 2500001 hash 500) ∷ by_b Deliver ∷ by_a Deliver ∷ b_makes (Fulfil 1 preimage) ∷ b_makes (Fail 2) ∷ by_b Deliver ∷ []
 
 -- what a play of a new channel is told to give: the outcomes, and each side's newest commitment
 pub record Told : Type 0 where

@@ -3,18 +3,16 @@ use Rattle.std.proofs.Common.{◌≡◌, List, [], ◌∷◌, refl, sym, subst, 
 use Rattle.terms.specs.declared.sides.Side.{Side}
 use Rattle.terms.specs.declared.sides.Side.TheVariants.{A, B}
 use Rattle.updates.specs.declared.changes.Update.{Update}
-use Rattle.updates.specs.declared.changes.Update.TheVariants.{Add, Fee, Fulfil as Fulfilling, Fail as Failing}
 use Rattle.updates.specs.declared.refusals.Refusal.{Refusal}
 use Rattle.updates.specs.declared.refusals.Refusal.TheVariants.{NoMemory}
-use Rattle.updates.specs.Steady.{next_htlc}
 use Rattle.channel.specs.declared.messages.Message.{Message}
 use Rattle.channel.specs.declared.messages.Message.TheVariants.{Updated}
 use Rattle.channel.specs.declared.plays.Action.{Action}
-use Rattle.channel.specs.declared.plays.Action.TheVariants.{Offer, Fulfil, Fail, SetFee, Sign, Deliver}
+use Rattle.channel.specs.declared.plays.Action.TheVariants.{Own, Sign, Deliver}
 use Rattle.channel.specs.declared.plays.PairStep.{PairStep}
 use Rattle.channel.specs.declared.plays.Outcome.{Outcome}
 use Rattle.channel.specs.declared.plays.Outcome.TheVariants.{Refused}
-use Rattle.channel.specs.States.{Signing, State, update_refusal, sign_refusal, receive_refusal, after_update, after_sign, after, answers, signature_message}
+use Rattle.channel.specs.States.{Signing, State, update_of, update_refusal, sign_refusal, receive_refusal, after_update, after_sign, after, answers, signature_message}
 use Rattle.channel.specs.Peers.{World, opened_both, Acts, updates, signs, receives, Steps, by_a, by_b}
 use Rattle.channel.specs.Playing.{state_of, queue_of, moved, unless, updated_by, signed_by, delivered_to, acted, played, IsStep, IsPlay, IsDelivered, AreDelivered}
 use Rattle.channel.specs.Agreeing.{AgreesIn, PlaysAgree}
@@ -49,10 +47,7 @@ module _ (tokens_of : Signing) (P : World → Type 0) (keeps : (w v : World) →
       (λ e. acts_step tokens_of w side (after (state_of side w) m) (answers (state_of side w) m) rest (receives m rest q e)) g
 
   pub kept_acted : (w : World) (side : Side) (action : Action) → P w → P (acted tokens_of w side action).world
-  kept_acted w side (Offer amount hash expiry) g = kept_made w side (Add (next_htlc (state_of side w).held.own amount hash expiry)) g
-  kept_acted w side (Fulfil id preimage) g = kept_made w side (Fulfilling id preimage) g
-  kept_acted w side (Fail id) g = kept_made w side (Failing id) g
-  kept_acted w side (SetFee rate) g = kept_made w side (Fee rate) g
+  kept_acted w side (Own u) g = kept_made w side (update_of (state_of side w) u) g
   kept_acted w side Sign g = kept_sign w side g
   kept_acted w side Deliver g = kept_delivered w side (queue_of side w) refl g
 
@@ -79,19 +74,13 @@ delivered_when tokens_of w side [] q g = tt
 delivered_when tokens_of w side (m ∷ rest) q g = let e = taken tokens_of w side m rest q g in rw e tt
 
 delivered_one : (tokens_of : Signing) (w : World) (side : Side) (action : Action) → AgreesIn tokens_of w → IsDelivered action (acted tokens_of w side action).outcome
-delivered_one tokens_of w side (Offer amount hash expiry) g = tt
-delivered_one tokens_of w side (Fulfil id preimage) g = tt
-delivered_one tokens_of w side (Fail id) g = tt
-delivered_one tokens_of w side (SetFee rate) g = tt
+delivered_one tokens_of w side (Own u) g = tt
 delivered_one tokens_of w side Sign g = tt
 delivered_one tokens_of w side Deliver g = delivered_when tokens_of w side (queue_of side w) refl g
 
 -- a step for which memory ran out
 delivered_later : (action : Action) → IsDelivered action (Refused NoMemory)
-delivered_later (Offer amount hash expiry) = tt
-delivered_later (Fulfil id preimage) = tt
-delivered_later (Fail id) = tt
-delivered_later (SetFee rate) = tt
+delivered_later (Own u) = tt
 delivered_later Sign = tt
 delivered_later Deliver = refl
 

@@ -6,10 +6,12 @@ use Rattle.terms.specs.declared.sides.Side.TheVariants.{A, B}
 use Rattle.terms.specs.declared.views.View.{View}
 use Rattle.terms.specs.declared.agreement.BaseKeys.{BaseKeys}
 use Rattle.terms.specs.declared.agreement.Terms.{Terms}
+use Rattle.updates.specs.declared.changes.OwnUpdate.{OwnUpdate}
+use Rattle.updates.specs.declared.changes.OwnUpdate.TheVariants.{Offer, Fail, SetFee}
 use Rattle.updates.specs.declared.refusals.Refusal.TheVariants.{NotOpener, NotYourTurn, UnknownHtlc}
 use Rattle.channel.specs.declared.commitments.CommitmentState.{CommitmentState}
 use Rattle.channel.specs.declared.plays.Action.{Action}
-use Rattle.channel.specs.declared.plays.Action.TheVariants.{Offer, Fail, SetFee, Sign, Deliver}
+use Rattle.channel.specs.declared.plays.Action.TheVariants.{Own, Sign, Deliver}
 use Rattle.channel.specs.declared.plays.PairStep.{PairStep}
 use Rattle.channel.specs.declared.plays.Outcome.TheVariants.{Done, Refused, NoMessage}
 use Rattle.channel.specs.States.{Signing}
@@ -23,30 +25,37 @@ by_a action = record { side = A; action = action }
 abbrev by_b : Action → PairStep
 by_b action = record { side = B; action = action }
 
+-- an update of a side
+abbrev a_makes : OwnUpdate → PairStep
+a_makes u = by_a (Own u)
+
+abbrev b_makes : OwnUpdate → PairStep
+b_makes u = by_b (Own u)
+
 abbrev hash : List ℕ
 hash = replicate 32 9
 
 -- A offers an HTLC, and both sides sign and revoke
 abbrev settled : List PairStep
 settled =
-    by_a (Offer 10000000 hash 5) ∷ by_b Deliver ∷ by_a Sign ∷ by_b Deliver ∷ by_a Deliver ∷ by_b Sign ∷ by_a Deliver ∷ by_b Deliver ∷ []
+    a_makes (Offer 10000000 hash 5) ∷ by_b Deliver ∷ by_a Sign ∷ by_b Deliver ∷ by_a Deliver ∷ by_b Sign ∷ by_a Deliver ∷ by_b Deliver ∷ []
 
 -- then B fails it, and signs
 abbrev failed : List PairStep
 failed =
-    by_a (Offer 10000000 hash 5) ∷ by_b Deliver ∷ by_a Sign ∷ by_b Deliver ∷ by_a Deliver ∷ by_b Sign ∷ by_a Deliver ∷ by_b Deliver
-    ∷ by_b (Fail 0) ∷ by_a Deliver ∷ by_b Sign ∷ []
+    a_makes (Offer 10000000 hash 5) ∷ by_b Deliver ∷ by_a Sign ∷ by_b Deliver ∷ by_a Deliver ∷ by_b Sign ∷ by_a Deliver ∷ by_b Deliver
+    ∷ b_makes (Fail 0) ∷ by_a Deliver ∷ by_b Sign ∷ []
 
 -- B fails it before the last revocation came, and twice; A signs twice
 abbrev hasty : List PairStep
 hasty =
-    by_a (Offer 10000000 hash 5) ∷ by_b Deliver ∷ by_a Sign ∷ by_a Sign ∷ by_b Deliver ∷ by_a Deliver ∷ by_b Sign ∷ by_a Deliver
-    ∷ by_b (Fail 0) ∷ by_b Deliver ∷ by_b (Fail 0) ∷ by_b (Fail 0) ∷ by_b Deliver ∷ []
+    a_makes (Offer 10000000 hash 5) ∷ by_b Deliver ∷ by_a Sign ∷ by_a Sign ∷ by_b Deliver ∷ by_a Deliver ∷ by_b Sign ∷ by_a Deliver
+    ∷ b_makes (Fail 0) ∷ by_b Deliver ∷ b_makes (Fail 0) ∷ b_makes (Fail 0) ∷ by_b Deliver ∷ []
 
 -- A changes the feerate and offers an HTLC, and both sides sign and revoke; B may not change it
 abbrev changed : List PairStep
 changed =
-    by_b (SetFee 5000) ∷ by_a (SetFee 5000) ∷ by_a (Offer 3861000 hash 500) ∷ by_b Deliver ∷ by_b Deliver ∷ by_a Sign ∷ by_b Deliver ∷ by_a Deliver
+    b_makes (SetFee 5000) ∷ a_makes (SetFee 5000) ∷ a_makes (Offer 3861000 hash 500) ∷ by_b Deliver ∷ by_b Deliver ∷ by_a Sign ∷ by_b Deliver ∷ by_a Deliver
     ∷ by_b Sign ∷ by_a Deliver ∷ by_b Deliver ∷ []
 
 abbrev htlc : ℕ → ℕ → Htlc

@@ -4,7 +4,7 @@ use Rattle.terms.specs.declared.sides.Side.{Side}
 use Rattle.terms.specs.declared.agreement.Terms.{Terms}
 use Rattle.channel.specs.declared.messages.Message.{Message}
 use Rattle.channel.specs.declared.plays.Action.{Action}
-use Rattle.channel.specs.declared.plays.Action.TheVariants.{Offer, Fulfil, Fail, SetFee, Sign, Deliver}
+use Rattle.channel.specs.declared.plays.Action.TheVariants.{Own, Sign, Deliver}
 use Rattle.channel.specs.declared.plays.PairStep.{PairStep}
 use Rattle.channel.specs.declared.plays.Outcome.{Outcome}
 use Rattle.channel.specs.declared.plays.Outcome.TheVariants.{Done, NoMessage}
@@ -20,10 +20,7 @@ delivered_by_trust w side [] = record { world = w; outcome = NoMessage }
 delivered_by_trust w side (m ∷ rest) = record { world = moved side w (after (state_of side w) m) rest (answers (state_of side w) m); outcome = Done }
 
 abbrev acted_by_trust : Signing → World → Side → Action → Played
-acted_by_trust tokens_of w side (Offer amount hash expiry) = acted tokens_of w side (Offer amount hash expiry)
-acted_by_trust tokens_of w side (Fulfil id preimage) = acted tokens_of w side (Fulfil id preimage)
-acted_by_trust tokens_of w side (Fail id) = acted tokens_of w side (Fail id)
-acted_by_trust tokens_of w side (SetFee rate) = acted tokens_of w side (SetFee rate)
+acted_by_trust tokens_of w side (Own u) = acted tokens_of w side (Own u)
 acted_by_trust tokens_of w side Sign = acted tokens_of w side Sign
 acted_by_trust tokens_of w side Deliver = delivered_by_trust w side (queue_of side w)
 
@@ -44,10 +41,7 @@ same_delivered tokens_of w side (m ∷ rest) q g =
     ap (λ r. unless r w (moved side w (after (state_of side w) m) rest (answers (state_of side w) m))) (taken tokens_of w side m rest q (agrees_in tokens_of w g))
 
 same_acted : (tokens_of : Signing) (w : World) (side : Side) (action : Action) → IsAgreed tokens_of w → acted tokens_of w side action ≡ acted_by_trust tokens_of w side action
-same_acted tokens_of w side (Offer amount hash expiry) g = refl
-same_acted tokens_of w side (Fulfil id preimage) g = refl
-same_acted tokens_of w side (Fail id) g = refl
-same_acted tokens_of w side (SetFee rate) g = refl
+same_acted tokens_of w side (Own u) g = refl
 same_acted tokens_of w side Sign g = refl
 same_acted tokens_of w side Deliver g = same_delivered tokens_of w side (queue_of side w) refl g
 

@@ -1,2 +1,4 @@
 pub mod Revealing
 pub mod NumberExamples
+pub mod Agreed
+pub mod ProposalExamples

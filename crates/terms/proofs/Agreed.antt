@@ -1,0 +1,68 @@
+-- Terms are what their fields are, and two sides agree on proposed ones where the terms can be made.
+use Rattle.std.proofs.Common.{◌≡◌, ◌≤◌, ◌+◌, ◌*◌, Bool, true, false, true≢false, Some, None, refl, sym, ap, ◌∙◌, subst}
+use Rattle.std.specs.Prelude.{◌==◌, ◌&&◌, nat_le}
+use Rattle.std.proofs.lemmas.Bool.{and_from, and_parts, le-leb, leb-true, eq-eqb, eqb-true}
+use Rattle.std.proofs.Math.Bridge.{le_prop}
+use Rattle.std.proofs.Math.Nat.{ℕ_set}
+use mathlib.Core.HLevel.{is_prop→PathP}
+use Rattle.tx.specs.Limits.{max_value}
+use Rattle.tx.specs.declared.input.OutPoint.{OutPoint}
+use Rattle.terms.specs.declared.amounts.TheConstants.{MSAT_PER_SAT}
+use Rattle.terms.specs.declared.agreement.BaseKeys.{BaseKeys}
+use Rattle.terms.specs.declared.agreement.Party.{Party}
+use Rattle.terms.specs.declared.agreement.Terms.{Terms}
+use Rattle.terms.specs.declared.proposals.ProposedTerms.{ProposedTerms}
+use Rattle.terms.specs.Agreement.{CanAgree, HasFields}
+use Rattle.terms.specs.Proposals.{can_agree, party_of, terms_with, terms_if, agreed_terms}
+
+-- what the type of terms keeps has one proof
+same_terms : (t u : Terms) → HasFields t u.funding u.capacity u.opener u.feerate u.a u.b → t ≡ u
+same_terms t u h =
+    λ i. record {
+      funding = h.funding_is i;
+      capacity = h.capacity_is i;
+      opener = h.opener_is i;
+      feerate = h.feerate_is i;
+      a = h.a_is i;
+      b = h.b_is i;
+      limited = is_prop→PathP (λ j. h.capacity_is j ≤ max_value) (λ j. le_prop) t.limited u.limited i;
+      whole = is_prop→PathP (λ j. (h.a_is j).start + (h.b_is j).start ≡ MSAT_PER_SAT * h.capacity_is j) (λ j. ℕ_set _ _) t.whole u.whole i;
+    }
+
+agrees : (t : ProposedTerms) → CanAgree t.capacity t.a.start t.b.start → can_agree t ≡ true
+agrees t h = and_from (nat_le t.capacity max_value) _ (le-leb t.capacity max_value h.limited) (eq-eqb (t.a.start + t.b.start) (MSAT_PER_SAT * t.capacity) h.whole)
+
+can : (t : ProposedTerms) → can_agree t ≡ true → CanAgree t.capacity t.a.start t.b.start
+can t h =
+    let parts = and_parts (nat_le t.capacity max_value) (t.a.start + t.b.start == MSAT_PER_SAT * t.capacity) h in
+    record { limited = leb-true t.capacity max_value parts.0; whole = eqb-true (t.a.start + t.b.start) (MSAT_PER_SAT * t.capacity) parts.1 }
+
+pub terms_are : (funding : OutPoint) (a b : BaseKeys) (p : ProposedTerms) (t : Terms) → CanAgree p.capacity p.a.start p.b.start
+    → HasFields t funding p.capacity p.opener p.feerate (party_of p.a a) (party_of p.b b) → Some t ≡ agreed_terms funding a b p
+unfolding agreed_terms
+terms_are funding a b p t agreed fields = go (can_agree p) refl
+  where
+    go : (r : Bool) (h : can_agree p ≡ r) → Some t ≡ terms_if funding a b p r h
+    go true h = ap Some (same_terms t (terms_with funding a b p h) fields)
+    go false h = absurd (true≢false (sym (agrees p agreed) ∙ h))
+
+no_terms : (funding : OutPoint) (a b : BaseKeys) (p : ProposedTerms) → (CanAgree p.capacity p.a.start p.b.start → ⊥) → None ≡ agreed_terms funding a b p
+unfolding agreed_terms
+no_terms funding a b p cannot = go (can_agree p) refl
+  where
+    go : (r : Bool) (h : can_agree p ≡ r) → None ≡ terms_if funding a b p r h
+    go true h = absurd (cannot (can p h))
+    go false h = refl
+
+-- of two parties that are these
+module _ (funding : OutPoint) (a b : BaseKeys) (p : ProposedTerms) (of_a of_b : Party) (ea : of_a ≡ party_of p.a a) (eb : of_b ≡ party_of p.b b) where
+  pub made_of : (t : Terms) → CanAgree p.capacity of_a.start of_b.start → HasFields t funding p.capacity p.opener p.feerate of_a of_b → Some t ≡ agreed_terms funding a b p
+  made_of t agreed fields =
+      terms_are funding a b p t
+      (subst (λ (x : Party). CanAgree p.capacity x.start p.b.start) ea (subst (λ (x : Party). CanAgree p.capacity of_a.start x.start) eb agreed))
+      (subst (λ (x : Party). HasFields t funding p.capacity p.opener p.feerate x (party_of p.b b)) ea (subst (λ (x : Party). HasFields t funding p.capacity p.opener p.feerate of_a x) eb fields))
+
+  pub none_of : (CanAgree p.capacity of_a.start of_b.start → ⊥) → None ≡ agreed_terms funding a b p
+  none_of cannot =
+      no_terms funding a b p
+      (λ h. cannot (subst (λ (x : Party). CanAgree p.capacity x.start of_b.start) (sym ea) (subst (λ (x : Party). CanAgree p.capacity p.a.start x.start) (sym eb) h)))

@@ -1,0 +1,51 @@
+-- Terms that two sides can agree on, and terms that differ from them by one.
+use Rattle.std.proofs.Common.{◌≡◌, ℕ, ◌+◌, true, false, Some, None, refl, sym, lit≤}
+use Rattle.tx.specs.declared.input.OutPoint.{OutPoint}
+use Rattle.terms.specs.declared.sides.Side.TheVariants.{A, B}
+use Rattle.terms.specs.declared.agreement.BaseKeys.{BaseKeys}
+use Rattle.terms.specs.declared.agreement.Terms.{Terms}
+use Rattle.terms.specs.declared.proposals.ProposedTerms.{ProposedTerms}
+use Rattle.terms.specs.Agreement.{HasFields}
+use Rattle.terms.specs.Proposals.{can_agree, party_of, agreed_terms}
+use Rattle.terms.proofs.Agreed.{terms_are}
+
+abbrev proposed : ℕ → ℕ → ℕ → ProposedTerms
+proposed capacity a b = record {
+  capacity = capacity;
+  opener = B;
+  feerate = 6;
+  a = record { dust = 4; delay = 2; minimum = 7; start = a };
+  b = record { dust = 5; delay = 3; minimum = 8; start = b };
+}
+
+-- the capacity is what the sides begin with, and at most 21,000,000 bitcoins
+agreements : (can_agree (proposed 1 999 1) ≡ true)
+    × (can_agree (proposed 1 999 2) ≡ false)
+    × (can_agree (proposed 1 999 0) ≡ false)
+    × (can_agree (proposed 2100000000000000 2099999999999999999 1) ≡ true)
+    × (can_agree (proposed 2100000000000001 2100000000000001000 0) ≡ false)
+agreements = (refl, refl, refl, refl, refl)
+
+-- each side has its own values and keys
+module _ (funding : OutPoint) (keys_of_a keys_of_b : BaseKeys) where
+  abbrev terms : Terms
+  terms = record {
+    funding = funding;
+    capacity = 1;
+    opener = B;
+    feerate = 6;
+    a = record { dust = 4; delay = 2; minimum = 7; start = 999; bases = keys_of_a };
+    b = record { dust = 5; delay = 3; minimum = 8; start = 1; bases = keys_of_b };
+    limited = lit≤ tt;
+    whole = refl;
+  }
+
+  fields : HasFields terms funding 1 B 6 (party_of (proposed 1 999 1).a keys_of_a) (party_of (proposed 1 999 1).b keys_of_b)
+  fields = record { funding_is = refl; capacity_is = refl; opener_is = refl; feerate_is = refl; a_is = refl; b_is = refl }
+
+  made : agreed_terms funding keys_of_a keys_of_b (proposed 1 999 1) ≡ Some terms
+  made = sym (terms_are funding keys_of_a keys_of_b (proposed 1 999 1) terms (record { limited = lit≤ tt; whole = refl }) fields)
+
+  refused : agreed_terms funding keys_of_a keys_of_b (proposed 1 999 2) ≡ None
+  unfolding agreed_terms
+  refused = refl
