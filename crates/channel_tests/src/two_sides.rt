@@ -5,7 +5,7 @@ use channel::{Channel, Message, Tokens, opening_points};
 use keys::{Base, Signer, point, revocation};
 use std::process::Abort;
 use terms::Side;
-use updates::Refusal;
+use updates::{OwnUpdate, Refusal};
 
 // A new channel wants the peer's token on its commitment 0.
 #[test]
@@ -50,6 +50,26 @@ fn changes_the_feerate(rt: HostRuntime) {
     assert!(rt; channel.set_fee(2000).is_ok());
     let next = channel.ready().expect(&rt, "a commitment");
     assert_eq!(rt; next.view.feerate, 2000);
+}
+
+// An own update is the call of its kind.
+#[test]
+fn makes_its_own_updates(rt: HostRuntime) {
+    let mut channel = opened(&rt, rt.alloc(), Side::A);
+    let fee = channel.make(&OwnUpdate::SetFee { rate: 2000 }).is_ok();
+    let offer = OwnUpdate::Offer {
+        amount: 1000,
+        hash: [9; 32],
+        expiry: 500,
+    };
+    let offered = channel.make(&offer).is_ok();
+    let next = channel.ready().expect(&rt, "a commitment");
+    assert_eq!(rt;
+        (fee, offered, next.view.feerate, next.view.a.balance),
+        (true, true, 2000, 79_999_000)
+    );
+    let failed = channel.make(&OwnUpdate::Fail { id: 0 }).err();
+    assert_eq!(rt; failed, Some(Refusal::UnknownHtlc));
 }
 
 // B signs A's commitment with the HTLC, and fails it.

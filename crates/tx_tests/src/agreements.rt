@@ -5,7 +5,10 @@ use lists::List;
 use parties::{FUNDING, one_key, party_with, terms_of};
 use std::alloc::Global;
 use std::process::Abort;
-use terms::{Htlc, Obscured, Party, Share, Terms, TermsError, View, mask, number_of, obscure};
+use terms::{
+    Htlc, Obscured, Party, ProposedParty, ProposedTerms, Share, Side, Terms, TermsError, View,
+    mask, number_of, obscure,
+};
 use tx::Tx;
 
 /// The payment base keys of BOLT 3, appendix C: the opener's, and the accepter's.
@@ -36,6 +39,37 @@ fn starts_sum_to_the_capacity(rt: HostRuntime) {
     assert!(rt; terms_with(&rt, 80_000_000, 20_000_000).is_ok());
     assert!(rt; terms_with(&rt, 80_000_000, 20_000_001).is_err());
     assert_eq!(rt; TermsError::BadTerms.number(), 1);
+}
+
+// What a side would bring to the terms.
+fn proposed_party(start: u64) -> ProposedParty {
+    ProposedParty {
+        dust: 546,
+        delay: 144,
+        minimum: 1000,
+        start,
+    }
+}
+
+// Terms with a capacity of 100,000 satoshis, as they are proposed.
+fn proposed(a: u64, b: u64) -> ProposedTerms {
+    ProposedTerms {
+        capacity: 100_000,
+        opener: Side::A,
+        feerate: 1000,
+        a: proposed_party(a),
+        b: proposed_party(b),
+    }
+}
+
+// The terms that two sides agree on are those that were proposed.
+#[test]
+fn proposed_terms_become_terms(rt: HostRuntime) {
+    let a = one_key(key(&rt, PAYMENT_BASES[0]));
+    let b = one_key(key(&rt, PAYMENT_BASES[1]));
+    let agreed = proposed(80_000_000, 20_000_000).agreed(FUNDING, a, b);
+    assert_eq!(rt; agreed, terms_with(&rt, 80_000_000, 20_000_000).ok());
+    assert!(rt; !proposed(80_000_000, 20_000_001).can_agree());
 }
 
 // The mask and the number of the commitments in BOLT 3, appendix C; of a greater number the low 48 bits count.
