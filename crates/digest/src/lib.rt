@@ -1,8 +1,16 @@
 //! The hashes of Bitcoin: SHA-256, SHA-256 twice, RIPEMD-160, and RIPEMD-160 of SHA-256.
 //!
-//! None of them takes memory or refuses a message, whatever its length.
+//! Each call gives exactly the standard's hash of the whole message, whatever its length (FIPS 180-4; H. Dobbertin,
+//! A. Bosselaers and B. Preneel). [`Ripemd160`] takes a message in pieces. No call takes memory or refuses a message.
 //!
-//! Tested in `script_tests`.
+//! SHA-256 itself is the library `sha2`. `tx` makes ids with these hashes, `sighash` the digests that are signed,
+//! `secrets` the secrets of a seed; the hashing opcodes of `script` are defined by them.
+//!
+//! ```
+//! assert_eq!(rt; hash160(&key), wanted);
+//! ```
+//!
+//! The test `hash_of_a_public_key` of `script_tests` has this line.
 #![tactic(auto)]
 
 ghost use Rattle.std.specs.Prelude.{◌≡◌, map};

@@ -1,14 +1,17 @@
 //! Symbols, and the facts about a witness and a spend that decide how a script runs.
 //!
-//! A [`Fact`] means what `specs/Meaning.antt` says (`holds_of`), under a spend and the items of a witness; a [`Stated`] one prints exactly its
-//! text.
+//! A [`Fact`] means what `specs/Meaning.antt` says (`holds_of`), under a spend and the items of a witness. A
+//! [`Stated`] fact, with whether it is to hold, prints exactly its text.
 //!
-//! ```rust
+//! `script` has the runs that the facts are about. `paths` writes down as facts what each opcode asks, `claim` tells
+//! which of them its slots meet, and `enforce_words` prints them.
+//!
+//! ```
 //! let truth = Stated { fact: Fact::Truth(0), holds: true };
 //! assert_eq!(rt; format!(in alloc; "{truth}")?.as_str(), "truth 0 yes");
 //! ```
 //!
-//! Tested in `script_tests`.
+//! The test `prints_a_truth` of `script_tests` has these lines.
 #![tactic(auto)]
 
 pub mod sameness;

@@ -1,7 +1,11 @@
-//! Small types over collections that a contract sees as lists of values: [`ByteString`] as the list of its bytes, [`List`] as the list of
-//! its values, [`Stack`] as the list of its values with the top first. Each keeps the allocator that it was made with.
+//! Byte strings, lists and stacks, which contracts see as lists of values.
 //!
-//! Every call is exact: `push` on a stack that a contract sees as `s` leaves `value ∷ s`, and one that runs out of memory leaves `s`.
+//! [`ByteString`] is the list of its bytes, [`List`] the list of its values, and [`Stack`] the list of its values
+//! with the top first. Each keeps the allocator that it was made with. Every call is exact: `push` on a stack that a
+//! contract sees as `s` leaves `value ∷ s`, and one that runs out of memory leaves `s`.
+//!
+//! It stands on no other crate. `script` holds pushed bytes in it, `machine` its stack, `tx` the items of a witness,
+//! and the crates above them their lists.
 //!
 //! ```
 //! let mut stack = Stack::new(rt.alloc());
@@ -9,7 +13,7 @@
 //! assert_eq!(rt; stack.pop().map_or(0, |top| top.len()), 2);
 //! ```
 //!
-//! Tested in `script_tests`.
+//! The test `the_top_comes_back_first` of `script_tests` has these lines.
 #![tactic(auto)]
 
 pub mod byte_strings;

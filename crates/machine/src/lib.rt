@@ -1,7 +1,13 @@
-//! Runs a script of Bitcoin on a witness: the stack machine of version 0 witness scripts (BIP 141), with the lock times of BIP 65 and
-//! BIP 112 and the empty extra item of BIP 147.
+//! The machine that runs a script on a witness: version 0 witness scripts (BIP 141), with the lock times of BIP 65
+//! and BIP 112 and the empty extra item of BIP 147.
 //!
-//! Tested in `script_tests`.
+//! Barring out-of-memory, [`run`] is exactly the definition `outcome` of `script`: Ok with the counted opcodes and
+//! the greatest number of entries on the stack where the run is clean, else the [`Stop`] with its place and cause.
+//!
+//! `script` hands it the opcodes, and `chain` runs the script of each spent output by it. No crate between `paths`
+//! and `filling` runs a script: what they promise of runs is proved against the same definitions.
+//!
+//! The test `runs_the_script_of_a_key_hash` of `script_tests` runs a script.
 #![tactic(auto)]
 
 mod acts;

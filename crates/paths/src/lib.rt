@@ -1,8 +1,13 @@
-//! Lists every way in which a version 0 witness script (BIP 141) can be opened: [`check`] follows each branch over symbols, and writes down what
-//! each opcode asks of the witness and of the spend.
+//! The verifier, which lists every way through a version 0 witness script (BIP 141).
 //!
-//! The list is sound and exhaustive, whatever the witness and the spend: whoever meets a listed path runs the script clean, with that path's
-//! counted opcodes and height, and whoever runs it clean meets a listed path.
+//! [`check`] follows each branch over symbols, and writes down what each opcode asks of the witness and of the spend;
+//! a [`Path`] is all that one way asks. Barring out-of-memory, the list is exactly the definition `listing`. It is
+//! sound and exhaustive, whatever the witness and the spend: whoever meets a listed path runs the script clean, with
+//! that path's counted opcodes and height, and whoever runs it clean meets a listed path. [`check_pattern`] lists a
+//! script with holes for keys, hashes and numbers once, and [`CheckedPattern::instance`] fills the holes.
+//!
+//! `script` parses the bytes, and `facts` has the facts. `forms` lists the scripts of BOLT 3 as patterns, and `claim`
+//! takes a [`Checked`] script with one of its paths.
 //!
 //! ```
 //! // IF 1 ELSE 2 ENDIF
@@ -10,6 +15,8 @@
 //! let checked = check(rt.alloc(), script)?;
 //! assert_eq!(rt; checked.paths().len(), 2);
 //! ```
+//!
+//! The test `lists_both_branches` of `claim_tests` checks this script.
 #![tactic(auto)]
 
 mod balance;

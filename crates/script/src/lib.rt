@@ -1,9 +1,12 @@
-//! Scripts of Bitcoin: the opcodes of version 0 witness scripts (BIP 141), the bytes that spell them, and the words in which their runs are
-//! defined.
+//! Scripts of Bitcoin: the opcodes of version 0 witness scripts (BIP 141), the bytes that spell them, and the
+//! definitions of their runs.
 //!
-//! [`Script::parse`] is Ok exactly where the bytes are at most 10,000 and split into opcodes of the table; else it names the first fault from the
-//! left. `specs/Clean.antt` says what a clean run is, in the standard's own terms, and [`laws::runs_are_exact`] that the words which compute
-//! agree with it.
+//! Barring out-of-memory, [`Script::parse`] is Ok exactly where the bytes are at most 10,000 and split into opcodes
+//! of the table; else it names the first fault from the left. `specs/Clean.antt` says what a clean run is, in the
+//! standard's own terms, and [`laws::runs_are_exact`] that the definitions which compute agree with it.
+//!
+//! The walk of a script begins here, as bytes. `machine` runs a [`Script`] on a witness, and `paths` lists the ways
+//! through it. Both are proved against this crate's one definition of a run.
 //!
 //! ```rust
 //! let script = Script::parse(alloc, &[0x52, 0x75, 0xac])?; // 2 DROP CHECKSIG
@@ -12,7 +15,7 @@
 //! assert!(rt; Script::parse(alloc, &[0xff]).is_err()); // no opcode has this byte
 //! ```
 //!
-//! Tested in `script_tests`.
+//! The test `reads_opcodes` of `script_tests` has these lines.
 #![tactic(auto)]
 
 pub mod branches;

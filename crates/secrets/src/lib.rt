@@ -1,7 +1,12 @@
-//! The per-commitment secrets of BOLT 3: their derivation from a seed, and their store in 49 buckets.
+//! The per-commitment secrets of BOLT 3: their derivation from a seed, and the store of a peer's secrets in 49
+//! buckets.
 //!
-//! The main contract is that of [`Store::insert`]: it takes the secret of the next index, counted down from 2^48 - 1, exactly where it leads to all secrets
-//! that were inserted below its prefix. [`Store::get`] then gives exactly what was inserted. Nothing here takes memory.
+//! The main contract is that of [`Store::insert`]: it takes the secret of the next index, counted down from 2^48 - 1,
+//! exactly where it leads to all secrets that were inserted below its prefix. [`Store::get`] then gives exactly what
+//! was inserted. Nothing here takes memory.
+//!
+//! `digest` has the hash. `channel` derives its own secrets by [`from_seed`], and keeps in a [`Store`] those with
+//! which its peer revoked.
 //!
 //! ```rust
 //! /// A store of the first `count` secrets of a seed.
@@ -15,7 +20,7 @@
 //! }
 //! ```
 //!
-//! Tested in `script_tests`.
+//! The test `gives_back_three_secrets` of `script_tests` calls this function.
 #![tactic(auto)]
 
 mod derivation;
