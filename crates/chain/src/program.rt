@@ -3,7 +3,7 @@
 ghost use Rattle.std.specs.Prelude.{◌≡◌, ◌==◌, ◌≤◌, length, drop, map, Some, None, IfOk, option_map, slice_get, reverse};
 ghost use Rattle.std.specs.Str.{bytes_eq};
 ghost use Rattle.script.specs.Run.{outcome};
-ghost use Rattle.sighash.specs.Programs.{is_key_hash_program, is_script_hash_program, key_hash_script, script_ops, spend_of, run_of, run_of_given, given_by_hash, given_of};
+ghost use Rattle.sighash.specs.Programs.{key_hash_script, script_ops, spend_of, run_of, run_of_given, given_by_hash, given_of};
 ghost use Rattle.chain.specs.Connecting.{is_program};
 ghost use Rattle.chain.specs.Running.{IsRun, IsParsed};
 
@@ -13,22 +13,9 @@ use lists::ByteString;
 use machine::{Run, Stop, run};
 use script::{ParseError, Script, Spend};
 use sighash::SighashCache;
+use sighash::programs::{is_key_hash_program, is_script_hash_program};
 use std::alloc::{AllocError, Global};
 use tx::{Tx, TxIn, TxOut};
-
-/// Whether bytes are the program of a key's hash: 00, 14 and 20 bytes.
-fn is_key_hash_program(program: &[u8]) -> bool
-    ensures { result ≡ is_key_hash_program program.now }
-{
-    program.len() == 22 && program[..2] == [0x00, 0x14]
-}
-
-/// Whether bytes are the program of a script's hash: 00, 20 and 32 bytes.
-fn is_script_hash_program(program: &[u8]) -> bool
-    ensures { result ≡ is_script_hash_program program.now }
-{
-    program.len() == 34 && program[..2] == [0x00, 0x20]
-}
 
 /// Whether bytes are a program of version 0 in one of its two forms.
 pub(crate) fn is_program(program: &[u8]) -> bool
@@ -75,7 +62,8 @@ fn run_script(
 ) -> Result<Run, Refusal>
     requires cached { cache.now ≡ tx.now }
     requires indexed { slice_get tx.now.inputs index ≡ Some input.now }
-    ensures { IsRun (run_of_given tx.now input.now value (record { script = script.now; items = items.now })) result }
+    ensures { IsRun (run_of_given tx.now input.now value
+        (record { script = script.now; items = items.now })) result }
 {
     let parsed = parse(alloc, script)?;
     let Ok(digest) = cache.digest_of(index, script, value) else {
