@@ -64,7 +64,9 @@ fn plain_opening(opening: &Opening) -> PlainOpening
 
 fn step_value(alloc: Global, channel: u64, step: &Step) -> Result<Value, AllocError>
     ensures form { IfOk result (λ v. view v ≡ step_data channel step.now) }
-    ensures back { IfOk result (λ _. HasStepTokens step.now → call_in (step_data channel step.now) ≡ Some (PlainStepping channel (plain_step step.now))) }
+    ensures back { IfOk result (λ _. HasStepTokens step.now
+        → call_in (step_data channel step.now) ≡ Some
+        (PlainStepping channel (plain_step step.now))) }
 {
     match step {
         Step::Own(update) => write_own(alloc, channel, update),
@@ -101,7 +103,8 @@ fn each_keeps(claims: &[Claim])
 // The call in its form.
 fn call_value(alloc: Global, call: &Call) -> Result<Value, AllocError>
     ensures form { IfOk result (λ v. view v ≡ call_data call.now) }
-    ensures back { IfOk result (λ _. HasTokens call.now → call_in (call_data call.now) ≡ Some (plain_call call.now)) }
+    ensures back { IfOk result (λ _. HasTokens call.now
+        → call_in (call_data call.now) ≡ Some (plain_call call.now)) }
     ensures whole { IfOk result (λ _. HasWholeClaims call.now) }
 {
     match call {
@@ -168,10 +171,12 @@ pub fn dump(alloc: Global, history: &[Entry]) -> Result<String, AllocError>
     ensures text { IfOk result (λ text. string_bytes text ≡ dump_of history.now) }
 
     // What the text is read as.
-    ensures reads { IfOk result (λ text. read (string_bytes text) ≡ Some (history_data history.now)) }
+    ensures reads { IfOk result (λ text. read (string_bytes text) ≡ Some
+        (history_data history.now)) }
 
     // And loaded as, where each entry is accepted after those before it.
-    ensures loads { IfOk result (λ text. all_accepted peer_tokens history.now ≡ true → loaded peer_tokens (string_bytes text) ≡ Ok history.now) }
+    ensures loads { IfOk result (λ text. all_accepted peer_tokens history.now ≡ true
+        → loaded peer_tokens (string_bytes text) ≡ Ok history.now) }
 {
     let value = history_value(alloc, history)?;
     value.to_string(alloc)

@@ -101,7 +101,8 @@ fn own_commitment(
 // This side's commitments before its newest, with the peer's tokens.
 #[tactic(auto, using(crate::proofs::Recorded::one_more))]
 fn older_commitments(alloc: Global, channel: &Channel) -> Result<Vec<SignedCommitment>, AllocError>
-    ensures { IfOk result (λ v. map signed_parts v.items ≡ below (own_at channel.now) channel.now.number) }
+    ensures { IfOk result (λ v. map signed_parts v.items ≡ below
+        (own_at channel.now) channel.now.number) }
 {
     let mut older = Vec::new(alloc);
     for number in 0..channel.number() {
@@ -171,7 +172,8 @@ fn revoked_of(
     flags: &[bool],
 ) -> Result<RevokedCommitment, AllocError>
     requires { number < channel.now.peer_number }
-    ensures value { IfOk result (λ r. Some (revoked_parts r) ≡ revoked_at channel.now (flag_at flags.now) number) }
+    ensures value { IfOk result (λ r. Some (revoked_parts r) ≡ revoked_at channel.now
+        (flag_at flags.now) number) }
     ensures number { IfOk result (λ r. r.state.number ≡ number) }
 {
     let _count = channel.peer_number();
@@ -206,7 +208,8 @@ fn revoked_commitments(
     channel: &Channel,
     flags: &[bool],
 ) -> Result<RevokedCommitments, AllocError>
-    ensures { IfOk result (λ r. map revoked_parts r ≡ below (revoked_at channel.now (flag_at flags.now)) (length channel.now.secrets)) }
+    ensures { IfOk result (λ r. map revoked_parts r ≡ below
+        (revoked_at channel.now (flag_at flags.now)) (length channel.now.secrets)) }
 {
     let mut revoked = RevokedCommitments::new(alloc);
     for number in 0..channel.peer_number() {
@@ -293,9 +296,12 @@ struct PeersCommitments {
 // Its own ones.
 fn own_of(alloc: Global, channel: &Channel) -> Result<OwnCommitments, AllocError>
     ensures seed { IfOk result (λ o. o.signer.seed ≡ channel.now.seed) }
-    ensures rights { IfOk result (λ o. (key : Values ℕ) → MaySign o.signer key ↔ MaySign (rights_of channel.now) key) }
-    ensures newest { IfOk result (λ o. Some (signed_parts o.newest) ≡ own_at channel.now channel.now.number) }
-    ensures older { IfOk result (λ o. map signed_parts o.older ≡ below (own_at channel.now) channel.now.number) }
+    ensures rights { IfOk result (λ o. (key : Values ℕ) → MaySign o.signer key
+        ↔ MaySign (rights_of channel.now) key) }
+    ensures newest { IfOk result (λ o. Some
+        (signed_parts o.newest) ≡ own_at channel.now channel.now.number) }
+    ensures older { IfOk result (λ o. map signed_parts o.older ≡ below
+        (own_at channel.now) channel.now.number) }
 {
     let older = older_commitments(alloc, channel)?;
     let signer = channel.signer().copy()?;
@@ -323,9 +329,11 @@ fn peers_of(
     channel: &Channel,
     flags: &[bool],
 ) -> Result<PeersCommitments, AllocError>
-    ensures newest { IfOk result (λ p. Some p.newest ≡ theirs_at channel.now channel.now.peer_number) }
+    ensures newest { IfOk result (λ p. Some p.newest
+        ≡ theirs_at channel.now channel.now.peer_number) }
     ensures next { IfOk result (λ p. p.next ≡ theirs_at channel.now (channel.now.peer_number + 1)) }
-    ensures revoked { IfOk result (λ p. map revoked_parts p.revoked ≡ below (revoked_at channel.now (flag_at flags.now)) (length channel.now.secrets)) }
+    ensures revoked { IfOk result (λ p. map revoked_parts p.revoked ≡ below
+        (revoked_at channel.now (flag_at flags.now)) (length channel.now.secrets)) }
 {
     let number = channel.peer_number();
     let revoked = revoked_commitments(alloc, channel, flags)?;

@@ -58,9 +58,11 @@ pub(crate) struct Taken {
 // The channel receives tokens. Gives them back, with the message that answers them.
 fn receive_tokens(channel: &mut Channel, tokens: Tokens) -> Result<Taken, Refusal>
     ensures step { IfOk result (λ t. t.step ≡ Step.Signed tokens) }
-    ensures message { IfOk result (λ t. cons_option t.message [] ≡ messages_of channel.old (Step.Signed tokens)) }
+    ensures message { IfOk result (λ t. cons_option t.message [] ≡ messages_of channel.old
+        (Step.Signed tokens)) }
     ensures ok { IfOk result (λ _. channel.new ≡ stepped (Step.Signed tokens) channel.old) }
-    ensures tested { let first = step_refusal tokens_of channel.old (Step.Signed tokens) in MatchResult result (λ _. first ≡ None) (IsRefusal first) }
+    ensures tested { let first = step_refusal tokens_of channel.old (Step.Signed tokens)
+        in MatchResult result (λ _. first ≡ None) (IsRefusal first) }
     ensures err { OnErr result (channel.new ≡ channel.old) }
 {
     let received = Message::CommitmentSigned(tokens);
@@ -82,7 +84,8 @@ fn take(channel: &mut Channel, step: Step) -> Result<Taken, Refusal>
     ensures step { IfOk result (λ t. t.step ≡ step) }
     ensures message { IfOk result (λ t. cons_option t.message [] ≡ messages_of channel.old step) }
     ensures ok { IfOk result (λ _. channel.new ≡ stepped step channel.old) }
-    ensures tested { let first = step_refusal tokens_of channel.old step in MatchResult result (λ _. first ≡ None) (IsRefusal first) }
+    ensures tested { let first = step_refusal tokens_of channel.old step
+        in MatchResult result (λ _. first ≡ None) (IsRefusal first) }
     ensures err { OnErr result (channel.new ≡ channel.old) }
 {
     match step {
@@ -136,7 +139,8 @@ impl OpenChannel {
     /// The channel of an opening: BadSignature where its token is not the peer's on this side's commitment 0.
     pub(crate) fn open(alloc: Global, opening: &Opening) -> Result<OpenChannel, OpenError>
         ensures ok { IfOk result (λ ch. ch ≡ opened_by opening.now) }
-        ensures tested { let first = token_refusal opening.now in MatchResult result (λ _. first ≡ None) (IsOpenRefusal first) }
+        ensures tested { let first = token_refusal opening.now
+            in MatchResult result (λ _. first ≡ None) (IsOpenRefusal first) }
     {
         let signer = Signer::new(alloc, &opening.seed);
         match Channel::new(
@@ -159,9 +163,11 @@ impl OpenChannel {
     /// Takes a step. A refusal leaves all as it was.
     pub(crate) fn step(&mut self, step: Step) -> Result<Taken, Refusal>
         ensures step { IfOk result (λ t. t.step ≡ step) }
-        ensures message { IfOk result (λ t. cons_option t.message [] ≡ messages_of self.old.state step) }
+        ensures message { IfOk result (λ t. cons_option t.message []
+            ≡ messages_of self.old.state step) }
         ensures ok { IfOk result (λ _. self.new ≡ with_state (stepped step) self.old) }
-        ensures tested { let first = step_refusal tokens_of self.old.state step in MatchResult result (λ _. first ≡ None) (IsRefusal first) }
+        ensures tested { let first = step_refusal tokens_of self.old.state step
+            in MatchResult result (λ _. first ≡ None) (IsRefusal first) }
         ensures err { OnErr result (self.new ≡ self.old) }
     {
         take(&mut self.channel, step)
@@ -170,8 +176,11 @@ impl OpenChannel {
     /// Receives a revocation, and gives its number. A refusal leaves all as it was.
     pub(crate) fn revoke(&mut self, secret: [u8; 32], next_point: Key) -> Result<u64, Refusal>
         ensures number { IfOk result (λ n. n ≡ length self.old.state.secrets) }
-        ensures ok { IfOk result (λ _. self.new ≡ with_state (λ s. after s (RevokeAndAck secret next_point)) self.old) }
-        ensures tested { let first = receive_refusal tokens_of self.old.state (RevokeAndAck secret next_point) in MatchResult result (λ _. first ≡ None) (IsRefusal first) }
+        ensures ok { IfOk result (λ _. self.new ≡ with_state
+            (λ s. after s (RevokeAndAck secret next_point)) self.old) }
+        ensures tested { let first = receive_refusal tokens_of self.old.state
+            (RevokeAndAck secret next_point)
+            in MatchResult result (λ _. first ≡ None) (IsRefusal first) }
         ensures err { OnErr result (self.new ≡ self.old) }
     {
         match self.flags.reserve(1) {
@@ -192,7 +201,8 @@ impl OpenChannel {
 
     // Whether a signature awaits its revocation, or penalties are missing.
     fn check_sign(&self) -> Result<(), SignError>
-        ensures { let first = early_sign_refusal self.now in MatchResult result (λ _. first ≡ None) (λ e. first ≡ Some e) }
+        ensures { let first = early_sign_refusal self.now
+            in MatchResult result (λ _. first ≡ None) (λ e. first ≡ Some e) }
     {
         if self.channel.waits_to_sign() {
             return Err(SignError::AwaitingRevocation);
@@ -207,7 +217,8 @@ impl OpenChannel {
     pub(crate) fn sign(&mut self) -> Result<Message, SignError>
         ensures message { IfOk result (λ m. m ≡ signature_message tokens_of self.old.state) }
         ensures ok { IfOk result (λ _. self.new ≡ with_state after_sign self.old) }
-        ensures tested { let first = sign_refusal self.old in MatchResult result (λ _. first ≡ None) (IsSignRefusal first) }
+        ensures tested { let first = sign_refusal self.old
+            in MatchResult result (λ _. first ≡ None) (IsSignRefusal first) }
         ensures err { OnErr result (self.new ≡ self.old) }
     {
         match self.check_sign() {
@@ -226,7 +237,9 @@ impl OpenChannel {
     /// Fills the claims of a batch by the channel's signer.
     pub(crate) fn release(&self, alloc: Global, batch: &Batch) -> Result<Filled, FillError>
         ensures ok { IfOk result (λ f. f ≡ filling_by batch.now) }
-        ensures tested { let first = fill_refusal batch.now.claims batch.now.outputs (rights_of self.now.state) batch.now.preimages in MatchResult result (λ _. first ≡ None) (IsFillRefusal first) }
+        ensures tested { let first = fill_refusal batch.now.claims batch.now.outputs
+            (rights_of self.now.state) batch.now.preimages
+            in MatchResult result (λ _. first ≡ None) (IsFillRefusal first) }
     {
         filled(alloc, batch, self.channel.signer())
     }
@@ -288,7 +301,8 @@ impl OpenChannel {
         state: Option<&RevokedState>,
     ) -> Result<(), KeepError>
         requires { ForSome state (λ s. AreClaimsOn (claimable_of s.now) claims.now) }
-        ensures tested { let first = keep_refusal self.now number claims.now in MatchResult result (λ _. first ≡ None) (IsKeepRefusal first) }
+        ensures tested { let first = keep_refusal self.now number claims.now
+            in MatchResult result (λ _. first ≡ None) (IsKeepRefusal first) }
         ensures within { IfOk result (λ _. number < length self.now.state.secrets) }
     {
         let Some(is_kept) = self.flags.get(number as usize) else {
@@ -317,7 +331,8 @@ impl OpenChannel {
     ) -> Result<(), KeepError>
         requires { ForSome state (λ s. AreClaimsOn (claimable_of s.now) claims.now) }
         ensures ok { IfOk result (λ _. self.new ≡ with_kept number self.old) }
-        ensures tested { let first = keep_refusal self.old number claims.now in MatchResult result (λ _. first ≡ None) (IsKeepRefusal first) }
+        ensures tested { let first = keep_refusal self.old number claims.now
+            in MatchResult result (λ _. first ≡ None) (IsKeepRefusal first) }
         ensures err { OnErr result (self.new ≡ self.old) }
     {
         match self.check_keep(alloc, number, claims, state) {
@@ -336,7 +351,8 @@ impl OpenChannel {
 
     /// The state of the peer's revoked commitment of a number whose penalties are not kept: NotRevoked, AlreadyKept.
     pub(crate) fn revoked(&self, number: u64) -> Result<RevokedState, KeepError>
-        ensures { MatchResult result (IsRevokedIn number (Some self.now)) (IsKeepRefusal (early_keep_refusal number (Some self.now))) }
+        ensures { MatchResult result (IsRevokedIn number (Some self.now))
+            (IsKeepRefusal (early_keep_refusal number (Some self.now))) }
     {
         let Some(is_kept) = self.flags.get(number as usize) else {
             return Err(KeepError::NotRevoked);

@@ -1,3 +1,4 @@
 pub mod Grants
 pub mod Opened
+pub mod Keyed
 mod OpeningExamples

@@ -29,7 +29,8 @@ fn program_of(alloc: Global, script: &[u8]) -> Result<ByteString, AllocError>
 
 // The program of the output that two base keys fund.
 fn funding_program(alloc: Global, key: &Key, other: &Key) -> Result<ByteString, AllocError>
-    ensures { IfOk result (λ s. s ≡ script_hash_program (spelling (funding_of key.now.bytes other.now.bytes))) }
+    ensures { IfOk result (λ s. s ≡ script_hash_program
+        (spelling (funding_of key.now.bytes other.now.bytes))) }
 {
     let patterns = patterns(alloc)?;
     let checked = funding(alloc, &patterns, key, other)?;

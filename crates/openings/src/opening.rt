@@ -68,7 +68,8 @@ pub fn open_both(
     plain: &ProposedTerms,
 ) -> Result<Option<Both>, AllocError>
     ensures some { IfOk result (λ both. is_some both ≡ can_agree plain.now) }
-    ensures openings { IfOk result (λ both. IfSome both (AreOpeningsOf seeds.now channel outpoint plain.now)) }
+    ensures openings { IfOk result (λ both. IfSome both
+        (AreOpeningsOf seeds.now channel outpoint plain.now)) }
     ensures memory { IfErr result (λ e. can_agree plain.now ≡ true) }
 {
     let Some(terms) = agreed_terms(alloc, seeds, channel, outpoint, plain) else {

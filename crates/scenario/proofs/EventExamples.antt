@@ -1,5 +1,5 @@
 -- Events and scenarios with unlike values in all their parts, and values that are near their forms.
-use Rattle.std.proofs.Common.{◌≡◌, ℕ, List, [], ◌∷◌, Option, Some, None, codes, refl}
+use Rattle.std.proofs.Common.{◌≡◌, ℕ, List, [], ◌∷◌, Some, None, codes, refl}
 use Rattle.std.specs.Prelude.{replicate}
 use Rattle.hex.proofs.OnLiterals.{hex_on_literals}
 use Rattle.serde_json.specs.Data.{Data, Items, no_items, item, no_members, member, null, number, string, array, object, unsigned}

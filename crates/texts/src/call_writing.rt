@@ -69,9 +69,12 @@ pub fn write_signature(
     commitment: &Token,
     htlcs: &[Token],
 ) -> Result<Value, AllocError>
-    ensures form { IfOk result (λ v. view v ≡ signature_data (record { commitment = commitment.now; htlcs = htlcs.now })) }
-    ensures back { IfOk result (λ _. AreTokens (record { commitment = commitment.now; htlcs = htlcs.now })
-        → received_of (signature_data (record { commitment = commitment.now; htlcs = htlcs.now })) ≡ Some (Signed (record { commitment = commitment.now; htlcs = htlcs.now }))) }
+    ensures form { IfOk result (λ v. view v ≡ signature_data
+        (record { commitment = commitment.now; htlcs = htlcs.now })) }
+    ensures back { IfOk result (λ _. AreTokens
+        (record { commitment = commitment.now; htlcs = htlcs.now })
+        → received_of (signature_data (record { commitment = commitment.now; htlcs = htlcs.now }))
+        ≡ Some (Signed (record { commitment = commitment.now; htlcs = htlcs.now }))) }
 {
     let message = ArrayWriter::named(alloc, "signed")?
         .item(commitment)?
@@ -170,7 +173,8 @@ fn call(alloc: Global, name: &str, channel: u64) -> Result<ArrayWriter, AllocErr
 
 // The front of a step: `step`, its channel and its own name.
 fn step(alloc: Global, channel: u64, name: &str) -> Result<ArrayWriter, AllocError>
-    ensures { IfOk result (λ w. items_in w ≡ call_front (codes "step") channel ++ string name.now ∷ []) }
+    ensures { IfOk result (λ w. items_in w ≡ call_front (codes "step") channel ++ string name.now
+        ∷ []) }
 {
     let name = Value::try_from_str(alloc, name)?;
     call(alloc, "step", channel)?.value(name)
@@ -180,7 +184,8 @@ fn step(alloc: Global, channel: u64, name: &str) -> Result<ArrayWriter, AllocErr
 #[tactic(auto, unfolding(crate::specs::CallWriting::own_data), using(crate::proofs::CallReturning::offer_again, crate::proofs::CallReturning::own_fulfil_again, crate::proofs::CallReturning::own_fail_again, crate::proofs::CallReturning::own_fee_again))]
 pub fn write_own(alloc: Global, channel: u64, update: &OwnUpdate) -> Result<Value, AllocError>
     ensures form { IfOk result (λ v. view v ≡ own_data channel update.now) }
-    ensures back { IfOk result (λ _. call_of (own_data channel update.now) ≡ Some (Step channel (Own update.now))) }
+    ensures back { IfOk result (λ _. call_of (own_data channel update.now) ≡ Some
+        (Step channel (Own update.now))) }
 {
     match update {
         OwnUpdate::Offer {
@@ -207,7 +212,8 @@ pub fn write_own(alloc: Global, channel: u64, update: &OwnUpdate) -> Result<Valu
 #[tactic(auto, unfolding(crate::specs::CallWriting::receive_data), using(crate::proofs::CallReturning::receive_again))]
 pub fn write_receive(alloc: Global, channel: u64, message: Value) -> Result<Value, AllocError>
     ensures form { IfOk result (λ v. view v ≡ receive_data channel (view message)) }
-    ensures back { IfOk result (λ _. (m : PlainReceived) → received_of (view message) ≡ Some m → call_of (receive_data channel (view message)) ≡ Some (Step channel (Receive m))) }
+    ensures back { IfOk result (λ _. (m : PlainReceived) → received_of (view message) ≡ Some m
+        → call_of (receive_data channel (view message)) ≡ Some (Step channel (Receive m))) }
 {
     let call = step(alloc, channel, "receive")?.value(message)?;
     Ok(call.finish())
@@ -230,7 +236,8 @@ pub fn write_revoke(
     revocation: &PlainRevocation,
 ) -> Result<Value, AllocError>
     ensures form { IfOk result (λ v. view v ≡ revoke_data channel revocation.now) }
-    ensures back { IfOk result (λ _. call_of (revoke_data channel revocation.now) ≡ Some (Revoke channel revocation.now)) }
+    ensures back { IfOk result (λ _. call_of (revoke_data channel revocation.now) ≡ Some
+        (Revoke channel revocation.now)) }
 {
     let call = call(alloc, "revoke", channel)?.item(revocation)?;
     Ok(call.finish())
@@ -245,7 +252,8 @@ pub fn write_keep(
     claims: &[Claim],
 ) -> Result<Value, AllocError>
     ensures form { IfOk result (λ v. view v ≡ keep_data channel number claims.now) }
-    ensures back { IfOk result (λ _. call_of (keep_data channel number claims.now) ≡ Some (Keep channel number (map plain_claim claims.now))) }
+    ensures back { IfOk result (λ _. call_of (keep_data channel number claims.now) ≡ Some
+        (Keep channel number (map plain_claim claims.now))) }
 {
     let call = call(alloc, "keep", channel)?.item(&number)?.each(claims)?;
     Ok(call.finish())
@@ -260,9 +268,11 @@ pub fn write_release(
     outputs: &[TxOut],
     preimages: &[[u8; 32]],
 ) -> Result<Value, AllocError>
-    ensures form { IfOk result (λ v. view v ≡ release_data channel claims.now outputs.now preimages.now) }
+    ensures form { IfOk result (λ v. view v
+        ≡ release_data channel claims.now outputs.now preimages.now) }
     ensures back { IfOk result (λ _. are_within (length claims.now) (length outputs.now) ≡ true
-        → call_of (release_data channel claims.now outputs.now preimages.now) ≡ Some (Release channel (map plain_claim claims.now) outputs.now preimages.now)) }
+        → call_of (release_data channel claims.now outputs.now preimages.now) ≡ Some
+        (Release channel (map plain_claim claims.now) outputs.now preimages.now)) }
 {
     let call = call(alloc, "release", channel)?
         .each(claims)?
@@ -275,7 +285,8 @@ pub fn write_release(
 #[tactic(auto, unfolding(crate::specs::CallWriting::entry_data), using(crate::proofs::CallReturning::entry_again))]
 pub fn write_entry(alloc: Global, call: Value, seat: u32) -> Result<Value, AllocError>
     ensures form { IfOk result (λ v. view v ≡ entry_data (view call) seat) }
-    ensures back { IfOk result (λ _. (c : PlainCall) → call_of (view call) ≡ Some c → entry_of (entry_data (view call) seat) ≡ Some (record { call = c; seat = seat })) }
+    ensures back { IfOk result (λ _. (c : PlainCall) → call_of (view call) ≡ Some c
+        → entry_of (entry_data (view call) seat) ≡ Some (record { call = c; seat = seat })) }
 {
     let entry = ObjectWriter::new(alloc)
         .value("call", call)?
@@ -287,7 +298,9 @@ pub fn write_entry(alloc: Global, call: Value, seat: u32) -> Result<Value, Alloc
 #[tactic(auto, unfolding(crate::specs::CallWriting::dump_data), using(crate::proofs::CallReturning::dumps_come_back))]
 pub fn write_dump(alloc: Global, entries: Vec<Value>) -> Result<Value, AllocError>
     ensures form { IfOk result (λ v. view v ≡ dump_data (map view entries.items)) }
-    ensures back { IfOk result (λ _. (history : List PlainEntry) → each_of entry_of (items_view entries.items) ≡ Some history → dump_of (dump_data (map view entries.items)) ≡ Some (record { history = history })) }
+    ensures back { IfOk result (λ _. (history : List PlainEntry)
+        → each_of entry_of (items_view entries.items) ≡ Some history
+        → dump_of (dump_data (map view entries.items)) ≡ Some (record { history = history })) }
 {
     let dump = ObjectWriter::new(alloc)
         .value("history", Value::Array(entries))?

@@ -57,7 +57,8 @@ impl ArrayWriter {
 
     /// With an array of these at its end.
     pub(crate) fn each<T: WriteValue>(self, items: &[T]) -> Result<Self, AllocError>
-        ensures form { IfOk result (λ w. items_in w ≡ items_in self ++ array (items_of (map T.writes items.now)) ∷ []) }
+        ensures form { IfOk result (λ w. items_in w ≡ items_in self ++ array
+            (items_of (map T.writes items.now)) ∷ []) }
         ensures back { IfOk result (λ _. AllByRecursion T.comes_back items.now) }
     {
         let value = write_each(self.alloc, items)?;
@@ -100,7 +101,8 @@ impl ObjectWriter {
 
     /// With the form of this under a name.
     pub(crate) fn member<T: WriteValue>(self, name: &str, member: &T) -> Result<Self, AllocError>
-        ensures form { IfOk result (λ w. members_in w ≡ put name.now (T.writes member.now) (members_in self)) }
+        ensures form { IfOk result (λ w. members_in w ≡ put name.now (T.writes member.now)
+            (members_in self)) }
         ensures back { IfOk result (λ _. T.comes_back member.now) }
     {
         let value = member.write_value(self.alloc)?;
@@ -109,7 +111,8 @@ impl ObjectWriter {
 
     /// With these bytes under a name.
     pub(crate) fn bytes(self, name: &str, bytes: &[u8]) -> Result<Self, AllocError>
-        ensures form { IfOk result (λ w. members_in w ≡ put name.now (bytes_data bytes.now) (members_in self)) }
+        ensures form { IfOk result (λ w. members_in w ≡ put name.now (bytes_data bytes.now)
+            (members_in self)) }
         ensures back { IfOk result (λ _. bytes_of (bytes_data bytes.now) ≡ Some bytes.now) }
     {
         let value = write_bytes(self.alloc, bytes)?;
@@ -118,7 +121,8 @@ impl ObjectWriter {
 
     /// With an array of these under a name.
     pub(crate) fn each<T: WriteValue>(self, name: &str, items: &[T]) -> Result<Self, AllocError>
-        ensures form { IfOk result (λ w. members_in w ≡ put name.now (array (items_of (map T.writes items.now))) (members_in self)) }
+        ensures form { IfOk result (λ w. members_in w ≡ put name.now
+            (array (items_of (map T.writes items.now))) (members_in self)) }
         ensures back { IfOk result (λ _. AllByRecursion T.comes_back items.now) }
     {
         let value = write_each(self.alloc, items)?;

@@ -45,7 +45,8 @@ pub(crate) fn hexadecimal(alloc: Global, bytes: &[u8]) -> Result<String, AllocEr
 pub fn write_bytes(alloc: Global, bytes: &[u8]) -> Result<Value, AllocError>
     ensures form { IfOk result (λ v. view v ≡ bytes_data bytes.now) }
     ensures back { IfOk result (λ _. bytes_of (bytes_data bytes.now) ≡ Some bytes.now) }
-    ensures sized { IfOk result (λ _. bytes_of_len (length bytes.now) (bytes_data bytes.now) ≡ Some bytes.now) }
+    ensures sized { IfOk result (λ _. bytes_of_len (length bytes.now)
+        (bytes_data bytes.now) ≡ Some bytes.now) }
 {
     Ok(Value::String(hexadecimal(alloc, bytes)?))
 }
