@@ -1,0 +1,186 @@
+-- Where outputs can go.
+use Rattle.std.proofs.Common.{◌≡◌, ℕ, zero, suc, ◌+◌, ◌<◌, ◌≤◌, Bool, true, false, List, [], ◌∷◌, ◌++◌, map, length, Some, None, sym, ap, ◌∙◌, refl, subst, inl, inr, ⊎_elim, arith}
+use Rattle.std.specs.Prelude.{◌⊎◌, ◌&&◌, ◌||◌, ◌==◌, nat_lt, nat_le, slice_get, slice_index_or}
+use Rattle.std.specs.List.{Contains, Any, All, cons_option, list_all}
+use Rattle.std.proofs.lemmas.Bool.{false≢true, ltb-true, lt-leb}
+use Rattle.std.proofs.lemmas.List.Elements.{All-nil, All-cons, All-append, All-head, All-tail, All-contains}
+use Rattle.script.specs.Limits.{locktime_threshold}
+use Rattle.tx.specs.declared.input.OutPoint.{OutPoint}
+use Rattle.tx.specs.declared.input.TxIn.{TxIn}
+use Rattle.tx.specs.Fields.{Transaction, unsigned_inputs, unsigned_transaction}
+use Rattle.tx.specs.Spelling.{transaction_id}
+use Rattle.tx.proofs.Witnesses.{same_id}
+use Rattle.terms.specs.declared.htlcs.Htlc.{Htlc}
+use Rattle.chain.specs.Blocks.{Coin}
+use Rattle.chain.specs.Indexing.{marked}
+use Rattle.chain.specs.Locks.{is_final}
+use Rattle.chain.specs.Tests.{coin_refusal}
+use Rattle.claim.specs.declared.parts.Place.{Place}
+use Rattle.commit.specs.declared.fees.Direction.{Direction}
+use Rattle.commit.specs.declared.fees.Direction.TheVariants.{Offered, Received}
+use Rattle.commit.specs.declared.outputs.OutputKind.{OutputKind}
+use Rattle.commit.specs.declared.outputs.OutputKind.TheVariants.{ToLocal, ToRemote, ToHtlc}
+use Rattle.commit.specs.declared.outputs.CommitmentOutput.{CommitmentOutput}
+use Rattle.commit.specs.declared.outputs.HtlcOutput.{HtlcOutput}
+use Rattle.commit.specs.Commitments.{Contents, htlcs_of, htlcs_from, htlc_at, lock_time_of, second_stage_of, second_stage_output}
+use Rattle.commit.specs.Signing.{htlc_digest}
+use Rattle.penalty.specs.declared.states.RevokedState.{RevokedState}
+use Rattle.penalty.specs.Outputs.{IsOutput, HasHeight}
+use Rattle.penalty.specs.Claimable.{Claimable, commitment_in, claimable_of}
+use Rattle.penalty.specs.Covering.{IsClaimedAt}
+use Rattle.penalty.proofs.Covering.{each_second_stage}
+use Rattle.penalty.proofs.Second.{transaction_at, first_output}
+use Rattle.safety.specs.Signing.{Signed, IsSignable, AreSame, ListsCollide}
+use Rattle.safety.specs.Spending.{spend_on, Takes}
+use Rattle.safety.specs.Taking.{IsTaken, as_signed, by_owner, by_twin, by_collision}
+use Rattle.safety.specs.Fates.{htlc_signed, SignedWithCommitment, signed_by_peer, IsHtlcTransaction, Fate, by_htlc_transaction, by_peer, NothingEscapes, NothingEscapesOnChains}
+use Rattle.safety.specs.Fates.{by_owner as fated_by_owner, by_twin as fated_by_twin, by_collision as fated_by_collision}
+use Rattle.safety.proofs.Slots.{any_first, any_none, contains_first, contains_later}
+use Rattle.safety.proofs.Claimed.{outputs_in}
+use Rattle.safety.proofs.Limits.{htlcs_signable}
+use Rattle.safety.proofs.OnChain.{passed}
+use Rattle.safety.proofs.Passed.{inputs_have_passed}
+use Rattle.safety.proofs.Taken.{only_as_signed}
+
+pub signed_with_commitment : SignedWithCommitment
+unfolding htlc_digest
+signed_with_commitment c h = refl
+
+-- ---- one of two lists, and one of what a function makes of a list
+
+any_append : {X : Type 0} (P : X → Type 0) (xs ys : List X) → Any P (xs ++ ys) → Any P xs ⊎ Any P ys
+any_append P [] ys a = inr a
+any_append {X} P (x ∷ xs) ys a =
+    ⊎_elim (λ (p : P x). inl (0, x, omega arith, refl, p))
+    (λ (b : Any P (xs ++ ys)). ⊎_elim (λ (c : Any P xs). inl (suc c.0, c.1, (let l = c.2 in omega (arith, l)), c.3, c.4)) (λ (c : Any P ys). inr c) (any_append P xs ys b))
+    (any_first P x (xs ++ ys) a)
+
+any_map : {X Y : Type 0} (P : Y → Type 0) (f : X → Y) (xs : List X) → Any P (map f xs) → (x : X) × Contains xs x × P (f x)
+any_map P f [] a = absurd (any_none P a)
+any_map {X} {Y} P f (x ∷ xs) a =
+    ⊎_elim {C = (x' : X) × Contains (x ∷ xs) x' × P (f x')} (λ (p : P (f x)). (x, contains_first x xs, p))
+    (λ (b : Any P (map f xs)). let r = any_map P f xs b in (r.0, contains_later x xs r.0 r.1, r.2))
+    (any_first P (f x) (map f xs) a)
+
+got : {X : Type 0} (xs : List X) (x : X) (k : ℕ) → k < length xs → slice_index_or xs k x ≡ x → slice_get xs k ≡ Some x
+got [] x k l e = absurd (omega (arith, l))
+got (y ∷ ys) x zero l e = ap Some e
+got (y ∷ ys) x (suc k) l e = got ys x k (omega (arith, l)) e
+
+-- ---- the lock time of an HTLC transaction
+
+-- an HTLC expires at a height
+abbrev ExpiresLow : HtlcOutput → Type 0
+ExpiresLow h = h.htlc.expiry < locktime_threshold
+
+expire_low : (c : Contents) (index : ℕ) (os : List CommitmentOutput) → All (λ o. IsOutput c.delay c.keys o) os → All ExpiresLow (htlcs_from index os)
+unfolding htlcs_from
+expire_low c index [] a = All-nil ExpiresLow
+expire_low c index (o ∷ os) a =
+    let first : IsOutput c.delay c.keys o = All-head (λ o. IsOutput c.delay c.keys o) o os a in
+    by o.kind first.height (expire_low c (index + 1) os (All-tail (λ o. IsOutput c.delay c.keys o) o os a))
+  where
+    by : (kind : OutputKind) → HasHeight kind → All ExpiresLow (htlcs_from (index + 1) os) → All ExpiresLow (cons_option (htlc_at index kind) (htlcs_from (index + 1) os))
+    by ToLocal h rest = rest
+    by ToRemote h rest = rest
+    by (ToHtlc direction htlc) h rest = All-cons ExpiresLow (record { index = index; direction = direction; htlc = htlc }) (htlcs_from (index + 1) os) h rest
+
+low_lock : (direction : Direction) (h : Htlc) → h.expiry < locktime_threshold → lock_time_of direction h < locktime_threshold
+low_lock Offered h l = l
+low_lock Received h l = omega arith
+
+-- the sequence of the first input
+abbrev first_sequence : List TxIn → ℕ
+first_sequence [] = 1
+first_sequence (i ∷ is) = i.sequence
+
+-- an input of sequence 0 is not final
+not_final : (inputs : List TxIn) (o : OutPoint) → unsigned_inputs inputs ≡ record { outpoint = o; sequence = 0; witness = [] } ∷ [] → list_all (λ i. i.sequence == 0xffffffff) inputs ≡ false
+not_final [] o e = absurd (omega (arith, ap first_sequence e))
+not_final (i ∷ is) o e = let s : i.sequence ≡ 0 = ap first_sequence e in rw s refl
+
+-- a lock time that is a height is below the block's
+lock_reached : (height lock_time : ℕ) (inputs : List TxIn) → lock_time < locktime_threshold → list_all (λ i. i.sequence == 0xffffffff) inputs ≡ false → is_final height lock_time inputs ≡ true → lock_time < height
+lock_reached height lock_time inputs l f e =
+    ltb-true lock_time height
+    (by (nat_lt lock_time locktime_threshold) (nat_lt lock_time height) (nat_le locktime_threshold lock_time) (nat_le lock_time 0x20ffffff) (list_all (λ i. i.sequence == 0xffffffff) inputs)
+    (lt-leb locktime_threshold lock_time l) f e)
+  where
+    by : (a b c d g : Bool) → c ≡ false → g ≡ false → ((a && b) || (c && d) || g) ≡ true → b ≡ true
+    by a b true d g h i e = absurd (false≢true (sym h))
+    by a b false d true h i e = absurd (false≢true (sym i))
+    by true true false d false h i e = refl
+    by true false false d false h i e = absurd (false≢true e)
+    by false b false d false h i e = absurd (false≢true e)
+
+-- ---- an HTLC transaction
+
+bare_second : (c : Contents) (h : HtlcOutput) → unsigned_transaction (second_stage_of c h) ≡ second_stage_of c h
+unfolding second_stage_of
+bare_second c h = refl
+
+second_outputs : (c : Contents) (h : HtlcOutput) → (second_stage_of c h).outputs ≡ second_stage_output c h ∷ []
+unfolding second_stage_of
+second_outputs c h = refl
+
+second_final : (c : Contents) (h : HtlcOutput) (t : Transaction) → h.htlc.expiry < locktime_threshold → unsigned_transaction t ≡ second_stage_of c h → (height : ℕ) → is_final height t.lock_time t.inputs ≡ true
+    → lock_time_of h.direction h.htlc < height
+unfolding second_stage_of
+second_final c h t l e height final =
+    let lock : t.lock_time ≡ lock_time_of h.direction h.htlc = ap (λ (u : Transaction). u.lock_time) e in
+    let low = low_lock h.direction h.htlc l in
+    let reached = lock_reached height t.lock_time t.inputs (omega (arith, lock, low)) (not_final t.inputs _ (ap (λ (u : Transaction). u.inputs) e)) final in
+    omega (arith, lock, reached)
+
+is_htlc_transaction : (state : RevokedState) (o : Claimable) (height : ℕ) (t : Transaction) (input : TxIn) (h : HtlcOutput) → Contains (htlcs_of (commitment_in state)) h
+    → AreSame (spend_on o t input) (htlc_signed (commitment_in state) h) → is_final height t.lock_time t.inputs ≡ true → IsHtlcTransaction state height t input
+is_htlc_transaction state o height t input h (k, l, i) s final =
+    let c = commitment_in state in
+    let out = second_stage_output c h in
+    let e : unsigned_transaction t ≡ second_stage_of c h = s.transaction ∙ bare_second c h in
+    let low = All-contains ExpiresLow (htlcs_of c) h (expire_low c 0 c.outputs (outputs_in state)) (k, l, i) in
+    let id : transaction_id (second_stage_of c h) ≡ transaction_id t = sym (same_id t (second_stage_of c h) s.transaction) in
+    let claimed = each_second_stage state k (second_stage_of c h) out (transaction_at c k h (got (htlcs_of c) h k l i)) (first_output c h (second_stage_of c h) refl) in
+    record {
+      htlc = h;
+      among = (k, l, i);
+      at = ap (λ (x : TxIn). x.outpoint) s.input;
+      same = e;
+      reached = second_final c h t low e height final;
+      output = out;
+      alone = ap (λ (u : Transaction). u.outputs) e ∙ second_outputs c h;
+      again = subst (λ (p : Place). IsClaimedAt (claimable_of state) p) (ap (λ (x : List ℕ). record { outpoint = record { txid = x; index = 0 }; value = out.value; program = out.script }) id) claimed;
+    }
+
+-- ---- each fate
+
+fated : (state : RevokedState) (o : Claimable) (since height : ℕ) (t : Transaction) (input : TxIn) (own : List Signed) → is_final height t.lock_time t.inputs ≡ true
+    → IsTaken state o since height t input (signed_by_peer (commitment_in state) own) → Fate state o since height t input own
+fated state o since height t input own final (by_owner b) = fated_by_owner b
+fated state o since height t input own final (by_twin w) = fated_by_twin w
+fated state o since height t input own final (by_collision a) = fated_by_collision a
+fated state o since height t input own final (as_signed a) =
+    ⊎_elim of_htlc by_peer (any_append (AreSame (spend_on o t input)) (map (htlc_signed (commitment_in state)) (htlcs_of (commitment_in state))) own a)
+  where
+    of_htlc : Any (AreSame (spend_on o t input)) (map (htlc_signed (commitment_in state)) (htlcs_of (commitment_in state))) → Fate state o since height t input own
+    of_htlc b =
+        let r = any_map (AreSame (spend_on o t input)) (htlc_signed (commitment_in state)) (htlcs_of (commitment_in state)) b in
+        by_htlc_transaction (is_htlc_transaction state o height t input r.0 r.1 r.2 final)
+
+pub nothing_escapes : NothingEscapes
+nothing_escapes state short o height t input coin k own all w =
+    fated state o coin.height height t input own (passed height t input coin k.passes).final
+    (only_as_signed state short o height t input coin k (signed_by_peer (commitment_in state) own)
+    (All-append IsSignable (map (htlc_signed (commitment_in state)) (htlcs_of (commitment_in state))) own (htlcs_signable state) all) w)
+
+-- ---- on a chain
+
+coin_is : {X : Type 0} (x y : X) → Some x ≡ Some y → x ≡ y
+coin_is x y e = cc
+
+pub nothing_escapes_on_chains : NothingEscapesOnChains
+nothing_escapes_on_chains state short o among blocks tested height t stands input i coin at output =
+    let p = inputs_have_passed blocks tested height t stands input i in
+    let same = coin_is p.0 coin (sym p.1 ∙ at) in
+    nothing_escapes state short o height t input (record { output = coin.output; height = coin.height; spent = false })
+    (record { claimable = among; output = output; passes = subst (λ (x : Coin). coin_refusal height t input (Some (marked false x)) ≡ None) same p.2 })

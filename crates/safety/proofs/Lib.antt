@@ -1,0 +1,14 @@
+pub mod Slots
+pub mod Opened
+pub mod Spelt
+pub mod Ran
+pub mod Spent
+pub mod Claimed
+pub mod OnChain
+pub mod Signing
+pub mod Owning
+pub mod Limits
+pub mod Passed
+pub mod Taken
+pub mod Fates
+pub mod Examples

@@ -1,0 +1,114 @@
+-- Who opens the forms: by the listing of their paths.
+use Rattle.std.proofs.Common.{◌≡◌, ℕ, zero, suc, ◌<◌, Bool, true, false, List, [], ◌∷◌, length, reverse, sym, refl, subst, inl, inr, arith}
+use Rattle.std.specs.Prelude.{◌&&◌, ◌||◌, ◌==◌}
+use Rattle.std.specs.List.{Any}
+use Rattle.std.specs.Str.{bytes_eq}
+use Rattle.std.proofs.lemmas.Bool.{false≢true, eqb-true}
+use Rattle.digest.specs.Hash.{hash160}
+use Rattle.script.specs.declared.spending.Spend.{Spend}
+use Rattle.script.specs.Token.{token_of, assigned}
+use Rattle.facts.specs.Meaning.{slot_of}
+use Rattle.paths.specs.Exhaustive.{OpensBy}
+use Rattle.paths.proofs.ForcedWalk.{listing-exhaustive}
+use Rattle.terms.specs.Scripts.{to_local, key_hash, offered, received}
+use Rattle.forms.specs.Ways.{to_local_ways, key_hash_ways, offered_ways, received_ways}
+use Rattle.forms.proofs.Forms.{key_length}
+use Rattle.forms.proofs.Listed.{to_local-listed, key_hash-listed, offered-listed, received-listed}
+use Rattle.safety.specs.Opening.{HasToken, HasKeyOf, HasPreimage, OpensToLocal, ToLocalOpens, KeyHashOpens, OpensOffered, OfferedOpens, OpensReceived, ReceivedOpens}
+use Rattle.safety.proofs.Slots.{slot_contained, same_bytes, slot_token}
+
+pub to_local_opens : ToLocalOpens
+to_local_opens revocation delay delayed h k l spend witness counted height e =
+    opened (listing-exhaustive (to_local revocation delay delayed) (to_local_ways revocation delay delayed)
+    (to_local-listed revocation delay delayed h k l (key_length revocation k) (key_length delayed l)) spend witness counted height e)
+  where
+    opened : Any (OpensBy spend witness counted height) (to_local_ways revocation delay delayed) → OpensToLocal revocation delay delayed spend witness
+    opened (zero, y, i, f, p) =
+        let o = subst (OpensBy spend witness counted height) (sym f) p in
+        inl (slot_token spend witness 1 revocation (omega (arith, o.meets.exact)) o.meets.holds.1.1.0)
+    opened (suc zero, y, i, f, p) =
+        let o = subst (OpensBy spend witness counted height) (sym f) p in
+        inr (slot_token spend witness 1 delayed (omega (arith, o.meets.exact)) o.meets.holds.1.1.1.0, o.meets.holds.1.0)
+    opened (suc (suc n), y, i, f, p) = absurd (omega (arith, i))
+
+-- a key in a slot, of a hash, whose token is in another slot
+key_in : (spend : Spend) (witness : List (List ℕ)) (hash : List ℕ) → length witness ≡ 2 → bytes_eq (hash160 (slot_of (reverse witness) 0)) hash ≡ true
+    → bytes_eq (slot_of (reverse witness) 1) (token_of (slot_of (reverse witness) 0) spend.digest) ≡ true → HasKeyOf spend witness hash
+key_in spend witness hash n e f = record {
+  key = slot_of (reverse witness) 0;
+  given = slot_contained witness 0 (omega (arith, n));
+  hashed = same_bytes (hash160 (slot_of (reverse witness) 0)) hash e;
+  token = slot_token spend witness 1 (slot_of (reverse witness) 0) (omega (arith, n)) f;
+}
+
+-- a preimage in a slot
+preimage_in : (witness : List (List ℕ)) (hash : List ℕ) → 0 < length witness → (length (slot_of (reverse witness) 0) == 32) ≡ true → bytes_eq (hash160 (slot_of (reverse witness) 0)) hash ≡ true → HasPreimage witness hash
+preimage_in witness hash n s e = record {
+  preimage = slot_of (reverse witness) 0;
+  given = slot_contained witness 0 n;
+  size = eqb-true (length (slot_of (reverse witness) 0)) 32 s;
+  hashed = same_bytes (hash160 (slot_of (reverse witness) 0)) hash e;
+}
+
+pub key_hash_opens : KeyHashOpens
+key_hash_opens hash n spend witness counted height e = opened (listing-exhaustive (key_hash hash) (key_hash_ways hash) (key_hash-listed hash n) spend witness counted height e)
+  where
+    opened : Any (OpensBy spend witness counted height) (key_hash_ways hash) → HasKeyOf spend witness hash
+    opened (zero, y, i, f, p) =
+        let o = subst (OpensBy spend witness counted height) (sym f) p in
+        key_in spend witness hash o.meets.exact o.meets.holds.0 o.meets.holds.1.1.1.0
+    opened (suc n, y, i, f, p) = absurd (omega (arith, i))
+
+-- two tokens of two keys, in the order of the keys
+both_assigned : (s t k l digest : List ℕ) → assigned (s ∷ t ∷ []) (k ∷ l ∷ []) digest ≡ true → (bytes_eq s (token_of k digest) ≡ true) × (bytes_eq t (token_of l digest) ≡ true)
+both_assigned s t k l digest e = by (bytes_eq s (token_of k digest)) (bytes_eq t (token_of l digest)) (bytes_eq s (token_of l digest)) e
+  where
+    by : (a b c : Bool) → ((a && ((b && true) || false)) || ((c && false) || false)) ≡ true → (a ≡ true) × (b ≡ true)
+    by true true c e = (refl, refl)
+    by true false true e = absurd (false≢true e)
+    by true false false e = absurd (false≢true e)
+    by false b true e = absurd (false≢true e)
+    by false b false e = absurd (false≢true e)
+
+-- the tokens of both keys, in their slots
+both_tokens : (spend : Spend) (witness : List (List ℕ)) (remote local : List ℕ) → length witness ≡ 4
+    → assigned (slot_of (reverse witness) 2 ∷ slot_of (reverse witness) 1 ∷ []) (remote ∷ local ∷ []) spend.digest ≡ true → HasToken spend witness remote × HasToken spend witness local
+both_tokens spend witness remote local n e =
+    let b = both_assigned (slot_of (reverse witness) 2) (slot_of (reverse witness) 1) remote local spend.digest e in
+    (slot_token spend witness 2 remote (omega (arith, n)) b.0, slot_token spend witness 1 local (omega (arith, n)) b.1)
+
+pub offered_opens : OfferedOpens
+offered_opens revocation_hash remote local payment_hash m n k l spend witness counted height e =
+    opened (listing-exhaustive (offered revocation_hash remote local payment_hash) (offered_ways revocation_hash remote local payment_hash)
+    (offered-listed revocation_hash remote local payment_hash k l (key_length remote k) (key_length local l) m n) spend witness counted height e)
+  where
+    opened : Any (OpensBy spend witness counted height) (offered_ways revocation_hash remote local payment_hash) → OpensOffered revocation_hash remote local payment_hash spend witness
+    opened (zero, y, i, f, p) =
+        let o = subst (OpensBy spend witness counted height) (sym f) p in
+        inl (key_in spend witness revocation_hash o.meets.exact o.meets.holds.0 o.meets.holds.1.1.1.0)
+    opened (suc zero, y, i, f, p) =
+        let o = subst (OpensBy spend witness counted height) (sym f) p in
+        let b = both_tokens spend witness remote local o.meets.exact o.meets.holds.1.1.1.1.1.0 in
+        inr (b.0, inl b.1)
+    opened (suc (suc zero), y, i, f, p) =
+        let o = subst (OpensBy spend witness counted height) (sym f) p in
+        inr (slot_token spend witness 1 remote (omega (arith, o.meets.exact)) o.meets.holds.1.1.1.1.0, inr (preimage_in witness payment_hash (omega (arith, o.meets.exact)) o.meets.holds.1.0 o.meets.holds.1.1.0))
+    opened (suc (suc (suc j)), y, i, f, p) = absurd (omega (arith, i))
+
+pub received_opens : ReceivedOpens
+received_opens revocation_hash remote local payment_hash expiry h m n k l spend witness counted height e =
+    opened (listing-exhaustive (received revocation_hash remote local payment_hash expiry) (received_ways revocation_hash remote local payment_hash expiry)
+    (received-listed revocation_hash remote local payment_hash expiry h k l (key_length remote k) (key_length local l) m n) spend witness counted height e)
+  where
+    opened : Any (OpensBy spend witness counted height) (received_ways revocation_hash remote local payment_hash expiry) → OpensReceived revocation_hash remote local payment_hash expiry spend witness
+    opened (zero, y, i, f, p) =
+        let o = subst (OpensBy spend witness counted height) (sym f) p in
+        inl (key_in spend witness revocation_hash o.meets.exact o.meets.holds.0 o.meets.holds.1.1.1.0)
+    opened (suc zero, y, i, f, p) =
+        let o = subst (OpensBy spend witness counted height) (sym f) p in
+        let b = both_tokens spend witness remote local o.meets.exact o.meets.holds.1.1.1.1.1.1.0 in
+        inr (b.0, inl (b.1, preimage_in witness payment_hash (omega (arith, o.meets.exact)) o.meets.holds.1.0 o.meets.holds.1.1.0))
+    opened (suc (suc zero), y, i, f, p) =
+        let o = subst (OpensBy spend witness counted height) (sym f) p in
+        inr (slot_token spend witness 1 remote (omega (arith, o.meets.exact)) o.meets.holds.1.1.1.1.0, inr o.meets.holds.1.1.0)
+    opened (suc (suc (suc j)), y, i, f, p) = absurd (omega (arith, i))

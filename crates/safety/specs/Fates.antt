@@ -1,0 +1,86 @@
+-- Where the outputs that a revoked commitment lets the owner's peer claim can go, by what the peer signed.
+use Rattle.std.specs.Prelude.{◌≡◌, ℕ, ◌<◌, true, List, [], ◌∷◌, ◌++◌, map, Some}
+use Rattle.std.specs.List.{Contains, Any, All}
+use Rattle.tx.specs.declared.input.TxIn.{TxIn}
+use Rattle.tx.specs.Parts.{Output}
+use Rattle.tx.specs.Fields.{Transaction, unsigned_transaction}
+use Rattle.chain.specs.Blocks.{Contents as Block, Coin, coin_at}
+use Rattle.chain.specs.Tested.{is_tested}
+use Rattle.claim.specs.Fitting.{output_at}
+use Rattle.commit.specs.declared.outputs.HtlcOutput.{HtlcOutput}
+use Rattle.commit.specs.Fees.{satoshis_of}
+use Rattle.commit.specs.Outputs.{htlc_script}
+use Rattle.commit.specs.Commitments.{Contents, id_of, htlcs_of, second_stage_of, lock_time_of}
+use Rattle.commit.specs.Signing.{input_of, htlc_digest}
+use Rattle.penalty.specs.declared.states.RevokedState.{RevokedState}
+use Rattle.penalty.specs.Claimable.{Claimable, place_in, commitment_in, claimable_of}
+use Rattle.penalty.specs.Covering.{IsClaimedAt}
+use Rattle.safety.specs.Signing.{Signed, IsSignable, digest_of, AreSame, ListsCollide}
+use Rattle.safety.specs.Spending.{spend_on, ShowsTwin, IsOwners, HasShortDelay, IsLate, Takes}
+use Rattle.safety.specs.Taking.{IsAsSigned}
+use Rattle.safety.specs.Standing.{StandsAt}
+
+-- an HTLC transaction, as the peer signs it with the commitment (BOLT 2, `commitment_signed`)
+abbrev pub htlc_signed : Contents → HtlcOutput → Signed
+htlc_signed c h = record {
+  transaction = second_stage_of c h;
+  input = input_of (record { txid = id_of c; index = h.index }) 0;
+  code = htlc_script c.keys h.direction h.htlc;
+  value = satoshis_of h.htlc.amount;
+}
+
+-- its digest is the one that the peer's token in `commitment_signed` is over
+abbrev pub SignedWithCommitment : Type 0
+SignedWithCommitment = (c : Contents) (h : HtlcOutput) → htlc_digest c h ≡ digest_of (htlc_signed c h)
+
+-- what the peer signed: the HTLC transactions, with the commitment, and inputs of its own
+abbrev pub signed_by_peer : Contents → List Signed → List Signed
+signed_by_peer c own = map (htlc_signed c) (htlcs_of c) ++ own
+
+-- the input is of the HTLC transaction of the HTLC at the outpoint that it names, whatever its witness. HTLC-timeout stands above the expiry of the HTLC, which
+-- the owner offered (BIP 65); and the only output is one that the peer can claim again
+pub record IsHtlcTransaction (state : RevokedState) (height : ℕ) (t : Transaction) (input : TxIn) : Type 0 where
+  pub htlc : HtlcOutput
+  pub among : Contains (htlcs_of (commitment_in state)) htlc
+  pub at : input.outpoint ≡ record { txid = id_of (commitment_in state); index = htlc.index }
+  pub same : unsigned_transaction t ≡ second_stage_of (commitment_in state) htlc
+  pub reached : lock_time_of htlc.direction htlc.htlc < height
+  pub output : Output
+  pub alone : t.outputs ≡ output ∷ []
+  pub again : IsClaimedAt (claimable_of state) (place_in t 0 output)
+
+-- what such an input is: of an HTLC transaction; one of the peer's own, whatever its witness; the owner's after the delay; or a collision
+pub data Fate (state : RevokedState) (o : Claimable) (since height : ℕ) (t : Transaction) (input : TxIn) (own : List Signed) : Type 0 where
+  by_htlc_transaction : IsHtlcTransaction state height t input → Fate state o since height t input own
+  by_peer : Any (AreSame (spend_on o t input)) own → Fate state o since height t input own
+  by_owner : IsOwners (IsLate state since height) (commitment_in state) o t input → Fate state o since height t input own
+  by_twin : ShowsTwin (commitment_in state) o input → Fate state o since height t input own
+  by_collision : Any (ListsCollide (spend_on o t input)) (signed_by_peer (commitment_in state) own) → Fate state o since height t input own
+
+-- it has a fate, whatever the peer signed of its own, where each signature of the peer's in it is over one that the peer signed
+abbrev pub HasFate : RevokedState → Claimable → (since height : ℕ) → Transaction → TxIn → Type 0
+HasFate state o since height t input =
+    (own : List Signed) → All IsSignable own → IsAsSigned (commitment_in state).keys (signed_by_peer (commitment_in state) own) (spend_on o t input)
+    → Fate state o since height t input own
+
+-- of any coin that is one of the outputs that a revoked state lets the peer claim
+abbrev pub NothingEscapes : Type 0
+NothingEscapes =
+    (state : RevokedState) → HasShortDelay state
+    → (o : Claimable) (height : ℕ) (t : Transaction) (input : TxIn) (coin : Coin) → Takes state o height t input coin
+    → HasFate state o coin.height height t input
+
+-- of any transaction that a block of this height may hold above these blocks
+abbrev pub NothingEscapesAbove : List Block → ℕ → RevokedState → Type 0
+NothingEscapesAbove blocks height state =
+    (o : Claimable) (t : Transaction) (input : TxIn) (coin : Coin) → coin_at blocks input.outpoint ≡ Some coin → Takes state o height t input coin
+    → HasFate state o coin.height height t input
+
+-- of each transaction on a chain that passed its tests, by the coin that its input names
+abbrev pub NothingEscapesOnChains : Type 0
+NothingEscapesOnChains =
+    (state : RevokedState) → HasShortDelay state → (o : Claimable) → Contains (claimable_of state) o
+    → (blocks : List Block) → is_tested blocks ≡ true
+    → (height : ℕ) (t : Transaction) → StandsAt blocks height t → (input : TxIn) → Contains t.inputs input
+    → (coin : Coin) → coin_at blocks input.outpoint ≡ Some coin → coin.output ≡ output_at o.place
+    → HasFate state o coin.height height t input

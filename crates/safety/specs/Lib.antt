@@ -1,0 +1,7 @@
+pub mod Opening
+pub mod Signing
+pub mod Spending
+pub mod Owning
+pub mod Standing
+pub mod Taking
+pub mod Fates

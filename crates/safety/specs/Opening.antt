@@ -1,0 +1,68 @@
+-- What a witness has that runs clean on a script of BOLT 3 ("Commitment Transaction Outputs").
+use Rattle.std.specs.Prelude.{◌≡◌, ◌⊎◌, ℕ, ◌^◌, ◌<◌, true, List, length}
+use Rattle.std.specs.List.{Contains}
+use Rattle.digest.specs.Hash.{hash160}
+use Rattle.script.specs.declared.opcode.Op.{Op}
+use Rattle.script.specs.declared.spending.Spend.{Spend}
+use Rattle.script.specs.Token.{token_of, is_key}
+use Rattle.script.specs.Step.{lock_passes, age_passes}
+use Rattle.script.specs.Run.{Clean, outcome}
+use Rattle.terms.specs.Scripts.{to_local, key_hash, offered, received}
+
+-- an item of the witness is the key's token over the digest
+abbrev pub HasToken : Spend → List (List ℕ) → List ℕ → Type 0
+HasToken spend witness key = Contains witness (token_of key spend.digest)
+
+-- an item of the witness is a key of this hash, and another one is its token
+pub record HasKeyOf (spend : Spend) (witness : List (List ℕ)) (hash : List ℕ) : Type 0 where
+  pub key : List ℕ
+  pub given : Contains witness key
+  pub hashed : hash160 key ≡ hash
+  pub token : HasToken spend witness key
+
+-- an item of the witness has 32 bytes and this hash
+pub record HasPreimage (witness : List (List ℕ)) (hash : List ℕ) : Type 0 where
+  pub preimage : List ℕ
+  pub given : Contains witness preimage
+  pub size : length preimage ≡ 32
+  pub hashed : hash160 preimage ≡ hash
+
+-- whatever runs clean on these opcodes has this, under any spend
+abbrev pub Opens : List Op → (Spend → List (List ℕ) → Type 0) → Type 0
+Opens ops Has =
+    (spend : Spend) (witness : List (List ℕ)) (counted height : ℕ) → outcome spend ops witness ≡ Clean counted height → Has spend witness
+
+-- the revocation key's token; or the delayed key's, and a sequence that CHECKSEQUENCEVERIFY accepts for the delay (BIP 112)
+abbrev pub OpensToLocal : (revocation : List ℕ) (delay : ℕ) (delayed : List ℕ) → Spend → List (List ℕ) → Type 0
+OpensToLocal revocation delay delayed spend witness = HasToken spend witness revocation ⊎ (HasToken spend witness delayed × (age_passes spend delay ≡ true))
+
+abbrev pub ToLocalOpens : Type 0
+ToLocalOpens =
+    (revocation : List ℕ) (delay : ℕ) (delayed : List ℕ) → delay < 2 ^ 16 → is_key revocation ≡ true → is_key delayed ≡ true
+    → Opens (to_local revocation delay delayed) (OpensToLocal revocation delay delayed)
+
+abbrev pub KeyHashOpens : Type 0
+KeyHashOpens = (hash : List ℕ) → length hash ≡ 20 → Opens (key_hash hash) (λ spend witness. HasKeyOf spend witness hash)
+
+-- a key of the revocation hash, with its token; or the remote key's token, and with it the local key's token or the preimage
+abbrev pub OpensOffered : (revocation_hash remote local payment_hash : List ℕ) → Spend → List (List ℕ) → Type 0
+OpensOffered revocation_hash remote local payment_hash spend witness =
+    HasKeyOf spend witness revocation_hash ⊎ (HasToken spend witness remote × (HasToken spend witness local ⊎ HasPreimage witness payment_hash))
+
+abbrev pub OfferedOpens : Type 0
+OfferedOpens =
+    (revocation_hash remote local payment_hash : List ℕ) → length revocation_hash ≡ 20 → length payment_hash ≡ 20 → is_key remote ≡ true → is_key local ≡ true
+    → Opens (offered revocation_hash remote local payment_hash) (OpensOffered revocation_hash remote local payment_hash)
+
+-- a key of the revocation hash, with its token; or the remote key's token, and with it the local key's token and the preimage, or a lock time
+-- that CHECKLOCKTIMEVERIFY accepts for the expiry (BIP 65)
+abbrev pub OpensReceived : (revocation_hash remote local payment_hash : List ℕ) (expiry : ℕ) → Spend → List (List ℕ) → Type 0
+OpensReceived revocation_hash remote local payment_hash expiry spend witness =
+    HasKeyOf spend witness revocation_hash
+    ⊎ (HasToken spend witness remote × ((HasToken spend witness local × HasPreimage witness payment_hash) ⊎ (lock_passes spend expiry ≡ true)))
+
+abbrev pub ReceivedOpens : Type 0
+ReceivedOpens =
+    (revocation_hash remote local payment_hash : List ℕ) (expiry : ℕ) → expiry < 2 ^ 32 → length revocation_hash ≡ 20 → length payment_hash ≡ 20
+    → is_key remote ≡ true → is_key local ≡ true
+    → Opens (received revocation_hash remote local payment_hash expiry) (OpensReceived revocation_hash remote local payment_hash expiry)

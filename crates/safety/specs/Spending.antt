@@ -1,0 +1,103 @@
+-- What an input has that spends an output which a revoked commitment lets the owner's peer claim.
+use Rattle.std.specs.Prelude.{◌≡◌, ◌⊎◌, ℕ, ◌+◌, ◌%◌, ◌^◌, ◌<◌, ◌≤◌, false, List, [], ◌∷◌, Some, None}
+use Rattle.std.specs.List.{Contains}
+use Rattle.sha2.specs.Sha256.{sha256}
+use Rattle.digest.specs.Hash.{hash160}
+use Rattle.script.specs.declared.opcode.Op.TheVariants.{Push}
+use Rattle.script.specs.Spelling.{spelling}
+use Rattle.script.specs.Token.{token_of}
+use Rattle.script.specs.Step.{bit_at}
+use Rattle.script.specs.Run.{Clean}
+use Rattle.tx.specs.declared.input.TxIn.{TxIn}
+use Rattle.tx.specs.Fields.{Transaction}
+use Rattle.sighash.specs.Programs.{run_of}
+use Rattle.chain.specs.Blocks.{Coin}
+use Rattle.chain.specs.Tests.{coin_refusal}
+use Rattle.terms.specs.Agreement.{party}
+use Rattle.claim.specs.Fitting.{output_at}
+use Rattle.commit.specs.Keys.{KeyBytes}
+use Rattle.commit.specs.Commitments.{Contents}
+use Rattle.forms.specs.Forms.{to_local_form}
+use Rattle.penalty.specs.declared.states.RevokedState.{RevokedState}
+use Rattle.penalty.specs.Claimable.{Claimable, commitment_in, claimable_of}
+use Rattle.safety.specs.Signing.{Signed, Collide, digest_of}
+
+-- what a token for the input is over, where it spends this output
+abbrev pub spend_on : Claimable → Transaction → TxIn → Signed
+spend_on o t input = record { transaction = t; input = input; code = spelling o.form.ops; value = o.place.value }
+
+-- an item of the input's own witness is the key's token over the input's digest
+abbrev pub IsSignedBy : List ℕ → Signed → Type 0
+IsSignedBy key s = Contains s.input.witness (token_of key (digest_of s))
+
+-- an item of the witness collides with these bytes
+pub record HasTwin (hash : List ℕ → List ℕ) (bytes : List ℕ) (witness : List (List ℕ)) : Type 0 where
+  pub item : List ℕ
+  pub given : Contains witness item
+  pub collides : Collide hash item bytes
+
+-- the keys of the owner's peer in a commitment's scripts
+abbrev pub peer_keys : KeyBytes → List (List ℕ)
+peer_keys k = k.revocation ∷ k.remote_htlc ∷ k.remote ∷ []
+
+-- a key of the peer's that the output's script pushes, or whose HASH160 it pushes
+pub record IsPeerKeyOn (c : Contents) (o : Claimable) (key : List ℕ) : Type 0 where
+  pub peers : Contains (peer_keys c.keys) key
+  pub named : Contains o.form.ops (Push key) ⊎ Contains o.form.ops (Push (hash160 key))
+
+-- the witness shows other bytes with the hash of the output's script (BIP 141), or with that of such a key
+pub data ShowsTwin (c : Contents) (o : Claimable) (input : TxIn) : Type 0 where
+  of_script : HasTwin sha256 (spelling o.form.ops) input.witness → ShowsTwin c o input
+  of_key : (key : List ℕ) → IsPeerKeyOn c o key → HasTwin hash160 key input.witness → ShowsTwin c o input
+
+-- the owner's way, which to_local's form alone has: the delayed key's token, and then `Late` holds
+pub record IsOwners (Late : Type 0) (c : Contents) (o : Claimable) (t : Transaction) (input : TxIn) : Type 0 where
+  pub form : o.form ≡ to_local_form c.keys.revocation c.delay c.keys.delayed
+  pub token : IsSignedBy c.keys.delayed (spend_on o t input)
+  pub late : Late
+
+-- what an input has that spends the output: the token of one of the peer's keys, or the owner's way, or a collision
+pub data CanSpend (Late : Type 0) (c : Contents) (o : Claimable) (t : Transaction) (input : TxIn) : Type 0 where
+  by_peer : (key : List ℕ) → IsPeerKeyOn c o key → IsSignedBy key (spend_on o t input) → CanSpend Late c o t input
+  by_owner : IsOwners Late c o t input → CanSpend Late c o t input
+  by_twin : ShowsTwin c o input → CanSpend Late c o t input
+
+-- the input's sequence is a relative lock of at least this many blocks, and binds (BIP 68)
+pub record Waits (t : Transaction) (input : TxIn) (delay : ℕ) : Type 0 where
+  pub version : 2 ≤ t.version
+  pub on : bit_at 31 input.sequence ≡ false
+  pub blocks : bit_at 22 input.sequence ≡ false
+  pub enough : delay ≤ input.sequence % 2 ^ 16
+
+-- whatever input runs clean on an output that a revoked state lets the peer claim
+abbrev pub AreSpentSo : RevokedState → Type 0
+AreSpentSo state =
+    (o : Claimable) → Contains (claimable_of state) o
+    → (t : Transaction) (input : TxIn) (counted height : ℕ) → run_of t input (output_at o.place) ≡ Some (Clean counted height)
+    → CanSpend (Waits t input (commitment_in state).delay) (commitment_in state) o t input
+
+-- the coin is an output that a revoked state lets the peer claim, and in a block of this height the input passes the chain's test of it
+pub record Takes (state : RevokedState) (o : Claimable) (height : ℕ) (t : Transaction) (input : TxIn) (coin : Coin) : Type 0 where
+  pub claimable : Contains (claimable_of state) o
+  pub output : coin.output ≡ output_at o.place
+  pub passes : coin_refusal height t input (Some coin) ≡ None
+
+-- a height is at least the commitment's delay above another one. With a delay of 0 nobody waits
+abbrev pub IsLate : RevokedState → (since height : ℕ) → Type 0
+IsLate state since height = since + (commitment_in state).delay ≤ height
+
+-- whatever input passes the chain's test of such an output
+abbrev pub AreTakenSo : RevokedState → Type 0
+AreTakenSo state =
+    (o : Claimable) (height : ℕ) (t : Transaction) (input : TxIn) (coin : Coin) → Takes state o height t input coin
+    → CanSpend (IsLate state coin.height height) (commitment_in state) o t input
+
+-- the owner's delay is a number of 16 bits, as it is in its type
+abbrev pub HasShortDelay : RevokedState → Type 0
+HasShortDelay state = (party state.owner state.terms).delay < 2 ^ 16
+
+abbrev pub WhoCanSpend : Type 0
+WhoCanSpend = (state : RevokedState) → HasShortDelay state → AreSpentSo state
+
+abbrev pub WhoSpends : Type 0
+WhoSpends = (state : RevokedState) → HasShortDelay state → AreTakenSo state
