@@ -1,10 +1,9 @@
 -- Inputs that take an output of a revoked commitment, for which the premises of the laws hold: a penalty, the owner's input after the delay, and an HTLC-timeout transaction.
-use Rattle.std.proofs.Common.{◌≡◌, ◌≢◌, ℕ, zero, suc, ◌+◌, ◌^◌, ◌<◌, ◌≤◌, Bool, true, false, List, [], ◌∷◌, ◌++◌, map, replicate, length, reverse, get_or, Option, Some, None, sym, ap, ◌∙◌, refl, subst, arith, length-append, lit≤, lit<}
-use Rattle.std.specs.Prelude.{IsTrue, nat_lt, slice_get}
-use Rattle.std.specs.List.{Contains, Any, All, list_any}
+use Rattle.std.proofs.Common.{◌≡◌, ℕ, zero, suc, ◌+◌, ◌^◌, ◌<◌, ◌≤◌, true, false, List, [], ◌∷◌, ◌++◌, map, replicate, length, reverse, Some, None, sym, ap, ◌∙◌, refl, subst, arith, length-append, lit≤, lit<}
+use Rattle.std.specs.Prelude.{IsTrue}
+use Rattle.std.specs.List.{Contains, Any}
 use Rattle.std.specs.Str.{bytes_eq}
 use Rattle.std.proofs.lemmas.Bool.{le-ltb, false≢true}
-use Rattle.std.proofs.lemmas.List.Elements.{All-nil, All-cons}
 use Rattle.std.proofs.lemmas.Slice.Eq.{bytes_eq-Decides}
 use Rattle.sha2.specs.Sha256.{sha256, digest_bytes, hash_after, compress, rounds, schedule, first_words}
 use Rattle.sha2.proofs.Facts256.{length-sha256}
@@ -20,9 +19,8 @@ use Rattle.script.specs.Step.{Elements, age_passes}
 use Rattle.script.specs.Run.{Outcome, Clean, is_long, outcome}
 use Rattle.tx.specs.declared.input.OutPoint.{OutPoint}
 use Rattle.tx.specs.declared.input.TxIn.{TxIn}
-use Rattle.tx.specs.Parts.{Output}
 use Rattle.tx.specs.Fields.{Transaction, KeepsLimits}
-use Rattle.sighash.specs.Programs.{Given, given_of, given_by_hash, script_ops, spend_of, run_of}
+use Rattle.sighash.specs.Programs.{given_of, given_by_hash, script_ops, spend_of, run_of}
 use Rattle.sighash.specs.Signing.{signed_list}
 use Rattle.sighash.proofs.Tokens.{one_token}
 use Rattle.sighash.proofs.Witnesses.{unsigned_list}
@@ -53,14 +51,13 @@ use Rattle.commit.specs.Commitments.{Contents, commitment_of, transaction_of, ht
 use Rattle.penalty.specs.declared.states.RevokedState.{RevokedState}
 use Rattle.penalty.specs.Claimable.{Claimable, place_in, penalty_on, htlc_penalty_on, claims_by, commitment_in, claimable_of}
 use Rattle.penalty.proofs.Programs.{same_htlc}
-use Rattle.safety.specs.Signing.{Signed, digest_of, list_of}
-use Rattle.safety.specs.Spending.{spend_on, IsSignedBy, peer_keys, Takes}
+use Rattle.safety.specs.Signing.{digest_of}
+use Rattle.safety.specs.Spending.{spend_on, peer_keys, Takes}
 use Rattle.safety.specs.Taking.{ShowsOnly, IsAsSigned}
 use Rattle.safety.specs.Fates.{htlc_signed, signed_by_peer}
 use Rattle.safety.proofs.Claimed.{keys_in}
 use Rattle.safety.proofs.Limits.{no_longer, id_length}
 use Rattle.safety.proofs.Ran.{given_script}
-use Rattle.safety.proofs.Slots.{contains_first}
 use Rattle.safety.proofs.Spelt.{to_local_ops, offered_ops}
 
 -- ---- what runs clean

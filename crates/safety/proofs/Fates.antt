@@ -1,5 +1,5 @@
 -- Where outputs can go.
-use Rattle.std.proofs.Common.{◌≡◌, ℕ, zero, suc, ◌+◌, ◌<◌, ◌≤◌, Bool, true, false, List, [], ◌∷◌, ◌++◌, map, length, Some, None, sym, ap, ◌∙◌, refl, subst, inl, inr, ⊎_elim, arith}
+use Rattle.std.proofs.Common.{◌≡◌, ℕ, zero, suc, ◌+◌, ◌<◌, Bool, true, false, List, [], ◌∷◌, ◌++◌, map, length, Some, None, sym, ap, ◌∙◌, refl, subst, inl, inr, ⊎_elim, arith}
 use Rattle.std.specs.Prelude.{◌⊎◌, ◌&&◌, ◌||◌, ◌==◌, nat_lt, nat_le, slice_get, slice_index_or}
 use Rattle.std.specs.List.{Contains, Any, All, cons_option, list_all}
 use Rattle.std.proofs.lemmas.Bool.{false≢true, ltb-true, lt-leb}
@@ -30,8 +30,8 @@ use Rattle.penalty.specs.Claimable.{Claimable, commitment_in, claimable_of}
 use Rattle.penalty.specs.Covering.{IsClaimedAt}
 use Rattle.penalty.proofs.Covering.{each_second_stage}
 use Rattle.penalty.proofs.Second.{transaction_at, first_output}
-use Rattle.safety.specs.Signing.{Signed, IsSignable, AreSame, ListsCollide}
-use Rattle.safety.specs.Spending.{spend_on, Takes}
+use Rattle.safety.specs.Signing.{Signed, IsSignable, AreSame}
+use Rattle.safety.specs.Spending.{spend_on}
 use Rattle.safety.specs.Taking.{IsTaken, as_signed, by_owner, by_twin, by_collision}
 use Rattle.safety.specs.Fates.{htlc_signed, SignedWithCommitment, signed_by_peer, IsHtlcTransaction, Fate, by_htlc_transaction, by_peer, NothingEscapes, NothingEscapesOnChains}
 use Rattle.safety.specs.Fates.{by_owner as fated_by_owner, by_twin as fated_by_twin, by_collision as fated_by_collision}
