@@ -1,9 +1,6 @@
 -- What a book answers, call by call: the first scenario's calls, and each refusal before the next one in its order.
 use Rattle.std.proofs.Common.{◌≡◌, ℕ, true, false, List, [], ◌∷◌, ◌++◌, length, replicate, map, Some, None, Ok, Err, refl, lit≤}
-use Rattle.std.specs.Prelude.{IsTrue}
 use Rattle.sha2.specs.Sha256.{sha256, digest_bytes, hash_after, compress, rounds, schedule, first_words}
-use Rattle.script.specs.Token.{is_key}
-use Rattle.keys.specs.declared.compressed.Key.{Key}
 use Rattle.keys.specs.Derivation.{point_of}
 use Rattle.terms.specs.declared.htlcs.Htlc.{Htlc}
 use Rattle.terms.specs.declared.sides.Side.{Side}
@@ -14,10 +11,9 @@ use Rattle.updates.specs.declared.changes.Update.TheVariants.{Add}
 use Rattle.updates.specs.declared.refusals.Refusal.TheVariants.{NoUpdates as NothingCovered, WrongSecret, NotYourTurn}
 use Rattle.claim.specs.Claims.{ClaimParts}
 use Rattle.filling.specs.declared.errors.FillError.TheVariants.{NoRight, SameOutpoint}
-use Rattle.channel.specs.declared.messages.Tokens.{Tokens}
 use Rattle.channel.specs.declared.messages.Message.TheVariants.{Updated as UpdateMessage, CommitmentSigned, RevokeAndAck}
 use Rattle.channel.specs.Points.{secret_at, point_at, is_foreign}
-use Rattle.channel.specs.States.{Signing, State, opened as opened_state, after_update, after_sign, after}
+use Rattle.channel.specs.States.{State, opened as opened_state, after_update, after_sign, after}
 use Rattle.updates.specs.declared.changes.OwnUpdate.TheVariants.{Offer}
 use Rattle.terms.specs.Agreement.{party}
 use Rattle.book.specs.declared.calls.Opening.{Opening}
@@ -44,6 +40,7 @@ use Rattle.book.specs.Refusals.{open_error_number, step_error_number, sign_error
 use Rattle.book.specs.Replies.{answer_of, open_refusal, Reply, opened, stepped, signed, revoked, kept, released, reply_of, sign_refusal, keep_refusal, history_after}
 use Rattle.book.specs.Accepted.{all_accepted, first_refused}
 use Rattle.book.specs.Guarding.{is_set_in, number_kept, is_guarded}
+use Rattle.channel.proofs.Samples.{key, secret, point_is, point_key, tokens_of, tokens}
 
 -- the numbers of the refusals; those of a channel and of a filling keep theirs
 numbers : (map open_error_number (opens.NoMemory ∷ opens.BookFull ∷ opens.SameFunding ∷ opens.BadSignature ∷ []) ≡ 0 ∷ 1 ∷ 2 ∷ 3 ∷ [])
@@ -68,42 +65,10 @@ missing : (missing_from [] 0 0 ≡ None)
     × (missing_from (2 ∷ 1 ∷ 0 ∷ []) 0 4 ≡ Some 3)
 missing = (refl, refl, refl, refl, refl, refl, refl)
 
-key_form : (n : ℕ) → IsTrue (is_key (2 ∷ replicate 32 n))
-unfolding is_key
-key_form n = refl
-
-abbrev key : ℕ → Key
-key n = record { bytes = 2 ∷ replicate 32 n; form = key_form n }
-
--- a secret, and its point (SHA-256 by Python's hashlib)
-abbrev secret : List ℕ
-secret = replicate 32 7
-
-abbrev point : List ℕ
-point = 2 ∷ 214 ∷ 139 ∷ 241 ∷ 59 ∷ 6 ∷ 78 ∷ 75 ∷ 13 ∷ 89 ∷ 80 ∷ 59 ∷ 132 ∷ 36 ∷ 89 ∷ 255 ∷ 4 ∷ 40 ∷ 23 ∷ 205 ∷ 69 ∷ 255 ∷ 234 ∷ 99 ∷ 71 ∷ 90 ∷ 60 ∷ 31 ∷ 96 ∷ 99 ∷ 70 ∷ 106 ∷ 53 ∷ []
-
-point_is : point_of secret ≡ point
-unfolding point_of sha256 digest_bytes hash_after compress rounds schedule first_words
-point_is = refl
-
--- and those of another one
+-- the point of another secret than that of the samples (SHA-256 by Python's hashlib)
 other_point_is : point_of (replicate 32 8) ≡ 2 ∷ 140 ∷ 23 ∷ 151 ∷ 150 ∷ 69 ∷ 241 ∷ 102 ∷ 21 ∷ 235 ∷ 156 ∷ 17 ∷ 161 ∷ 79 ∷ 72 ∷ 30 ∷ 34 ∷ 79 ∷ 112 ∷ 11 ∷ 47 ∷ 85 ∷ 77 ∷ 189 ∷ 29 ∷ 29 ∷ 29 ∷ 157 ∷ 195 ∷ 50 ∷ 118 ∷ 87 ∷ 111 ∷ []
 unfolding point_of sha256 digest_bytes hash_after compress rounds schedule first_words
 other_point_is = refl
-
-point_form : IsTrue (is_key point)
-unfolding is_key
-point_form = refl
-
-abbrev point_key : Key
-point_key = record { bytes = point; form = point_form }
-
--- tokens that name the number, and the amounts of A's HTLCs
-abbrev tokens_of : Signing
-tokens_of terms c = record { commitment = c.number ∷ []; htlcs = map (λ h. h.amount ∷ []) c.view.a.offered }
-
-abbrev tokens : ℕ → List ℕ → Tokens
-tokens number amounts = record { commitment = number ∷ []; htlcs = map (λ n. n ∷ []) amounts }
 
 abbrev hash : List ℕ
 hash = replicate 32 9

@@ -12,18 +12,15 @@ use Rattle.terms.specs.declared.sides.Side.TheVariants.{A, B}
 use Rattle.terms.specs.declared.agreement.Terms.{Terms}
 use Rattle.terms.specs.Agreement.{party}
 use Rattle.terms.specs.Sides.{other}
-use Rattle.claim.specs.declared.parts.Place.{Place}
 use Rattle.claim.specs.declared.parts.Slot.{Slot}
 use Rattle.claim.specs.declared.parts.Slot.TheVariants.{Sig, Preimage, Exact}
 use Rattle.claim.specs.Claims.{ClaimParts}
-use Rattle.commit.specs.declared.outputs.OutputKind.{OutputKind}
-use Rattle.commit.specs.declared.outputs.OutputKind.TheVariants.{ToLocal, ToRemote, ToHtlc}
-use Rattle.commit.specs.declared.outputs.CommitmentOutput.{CommitmentOutput}
 use Rattle.commit.specs.Keys.{keys_of}
-use Rattle.commit.specs.Commitments.{Contents, commitment_of, tx_output, transaction_of}
+use Rattle.commit.specs.Commitments.{commitment_of}
 use Rattle.forms.specs.Fillings.{filling_of}
-use Rattle.penalty.specs.Claimable.{Claimable, place_in, claims_on, claims_by, claims_from}
+use Rattle.penalty.specs.Claimable.{Claimable}
 use Rattle.penalty.specs.Rights.{CanFill, CanFillAll}
+use Rattle.penalty.proofs.Fillable.{all_fillable}
 use Rattle.filling.specs.Refusals.{all_slots}
 use Rattle.filling.proofs.Lists.{contains-at}
 use Rattle.channel.specs.declared.commitments.CommitmentState.{CommitmentState}
@@ -44,21 +41,6 @@ knowledge_of s = record { seed = s.seed; points = []; secrets = s.secrets }
 -- a claim's slots are filled by it
 abbrev pub CanFillClaim : State → ClaimParts → Type 0
 CanFillClaim s c = AllByRecursion (CanFill (knowledge_of s)) (map filling_of c.slots)
-
-all_append : (r : Rights) (os ps : List Claimable) → AllByRecursion (CanFillAll r) os → AllByRecursion (CanFillAll r) ps → AllByRecursion (CanFillAll r) (os ++ ps)
-all_append r [] ps a b = b
-all_append r (o ∷ os) ps a b = (a.0, all_append r os ps a.1 b)
-
-on_output : (r : Rights) (c : Contents) (index : ℕ) (place : Place) (kind : OutputKind) → MaySign r c.keys.revocation → MaySign r c.keys.remote → AllByRecursion (CanFillAll r) (claims_on c index place kind)
-on_output r c index place ToLocal penalty payment = ((tt, (penalty, tt)), tt)
-on_output r c index place ToRemote penalty payment = ((tt, (payment, tt)), tt)
-on_output r c index place (ToHtlc direction h) penalty payment = ((tt, (penalty, tt)), ((tt, (penalty, tt)), tt))
-
-from_here : (r : Rights) (c : Contents) (index : ℕ) (os : List CommitmentOutput) → MaySign r c.keys.revocation → MaySign r c.keys.remote → AllByRecursion (CanFillAll r) (claims_from c index os)
-unfolding claims_by
-from_here r c index [] penalty payment = tt
-from_here r c index (o ∷ os) penalty payment =
-    all_append r _ _ (on_output r c index (place_in (transaction_of c) index (tx_output o)) o.kind penalty payment) (from_here r c (index + 1) os penalty payment)
 
 -- the peer of a side's peer
 twice : (side : Side) → other (other side) ≡ side
@@ -81,7 +63,7 @@ claimable_fillable : (s : State) (c : CommitmentState) (secret : List ℕ) → I
     → AllByRecursion (CanFillAll (knowledge_of s)) (claimable_in (revoked_contents s c secret))
 unfolding claimable_in
 claimable_fillable s c secret b known =
-    from_here (knowledge_of s) (revoked_contents s c secret) 0 (revoked_contents s c secret).outputs (signs_revocation s c secret b known) (signs_payment s c secret b)
+    all_fillable (knowledge_of s) (revoked_contents s c secret) 0 (revoked_contents s c secret).outputs (signs_revocation s c secret b known) (signs_payment s c secret b)
 
 -- ---- claims on outputs that can be filled
 

@@ -7,7 +7,7 @@ use Rattle.std.proofs.lemmas.List.{length-take-le, take-append-drop}
 use Rattle.std.proofs.lemmas.Bool.{le-leb, lt-leb, leb-true, ltb-true, lt-ltb, eqb-true, and_parts}
 use Rattle.std.proofs.lemmas.List.Elements.{All-head, All-tail, All-cons, All-nil}
 use Rattle.script.specs.declared.opcode.Op.{Op}
-use Rattle.script.specs.declared.opcode.Op.TheVariants.{Push, Number, If, NotIf, Else, EndIf, Drop, Dup, Swap, Size, Equal, EqualVerify, Hash160, CheckSig, CheckMultiSig, CheckLockTimeVerify, CheckSequenceVerify}
+use Rattle.script.specs.declared.opcode.Op.TheVariants.{Push, Number}
 use Rattle.script.specs.Limits.{max_script_size}
 use Rattle.script.specs.Spelling.{code_of, payload_of, spelling, IsOp, Spells, Begins}
 use Rattle.texts.specs.Values.{◌>>=◌}
@@ -25,21 +25,7 @@ found (Number n) rest h =
     let high : 0x50 + n ≤ 0x60 = omega (arith, h.1) in
     let past : 75 < 0x50 + n = omega arith in
     rw (lt-leb (0x50 + n) 75 past, lt-ltb 0x50 (0x50 + n) low, le-leb (0x50 + n) 0x60 high, value) refl
-found If rest h = refl
-found NotIf rest h = refl
-found Else rest h = refl
-found EndIf rest h = refl
-found Drop rest h = refl
-found Dup rest h = refl
-found Swap rest h = refl
-found Size rest h = refl
-found Equal rest h = refl
-found EqualVerify rest h = refl
-found Hash160 rest h = refl
-found CheckSig rest h = refl
-found CheckMultiSig rest h = refl
-found CheckLockTimeVerify rest h = refl
-found CheckSequenceVerify rest h = refl
+found op rest h = refl
 
 read_in : (n : ℕ) (ops : List Op) → All IsOp ops → length (spelling ops) ≤ n → ops_in n (spelling ops) ≡ Some ops
 unfolding ops_in

@@ -212,12 +212,12 @@ meets_opened terms side seed peers e = record {
   past = refl;
   settled = refl;
   sender = refl;
+  mine = ap (λ s. first_of terms s (point_at peers 0) ∷ []) refl;
   number = refl;
   peer_number = refl;
   point = refl;
   next_point = refl;
   secrets = refl;
-  mine = ap (λ s. first_of terms s (point_at peers 0) ∷ []) refl;
 }
 
 pub agreed_opened : (tokens_of : Signing) (terms : Terms) (seed_a seed_b : List ℕ) → IsAgreed tokens_of (opened_both terms seed_a seed_b)

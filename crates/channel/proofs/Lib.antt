@@ -17,5 +17,6 @@ mod Playing
 mod Pairing
 mod Trusting
 mod PlayExamples
+pub mod Samples
 mod RefusalExamples
 mod ScenarioExamples

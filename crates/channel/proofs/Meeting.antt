@@ -34,12 +34,12 @@ pub record Meets (a t : State) : Type 0 where
   pub past : t.held.own.past_receiver ≡ a.held.theirs.past_receiver
   pub settled : t.held.theirs.settled ≡ a.held.own.settled
   pub sender : t.held.own.with_sender ≡ a.held.theirs.with_sender
+  pub mine : t.mine ≡ a.signed
   pub number : t.number ≡ a.peer_number + bit a.awaiting
   pub peer_number : t.peer_number ≡ a.number
   pub point : t.point ≡ point_at a.seed a.number
   pub next_point : t.next_point ≡ point_at a.seed (a.number + 1)
   pub secrets : t.secrets ≡ secrets_below a.seed a.number
-  pub mine : t.mine ≡ a.signed
 
 -- the sender makes an update, and its message comes
 pub meets_made : (a t : State) (u : Update) → Meets a t → Meets (after_update u a) (after t (Updated u))

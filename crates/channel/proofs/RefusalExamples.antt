@@ -1,11 +1,8 @@
 -- What a channel refuses, message by message, and in which order; the secrets are those of BOLT 3, "Storage Tests".
-use Rattle.std.proofs.Common.{◌≡◌, ℕ, true, false, List, [], ◌∷◌, length, replicate, map, Some, None, refl, lit≤}
-use Rattle.std.specs.Prelude.{IsTrue}
+use Rattle.std.proofs.Common.{◌≡◌, ℕ, true, false, List, [], ◌∷◌, length, replicate, Some, None, refl, lit≤}
 use Rattle.std.specs.Int.Count.{count_trailing_zeros}
 use Rattle.sha2.specs.Sha256.{sha256, digest_bytes, hash_after, compress, rounds, schedule, first_words}
-use Rattle.script.specs.Token.{is_key}
 use Rattle.tx.specs.declared.input.OutPoint.{OutPoint}
-use Rattle.keys.specs.declared.compressed.Key.{Key}
 use Rattle.keys.specs.Derivation.{point_of}
 use Rattle.secrets.specs.Derivation.{flipped, derived_secret}
 use Rattle.terms.specs.declared.htlcs.Htlc.{Htlc}
@@ -14,10 +11,10 @@ use Rattle.terms.specs.declared.agreement.BaseKeys.{BaseKeys}
 use Rattle.terms.specs.declared.agreement.Terms.{Terms}
 use Rattle.updates.specs.declared.changes.Update.TheVariants.{Add, Fulfil, Fail, Fee}
 use Rattle.updates.specs.declared.refusals.Refusal.TheVariants.{AmountZero, BelowMinimum, ExpiryTooLarge, WrongId, OverBalance, UnknownHtlc, NoUpdates, BadSignature, WrongSecret, NotYourTurn, NotOpener}
-use Rattle.channel.specs.declared.messages.Tokens.{Tokens}
 use Rattle.channel.specs.declared.messages.Message.TheVariants.{Updated, CommitmentSigned, RevokeAndAck}
 use Rattle.channel.specs.Points.{index_of, secret_at, point_at, is_foreign}
-use Rattle.channel.specs.States.{Signing, State, opened, update_refusal, sign_refusal, receive_refusal, after_update, after_sign, after, answers}
+use Rattle.channel.specs.States.{State, opened, update_refusal, sign_refusal, receive_refusal, after_update, after_sign, after, answers}
+use Rattle.channel.proofs.Samples.{key, secret, point_key, tokens_of, tokens}
 
 -- a commitment number's index: the first, the second and the last
 indices : (index_of 0 ≡ 281474976710655) × (index_of 1 ≡ 281474976710654) × (index_of 281474976710655 ≡ 0)
@@ -51,38 +48,6 @@ stored : (is_foreign [] first ≡ false)
     × (is_foreign (first ∷ second ∷ third ∷ []) third ≡ true)
 unfolding is_foreign index_of derived_secret flipped count_trailing_zeros sha256 digest_bytes hash_after compress rounds schedule first_words
 stored = (refl, refl, refl, refl, refl, refl, refl, refl)
-
-key_form : (n : ℕ) → IsTrue (is_key (2 ∷ replicate 32 n))
-unfolding is_key
-key_form n = refl
-
-abbrev key : ℕ → Key
-key n = record { bytes = 2 ∷ replicate 32 n; form = key_form n }
-
--- a secret, and its point (SHA-256 by Python's hashlib)
-abbrev secret : List ℕ
-secret = replicate 32 7
-
-abbrev point : List ℕ
-point = 2 ∷ 214 ∷ 139 ∷ 241 ∷ 59 ∷ 6 ∷ 78 ∷ 75 ∷ 13 ∷ 89 ∷ 80 ∷ 59 ∷ 132 ∷ 36 ∷ 89 ∷ 255 ∷ 4 ∷ 40 ∷ 23 ∷ 205 ∷ 69 ∷ 255 ∷ 234 ∷ 99 ∷ 71 ∷ 90 ∷ 60 ∷ 31 ∷ 96 ∷ 99 ∷ 70 ∷ 106 ∷ 53 ∷ []
-
-point_is : point_of secret ≡ point
-unfolding point_of sha256 digest_bytes hash_after compress rounds schedule first_words
-point_is = refl
-
-point_form : IsTrue (is_key point)
-unfolding is_key
-point_form = refl
-
-abbrev point_key : Key
-point_key = record { bytes = point; form = point_form }
-
--- tokens that name the number, and the amounts of A's HTLCs
-abbrev tokens_of : Signing
-tokens_of terms c = record { commitment = c.number ∷ []; htlcs = map (λ h. h.amount ∷ []) c.view.a.offered }
-
-abbrev tokens : ℕ → List ℕ → Tokens
-tokens number amounts = record { commitment = number ∷ []; htlcs = map (λ n. n ∷ []) amounts }
 
 abbrev htlc : ℕ → ℕ → ℕ → Htlc
 htlc id amount expiry = record { id = id; amount = amount; hash = []; expiry = expiry }

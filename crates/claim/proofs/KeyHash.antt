@@ -19,8 +19,8 @@ use Rattle.std.specs.Str.{bytes_eq}
 use Rattle.script.specs.Spelling.{IsOp, spelling}
 use Rattle.script.specs.Step.{Elements, Effect, effect, flag, result_if, ◌>>=◌}
 use Rattle.script.specs.Run.{RunState, weight, jump_length, open_ifs_after, state_after_effect, state_after_skip_or_run, state_after, Outcome, Clean, Stopped, onward, outcome_from, start, is_long, outcome}
-use Rattle.sighash.specs.Programs.{script_ops}
-use Rattle.claim.specs.Judgement.{key_script, is_key_program}
+use Rattle.sighash.specs.Programs.{script_ops, key_hash_script}
+use Rattle.claim.specs.Judgement.{is_key_program}
 use Rattle.sighash.proofs.Parsing.{parsed_spelling}
 
 abbrev key_ops : List ℕ → List Op
@@ -119,9 +119,9 @@ same_ops : (o : Option (List Op)) (some others : List Op) → o ≡ Some some �
 same_ops o some others e f = cc
 
 -- opcodes that are spelt as the script of a key's hash are these
-key_opcodes : (ops : List Op) (hash : List ℕ) → All IsOp ops → length (spelling ops) ≤ 10000 → length hash ≡ 20 → spelling ops ≡ key_script hash → ops ≡ key_ops hash
+key_opcodes : (ops : List Op) (hash : List ℕ) → All IsOp ops → length (spelling ops) ≤ 10000 → length hash ≡ 20 → spelling ops ≡ key_hash_script hash → ops ≡ key_ops hash
 key_opcodes ops hash valid short l e =
-    let spelt : key_script hash ≡ spelling (key_ops hash) = ap (λ n. 0x76 ∷ 0xa9 ∷ n ∷ (hash ++ 0x88 ∷ 0xac ∷ [])) (sym l) in
+    let spelt : key_hash_script hash ≡ spelling (key_ops hash) = ap (λ n. 0x76 ∷ 0xa9 ∷ n ∷ (hash ++ 0x88 ∷ 0xac ∷ [])) (sym l) in
     let same : spelling ops ≡ spelling (key_ops hash) = e ∙ spelt in
     same_ops (script_ops (spelling (key_ops hash))) ops (key_ops hash)
     (ap script_ops (sym same) ∙ parsed_spelling ops valid short)

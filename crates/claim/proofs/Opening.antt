@@ -6,8 +6,8 @@ use Rattle.std.proofs.lemmas.Slice.Eq.{bytes_eq-Decides}
 use Rattle.std.proofs.lemmas.List.{reverse-append, reverse-reverse}
 use Rattle.sha2.specs.Sha256.{sha256}
 use Rattle.sha2.proofs.Facts256.{length-sha256}
-use Rattle.sighash.specs.Programs.{is_key_hash_program, is_script_hash_program, key_hash_script, given_by_hash, given_of}
-use Rattle.claim.specs.Judgement.{script_program, is_key_program, is_program}
+use Rattle.sighash.specs.Programs.{script_hash_program, is_key_hash_program, is_script_hash_program, key_hash_script, given_by_hash, given_of}
+use Rattle.claim.specs.Judgement.{is_key_program, is_program}
 use Rattle.claim.specs.Fitting.{witness_for}
 
 by_hash : (hash script : List ℕ) (items : List (List ℕ)) → sha256 script ≡ hash → given_by_hash hash (reverse (items ++ script ∷ [])) ≡ Some (record { script = script; items = items })
@@ -32,9 +32,10 @@ of_key program script items e l =
 
 -- the script and the items, where an accepted program is the hash of a key, and then the items are two, or of the script
 pub given : (program script : List ℕ) (items : List (List ℕ)) → is_program script program ≡ true → (is_key_program script program ≡ true → length items ≡ 2) → given_of program (witness_for program script items) ≡ Some (record { script = script; items = items })
+unfolding script_hash_program
 given program script items e two =
     ⊎_elim
-    (λ h. let same : program ≡ script_program script = (bytes_eq-Decides _ _).0 h in
+    (λ h. let same : program ≡ script_hash_program script = (bytes_eq-Decides _ _).0 h in
     subst (λ q. given_of q (witness_for q script items) ≡ Some (record { script = script; items = items })) (sym same) (of_script (sha256 script) script items refl (length-sha256 script)))
     (λ h. of_key program script items h (two h))
-    (or_cases (bytes_eq program (script_program script)) (is_key_program script program) e)
+    (or_cases (bytes_eq program (script_hash_program script)) (is_key_program script program) e)

@@ -1,13 +1,13 @@
 -- Whether a claim is accepted: the path that it takes, or the first refusal: NoSuchPath, WrongArity, WrongProgram, WrongShell, Contradiction, Unmet.
 use Rattle.std.specs.Prelude.{ℕ, Bool, false, true, ◌&&◌, ◌||◌, not, ◌==◌, nat_lt, nat_le, if◌then◌else◌, List, [], ◌∷◌, ◌++◌, length, take, drop, Option, Some, None, unwrap_or, slice_get, Result, Ok, Err}
 use Rattle.std.specs.Str.{bytes_eq}
-use Rattle.sha2.specs.Sha256.{sha256}
 use Rattle.script.specs.Limits.{locktime_threshold}
 use Rattle.script.specs.Spelling.{spelling}
 use Rattle.script.specs.Step.{result_if, ◌>>=◌}
 use Rattle.tx.specs.declared.input.OutPoint.{OutPoint}
 use Rattle.tx.specs.declared.input.TxIn.{TxIn}
 use Rattle.tx.specs.Fields.{unsigned_transaction, total_value}
+use Rattle.sighash.specs.Programs.{script_hash_program, is_key_hash_program, key_hash_script}
 use Rattle.sighash.specs.Signing.{sighash}
 use Rattle.facts.specs.Symbols.{Stated}
 use Rattle.facts.specs.Sameness.{contradicts}
@@ -21,22 +21,13 @@ use Rattle.claim.specs.declared.errors.AcceptError.{AcceptError}
 use Rattle.claim.specs.declared.errors.AcceptError.TheVariants.{NoSuchPath, WrongArity, Unmet, Contradiction, WrongProgram, WrongShell}
 use Rattle.claim.specs.Evidence.{evidence_of}
 
--- the program of a script: version 0, and the SHA-256 of the script (BIP 141)
-abbrev pub script_program : List ℕ → List ℕ
-script_program script = 0x00 ∷ 0x20 ∷ sha256 script
-
--- the script that a program of 20 bytes stands for: DUP HASH160 h EQUALVERIFY CHECKSIG
-abbrev pub key_script : List ℕ → List ℕ
-key_script hash = 0x76 ∷ 0xa9 ∷ 0x14 ∷ (hash ++ 0x88 ∷ 0xac ∷ [])
-
 -- the program is that of the key hash whose script this is
 abbrev pub is_key_program : List ℕ → List ℕ → Bool
-is_key_program script program =
-    length program == 22 && bytes_eq (take 2 program) (0x00 ∷ 0x14 ∷ []) && bytes_eq script (key_script (drop 2 program))
+is_key_program script program = is_key_hash_program program && bytes_eq script (key_hash_script (drop 2 program))
 
 -- the program stands for the script
 abbrev pub is_program : List ℕ → List ℕ → Bool
-is_program script program = bytes_eq program (script_program script) || is_key_program script program
+is_program script program = bytes_eq program (script_hash_program script) || is_key_program script program
 
 -- the lock time that a path asks for, 0 where there is none, and the age in blocks, which is a claim's sequence
 abbrev pub height_of : Path → ℕ

@@ -5,7 +5,8 @@ ghost use Rattle.std.specs.Str.{bytes_eq};
 ghost use Rattle.facts.specs.Sameness.{same_fact, is_denied, contradicts};
 ghost use Rattle.paths.specs.declared.state.Path.{Path as PathOf};
 ghost use Rattle.claim.specs.declared.errors.AcceptError.TheVariants.{Unmet};
-ghost use Rattle.claim.specs.Judgement.{script_program, key_script, is_key_program, is_program, is_met, first_unmet_or, is_only_input, is_shell, known_digest, judgement_of_path, judgement_of};
+ghost use Rattle.sighash.specs.Programs.{script_hash_program, key_hash_script};
+ghost use Rattle.claim.specs.Judgement.{is_key_program, is_program, is_met, first_unmet_or, is_only_input, is_shell, known_digest, judgement_of_path, judgement_of};
 ghost use Rattle.claim.specs.Fitting.{IsRefusal};
 
 use crate::errors::AcceptError;
@@ -16,13 +17,14 @@ use facts::Stated;
 use paths::{Checked, Path};
 use script::limits::LOCKTIME_THRESHOLD;
 use sighash::digest_of;
+use sighash::programs::is_key_hash_program;
 use std::alloc::Global;
 use tx::{OutPoint, TxIn, total_value};
 
 // Whether the program is that of the script by its SHA-256 (BIP 141).
-#[tactic(auto, using(crate::proofs::Programs::program_by, crate::proofs::Programs::program_short))]
+#[tactic(auto, unfolding(sighash::specs::Programs::script_hash_program), using(crate::proofs::Programs::program_by, crate::proofs::Programs::program_short))]
 fn is_script_program(script: &[u8], program: &[u8]) -> bool
-    ensures { result ≡ bytes_eq program.now (script_program script.now) }
+    ensures { result ≡ bytes_eq program.now (script_hash_program script.now) }
 {
     program.len() >= 2
         && program[0] == 0x00
@@ -51,7 +53,7 @@ fn ends_key_script(bytes: &[u8], hash: &[u8]) -> bool
 // Whether a script is DUP HASH160 hash EQUALVERIFY CHECKSIG.
 #[tactic(auto, using(crate::proofs::Programs::key_by, crate::proofs::Programs::key_short))]
 fn is_key_script(script: &[u8], hash: &[u8]) -> bool
-    ensures { result ≡ bytes_eq script.now (key_script hash.now) }
+    ensures { result ≡ bytes_eq script.now (key_hash_script hash.now) }
 {
     script.len() >= 3
         && script[0] == 0x76
@@ -61,14 +63,10 @@ fn is_key_script(script: &[u8], hash: &[u8]) -> bool
 }
 
 // Whether the program is that of the key hash whose script this is (BIP 141).
-#[tactic(auto, using(crate::proofs::Programs::front_by))]
 fn is_key_program(script: &[u8], program: &[u8]) -> bool
     ensures { result ≡ is_key_program script.now program.now }
 {
-    program.len() == 22
-        && program[0] == 0x00
-        && program[1] == 0x14
-        && is_key_script(script, &program[2..])
+    is_key_hash_program(program) && is_key_script(script, &program[2..])
 }
 
 // Whether the program stands for the script.
@@ -80,7 +78,8 @@ pub(crate) fn is_program(script: &[u8], program: &[u8]) -> bool
 
 // Whether the two are one fact with both polarities.
 fn denies(stated: &Stated, other: &Stated) -> bool
-    ensures { result ≡ (same_fact stated.now.fact other.now.fact && (if stated.now.holds then not other.now.holds else other.now.holds)) }
+    ensures { result ≡ (same_fact stated.now.fact other.now.fact
+        && (if stated.now.holds then not other.now.holds else other.now.holds)) }
 {
     stated.fact.equals(&other.fact)
         && (if stated.holds {
@@ -125,7 +124,8 @@ pub(crate) fn first_unmet<'a>(
     slots: &[Slot],
     facts: &'a [Stated],
 ) -> Option<&'a Stated>
-    ensures { MatchOption result ((p : PathOf) → first_unmet_or known slots.now facts.now p ≡ Ok p) (λ s. (p : PathOf) → first_unmet_or known slots.now facts.now p ≡ Err (Unmet s.now)) }
+    ensures { MatchOption result ((p : PathOf) → first_unmet_or known slots.now facts.now p ≡ Ok p)
+        (λ s. (p : PathOf) → first_unmet_or known slots.now facts.now p ≡ Err (Unmet s.now)) }
 {
     for stated in facts {
         if !is_met(known, slots, stated) {
@@ -142,7 +142,9 @@ fn meet(
     slots: &[Slot],
     facts: &[Stated],
 ) -> Result<(), AcceptError>
-    ensures { MatchResult result (λ _. (p : PathOf) → first_unmet_or known slots.now facts.now p ≡ Ok p) (λ e. (p : PathOf) → IsRefusal (first_unmet_or known slots.now facts.now p) e) }
+    ensures { MatchResult result (λ _. (p : PathOf)
+        → first_unmet_or known slots.now facts.now p ≡ Ok p)
+        (λ e. (p : PathOf) → IsRefusal (first_unmet_or known slots.now facts.now p) e) }
 {
     match first_unmet(known, slots, facts) {
         None => Ok(()),
@@ -199,7 +201,9 @@ fn judge_path(
     shell: &Shell,
     path: &Path,
 ) -> Result<(), AcceptError>
-    ensures { MatchResult result (λ _. judgement_of_path script.now slots.now place.now shell.now path.now ≡ Ok path.now) (IsRefusal (judgement_of_path script.now slots.now place.now shell.now path.now)) }
+    ensures { MatchResult result (λ _. judgement_of_path script.now slots.now place.now shell.now
+        path.now ≡ Ok path.now) (IsRefusal
+        (judgement_of_path script.now slots.now place.now shell.now path.now)) }
 {
     if slots.len() != path.arity {
         return Err(AcceptError::WrongArity);
@@ -230,7 +234,9 @@ pub(crate) fn judge(
     place: &Place,
     shell: &Shell,
 ) -> Result<(), AcceptError>
-    ensures { MatchResult result (λ _. IsTrue (is_ok (judgement_of checked.now index slots.now place.now shell.now))) (IsRefusal (judgement_of checked.now index slots.now place.now shell.now)) }
+    ensures { MatchResult result (λ _. IsTrue
+        (is_ok (judgement_of checked.now index slots.now place.now shell.now)))
+        (IsRefusal (judgement_of checked.now index slots.now place.now shell.now)) }
 {
     match checked.paths().get(index) {
         None => Err(AcceptError::NoSuchPath),

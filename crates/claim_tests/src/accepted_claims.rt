@@ -1,10 +1,10 @@
 //! An accepted claim, programs from outside, and the printed names of refusals.
 
-use crate::fixtures::{checked_script, key, key_bytes, key_slots, place};
+use crate::fixtures::{checked_script, joined, key, key_bytes, key_slots, place};
 use claim::{AcceptError, Claim, Shell, accept};
-use digest::sha256;
 use facts::{Fact, KeySource, Stated};
 use lists::ByteString;
+use sighash::programs::script_hash_program;
 use std::alloc::Global;
 use std::process::Abort;
 
@@ -12,8 +12,8 @@ use std::process::Abort;
 fn claim_of(rt: &impl Abort, alloc: Global) -> Claim {
     let checked = checked_script(rt, alloc, &[0xac]);
     let slots = key_slots(rt, alloc, &key(rt, 0x11));
-    let place = place(rt, alloc, &[0x00, 0x20], &sha256(&[0xac]));
-    accept(alloc, checked, 0, slots, place, Shell::Open).expect(rt, "accepted")
+    let program = script_hash_program(alloc, &[0xac]).expect(rt, "memory");
+    accept(alloc, checked, 0, slots, place(program), Shell::Open).expect(rt, "accepted")
 }
 
 #[test]
@@ -33,7 +33,7 @@ fn refusal_of(
     hash: &[u8],
 ) -> Option<u8> {
     let checked = checked_script(rt, alloc, script);
-    let place = place(rt, alloc, start, hash);
+    let place = place(ByteString::from_vec(joined(rt, alloc, &[start, hash])));
     match accept(alloc, checked, 0, Vec::new(alloc), place, Shell::Open) {
         Ok(_) => None,
         Err(error) => Some(error.number()),

@@ -7,6 +7,7 @@ use digest::hash160;
 use filling::{FillError, Filled, fill};
 use keys::{Base, Key, Signer};
 use lists::ByteString;
+use sighash::programs::key_hash_program;
 use std::alloc::Global;
 use std::process::Abort;
 use tx::{MAX_OUTPUTS, TxOut};
@@ -16,7 +17,7 @@ fn claim(rt: &impl Abort, alloc: Global, key: &Key) -> Claim {
     let hash = hash160(&key.bytes);
     let code = joined(rt, alloc, &[&[0x76, 0xa9, 0x14], &hash, &[0x88, 0xac]]);
     let checked = checked_script(rt, alloc, &code);
-    let place = place(rt, alloc, &[0x00, 0x14], &hash);
+    let place = place(key_hash_program(alloc, &key.bytes).expect(rt, "memory"));
     let slots = key_slots(rt, alloc, key);
     accept(alloc, checked, 0, slots, place, Shell::Open).expect(rt, "accepted")
 }

@@ -35,15 +35,15 @@ pub fn checked_script(rt: &impl Abort, alloc: Global, bytes: &[u8]) -> Checked {
     check(alloc, script).expect(rt, "paths")
 }
 
-/// Where an output with a program stands: the first bytes of the program, and the hash behind them.
-pub fn place(rt: &impl Abort, alloc: Global, start: &[u8], hash: &[u8]) -> Place {
+/// Where an output with a program stands.
+pub fn place(program: ByteString) -> Place {
     Place {
         outpoint: OutPoint {
             txid: [7; 32],
             index: 1,
         },
         value: 10_000,
-        program: ByteString::from_vec(joined(rt, alloc, &[start, hash])),
+        program,
     }
 }
 

@@ -3,13 +3,13 @@
 
 use crate::fixtures::{key, place};
 use claim::{Claim, Shell, accept};
-use digest::sha256;
 use forms::{
     ClaimKind, Expiry, HtlcKeys, Patterns, accepted_slots, funding, key_hash, offered, patterns,
     received, to_local,
 };
 use paths::Checked;
 use sighash::Token;
+use sighash::programs::script_hash_program;
 use std::alloc::Global;
 use std::process::Abort;
 
@@ -57,8 +57,8 @@ fn builds_every_shape_of_number(rt: HostRuntime) {
 // A claim of a kind on this script.
 fn claim(rt: &impl Abort, alloc: Global, checked: Checked, kind: &ClaimKind) -> Claim {
     let slots = accepted_slots(alloc, kind).expect(rt, "memory");
-    let hash = sha256(checked.script().bytes());
-    let place = place(rt, alloc, &[0x00, 0x20], &hash);
+    let program = script_hash_program(alloc, checked.script().bytes()).expect(rt, "memory");
+    let place = place(program);
     accept(alloc, checked, kind.path(), slots, place, Shell::Open).expect(rt, "accepted")
 }
 

@@ -5,11 +5,12 @@ use crate::parties::Parties;
 use anyhow::{Result, anyhow};
 use chain::{Chain, Coins};
 use claim::Place;
-use digest::{hash160, sha256};
+use digest::sha256;
 use forms::{Expiry, funding, key_hash, offered, received, to_local};
 use keys::Base;
 use lists::ByteString;
 use paths::Checked;
+use sighash::programs::{key_hash_program, script_hash_program};
 use std::alloc::{AllocError, Global};
 use tx::TxOut;
 
@@ -80,25 +81,17 @@ pub fn script_of(alloc: Global, parties: &Parties, claimed: Claimed) -> Result<C
     }
 }
 
-/// The program of what is claimed (BIP 141): 00 14 and the hash of the key, or 00 20 and the hash of the script.
+/// The program of what is claimed (BIP 141): that of the key, or of the script.
 fn program_of(
     alloc: Global,
     parties: &Parties,
     claimed: Claimed,
     script: &[u8],
-) -> Result<ByteString> {
-    let mut program = Vec::new(alloc);
+) -> Result<ByteString, AllocError> {
     match claimed {
-        Claimed::KeyHash => {
-            program.extend_from_slice(&[0x00, 0x14])?;
-            program.extend_from_slice(&hash160(&parties.payment().bytes))?;
-        }
-        _ => {
-            program.extend_from_slice(&[0x00, 0x20])?;
-            program.extend_from_slice(&sha256(script))?;
-        }
+        Claimed::KeyHash => key_hash_program(alloc, &parties.payment().bytes),
+        _ => script_hash_program(alloc, script),
     }
-    Ok(ByteString::from_vec(program))
 }
 
 /// Grants the output to a chain, and says where it stands.

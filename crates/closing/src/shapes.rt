@@ -10,6 +10,7 @@ use keys::Base;
 use lists::ByteString;
 use paths::check;
 use script::Script;
+use sighash::programs::script_hash_program;
 use std::alloc::{AllocError, Global};
 
 /// A slot of exactly these bytes; none where they are too long for an item.
@@ -28,16 +29,14 @@ fn one(alloc: Global, slot: Slot) -> Result<Vec<Slot>, AllocError> {
 }
 
 /// Where an output to the script's hash stands.
-fn place(alloc: Global, script: &[u8]) -> Result<Place> {
-    let mut program = Vec::from_slice(alloc, &[0x00, 0x20])?;
-    program.extend_from_slice(&sha256(script))?;
+fn place(alloc: Global, script: &[u8]) -> Result<Place, AllocError> {
     Ok(Place {
         outpoint: OutPoint {
             txid: [7; 32],
             index: 3,
         },
         value: 1000,
-        program: ByteString::from_vec(program),
+        program: script_hash_program(alloc, script)?,
     })
 }
 

@@ -19,7 +19,8 @@ use Rattle.commit.specs.declared.outputs.OutputKind.TheVariants.{ToLocal, ToRemo
 use Rattle.commit.specs.declared.outputs.CommitmentOutput.{CommitmentOutput}
 use Rattle.commit.specs.declared.errors.BuildError.TheVariants.{TooManyOutputs, ValueTooLarge}
 use Rattle.commit.specs.Keys.{KeyBytes}
-use Rattle.commit.specs.Outputs.{to_local_script, htlc_script, script_hash_program, key_hash_program, to_local_output, to_remote_output, htlc_output, where_paid, outputs_of}
+use Rattle.sighash.specs.Programs.{script_hash_program, key_hash_program}
+use Rattle.commit.specs.Outputs.{to_local_script, htlc_script, to_local_output, to_remote_output, htlc_output, where_paid, outputs_of}
 use Rattle.commit.specs.Order.{in_order}
 use Rattle.commit.specs.Commitments.{IsHtlcOf, IsTxOutput, IsOutputOf}
 use Rattle.commit.specs.Building.{refusal_of}

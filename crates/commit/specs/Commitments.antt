@@ -23,7 +23,8 @@ use Rattle.commit.specs.declared.outputs.HtlcOutput.{HtlcOutput}
 use Rattle.commit.specs.Fees.{satoshis_of, fee_of, htlc_weight}
 use Rattle.commit.specs.Amounts.{amounts_of}
 use Rattle.commit.specs.Keys.{KeyBytes, keys_of}
-use Rattle.commit.specs.Outputs.{to_local_script, htlc_script, script_hash_program, outputs_of}
+use Rattle.sighash.specs.Programs.{script_hash_program}
+use Rattle.commit.specs.Outputs.{to_local_script, htlc_script, outputs_of}
 use Rattle.commit.specs.Order.{in_order}
 
 -- what a commitment consists of

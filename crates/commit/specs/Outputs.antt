@@ -1,9 +1,9 @@
 -- The outputs of a commitment (BOLT 3, "Commitment Transaction Outputs").
 use Rattle.std.specs.Prelude.{ℕ, List, [], ◌∷◌, ◌++◌, map, Option, Some, None}
-use Rattle.sha2.specs.Sha256.{sha256}
 use Rattle.digest.specs.Hash.{hash160}
 use Rattle.digest.specs.Ripemd160.{ripemd160}
 use Rattle.script.specs.Spelling.{spelling}
+use Rattle.sighash.specs.Programs.{script_hash_program, key_hash_program}
 use Rattle.terms.specs.Scripts.{to_local, key_hash, offered, received}
 use Rattle.terms.specs.declared.htlcs.Htlc.{Htlc}
 use Rattle.commit.specs.declared.fees.Direction.{Direction}
@@ -29,14 +29,6 @@ htlc_start revocation_hash remote = 0x76 ∷ 0xa9 ∷ 0x14 ∷ (revocation_hash 
 unfoldable pub htlc_script : KeyBytes → Direction → Htlc → List ℕ
 htlc_script k Offered h = spelling (offered (hash160 k.revocation) k.remote_htlc k.local_htlc (ripemd160 h.hash))
 htlc_script k Received h = spelling (received (hash160 k.revocation) k.remote_htlc k.local_htlc (ripemd160 h.hash) h.expiry)
-
--- the program of a script (BIP 141): version 0 and its SHA-256
-unfoldable pub script_hash_program : List ℕ → List ℕ
-script_hash_program script = 0x00 ∷ 0x20 ∷ sha256 script
-
--- the program of a key: version 0 and its HASH160
-unfoldable pub key_hash_program : List ℕ → List ℕ
-key_hash_program key = 0x00 ∷ 0x14 ∷ hash160 key
 
 -- the output of a script
 abbrev pub script_output : ℕ → List ℕ → OutputKind → CommitmentOutput

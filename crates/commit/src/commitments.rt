@@ -4,14 +4,16 @@ ghost use Rattle.std.specs.Prelude.{◌≡◌, ◌≤◌, ◌++◌, [], map, len
 ghost use Rattle.std.specs.List.{All, cons_option};
 ghost use Rattle.tx.specs.Limits.{max_outputs};
 ghost use Rattle.commit.specs.Keys.{bytes_of};
-ghost use Rattle.commit.specs.Outputs.{script_hash_program as script_hash_program_of, to_local_script as to_local_script_of};
+ghost use Rattle.sighash.specs.Programs.{script_hash_program as script_hash_program_of};
+ghost use Rattle.commit.specs.Outputs.{to_local_script as to_local_script_of};
 ghost use Rattle.commit.specs.Commitments.{IsTxOutput, tx_output, spending, htlc_at, htlcs_from, lock_time_of, htlc_transaction_of};
 
 use crate::derived::CommitmentKeys;
 use crate::fees::{Direction, htlc_fee, satoshis};
-use crate::outputs::{CommitmentOutput, HtlcOutput, OutputKind, script_hash_program};
+use crate::outputs::{CommitmentOutput, HtlcOutput, OutputKind};
 use crate::scripts::to_local_script;
 use lists::{ByteString, List};
+use sighash::programs::script_hash_program;
 use std::alloc::{AllocError, Global};
 use std::marker::Model;
 use terms::{Htlc, Obscured};
@@ -112,7 +114,8 @@ fn commitment_tx(
 ) -> Result<Tx, AllocError>
     requires few { length outputs.now ≤ max_outputs }
     requires limited { All (λ o. IsTxOutput o) outputs.now }
-    ensures { IfOk result (λ t. t ≡ spending funding hidden.sequence (map tx_output outputs.now) hidden.lock_time) }
+    ensures { IfOk result (λ t. t ≡ spending funding hidden.sequence
+        (map tx_output outputs.now) hidden.lock_time) }
 {
     spending(
         alloc,
@@ -129,7 +132,8 @@ fn delayed_program(
     delay: u16,
     keys: &CommitmentKeys,
 ) -> Result<ByteString, AllocError>
-    ensures { IfOk result (λ p. p ≡ script_hash_program_of (to_local_script_of delay (bytes_of keys.now))) }
+    ensures { IfOk result (λ p. p ≡ script_hash_program_of
+        (to_local_script_of delay (bytes_of keys.now))) }
 {
     let script = to_local_script(alloc, delay, keys)?;
     script_hash_program(alloc, script.bytes())
@@ -152,7 +156,8 @@ pub(crate) fn htlc_at(index: u32, kind: &OutputKind) -> Option<HtlcOutput>
 
 // Puts the HTLC of an output at the end, where it is to one.
 fn push_htlc(htlcs: &mut Vec<HtlcOutput>, index: u32, kind: &OutputKind) -> Result<(), AllocError>
-    ensures { OnOk result (htlcs.new.items ≡ htlcs.old.items ++ cons_option (htlc_at index kind.now) []) }
+    ensures { OnOk result (htlcs.new.items ≡ htlcs.old.items ++ cons_option
+        (htlc_at index kind.now) []) }
 {
     if let Some(htlc) = htlc_at(index, kind) {
         htlcs.push(htlc)?;

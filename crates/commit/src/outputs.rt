@@ -2,15 +2,14 @@
 
 ghost use Rattle.std.specs.Prelude.{◌≡◌, ◌++◌, map, IfOk, OnOk};
 ghost use Rattle.commit.specs.Keys.{bytes_of};
-ghost use Rattle.commit.specs.Outputs.{script_hash_program, key_hash_program, script_output, to_local_output, to_remote_output, htlc_output, where_paid, outputs_of};
+ghost use Rattle.commit.specs.Outputs.{script_output, to_local_output, to_remote_output, htlc_output, where_paid, outputs_of};
 
 use crate::amounts::Amounts;
 use crate::derived::CommitmentKeys;
 use crate::fees::{Direction, satoshis};
 use crate::scripts::{HtlcScripts, to_local_script, to_remote_script};
-use digest::{hash160, sha256};
-use keys::Key;
 use lists::ByteString;
+use sighash::programs::{key_hash_program, script_hash_program};
 use std::alloc::{AllocError, Global};
 use terms::Htlc;
 
@@ -62,28 +61,6 @@ pub struct HtlcOutput {
     pub htlc: Htlc,
 }
 
-// The program of a script: version 0 and its SHA-256 (BIP 141).
-#[tactic(auto, unfolding(crate::specs::Outputs::script_hash_program))]
-pub(crate) fn script_hash_program(alloc: Global, script: &[u8]) -> Result<ByteString, AllocError>
-    ensures { IfOk result (λ p. p ≡ script_hash_program script.now) }
-{
-    let mut bytes = Vec::with_capacity(alloc, 34)?;
-    bytes.extend_from_slice(&[0x00, 0x20])?;
-    bytes.extend_from_slice(&sha256(script))?;
-    Ok(ByteString::from_vec(bytes))
-}
-
-// The program of a key: version 0 and its HASH160 (BIP 141).
-#[tactic(auto, unfolding(crate::specs::Outputs::key_hash_program))]
-fn key_hash_program(alloc: Global, key: &Key) -> Result<ByteString, AllocError>
-    ensures { IfOk result (λ p. p ≡ key_hash_program key.now.bytes) }
-{
-    let mut bytes = Vec::with_capacity(alloc, 22)?;
-    bytes.extend_from_slice(&[0x00, 0x14])?;
-    bytes.extend_from_slice(&hash160(&key.bytes))?;
-    Ok(ByteString::from_vec(bytes))
-}
-
 // The output of a script.
 fn script_output(
     alloc: Global,
@@ -110,7 +87,8 @@ fn push_to_local(
     amounts: &Amounts,
     outputs: &mut Vec<CommitmentOutput>,
 ) -> Result<(), AllocError>
-    ensures { OnOk result (outputs.new.items ≡ outputs.old.items ++ where_paid (to_local_output delay (bytes_of keys.now)) amounts.now.to_local) }
+    ensures { OnOk result (outputs.new.items ≡ outputs.old.items ++ where_paid
+        (to_local_output delay (bytes_of keys.now)) amounts.now.to_local) }
 {
     if let Some(value) = amounts.to_local {
         let script = to_local_script(alloc, delay, keys)?;
@@ -126,13 +104,14 @@ fn push_to_remote(
     amounts: &Amounts,
     outputs: &mut Vec<CommitmentOutput>,
 ) -> Result<(), AllocError>
-    ensures { OnOk result (outputs.new.items ≡ outputs.old.items ++ where_paid (to_remote_output (bytes_of keys.now)) amounts.now.to_remote) }
+    ensures { OnOk result (outputs.new.items ≡ outputs.old.items ++ where_paid
+        (to_remote_output (bytes_of keys.now)) amounts.now.to_remote) }
 {
     if let Some(value) = amounts.to_remote {
         let output = CommitmentOutput {
             value,
             script: to_remote_script(alloc, keys)?,
-            program: key_hash_program(alloc, &keys.remote)?,
+            program: key_hash_program(alloc, &keys.remote.bytes)?,
             kind: OutputKind::ToRemote,
         };
         outputs.push(output)?;
@@ -162,7 +141,8 @@ fn push_htlcs(
     htlcs: &[Htlc],
     outputs: &mut Vec<CommitmentOutput>,
 ) -> Result<(), AllocError>
-    ensures { OnOk result (outputs.new.items ≡ outputs.old.items ++ map (htlc_output (bytes_of scripts.now.keys) direction) htlcs.now) }
+    ensures { OnOk result (outputs.new.items ≡ outputs.old.items ++ map
+        (htlc_output (bytes_of scripts.now.keys) direction) htlcs.now) }
 {
     for htlc in htlcs {
         outputs.push(htlc_output(alloc, scripts, direction, htlc)?)?;

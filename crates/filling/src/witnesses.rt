@@ -4,7 +4,6 @@ ghost use Rattle.std.specs.Prelude.{◌≡◌, ◌≤◌, nat_le, true, Some, ma
 ghost use Rattle.script.specs.Limits.{max_stack_size};
 ghost use Rattle.tx.specs.Limits.{max_inputs, max_bytes};
 ghost use Rattle.std.specs.List.{list_all};
-ghost use Rattle.sighash.specs.Programs.{is_script_hash_program as is_script_hash};
 ghost use Rattle.filling.specs.Filling.{item_for, unsigned_input, filled_input, script_of};
 ghost use Rattle.filling.specs.Refusals.{IsFillable, AreFillable, Lacks, LacksFirst, UnlessMemory, all_slots};
 ghost use Rattle.filling.specs.Standing.{IsUnsigned, Stands, IsOpen, AllOpen};
@@ -17,6 +16,7 @@ use claim::{Claim, Slot};
 use keys::Signer;
 use lists::ByteString;
 use sighash::SighashCache;
+use sighash::programs::is_script_hash_program;
 use std::alloc::{AllocError, Global};
 use tx::{Inputs, Tx, TxIn, Witness};
 
@@ -28,7 +28,9 @@ fn item(
     signer: &Signer,
     preimages: &Preimages<'_>,
 ) -> Result<ByteString, FillError>
-    ensures { MatchResult result (λ x. (x ≡ item_for digest.now preimages.now slot.now) × IsFillable signer.now preimages.now slot.now) (λ e. UnlessMemory e (Lacks signer.now preimages.now slot.now e)) }
+    ensures { MatchResult result (λ x. (x ≡ item_for digest.now preimages.now slot.now)
+        × IsFillable signer.now preimages.now slot.now)
+        (λ e. UnlessMemory e (Lacks signer.now preimages.now slot.now e)) }
 {
     match slot {
         Slot::Sig(key) => match signer.sign(key, digest) {
@@ -51,20 +53,16 @@ fn items(
     signer: &Signer,
     preimages: &Preimages<'_>,
 ) -> Result<Vec<ByteString>, FillError>
-    ensures { MatchResult result (λ xs. (xs.items ≡ map (item_for digest.now preimages.now) slots.now) × AreFillable signer.now preimages.now slots.now) (λ e. UnlessMemory e (LacksFirst signer.now preimages.now slots.now e)) }
+    ensures { MatchResult result (λ xs.
+        (xs.items ≡ map (item_for digest.now preimages.now) slots.now)
+        × AreFillable signer.now preimages.now slots.now)
+        (λ e. UnlessMemory e (LacksFirst signer.now preimages.now slots.now e)) }
 {
     let mut items = Vec::new(alloc);
     for slot in slots {
         items.push(item(alloc, digest, slot, signer, preimages)?)?;
     }
     Ok(items)
-}
-
-// Whether a program is version 0 and the hash of a script (BIP 141).
-fn is_script_hash_program(program: &[u8]) -> bool
-    ensures { result ≡ is_script_hash program.now }
-{
-    program.len() == 34 && program[..2] == [0x00, 0x20]
 }
 
 // The witness of items: the script comes last where the program is its hash (BIP 141).
@@ -95,8 +93,13 @@ fn witness(
     signer: &Signer,
     preimages: &Preimages<'_>,
 ) -> Result<Witness, FillError>
-    requires short { AreFillable signer.now preimages.now claim.now.slots → length claim.now.slots ≤ max_stack_size }
-    ensures { MatchResult result (λ w. (w ≡ witness_for claim.now.place.program (script_of claim.now) (reverse (map (item_for digest.now preimages.now) claim.now.slots))) × AreFillable signer.now preimages.now claim.now.slots) (λ e. UnlessMemory e (LacksFirst signer.now preimages.now claim.now.slots e)) }
+    requires short { AreFillable signer.now preimages.now claim.now.slots
+        → length claim.now.slots ≤ max_stack_size }
+    ensures { MatchResult result (λ w.
+        (w ≡ witness_for claim.now.place.program (script_of claim.now)
+        (reverse (map (item_for digest.now preimages.now) claim.now.slots)))
+        × AreFillable signer.now preimages.now claim.now.slots)
+        (λ e. UnlessMemory e (LacksFirst signer.now preimages.now claim.now.slots e)) }
 {
     let mut items = items(alloc, digest, claim.slots(), signer, preimages)?;
     items.reverse();
@@ -117,7 +120,9 @@ fn filled_input(
     requires here { slice_get cache.now.inputs index ≡ Some (unsigned_input claim.now) }
     requires bare { unsigned_transaction cache.now ≡ cache.now }
     requires stands { Stands cache.now claim.now }
-    ensures value { MatchResult result (λ x. (x ≡ filled_input cache.now preimages.now claim.now) × AreFillable signer.now preimages.now claim.now.slots) (λ e. UnlessMemory e (LacksFirst signer.now preimages.now claim.now.slots e)) }
+    ensures value { MatchResult result (λ x. (x ≡ filled_input cache.now preimages.now claim.now)
+        × AreFillable signer.now preimages.now claim.now.slots)
+        (λ e. UnlessMemory e (LacksFirst signer.now preimages.now claim.now.slots e)) }
     ensures open { IfOk result (λ x. IsOpen claim.now) }
 {
     // The proof learns from the path that the claim opens its output.
@@ -143,7 +148,11 @@ pub(crate) fn filled_inputs(
 ) -> Result<Inputs, FillError>
     requires unsigned { IsUnsigned (map (λ c. c.now) claims.now) tx.now }
     requires count { length claims.now ≤ max_inputs }
-    ensures value { MatchResult result (λ xs. (xs ≡ map (filled_input tx.now preimages.now) (map (λ c. c.now) claims.now)) × AreFillable signer.now preimages.now (all_slots (map (λ c. c.now) claims.now))) (λ e. UnlessMemory e (LacksFirst signer.now preimages.now (all_slots (map (λ c. c.now) claims.now)) e)) }
+    ensures value { MatchResult result
+        (λ xs. (xs ≡ map (filled_input tx.now preimages.now) (map (λ c. c.now) claims.now))
+        × AreFillable signer.now preimages.now (all_slots (map (λ c. c.now) claims.now)))
+        (λ e. UnlessMemory e (LacksFirst signer.now preimages.now
+        (all_slots (map (λ c. c.now) claims.now)) e)) }
     ensures open { IfOk result (λ xs. AllOpen (map (λ c. c.now) claims.now)) }
 {
     let cache = SighashCache::new(tx);

@@ -19,7 +19,7 @@ use Rattle.terms.specs.declared.sides.Side.TheVariants.{A, B}
 use Rattle.terms.specs.declared.agreement.Terms.{Terms}
 use Rattle.terms.specs.Sides.{other}
 use Rattle.terms.specs.Scripts.{funding}
-use Rattle.commit.specs.Outputs.{script_hash_program}
+use Rattle.sighash.specs.Programs.{script_hash_program}
 use Rattle.commit.specs.Signing.{funding_script}
 use Rattle.channel.specs.Points.{point_at}
 use Rattle.channel.specs.States.{first_of, opened as opened_state}

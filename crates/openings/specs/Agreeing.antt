@@ -5,7 +5,7 @@ use Rattle.chain.specs.Blocks.{grant_outpoint}
 use Rattle.terms.specs.declared.sides.Side.{Side}
 use Rattle.terms.specs.declared.agreement.Terms.{Terms}
 use Rattle.terms.specs.Sides.{other}
-use Rattle.commit.specs.Outputs.{script_hash_program}
+use Rattle.sighash.specs.Programs.{script_hash_program}
 use Rattle.commit.specs.Signing.{funding_script}
 use Rattle.channel.specs.Tokens.{peer_tokens}
 use Rattle.channel.specs.Playing.{placed}

@@ -15,7 +15,7 @@ use Rattle.terms.specs.declared.agreement.Terms.{Terms}
 use Rattle.terms.specs.Agreement.{HasFields, party}
 use Rattle.terms.specs.Sides.{other}
 use Rattle.terms.specs.Scripts.{funding}
-use Rattle.commit.specs.Outputs.{script_hash_program}
+use Rattle.sighash.specs.Programs.{script_hash_program}
 use Rattle.channel.specs.Points.{point_at}
 use Rattle.channel.specs.States.{first_of}
 use Rattle.channel.specs.Tokens.{peer_tokens}

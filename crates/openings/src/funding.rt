@@ -3,38 +3,27 @@
 ghost use Rattle.std.specs.Prelude.{◌≡◌, IfOk};
 ghost use Rattle.script.specs.Spelling.{spelling};
 ghost use Rattle.terms.specs.Scripts.{funding as funding_of};
-ghost use Rattle.commit.specs.Outputs.{script_hash_program};
+ghost use Rattle.sighash.specs.Programs.{script_hash_program as script_hash_program_of};
 ghost use Rattle.openings.specs.Opening.{funding_if_within};
 
 use crate::signers::bases_in;
-use digest::sha256;
 use forms::{funding, patterns};
 use keys::Key;
 use lists::ByteString;
 use scenario::Seeds;
+use sighash::programs::script_hash_program;
 use std::alloc::{AllocError, Global};
 use terms::ProposedTerms;
 use tx::TxOut;
 
-// The program of a script (BIP 141): version 0, and its SHA-256.
-#[tactic(auto, unfolding(commit::specs::Outputs::script_hash_program))]
-fn program_of(alloc: Global, script: &[u8]) -> Result<ByteString, AllocError>
-    ensures { IfOk result (λ s. s ≡ script_hash_program script.now) }
-{
-    let mut program = Vec::with_capacity(alloc, 34)?;
-    program.extend_from_slice(&[0x00, 0x20])?;
-    program.extend_from_slice(&sha256(script))?;
-    Ok(ByteString::from_vec(program))
-}
-
 // The program of the output that two base keys fund.
 fn funding_program(alloc: Global, key: &Key, other: &Key) -> Result<ByteString, AllocError>
-    ensures { IfOk result (λ s. s ≡ script_hash_program
+    ensures { IfOk result (λ s. s ≡ script_hash_program_of
         (spelling (funding_of key.now.bytes other.now.bytes))) }
 {
     let patterns = patterns(alloc)?;
     let checked = funding(alloc, &patterns, key, other)?;
-    program_of(alloc, checked.script().bytes())
+    script_hash_program(alloc, checked.script().bytes())
 }
 
 /// The funding output of the channel of this index (BOLT 3, "Funding Transaction Output"): the capacity in satoshis, for the funding keys of both sides in that channel; `None` where the

@@ -13,7 +13,8 @@ use Rattle.forms.specs.Fillings.{Filling, Signature, Bytes}
 use Rattle.terms.specs.declared.numbers.Obscured.{Obscured}
 use Rattle.commit.specs.declared.fees.Direction.TheVariants.{Offered}
 use Rattle.commit.specs.Keys.{KeyBytes, keys_of}
-use Rattle.commit.specs.Outputs.{outputs_of, to_local_script, script_hash_program, htlc_output, to_remote_output, to_local_output}
+use Rattle.sighash.specs.Programs.{script_hash_program}
+use Rattle.commit.specs.Outputs.{outputs_of, to_local_script, htlc_output, to_remote_output, to_local_output}
 use Rattle.commit.specs.Order.{output_cmp, in_order}
 use Rattle.commit.specs.Commitments.{Contents, commitment_of, transaction_of, second_stage_of}
 use Rattle.penalty.specs.declared.states.RevokedState.{RevokedState}

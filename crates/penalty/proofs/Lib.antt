@@ -1,6 +1,7 @@
 pub mod Programs
 pub mod Pushed
 pub mod Accepting
+pub mod Fillable
 pub mod Filling
 pub mod Standing
 pub mod Collecting

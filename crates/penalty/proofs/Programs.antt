@@ -13,9 +13,10 @@ use Rattle.paths.specs.Listing.{CheckedScript}
 use Rattle.commit.specs.Keys.{KeyBytes}
 use Rattle.commit.specs.Commitments.{Contents}
 use Rattle.forms.specs.Forms.{to_local_form, key_hash_form}
-use Rattle.commit.specs.Outputs.{to_local_script, htlc_script, script_hash_program, key_hash_program}
+use Rattle.sighash.specs.Programs.{script_hash_program, key_hash_program, key_hash_script}
+use Rattle.commit.specs.Outputs.{to_local_script, htlc_script}
 use Rattle.terms.specs.Scripts.{to_local, key_hash}
-use Rattle.claim.specs.Judgement.{script_program, key_script, is_key_program, is_program}
+use Rattle.claim.specs.Judgement.{is_key_program, is_program}
 use Rattle.penalty.specs.Claimable.{htlc_form}
 
 same_bytes : (xs : List ℕ) → bytes_eq xs xs ≡ true
@@ -23,8 +24,7 @@ same_bytes xs = (bytes_eq-Decides xs xs).1 refl
 
 -- a program that is the hash of the script
 by_hash : (script bytes : List ℕ) → bytes ≡ script → is_program script (script_hash_program bytes) ≡ true
-unfolding script_hash_program
-by_hash script bytes e = rw e (or_left _ _ (same_bytes (script_program script)))
+by_hash script bytes e = rw e (or_left _ _ (same_bytes (script_hash_program script)))
 
 same_to_local : (delay : ℕ) (k : KeyBytes) → to_local_script delay k ≡ spelling (to_local k.revocation delay k.delayed)
 unfolding to_local_script
@@ -45,8 +45,8 @@ pub key_program : (key : List ℕ) → is_program (spelling (key_hash (hash160 k
 unfolding key_hash_program
 key_program key =
     let l : length (hash160 key) ≡ 20 = length-ripemd160 _ in
-    let e : is_key_program (spelling (key_hash (hash160 key))) (0x00 ∷ 0x14 ∷ hash160 key) ≡ true = rw (l, same_bytes (key_script (hash160 key))) refl in
-    or_right (bytes_eq (0x00 ∷ 0x14 ∷ hash160 key) (script_program (spelling (key_hash (hash160 key))))) (is_key_program (spelling (key_hash (hash160 key))) (0x00 ∷ 0x14 ∷ hash160 key)) e
+    let e : is_key_program (spelling (key_hash (hash160 key))) (0x00 ∷ 0x14 ∷ hash160 key) ≡ true = rw (l, same_bytes (key_hash_script (hash160 key))) refl in
+    or_right (bytes_eq (0x00 ∷ 0x14 ∷ hash160 key) (script_hash_program (spelling (key_hash (hash160 key))))) (is_key_program (spelling (key_hash (hash160 key))) (0x00 ∷ 0x14 ∷ hash160 key)) e
 
 -- of a script that was built, on the output that stands for it
 pub on_to_local : (c : Contents) (checked : CheckedScript) (program : List ℕ) → checked ≡ to_local_form c.keys.revocation c.delay c.keys.delayed

@@ -10,7 +10,8 @@ use Rattle.commit.specs.declared.fees.Direction.{Direction}
 use Rattle.commit.specs.declared.outputs.OutputKind.{OutputKind}
 use Rattle.commit.specs.declared.outputs.OutputKind.TheVariants.{ToHtlc}
 use Rattle.commit.specs.declared.outputs.HtlcOutput.{HtlcOutput}
-use Rattle.commit.specs.Outputs.{to_local_script, script_hash_program}
+use Rattle.sighash.specs.Programs.{script_hash_program}
+use Rattle.commit.specs.Outputs.{to_local_script}
 use Rattle.commit.specs.Commitments.{Contents, htlc_at, htlcs_of, htlc_transaction_of, second_stage_output, second_stage_of}
 use Rattle.penalty.specs.Claimable.{place_in}
 

@@ -1,10 +1,10 @@
 -- What a revoked state lets the peer claim is worth the capacity.
-use Rattle.std.proofs.Common.{◌≡◌, ℕ, ◌+◌, ◌-◌, ◌*◌, ◌≤◌, Bool, true, false, not, List, [], ◌∷◌, ◌++◌, map, Option, Some, None, unwrap_or, refl, sym, ap, ◌∙◌, arith}
+use Rattle.std.proofs.Common.{◌≡◌, ℕ, ◌+◌, ◌-◌, ◌*◌, ◌≤◌, Bool, true, false, not, List, [], ◌∷◌, ◌++◌, map, Option, Some, None, refl, sym, ap, ◌∙◌, arith}
 use Rattle.std.specs.Prelude.{if◌then◌else◌, Contains}
 use Rattle.std.specs.List.{All, AllByRecursion, sum_by, cons_option}
 use Rattle.std.proofs.lemmas.Bool.{ltb-false, false≢true}
 use Rattle.std.proofs.lemmas.List.Elements.{All-nil, All-cons, All-append, All-map, All-weaker, filter_passes, recursion_from_All, Contains-append_right}
-use Rattle.std.proofs.lemmas.List.Sums.{sum_by-append, sum_by-cons}
+use Rattle.std.proofs.lemmas.List.Sums.{sum_by-cons}
 use Rattle.std.proofs.lemmas.List.Sorted.{All-permutation, sum_by-IsPermutation}
 use Rattle.keys.specs.Derivation.{point_of}
 use Rattle.terms.specs.declared.htlcs.Htlc.{Htlc}
@@ -17,59 +17,23 @@ use Rattle.terms.specs.Views.{share}
 use Rattle.claim.specs.declared.parts.Place.{Place}
 use Rattle.commit.specs.declared.fees.Direction.{Direction}
 use Rattle.commit.specs.declared.fees.Direction.TheVariants.{Offered, Received}
-use Rattle.commit.specs.declared.amounts.Amounts.{Amounts}
 use Rattle.commit.specs.declared.outputs.OutputKind.{OutputKind}
 use Rattle.commit.specs.declared.outputs.OutputKind.TheVariants.{ToLocal, ToRemote, ToHtlc}
 use Rattle.commit.specs.declared.outputs.CommitmentOutput.{CommitmentOutput}
 use Rattle.commit.specs.declared.outputs.HtlcOutput.{HtlcOutput}
 use Rattle.commit.specs.Fees.{satoshis_of, fee_of, htlc_weight, is_trimmed_by}
 use Rattle.commit.specs.Amounts.{untrimmed, amounts_of}
-use Rattle.commit.specs.Sums.{worth_of, paid_out}
+use Rattle.commit.specs.Sums.{paid_out}
 use Rattle.commit.specs.Keys.{KeyBytes, keys_of}
 use Rattle.commit.specs.Outputs.{htlc_output, to_local_output, to_remote_output, where_paid, outputs_of}
 use Rattle.commit.specs.Order.{in_order}
 use Rattle.commit.specs.Commitments.{Contents, commitment_of, tx_output, transaction_of, htlc_at, htlcs_from, htlcs_of}
 use Rattle.commit.proofs.Funds.{each_is_placed}
 use Rattle.commit.proofs.Ordered.{there_is_one}
+use Rattle.commit.proofs.Values.{values, of_all}
 use Rattle.penalty.specs.declared.states.RevokedState.{RevokedState}
 use Rattle.penalty.specs.Claimable.{Claimable, place_in, penalty_on, payment_on, htlc_penalty_on, second_stage_penalty, claims_on, claims_by, claims_from, commitment_in, claimable_of}
 use Rattle.penalty.specs.Worth.{stage_on, staged, value_of, fee_with, fees_with, FirstStageIsWorthTheCapacity, EachStageIsWorthTheCapacity, EachStageIsClaimable}
-
-abbrev values : List CommitmentOutput → ℕ
-values os = sum_by (λ o. o.value) os
-
--- the values of all outputs are what is paid out
-of_htlcs : (k : KeyBytes) (direction : Direction) (hs : List Htlc) → values (map (htlc_output k direction) hs) ≡ worth_of hs
-of_htlcs k direction [] = refl
-of_htlcs k direction (h ∷ hs) =
-    let a = sum_by-cons (λ (o : CommitmentOutput). o.value) (htlc_output k direction h) (map (htlc_output k direction) hs) in
-    let b = sum_by-cons (λ (x : Htlc). satoshis_of x.amount) h hs in
-    let r : values (map (htlc_output k direction) hs) ≡ worth_of hs = of_htlcs k direction hs in
-    a ∙ ap (λ n. satoshis_of h.amount + n) r ∙ sym b
-
-of_local : (delay : ℕ) (k : KeyBytes) (v : Option ℕ) → values (where_paid (to_local_output delay k) v) ≡ unwrap_or v 0
-of_local delay k None = refl
-of_local delay k (Some v) = omega arith
-
-of_remote : (k : KeyBytes) (v : Option ℕ) → values (where_paid (to_remote_output k) v) ≡ unwrap_or v 0
-of_remote k None = refl
-of_remote k (Some v) = omega arith
-
-added : (w v u p q s t p' q' s' t' : ℕ) → w ≡ v + t → v ≡ u + s → u ≡ p + q → p ≡ p' → q ≡ q' → s ≡ s' → t ≡ t' → w ≡ p' + q' + (s' + t')
-added w v u p q s t p' q' s' t' a b c d e f g = omega arith
-
-of_all : (delay : ℕ) (k : KeyBytes) (a : Amounts) → values (outputs_of delay k a) ≡ paid_out a
-unfolding outputs_of
-of_all delay k a =
-    let f : CommitmentOutput → ℕ = λ o. o.value in
-    let offered = map (htlc_output k Offered) a.offered in
-    let received = map (htlc_output k Received) a.received in
-    let local = where_paid (to_local_output delay k) a.to_local in
-    let remote = where_paid (to_remote_output k) a.to_remote in
-    let x = sum_by-append f ((offered ++ received) ++ local) remote in
-    let y = sum_by-append f (offered ++ received) local in
-    let z = sum_by-append f offered received in
-    added _ _ _ _ _ _ _ _ _ _ _ x y z (of_htlcs k Offered a.offered) (of_htlcs k Received a.received) (of_local delay k a.to_local) (of_remote k a.to_remote)
 
 values_are : (terms : Terms) (view : View) (owner : Side) (n : ℕ) (point : List ℕ)
     → values (commitment_of terms view owner n point).outputs ≡ paid_out (amounts_of terms view owner)

@@ -12,7 +12,8 @@ use Rattle.commit.specs.declared.outputs.OutputKind.{OutputKind}
 use Rattle.commit.specs.declared.outputs.OutputKind.TheVariants.{ToLocal, ToRemote, ToHtlc}
 use Rattle.commit.specs.declared.outputs.CommitmentOutput.{CommitmentOutput}
 use Rattle.commit.specs.Keys.{KeyBytes}
-use Rattle.commit.specs.Outputs.{to_local_script, htlc_script, script_hash_program, key_hash_program}
+use Rattle.sighash.specs.Programs.{script_hash_program, key_hash_program}
+use Rattle.commit.specs.Outputs.{to_local_script, htlc_script}
 use Rattle.commit.specs.Commitments.{Contents}
 
 -- the program of an output, by its kind

@@ -4,9 +4,11 @@ ghost use Rattle.std.specs.Prelude.{◌≡◌, ◌<◌, true, IfOk};
 ghost use Rattle.script.specs.Limits.{locktime_threshold};
 ghost use Rattle.script.specs.Spelling.{spelling};
 ghost use Rattle.claim.specs.Judgement.{is_program, bare_shell};
-ghost use Rattle.commit.specs.Outputs.{to_local_script, htlc_script as htlc_script_of, script_hash_program, key_hash_program};
+ghost use Rattle.sighash.specs.Programs.{script_hash_program, key_hash_program};
+ghost use Rattle.commit.specs.Outputs.{to_local_script as to_local_script_of, htlc_script as htlc_script_of};
 ghost use Rattle.forms.specs.Claims.{Claims, path_taken_by};
 ghost use Rattle.forms.specs.Fillings.{fillings_of};
+ghost use Rattle.forms.specs.Forms.{to_local_form};
 ghost use Rattle.commit.specs.Keys.{bytes_of};
 ghost use Rattle.penalty.specs.Claimable.{htlc_form, penalty_on, payment_on, htlc_penalty_on};
 ghost use Rattle.penalty.specs.Sets.{IsClaimOn};
@@ -32,13 +34,26 @@ pub fn claim_of(
     requires form { Claims kind.now checked (path_taken_by kind.now) place (bare_shell shell) }
     requires way { HasWay checked (path_taken_by kind.now) place (bare_shell shell) }
     requires program { is_program (spelling checked.ops) place.program ≡ true }
-    ensures { IfOk result (IsClaimOn (record { place = place; form = checked; path = path_taken_by kind.now; slots = fillings_of kind.now; shell = bare_shell shell })) }
+    ensures { IfOk result (IsClaimOn (record { place = place; form = checked; path = path_taken_by
+        kind.now; slots = fillings_of kind.now; shell = bare_shell shell })) }
 {
     let slots = accepted_slots(alloc, kind)?;
     match accept(alloc, checked, kind.path(), slots, place, shell) {
         Ok(claim) => Ok(claim),
         Err(_) => unreachable!(),
     }
+}
+
+/// The script of to_local. The only error is that memory ran out.
+pub fn to_local_script(
+    alloc: Global,
+    patterns: &Patterns,
+    keys: &CommitmentKeys,
+    delay: u16,
+) -> Result<Checked, AllocError>
+    ensures { IfOk result (λ s. s ≡ to_local_form keys.now.revocation.bytes delay keys.now.delayed.bytes) }
+{
+    to_local(alloc, patterns, &keys.revocation, delay, &keys.delayed)
 }
 
 /// The penalty on an output of the form of to_local.
@@ -48,18 +63,13 @@ pub(crate) fn penalty_on(
     commitment: &Commitment,
     place: Place,
 ) -> Result<Claim, AllocError>
-    requires { place.program ≡ script_hash_program (to_local_script commitment.now.delay commitment.now.keys) }
+    requires { place.program ≡ script_hash_program
+        (to_local_script_of commitment.now.delay commitment.now.keys) }
     ensures { IfOk result (IsClaimOn (penalty_on commitment.now place)) }
 {
     let keys = commitment.keys();
     let revocation = keys.revocation;
-    let checked = to_local(
-        alloc,
-        patterns,
-        &revocation,
-        commitment.delay(),
-        &keys.delayed,
-    )?;
+    let checked = to_local_script(alloc, patterns, keys, commitment.delay())?;
     claim_of(
         alloc,
         &ClaimKind::Penalty { revocation },
@@ -127,7 +137,8 @@ pub(crate) fn htlc_penalty_on(
     place: Place,
 ) -> Result<Claim, AllocError>
     requires height { htlc.now.expiry < locktime_threshold }
-    requires program { place.program ≡ script_hash_program (htlc_script_of commitment.now.keys direction htlc.now) }
+    requires program { place.program ≡ script_hash_program
+        (htlc_script_of commitment.now.keys direction htlc.now) }
     ensures { IfOk result (IsClaimOn (htlc_penalty_on commitment.now direction htlc.now place)) }
 {
     let keys = commitment.keys();

@@ -27,12 +27,11 @@ use Rattle.paths.specs.Sound.{IsSound}
 use Rattle.tx.specs.declared.input.TxIn.{TxIn}
 use Rattle.tx.specs.Parts.{Output}
 use Rattle.tx.specs.Fields.{Transaction}
-use Rattle.sighash.specs.Programs.{is_key_hash_program, is_script_hash_program, given_of, script_ops, run_of, spend_of}
+use Rattle.sighash.specs.Programs.{script_hash_program, is_key_hash_program, is_script_hash_program, given_of, script_ops, run_of, spend_of}
 use Rattle.sighash.proofs.Parsing.{parsed_spelling}
 use Rattle.claim.proofs.TokenForms.{key-length, token-signature}
 use Rattle.terms.specs.Scripts.{number_push, two_of_two, offered, received}
 use Rattle.forms.specs.Ways.{yes, no}
-use Rattle.commit.specs.Outputs.{script_hash_program}
 use Rattle.commit.proofs.Pushes.{short_push}
 
 -- the script and the items that a program of a script's hash gives

@@ -18,7 +18,8 @@ use Rattle.commit.specs.declared.fees.Direction.{Direction}
 use Rattle.commit.specs.declared.fees.Direction.TheVariants.{Offered, Received}
 use Rattle.commit.specs.declared.outputs.CommitmentOutput.{CommitmentOutput}
 use Rattle.commit.specs.Keys.{KeyBytes}
-use Rattle.commit.specs.Outputs.{to_local_script, htlc_script, script_hash_program, key_hash_program, to_remote_output, to_local_output, htlc_output}
+use Rattle.sighash.specs.Programs.{script_hash_program, key_hash_program}
+use Rattle.commit.specs.Outputs.{to_local_script, htlc_script, to_remote_output, to_local_output, htlc_output}
 use Rattle.commit.specs.Commitments.{Contents, id_of, transaction_of, htlcs_from, second_stage_of}
 use Rattle.commit.specs.Signing.{funding_script, commitment_digest, htlc_digest, htlc_digests}
 use Rattle.resolve.specs.declared.known.SignedCommitment.{SignedCommitment}

@@ -22,7 +22,7 @@ use Rattle.tx.specs.declared.input.TxIn.{TxIn}
 use Rattle.tx.specs.Parts.{Output}
 use Rattle.tx.specs.Fields.{Transaction}
 use Rattle.sighash.specs.Signing.{signed_list, all_outpoints, all_sequences}
-use Rattle.sighash.specs.Programs.{run_of, spend_of}
+use Rattle.sighash.specs.Programs.{script_hash_program, run_of, spend_of}
 use Rattle.claim.proofs.TokenForms.{key-length}
 use Rattle.claim.proofs.Meeting.{sound-at}
 use Rattle.chain.specs.Blocks.{Contents as Block, coin_at}
@@ -39,7 +39,7 @@ use Rattle.commit.specs.declared.fees.Direction.TheVariants.{Offered, Received}
 use Rattle.commit.specs.declared.outputs.HtlcOutput.{HtlcOutput}
 use Rattle.commit.specs.Fees.{satoshis_of}
 use Rattle.commit.specs.Keys.{keys_of}
-use Rattle.commit.specs.Outputs.{script_hash_program, htlc_script}
+use Rattle.commit.specs.Outputs.{htlc_script}
 use Rattle.commit.specs.Commitments.{Contents, commitment_of, transaction_of, htlcs_of, second_stage_of, lock_time_of}
 use Rattle.commit.specs.Signing.{funding_script, commitment_digest, htlc_digest}
 use Rattle.channel.specs.declared.commitments.CommitmentState.{CommitmentState}

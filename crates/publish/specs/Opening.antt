@@ -11,7 +11,8 @@ use Rattle.chain.specs.Blocks.{Contents as Block, Coin, coin_at}
 use Rattle.chain.specs.Tests.{indexed_refusal}
 use Rattle.terms.specs.declared.agreement.Terms.{Terms}
 use Rattle.commit.specs.declared.outputs.HtlcOutput.{HtlcOutput}
-use Rattle.commit.specs.Outputs.{script_hash_program, htlc_output}
+use Rattle.sighash.specs.Programs.{script_hash_program}
+use Rattle.commit.specs.Outputs.{htlc_output}
 use Rattle.commit.specs.Commitments.{Contents, id_of, htlcs_of, lock_time_of, tx_output}
 use Rattle.commit.specs.Signing.{funding_script}
 use Rattle.channel.specs.declared.commitments.CommitmentState.{CommitmentState}

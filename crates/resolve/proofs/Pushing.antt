@@ -15,7 +15,8 @@ use Rattle.commit.specs.declared.outputs.CommitmentOutput.{CommitmentOutput}
 use Rattle.commit.specs.declared.outputs.HtlcOutput.{HtlcOutput}
 use Rattle.commit.specs.Fees.{satoshis_of}
 use Rattle.commit.specs.Keys.{KeyBytes}
-use Rattle.commit.specs.Outputs.{htlc_script, script_hash_program}
+use Rattle.sighash.specs.Programs.{script_hash_program}
+use Rattle.commit.specs.Outputs.{htlc_script}
 use Rattle.commit.specs.Commitments.{Contents, IsOutputOf, IsHtlcOf, tx_output, transaction_of, id_of, htlcs_of, htlc_at}
 use Rattle.commit.specs.Signing.{htlc_digest, htlc_digests}
 use Rattle.penalty.specs.Claimable.{Claimable, place_in, claims_by}

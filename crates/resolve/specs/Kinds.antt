@@ -10,7 +10,8 @@ use Rattle.commit.specs.declared.derived.CommitmentKeys.{CommitmentKeys}
 use Rattle.commit.specs.declared.outputs.HtlcOutput.{HtlcOutput}
 use Rattle.commit.specs.Fees.{satoshis_of}
 use Rattle.commit.specs.Keys.{KeyBytes}
-use Rattle.commit.specs.Outputs.{htlc_script, script_hash_program}
+use Rattle.sighash.specs.Programs.{script_hash_program}
+use Rattle.commit.specs.Outputs.{htlc_script}
 use Rattle.commit.specs.Commitments.{Contents, id_of}
 use Rattle.resolve.specs.Due.{can_time_out, can_pay}
 

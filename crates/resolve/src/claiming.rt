@@ -3,7 +3,8 @@
 ghost use Rattle.std.specs.Prelude.{◌≡◌, ◌<◌, IfOk};
 ghost use Rattle.script.specs.Limits.{locktime_threshold};
 ghost use Rattle.script.specs.Token.{token_of};
-ghost use Rattle.commit.specs.Outputs.{to_local_script, htlc_script as htlc_script_of, script_hash_program};
+ghost use Rattle.sighash.specs.Programs.{script_hash_program};
+ghost use Rattle.commit.specs.Outputs.{to_local_script as to_local_script_of, htlc_script as htlc_script_of};
 ghost use Rattle.commit.specs.Keys.{bytes_of};
 ghost use Rattle.commit.specs.Commitments.{second_stage_of};
 ghost use Rattle.commit.specs.Signing.{htlc_digest};
@@ -15,8 +16,8 @@ use crate::hashes::KnownHashes;
 use claim::{Claim, Place, Shell};
 use commit::{Commitment, CommitmentKeys, Direction, HtlcOutput};
 use digest::{hash160, ripemd160};
-use forms::{ClaimKind, Patterns, to_local};
-use penalty::claiming::{claim_of, htlc_script};
+use forms::{ClaimKind, Patterns};
+use penalty::claiming::{claim_of, htlc_script, to_local_script};
 use sighash::Token;
 use std::alloc::{AllocError, Global};
 use terms::Htlc;
@@ -73,25 +74,16 @@ pub(crate) fn delayed_on(
     commitment: &Commitment,
     place: Place,
 ) -> Result<Claim, AllocError>
-    requires { place.program ≡ script_hash_program (to_local_script commitment.now.delay commitment.now.keys) }
+    requires { place.program ≡ script_hash_program
+        (to_local_script_of commitment.now.delay commitment.now.keys) }
     ensures { IfOk result (IsClaimOn (delayed_on commitment.now place)) }
 {
     let keys = commitment.keys();
-    let delayed = keys.delayed;
-    let checked = to_local(
-        alloc,
-        patterns,
-        &keys.revocation,
-        commitment.delay(),
-        &delayed,
-    )?;
-    claim_of(
-        alloc,
-        &ClaimKind::Delayed { delayed },
-        checked,
-        place,
-        Shell::Open,
-    )
+    let checked = to_local_script(alloc, patterns, keys, commitment.delay())?;
+    let kind = ClaimKind::Delayed {
+        delayed: keys.delayed,
+    };
+    claim_of(alloc, &kind, checked, place, Shell::Open)
 }
 
 // The kind of the peer's claim on an HTLC.
@@ -119,7 +111,8 @@ pub(crate) fn direct_on(
 ) -> Result<Claim, AllocError>
     requires open { IsDirect commitment.now.keys direction htlc.now }
     requires height { htlc.now.expiry < locktime_threshold }
-    requires program { place.program ≡ script_hash_program (htlc_script_of commitment.now.keys direction htlc.now) }
+    requires program { place.program ≡ script_hash_program
+        (htlc_script_of commitment.now.keys direction htlc.now) }
     ensures { IfOk result (IsClaimOn (direct_on commitment.now direction htlc.now place)) }
 {
     let keys = commitment.keys();
@@ -163,7 +156,8 @@ pub(crate) fn second_stage_on(
 ) -> Result<Claim, AllocError>
     requires open { IsSecondStage commitment.now.keys htlc.now.direction htlc.now.htlc }
     requires height { htlc.now.htlc.expiry < locktime_threshold }
-    requires token { token ≡ token_of commitment.now.keys.remote_htlc (htlc_digest commitment.now htlc.now) }
+    requires token { token ≡ token_of commitment.now.keys.remote_htlc
+        (htlc_digest commitment.now htlc.now) }
     requires tx { tx ≡ second_stage_of commitment.now htlc.now }
     requires place { IsHtlcPlace commitment.now htlc.now place }
     ensures { IfOk result (IsClaimOn (second_stage_on commitment.now htlc.now place)) }

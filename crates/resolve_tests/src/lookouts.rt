@@ -6,6 +6,7 @@ use digest::sha256;
 use lists::ByteString;
 use parties::{key_of, view};
 use resolve::{Known, KnownCommitment};
+use sighash::programs::script_hash_program;
 use std::alloc::Global;
 use std::process::Abort;
 use terms::{Htlc, Side, Terms};
@@ -20,11 +21,8 @@ const PREIMAGE: [u8; 32] = [3; 32];
 
 // The funding output.
 fn funding_output(rt: &impl Abort, alloc: Global) -> TxOut {
-    let mut program = Vec::from_slice(alloc, &[0x00, 0x20]).expect(rt, "memory");
-    program
-        .extend_from_slice(&sha256(&SCRIPT))
-        .expect(rt, "memory");
-    TxOut::new(100_000, ByteString::from_vec(program)).expect(rt, "an output")
+    let program = script_hash_program(alloc, &SCRIPT).expect(rt, "memory");
+    TxOut::new(100_000, program).expect(rt, "an output")
 }
 
 // B's newest commitment, with an HTLC that B offered.

@@ -23,14 +23,14 @@ use Rattle.paths.specs.Laws.{OpensExactly}
 use Rattle.tx.specs.declared.input.OutPoint.{OutPoint}
 use Rattle.tx.specs.declared.input.TxIn.{TxIn}
 use Rattle.tx.specs.Fields.{Transaction}
-use Rattle.sighash.specs.Programs.{is_key_hash_program, is_script_hash_program, given_by_hash, given_of, spend_of, run_of_given, run_of}
+use Rattle.sighash.specs.Programs.{script_hash_program, is_key_hash_program, is_script_hash_program, given_by_hash, given_of, spend_of, run_of_given, run_of}
 use Rattle.keys.specs.Derivation.{derived_key}
 use Rattle.commit.specs.declared.fees.Direction.{Direction}
 use Rattle.commit.specs.declared.fees.Direction.TheVariants.{Offered, Received}
 use Rattle.commit.specs.declared.outputs.HtlcOutput.{HtlcOutput}
 use Rattle.commit.specs.Fees.{satoshis_of}
 use Rattle.commit.specs.Keys.{keys_of}
-use Rattle.commit.specs.Outputs.{htlc_script, script_hash_program}
+use Rattle.commit.specs.Outputs.{htlc_script}
 use Rattle.commit.specs.Commitments.{Contents, id_of, htlcs_of}
 use Rattle.penalty.specs.Claimable.{htlc_form}
 use Rattle.resolve.specs.Preimages.{shown_by, if_32, shown_by_input}

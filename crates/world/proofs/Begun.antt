@@ -5,9 +5,8 @@ use Rattle.std.specs.List.{position_from}
 use Rattle.sha2.specs.Sha256.{sha256}
 use Rattle.sha2.proofs.Facts256.{length-sha256}
 use Rattle.std.proofs.lemmas.Bool.{and_from, eq-eqb}
-use Rattle.sighash.specs.Programs.{is_key_hash_program, is_script_hash_program}
+use Rattle.sighash.specs.Programs.{script_hash_program, is_key_hash_program, is_script_hash_program}
 use Rattle.tx.specs.Limits.{max_value}
-use Rattle.commit.specs.Outputs.{script_hash_program}
 use Rattle.std.proofs.lemmas.List.{map-append}
 use Rattle.std.proofs.lemmas.Option.{none-some, same_Some}
 use Rattle.tx.specs.Parts.{Output}

@@ -2,12 +2,12 @@
 
 use chain::{Coins, Index, Refusal, Scan};
 use claim::{Claim, Key, Place, Shell, Slot, accept};
-use digest::sha256;
 use filling::fill;
 use keys::{Base, Signer};
 use lists::ByteString;
 use paths::check;
 use script::Script;
+use sighash::programs::script_hash_program;
 use std::alloc::Global;
 use std::process::Abort;
 use tx::{MAX_OUTPUTS, Tx, TxOut};
@@ -21,19 +21,11 @@ fn code_of(rt: &impl Abort, alloc: Global, key: &Key) -> Vec<u8> {
     code
 }
 
-// The program of a script.
-fn program_of(rt: &impl Abort, alloc: Global, code: &[u8]) -> ByteString {
-    let mut program = Vec::from_slice(alloc, &[0x00, 0x20]).expect(rt, "memory");
-    program
-        .extend_from_slice(&sha256(code))
-        .expect(rt, "memory");
-    ByteString::from_vec(program)
-}
-
 // Where an output of 1,000 satoshis to the script stands, which the chain grants.
 fn granted<C: Coins>(rt: &impl Abort, alloc: Global, chain: &mut C, code: &[u8]) -> Place {
-    let program = program_of(rt, alloc, code);
-    let output = TxOut::new(1000, program_of(rt, alloc, code)).expect(rt, "an output");
+    let program = script_hash_program(alloc, code).expect(rt, "memory");
+    let copy = program.copy().expect(rt, "memory");
+    let output = TxOut::new(1000, copy).expect(rt, "an output");
     let outpoint = chain.grant(output).expect(rt, "granted");
     Place {
         outpoint,

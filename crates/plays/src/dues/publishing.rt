@@ -3,12 +3,12 @@
 use anyhow::{Result, bail};
 use claim::Claim;
 use commit::signing_digests;
-use digest::{hash160, sha256};
 use filling::{FillError, Filled, fill};
 use keys::{Base, Key, Signer};
 use lists::ByteString;
 use resolve::Known;
 use sighash::Token;
+use sighash::programs::{key_hash_program, script_hash_program};
 use std::alloc::{AllocError, Global};
 use tx::{MAX_INPUTS, MAX_OUTPUTS, Tx, TxOut, Witness, txid};
 
@@ -30,9 +30,8 @@ fn funding_script(alloc: Global, key: &Key, other: &Key) -> Result<ByteString, A
 /// The funding output.
 pub fn funding_output(alloc: Global, key: &Key, other: &Key, value: u64) -> Result<TxOut> {
     let script = funding_script(alloc, key, other)?;
-    let mut program = Vec::from_slice(alloc, &[0x00, 0x20])?;
-    program.extend_from_slice(&sha256(script.bytes()))?;
-    Ok(TxOut::new(value, ByteString::from_vec(program))?)
+    let program = script_hash_program(alloc, script.bytes())?;
+    Ok(TxOut::new(value, program)?)
 }
 
 /// A side's own token on its newest commitment.
@@ -83,10 +82,9 @@ pub fn closing_tx(alloc: Global, known: &Known) -> Result<Tx> {
 
 /// One output of this value for the key hash of the signer's payment key.
 fn payout(alloc: Global, signer: &Signer, value: u64) -> Result<Vec<TxOut>> {
-    let mut program = Vec::from_slice(alloc, &[0x00, 0x14])?;
-    program.extend_from_slice(&hash160(&signer.base(Base::Payment).bytes))?;
+    let program = key_hash_program(alloc, &signer.base(Base::Payment).bytes)?;
     let mut outputs = Vec::new(alloc);
-    outputs.push(TxOut::new(value, ByteString::from_vec(program))?)?;
+    outputs.push(TxOut::new(value, program)?)?;
     Ok(outputs)
 }
 

@@ -6,7 +6,7 @@ use Rattle.keys.specs.Derivation.{base_key}
 use Rattle.terms.specs.declared.sides.Side.TheVariants.{A}
 use Rattle.terms.specs.declared.agreement.BaseKeys.{BaseKeys}
 use Rattle.terms.specs.Scripts.{funding}
-use Rattle.commit.specs.Outputs.{script_hash_program}
+use Rattle.sighash.specs.Programs.{script_hash_program}
 use Rattle.openings.specs.Opening.{seed_in, funding_output}
 use Rattle.openings.proofs.Opened.{funded}
 use Rattle.openings.proofs.funding.funding_output.Goals as goal

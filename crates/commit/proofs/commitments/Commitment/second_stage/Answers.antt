@@ -2,7 +2,8 @@ use Rattle.std.proofs.Common.{◌≡◌, ◌-◌, ◌≤◌, [], ◌∷◌, ◌+
 use Rattle.std.specs.Prelude.{IfOk}
 use Rattle.tx.specs.Limits.{max_value, max_bytes}
 use Rattle.commit.specs.Fees.{satoshis_of, fee_of, htlc_weight}
-use Rattle.commit.specs.Outputs.{to_local_script, script_hash_program}
+use Rattle.sighash.specs.Programs.{script_hash_program}
+use Rattle.commit.specs.Outputs.{to_local_script}
 use Rattle.commit.specs.Commitments.{id_of}
 use Rattle.commit.proofs.Collected.{short_script_program}
 use Rattle.commit.proofs.Limited.{no_fault, taken, same_ok, second_stage_is}
