@@ -4,6 +4,7 @@ use Rattle.std.proofs.lemmas.Bool.{and_right}
 use Rattle.tx.specs.Parts.{Output}
 use Rattle.tx.specs.Fields.{Transaction}
 use Rattle.paths.specs.declared.state.Path.{Path}
+use Rattle.sighash.specs.Programs.{script_hash_program}
 use Rattle.claim.specs.declared.parts.Place.{Place}
 use Rattle.claim.specs.declared.parts.Shell.{Shell}
 use Rattle.claim.specs.declared.parts.Shell.TheVariants.{Open, Fixed}
@@ -61,7 +62,7 @@ judgements : (is_claim_on (output (path 0 ∷ [])) (claim (path 0 ∷ []) (place
     × (is_claim_on (output (path 1 ∷ [])) (claim (path 0 ∷ []) (place 1 1000 hash) 0 Open) ≡ false)
     × (is_claim_on (output (path 0 ∷ [])) (claim (path 0 ∷ []) (place 2 1000 hash) 0 Open) ≡ false)
     × (is_claim_on (output (path 0 ∷ path 0 ∷ [])) (claim [] (place 1 1000 hash) 1 Open) ≡ false)
-unfolding judgement_of
+unfolding judgement_of script_hash_program
 judgements = (refl, refl, refl, refl, refl, refl)
 
 -- and no transaction may be fixed round it
@@ -74,7 +75,7 @@ counts : (are_claims_on [] [] ≡ true)
     × (are_claims_on (output (path 0 ∷ []) ∷ []) [] ≡ false)
     × (are_claims_on (output (path 0 ∷ []) ∷ []) (claim [] (place 1 1000 hash) 0 Open ∷ []) ≡ true)
     × (are_claims_on (output (path 0 ∷ []) ∷ output (path 1 ∷ []) ∷ []) (claim [] (place 1 1000 hash) 0 Open ∷ claim [] (place 1 1000 hash) 0 Open ∷ []) ≡ false)
-unfolding are_claims_on judgement_of
+unfolding are_claims_on judgement_of script_hash_program
 counts = (refl, refl, refl, refl, refl)
 
 -- a batch has 1 to 4,000 claims, and at most 4,000 outputs

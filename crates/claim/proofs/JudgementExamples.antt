@@ -8,7 +8,7 @@ use Rattle.script.specs.declared.spending.Spend.{Spend}
 use Rattle.script.specs.Token.{token_of, is_key}
 use Rattle.tx.specs.declared.input.TxIn.{TxIn}
 use Rattle.tx.specs.Fields.{Transaction, total_value}
-use Rattle.sighash.specs.Programs.{spend_of}
+use Rattle.sighash.specs.Programs.{script_hash_program, spend_of}
 use Rattle.facts.specs.Symbols.{Fact}
 use Rattle.facts.specs.declared.symbols.FactOver.TheVariants.{Truth, Lock}
 use Rattle.facts.specs.Symbols.{Stated}
@@ -39,6 +39,7 @@ program = 0x00 ∷ 0x14 ∷ replicate 20 0x33
 -- BIP 141: the program of a key hash is version 0 and 20 bytes, and stands for just this script
 key_programs : (is_program script program ≡ true) × (is_program script (0x00 ∷ 0x14 ∷ replicate 20 0x34) ≡ false) × (is_program script (0x51 ∷ 0x14 ∷ replicate 20 0x33) ≡ false) × (is_program script (0x00 ∷ 0x13 ∷ replicate 20 0x33) ≡ false) × (is_program script (0x00 ∷ 0x14 ∷ replicate 19 0x33) ≡ false)
     × (is_program (0x75 ∷ 0xa9 ∷ 0x14 ∷ (replicate 20 0x33 ++ 0x88 ∷ 0xac ∷ [])) program ≡ false) × (is_program (0x76 ∷ 0xa9 ∷ 0x14 ∷ (replicate 20 0x33 ++ 0x87 ∷ 0xac ∷ [])) program ≡ false) × (is_program (script ++ 0x68 ∷ []) program ≡ false)
+unfolding script_hash_program
 key_programs = (refl, refl, refl, refl, refl, refl, refl, refl)
 
 -- the witness script 51, whose SHA-256 an independent script computed: version 0 and that hash, and no other program of 34 bytes
@@ -50,7 +51,7 @@ unfolding sha256 digest_bytes hash_after compress rounds schedule first_words
 script_hash = refl
 
 script_programs : (is_program (0x51 ∷ []) (0x00 ∷ 0x20 ∷ hash) ≡ true) × (is_program (0x51 ∷ []) (0x51 ∷ 0x20 ∷ hash) ≡ false) × (is_program (0x51 ∷ []) (0x00 ∷ 0x20 ∷ replicate 32 0) ≡ false) × (is_program (0x51 ∷ []) hash ≡ false)
-unfolding sha256 digest_bytes hash_after compress rounds schedule first_words
+unfolding script_hash_program sha256 digest_bytes hash_after compress rounds schedule first_words
 script_programs = (refl, refl, refl, refl)
 
 -- a path with no slot, and one of one slot that contradicts itself
@@ -81,11 +82,11 @@ refused e = Err e
 -- the first of the refusals that hold, in this order: the path, its arity, the program, a contradiction, the first fact that is not met
 order : (judgement_of ways 4 [] (at []) Open ≡ refused NoSuchPath) × (judgement_of ways 1 [] (at []) Open ≡ refused WrongArity) × (judgement_of ways 2 [] (at []) Open ≡ refused WrongArity) × (judgement_of ways 0 (one ∷ []) (at program) Open ≡ refused WrongArity) × (judgement_of ways 2 (empty ∷ []) (at (0x00 ∷ 0x14 ∷ replicate 20 0x34)) Open ≡ refused WrongProgram)
     × (judgement_of ways 2 (empty ∷ []) (at program) Open ≡ refused Contradiction) × (judgement_of ways 2 (one ∷ []) (at program) Open ≡ refused Contradiction) × (judgement_of ways 1 (empty ∷ []) (at program) Open ≡ refused (Unmet (yes (Truth 0)))) × (judgement_of ways 3 (one ∷ empty ∷ []) (at program) Open ≡ refused (Unmet (yes (Truth 1)))) × (judgement_of ways 3 (one ∷ one ∷ []) (at program) Open ≡ refused (Unmet (no (Truth 0)))) × (judgement_of ways 3 (empty ∷ one ∷ []) (at program) Open ≡ refused (Unmet (yes (Lock 500000000))))
-unfolding judgement_of
+unfolding judgement_of script_hash_program
 order = (refl, refl, refl, refl, refl, refl, refl, refl, refl, refl, refl)
 
 taken : (judgement_of ways 0 [] (at program) Open ≡ Ok (free 0 [])) × (judgement_of ways 1 (one ∷ []) (at program) Open ≡ Ok (free 1 (yes (Truth 0) ∷ [])))
-unfolding judgement_of
+unfolding judgement_of script_hash_program
 taken = (refl, refl)
 
 refusal_numbers : map number_of_refusal (NoMemory ∷ NoSuchPath ∷ WrongArity ∷ Unmet (yes (Truth 0)) ∷ Contradiction ∷ WrongProgram ∷ WrongShell ∷ []) ≡ 0 ∷ 1 ∷ 2 ∷ 3 ∷ 4 ∷ 5 ∷ 6 ∷ []
@@ -121,7 +122,7 @@ no_shells = refl
 -- after the program and before a contradiction
 shell_order : (judgement_of ways 2 (empty ∷ []) (at program) (Fixed (tx 1 500 only 999)) ≡ refused WrongShell) × (judgement_of ways 1 (empty ∷ []) (at program) (Fixed (tx 1 500 only 999)) ≡ refused WrongShell) × (judgement_of ways 2 (empty ∷ []) (at (0x00 ∷ 0x14 ∷ replicate 20 0x34)) (Fixed (tx 1 500 only 999)) ≡ refused WrongProgram)
     × (judgement_of ways 2 (empty ∷ []) (at program) (Fixed (tx 2 0 (input_of 7 0 0 [] ∷ []) 999)) ≡ refused Contradiction) × (judgement_of ways 1 (one ∷ []) (at program) (Fixed (tx 2 0 (input_of 7 0 0 [] ∷ []) 999)) ≡ Ok (free 1 (yes (Truth 0) ∷ [])))
-unfolding judgement_of
+unfolding judgement_of script_hash_program
 shell_order = (refl, refl, refl, refl, refl)
 
 -- a claim keeps the fixed transaction without its witness

@@ -23,7 +23,7 @@ use Rattle.claim.specs.declared.parts.Shell.TheVariants.{Open}
 use Rattle.claim.specs.Judgement.{judgement_of}
 use Rattle.claim.specs.Fitting.{FillsSlots, Fits}
 use Rattle.claim.specs.Claims.{ClaimParts, TakesPath, IsWhole}
-use Rattle.sighash.specs.Programs.{spend_of}
+use Rattle.sighash.specs.Programs.{script_hash_program, spend_of}
 use Rattle.chain.specs.Blocks.{Contents, Coin, grant_id, grant_outpoint, coin_at}
 use Rattle.world.specs.Enforcement.{IsDue, IsTime}
 
@@ -56,11 +56,11 @@ unfolding listing rule_of check_multi_sig is_key
 listed = refl
 
 taken : TakesPath claim path
-unfolding judgement_of sha256 digest_bytes hash_after compress rounds schedule first_words
+unfolding judgement_of script_hash_program sha256 digest_bytes hash_after compress rounds schedule first_words
 taken = refl
 
 accepted : IsTrue (is_ok (judgement_of claim.ways claim.index claim.slots claim.place claim.shell))
-unfolding judgement_of sha256 digest_bytes hash_after compress rounds schedule first_words
+unfolding judgement_of script_hash_program sha256 digest_bytes hash_after compress rounds schedule first_words
 accepted = refl
 
 whole : IsWhole claim
