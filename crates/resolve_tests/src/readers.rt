@@ -25,7 +25,7 @@ fn reader_of_one(alloc: Global) -> Result<Reader, AllocError>
 fn read_by(alloc: Global, block: &Block, known: Known) -> Result<ReadParts, AllocError> {
     let mut reader = reader_of_one(alloc)?;
     reader.answer(0, known)?;
-    Ok(reader.read(alloc, 0, block)?.into_parts())
+    reader.read(alloc, 0, block)?.into_parts()
 }
 
 // Of a channel whose funding output stands nothing is asked, and a block without transactions makes nothing due.

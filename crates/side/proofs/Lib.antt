@@ -1,4 +1,5 @@
 pub mod Readings
+pub mod Followed
 pub mod ReadingExamples
 pub mod BatchExamples
 pub mod ActExamples

@@ -1,5 +1,6 @@
 pub mod Due
 pub mod Reading
+pub mod Following
 pub mod Batches
 pub mod Acts
 pub mod Broadcasting

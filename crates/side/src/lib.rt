@@ -28,6 +28,7 @@
 mod acts;
 pub mod batches;
 mod due;
+mod following;
 pub mod laws;
 mod reading;
 mod sets;

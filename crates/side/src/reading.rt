@@ -1,12 +1,14 @@
 //! The reading of blocks, in two halves: what is to be asked before a block is read, and what is read by the answers.
 
-ghost use Rattle.std.specs.Prelude.{◌≡◌, if◌then◌else◌, ◌∷◌, ◌++◌, [], map, replicate, length, reverse, None, IfOk, OnOk};
+ghost use Rattle.std.specs.Prelude.{◌≡◌, if◌then◌else◌, ◌∷◌, ◌++◌, [], map, reverse, IfOk, OnOk};
 ghost use Rattle.std.specs.List.{AllByRecursion, cons_option, filter_map};
 ghost use Rattle.claim.specs.Claims.{IsWhole};
-ghost use Rattle.side.specs.Due.{wanted_by, due_claims_of, Finds, FindsIf, taught, with_preimages};
-ghost use Rattle.side.specs.Reading.{is_to_ask, FindsBlock};
+ghost use Rattle.side.specs.Due.{wanted_by, due_claims_of, Finds, FindsIf, with_preimages};
+ghost use Rattle.side.specs.Reading.{FindsBlock};
+ghost use Rattle.side.specs.Following.{seen_in, known_in};
 
 use crate::due::DueClaim;
+use crate::following::{Followed, teach_all, tell, unanswered, watches_of};
 use chain::Block;
 use claim::{Claim, Slot};
 use digest::sha256;
@@ -16,7 +18,7 @@ use std::alloc::{AllocError, Global};
 use std::collections::VecDeque;
 use std::marker::Model;
 use tx::OutPoint;
-use watch::Watch;
+use watch::{Lookout, Watch};
 
 /// A reader of blocks for all channels of a node. By channel it has the funding output, the watch, and what is known of the channel, where that was answered; beside these the preimages that
 /// blocks showed so far, and the claims that they made due.
@@ -25,20 +27,21 @@ use watch::Watch;
 #[derive(Drop)]
 pub struct Reader {
     fundings: Vec<OutPoint>,
-    watches: Vec<Watch>,
-    knowns: Vec<Option<Known>>,
+    channels: Vec<Followed>,
     learnt: Vec<[u8; 32]>,
     due: VecDeque<DueClaim>,
 }
 
 impl Model for Reader {
-    ghost use Rattle.side.specs.Reading.{Reader as ReaderParts, IsInStep};
+    ghost use Rattle.std.specs.Prelude.{◌≡◌, length};
+    ghost use Rattle.side.specs.Reading.{Reader as ReaderParts};
+    ghost use Rattle.side.specs.Following.{reader_of};
 
     ghost Value = { ReaderParts };
 
-    ghost view = { λ r. record { fundings = r.fundings.items; seen = r.watches.items; knowns = r.knowns.items; learnt = r.learnt.items; jobs = r.due.items } };
+    ghost view = { λ r. reader_of r.fundings.items r.channels.items r.learnt.items r.due.items };
 
-    ghost invariant = { λ r. IsInStep (record { fundings = r.fundings.items; seen = r.watches.items; knowns = r.knowns.items; learnt = r.learnt.items; jobs = r.due.items }) };
+    ghost invariant = { λ r. length r.fundings.items ≡ length r.channels.items };
 }
 
 /// What a reader has once it is done.
@@ -150,69 +153,44 @@ fn with_preimages(shown: &[[u8; 32]], known: Known) -> Result<Known, AllocError>
     Ok(known)
 }
 
-// What is known of a channel has these preimages too, where it was asked. The only error is that memory ran out.
-fn teach(known: &mut Option<Known>, shown: &[[u8; 32]]) -> Result<(), AllocError>
-    ensures { OnOk result (known.new ≡ taught shown.now known.old) }
-{
-    if let Some(known) = known {
-        push_all(&mut known.preimages, shown)?;
-    }
-    Ok(())
-}
-
-// What is known of each channel has these preimages too. The only error is that memory ran out.
-fn teach_all(knowns: &mut [Option<Known>], shown: &[[u8; 32]]) -> Result<(), AllocError>
-    ensures { OnOk result (knowns.new ≡ map (taught shown.now) knowns.old) }
-{
-    for index in 0..knowns.len() {
-        teach(&mut knowns[index], shown)?;
-    }
-    Ok(())
-}
-
-// Whether it is to be asked what is known of a channel, before a block is read.
-fn is_to_ask(funding: &OutPoint, watch: &Watch, known: &Option<Known>, block: &Block) -> bool
-    ensures { result ≡ is_to_ask funding.now watch.now known.now (reverse block.now.transactions) }
-{
-    match known {
-        Some(_) => false,
-        None => watch.is_spent(funding, block),
-    }
-}
-
-// A watch reads a block by what is known of its channel. The only error is that memory ran out.
+// A block is read for a channel by what is known of it. The only error is that memory ran out.
 fn look_by(
     alloc: Global,
     height: u64,
     block: &Block,
     channel: u64,
-    known: &Known,
-    watch: &mut Watch,
+    lookout: &mut Lookout,
 ) -> Result<Found, AllocError>
-    ensures { IfOk result (λ f. Finds known.now height (reverse block.now.transactions) channel watch.old watch.new f.due.items f.learnt.items) }
+    ensures found { IfOk result (λ f. Finds lookout.old.known height
+        (reverse block.now.transactions) channel lookout.old.seen lookout.new.seen f.due.items
+        f.learnt.items) }
+    ensures known { OnOk result (lookout.new.known ≡ lookout.old.known) }
 {
-    let sight = watch.look(alloc, height, block, known)?;
-    let due = due_claims_of(alloc, channel, known.preimages.values(), sight.claims)?;
+    let sight = lookout.look(alloc, height, block)?;
+    let preimages = lookout.known().preimages.values();
+    let due = due_claims_of(alloc, channel, preimages, sight.claims)?;
     Ok(Found {
         due,
         learnt: sight.learnt,
     })
 }
 
-// A block is read for one channel: nothing, where nobody asked what is known of it. The only error is that memory ran out.
+// A block is read for one channel: nothing, where nobody answered what is known of it. The only error is that memory ran out.
 fn read_channel(
     alloc: Global,
     height: u64,
     block: &Block,
     channel: u64,
-    known: &Option<Known>,
-    watch: &mut Watch,
+    followed: &mut Followed,
 ) -> Result<Found, AllocError>
-    ensures { IfOk result (λ f. FindsIf known.now height (reverse block.now.transactions) channel watch.old watch.new f.due.items f.learnt.items) }
+    ensures found { IfOk result (λ f. FindsIf (known_in followed.old) height
+        (reverse block.now.transactions) channel (seen_in followed.old) (seen_in followed.new)
+        f.due.items f.learnt.items) }
+    ensures known { OnOk result (known_in followed.new ≡ known_in followed.old) }
 {
-    match known {
-        Some(known) => look_by(alloc, height, block, channel, known, watch),
-        None => Ok(nothing_found(alloc)),
+    match followed {
+        Followed::Alone(_) => Ok(nothing_found(alloc)),
+        Followed::Known(lookout) => look_by(alloc, height, block, channel, lookout),
     }
 }
 
@@ -232,32 +210,21 @@ fn read_channels(
     alloc: Global,
     height: u64,
     block: &Block,
-    knowns: &[Option<Known>],
-    watches: &mut [Watch],
+    channels: &mut [Followed],
 ) -> Result<Found, AllocError>
-    requires { length knowns.now ≡ length watches.old }
-    ensures { IfOk result (λ f. FindsBlock height (reverse block.now.transactions) 0 knowns.now watches.old watches.new f.due.items f.learnt.items) }
+    ensures found { IfOk result (λ f. FindsBlock height (reverse block.now.transactions) 0
+        (map known_in channels.old) (map seen_in channels.old) (map seen_in channels.new)
+        f.due.items f.learnt.items) }
+    ensures known { OnOk result (map known_in channels.new ≡ map known_in channels.old) }
 {
     let mut found = nothing_found(alloc);
-    for index in 0..watches.len() {
+    for index in 0..channels.len() {
         let channel = index as u64;
-        let known = &knowns[index];
-        let watch = &mut watches[index];
-        let more = read_channel(alloc, height, block, channel, known, watch)?;
+        let followed = &mut channels[index];
+        let more = read_channel(alloc, height, block, channel, followed)?;
         add(&mut found, more)?;
     }
     Ok(found)
-}
-
-// Of so many channels, nobody asked yet what is known of one. The only error is that memory ran out.
-fn nothing_known(alloc: Global, count: usize) -> Result<Vec<Option<Known>>, AllocError>
-    ensures { IfOk result (λ v. v.items ≡ replicate count None) }
-{
-    let mut knowns = Vec::new(alloc);
-    for _channel in 0..count {
-        knowns.push(None)?;
-    }
-    Ok(knowns)
 }
 
 // What the claims of due claims are, for proofs: accepted ones.
@@ -296,11 +263,10 @@ impl Reader {
         requires { length fundings.items ≡ length watches.items }
         ensures { IfOk result (λ r. r ≡ begun fundings.items watches.items learnt.items) }
     {
-        let knowns = nothing_known(alloc, watches.len())?;
+        let channels = unanswered(alloc, watches)?;
         Ok(Reader {
             fundings,
-            watches,
-            knowns,
+            channels,
             learnt,
             due: VecDeque::new(alloc),
         })
@@ -314,9 +280,10 @@ impl Reader {
         ensures in_step { IsInStep self.now }
     {
         let mut channels = Vec::new(alloc);
-        for index in 0..self.watches.len() {
+        for index in 0..self.channels.len() {
             let funding = &self.fundings[index];
-            let asks = is_to_ask(funding, &self.watches[index], &self.knowns[index], block);
+            let followed = &self.channels[index];
+            let asks = followed.is_to_ask(funding, block);
             push_if(&mut channels, index as u64, asks)?;
         }
         Ok(channels)
@@ -329,7 +296,8 @@ impl Reader {
         ensures err { OnErr result (self.new ≡ self.old) }
     {
         let known = with_preimages(&self.learnt, known)?;
-        drop(self.knowns[channel as usize].replace(known));
+        let alloc = *self.channels.allocator();
+        tell(alloc, &mut self.channels[channel as usize], known);
         Ok(())
     }
 
@@ -337,8 +305,8 @@ impl Reader {
     fn read_on(&mut self, alloc: Global, height: u64, block: &Block) -> Result<(), AllocError>
         ensures { OnOk result (IsRead height (reverse block.now.transactions) self.old self.new) }
     {
-        let mut found = read_channels(alloc, height, block, &self.knowns, &mut self.watches)?;
-        teach_all(&mut self.knowns, &found.learnt)?;
+        let mut found = read_channels(alloc, height, block, &mut self.channels)?;
+        teach_all(&mut self.channels, &found.learnt)?;
         self.due.append(&mut found.due)?;
         self.learnt.append(&mut found.learnt)?;
         Ok(())
@@ -356,24 +324,26 @@ impl Reader {
         }
     }
 
-    /// What it has once it is done. The claims are accepted ones.
-    pub fn into_parts(self) -> ReadParts
-        ensures watches { result.watches.items ≡ self.seen }
-        ensures learnt { result.learnt.items ≡ self.learnt }
-        ensures due { result.due.items ≡ self.jobs }
-        ensures whole { AllByRecursion (λ j. IsWhole j.claim) result.due.items }
+    /// What it has once it is done. The claims are accepted ones. The only error is that memory ran out.
+    pub fn into_parts(self) -> Result<ReadParts, AllocError>
+        ensures watches { IfOk result (λ p. p.watches.items ≡ self.seen) }
+        ensures learnt { IfOk result (λ p. p.learnt.items ≡ self.learnt) }
+        ensures due { IfOk result (λ p. p.due.items ≡ self.jobs) }
+        ensures whole { IfOk result (λ p. AllByRecursion (λ j. IsWhole j.claim) p.due.items) }
     {
         hold_whole(&self.due);
         let Reader {
-            watches,
+            channels,
             learnt,
             due,
             ..
         } = self;
-        ReadParts {
+        let alloc = *channels.allocator();
+        let watches = watches_of(alloc, channels)?;
+        Ok(ReadParts {
             watches,
             learnt,
             due,
-        }
+        })
     }
 }

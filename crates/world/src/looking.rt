@@ -154,7 +154,7 @@ pub(crate) fn look(alloc: Global, me: &mut Node, chain: &Index) -> Result<u64, E
     ensures memory { IfErr result (λ e. e ≡ NoMemory) }
     ensures err { OnErr result (me.new ≡ me.old) }
 {
-    let parts = read_blocks(alloc, me, chain)?.into_parts();
+    let parts = read_blocks(alloc, me, chain)?.into_parts()?;
     let count = parts.due.len() as u64;
     take_over(me, chain.height(), parts)?;
     Ok(count)

@@ -1,0 +1,65 @@
+#!/usr/bin/env python3
+"""Times what a side reads in blocks after a cheater's close, in processor seconds, without the scenario up to there.
+
+  bench/looks.py            proves and builds what it runs; wants the toolchain's `rt`
+  bench/looks.py PROGRAM    times this build of crates/enforce
+"""
+
+import hashlib
+import json
+import os
+import sys
+
+from worlds import TERMS, built, fastest, signed
+
+HTLCS = 480
+
+
+def closed(htlcs):
+    """A commits to so many HTLCs, half of them its own, revokes that commitment, and broadcasts it."""
+    hashes = [hashlib.sha256(b"%d" % number).hexdigest() for number in range(htlcs)]
+    events = []
+    for number, digest in enumerate(hashes):
+        payer, payee = ("A", "B") if number % 2 else ("B", "A")
+        events += [["offer", payer, 0, 10_000_000 + number, digest, 400_000], ["deliver", payee, 0]]
+    rounds = [*signed_once(), ["keep", "A", 0, 0], ["keep", "B", 0, 0]]
+    fee = [["fee", "A", 0, 1001], ["deliver", "B", 0]]
+    return [*events, *rounds, *fee, *signed_once(), ["keep", "A", 0, 1], ["keep", "B", 0, 1], ["broadcast", "A", 0, 1]]
+
+
+def signed_once():
+    """Both sides sign what was delivered, and revoke."""
+    return signed("A", "B", 0)[1:]
+
+
+def scenario(htlcs, looks):
+    """The close, and then looks of B, each after so many blocks."""
+    events = closed(htlcs)
+    for blocks, is_looked_at in looks:
+        events.append(["blocks", blocks])
+        if is_looked_at:
+            events.append(["look", "B"])
+    return json.dumps({"seeds": ["0a" * 32, "0b" * 32], "channels": [TERMS], "events": events})
+
+
+def cost(program, htlcs, *blocks):
+    """The processor seconds of looks after so many blocks each, without the making of the blocks."""
+    looked = fastest([program, "run"], scenario(htlcs, [(count, True) for count in blocks]))
+    passed = fastest([program, "run"], scenario(htlcs, [(count, False) for count in blocks]))
+    return looked - passed
+
+
+def main(words):
+    program = words[0] if words else built("enforce")
+    one = cost(program, HTLCS, 1)
+    print(f"one look, {HTLCS} HTLCs, 1 block: {one * 1e3:.2f} ms")
+    for blocks, most in ((10, 1.5), (100, 1.5), (1000, 1.5), (10_000, 3)):
+        took = cost(program, HTLCS, blocks)
+        print(f"one look, {blocks:,} blocks: {took * 1e3:.2f} ms, {took / one:.2f} times (at most {most})")
+    whole = cost(program, HTLCS, 1000)
+    parts = cost(program, HTLCS, *10 * [100])
+    print(f"ten looks of 100 blocks: {parts * 1e3:.2f} ms, {parts / whole:.2f} times one of 1,000 (at most 2)")
+
+
+if __name__ == "__main__":
+    main(sys.argv[1:])

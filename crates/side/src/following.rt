@@ -1,0 +1,98 @@
+//! A channel as a reader follows it.
+
+ghost use Rattle.std.specs.Prelude.{◌≡◌, map, IfOk, OnOk};
+ghost use Rattle.side.specs.Following.{seen_in, unanswered, told, taught_in};
+
+use chain::Block;
+use resolve::Known;
+use std::alloc::{AllocError, Global};
+use std::mem;
+use tx::OutPoint;
+use watch::{Lookout, Watch};
+
+/// A channel as a reader follows it.
+#[derive(Drop)]
+pub(crate) enum Followed {
+    /// Nobody answered yet what is known of it: its watch reads nothing.
+    Alone(Watch),
+    /// It is read by what is known of it.
+    Known(Lookout),
+}
+
+impl Followed {
+    ghost use Rattle.std.specs.Prelude.{◌≡◌, reverse, OnOk};
+    ghost use Rattle.side.specs.Reading.{is_to_ask};
+    ghost use Rattle.side.specs.Following.{seen_in, known_in, taught_in};
+
+    /// Whether it is to be asked what is known of it before a block is read.
+    pub(crate) fn is_to_ask(&self, funding: &OutPoint, block: &Block) -> bool
+        ensures { result ≡ is_to_ask funding.now (seen_in self.now) (known_in self.now)
+            (reverse block.now.transactions) }
+    {
+        match self {
+            Followed::Alone(watch) => watch.is_spent(funding, block),
+            Followed::Known(_) => false,
+        }
+    }
+
+    /// Its watch.
+    pub(crate) fn into_watch(self) -> Watch
+        ensures { result ≡ seen_in self }
+    {
+        match self {
+            Followed::Alone(watch) => watch,
+            Followed::Known(lookout) => lookout.into_watch(),
+        }
+    }
+
+    /// Takes more preimages, where it is read by what is known of it. The only error is that memory ran out.
+    pub(crate) fn teach(&mut self, shown: &[[u8; 32]]) -> Result<(), AllocError>
+        ensures { OnOk result (self.new ≡ taught_in shown.now self.old) }
+    {
+        match self {
+            Followed::Alone(_) => Ok(()),
+            Followed::Known(lookout) => lookout.learn(shown),
+        }
+    }
+}
+
+/// It is read by this from now on. It takes no memory.
+pub(crate) fn tell(alloc: Global, followed: &mut Followed, known: Known)
+    ensures { followed.new ≡ told known followed.old }
+{
+    let nothing = Followed::Alone(Watch::new(alloc));
+    let watch = mem::replace(followed, nothing).into_watch();
+    *followed = Followed::Known(Lookout::new(watch, known));
+}
+
+/// All take more preimages. The only error is that memory ran out.
+pub(crate) fn teach_all(channels: &mut [Followed], shown: &[[u8; 32]]) -> Result<(), AllocError>
+    ensures { OnOk result (channels.new ≡ map (taught_in shown.now) channels.old) }
+{
+    for index in 0..channels.len() {
+        channels[index].teach(shown)?;
+    }
+    Ok(())
+}
+
+/// Channels of which nobody answered yet what is known. The only error is that memory ran out.
+pub(crate) fn unanswered(alloc: Global, watches: Vec<Watch>) -> Result<Vec<Followed>, AllocError>
+    ensures { IfOk result (λ v. v.items ≡ map unanswered watches.items) }
+{
+    let mut channels = Vec::new(alloc);
+    for watch in watches {
+        channels.push(Followed::Alone(watch))?;
+    }
+    Ok(channels)
+}
+
+/// Their watches. The only error is that memory ran out.
+pub(crate) fn watches_of(alloc: Global, channels: Vec<Followed>) -> Result<Vec<Watch>, AllocError>
+    ensures { IfOk result (λ v. v.items ≡ map seen_in channels.items) }
+{
+    let mut watches = Vec::new(alloc);
+    for followed in channels {
+        watches.push(followed.into_watch())?;
+    }
+    Ok(watches)
+}
