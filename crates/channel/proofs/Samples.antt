@@ -8,7 +8,7 @@ use Rattle.keys.specs.Derivation.{point_of}
 use Rattle.channel.specs.declared.messages.Tokens.{Tokens}
 use Rattle.channel.specs.States.{Signing}
 
-key_form : (n : ℕ) → IsTrue (is_key (2 ∷ replicate 32 n))
+pub key_form : (n : ℕ) → IsTrue (is_key (2 ∷ replicate 32 n))
 unfolding is_key
 key_form n = refl
 
@@ -26,7 +26,7 @@ pub point_is : point_of secret ≡ point
 unfolding point_of sha256 digest_bytes hash_after compress rounds schedule first_words
 point_is = refl
 
-point_form : IsTrue (is_key point)
+pub point_form : IsTrue (is_key point)
 unfolding is_key
 point_form = refl
 

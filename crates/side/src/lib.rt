@@ -18,7 +18,7 @@
 //! let asked = reader.to_ask(alloc, block)?;
 //! assert_eq!(rt; asked.len(), 0); // the funding output stands
 //! reader.answer(0, known)?;
-//! let parts = reader.read(alloc, 0, block)?.into_parts();
+//! let parts = reader.read(alloc, 0, block)?.into_parts()?;
 //! assert_eq!(rt; parts.due.len(), 0);
 //! ```
 //!
