@@ -20,7 +20,7 @@ use Rattle.script.specs.Run.{Outcome, Clean, is_long, outcome}
 use Rattle.tx.specs.declared.input.OutPoint.{OutPoint}
 use Rattle.tx.specs.declared.input.TxIn.{TxIn}
 use Rattle.tx.specs.Fields.{Transaction, KeepsLimits}
-use Rattle.sighash.specs.Programs.{given_of, given_by_hash, script_ops, spend_of, run_of}
+use Rattle.sighash.specs.Programs.{given_of, given_by_hash, script_ops, spend_of, run_of, script_hash_program}
 use Rattle.sighash.specs.Signing.{signed_list}
 use Rattle.sighash.proofs.Tokens.{one_token}
 use Rattle.sighash.proofs.Witnesses.{unsigned_list}
@@ -46,7 +46,7 @@ use Rattle.commit.specs.declared.fees.Direction.TheVariants.{Offered}
 use Rattle.commit.specs.declared.outputs.HtlcOutput.{HtlcOutput}
 use Rattle.commit.specs.Keys.{keys_of}
 use Rattle.commit.specs.Order.{output_cmp, in_order}
-use Rattle.commit.specs.Outputs.{outputs_of, to_local_script, htlc_script, script_hash_program}
+use Rattle.commit.specs.Outputs.{outputs_of, to_local_script, htlc_script}
 use Rattle.commit.specs.Commitments.{Contents, commitment_of, transaction_of, htlcs_of, htlcs_from, second_stage_of, second_stage_output}
 use Rattle.penalty.specs.declared.states.RevokedState.{RevokedState}
 use Rattle.penalty.specs.Claimable.{Claimable, place_in, penalty_on, htlc_penalty_on, claims_by, commitment_in, claimable_of}

@@ -14,8 +14,7 @@ use Rattle.script.specs.Spelling.{spelling}
 use Rattle.script.specs.Run.{Clean, outcome}
 use Rattle.tx.specs.declared.input.TxIn.{TxIn}
 use Rattle.tx.specs.Fields.{Transaction}
-use Rattle.sighash.specs.Programs.{Given, given_of, given_by_hash, run_of, run_of_given, script_ops, spend_of, key_hash_script}
-use Rattle.commit.specs.Outputs.{script_hash_program, key_hash_program}
+use Rattle.sighash.specs.Programs.{Given, given_of, given_by_hash, run_of, run_of_given, script_ops, spend_of, key_hash_script, script_hash_program, key_hash_program}
 use Rattle.terms.specs.Scripts.{key_hash}
 use Rattle.safety.specs.Spending.{HasTwin}
 use Rattle.safety.proofs.Slots.{contains_first, contains_later, contains_reverse, same_bytes}

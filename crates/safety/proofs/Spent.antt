@@ -15,13 +15,13 @@ use Rattle.script.specs.Step.{bit_at, alike, age_passes}
 use Rattle.script.specs.Run.{Clean}
 use Rattle.tx.specs.declared.input.TxIn.{TxIn}
 use Rattle.tx.specs.Fields.{Transaction}
-use Rattle.sighash.specs.Programs.{run_of, spend_of}
+use Rattle.sighash.specs.Programs.{run_of, spend_of, script_hash_program, key_hash_program}
 use Rattle.terms.specs.declared.htlcs.Htlc.{Htlc}
 use Rattle.claim.specs.declared.parts.Place.{Place}
 use Rattle.claim.specs.Fitting.{output_at}
 use Rattle.commit.specs.declared.fees.Direction.{Direction}
 use Rattle.commit.specs.declared.fees.Direction.TheVariants.{Offered, Received}
-use Rattle.commit.specs.Outputs.{to_local_script, htlc_script, script_hash_program, key_hash_program}
+use Rattle.commit.specs.Outputs.{to_local_script, htlc_script}
 use Rattle.commit.specs.Commitments.{Contents}
 use Rattle.terms.specs.Scripts.{to_local, key_hash}
 use Rattle.penalty.specs.Claimable.{Claimable, htlc_form, penalty_on, payment_on, htlc_penalty_on}
