@@ -17,6 +17,7 @@
 
 ghost use Rattle.std.specs.Prelude.{◌≡◌, ◌≤◌, ◌⊎◌};
 
+mod errors;
 mod json;
 mod lines;
 mod looks;
@@ -24,7 +25,6 @@ mod names;
 mod pages;
 mod places;
 mod reading;
-mod refusals;
 mod sentences;
 mod weights;
 mod words;

@@ -2,8 +2,8 @@
 
 ghost use Rattle.std.specs.Prelude.{◌≡◌, ◌≤◌};
 
+use crate::errors::TraceError;
 use crate::reading::{Form, refuse, tell};
-use crate::refusals::Refusal;
 use crate::{refuse_memory, written};
 use std::alloc::Global;
 use std::io;
@@ -33,7 +33,7 @@ pub fn tell_input<R: Read, W: Write>(alloc: Global, form: Form, input: &mut R, o
     };
     match str::from_utf8(bytes.as_slice()) {
         Ok(text) => tell_lines(alloc, text, form, out),
-        Err(_) => refuse_input(alloc, form, &Refusal::BadHex, out),
+        Err(_) => refuse_input(alloc, form, &TraceError::BadHex, out),
     }
 }
 
@@ -51,7 +51,7 @@ fn tell_lines<W: Write>(alloc: Global, text: &str, form: Form, out: &mut W) -> u
 }
 
 // Answers that the input is refused.
-fn refuse_input<W: Write>(alloc: Global, form: Form, refusal: &Refusal, out: &mut W) -> u8
+fn refuse_input<W: Write>(alloc: Global, form: Form, refusal: &TraceError, out: &mut W) -> u8
     ensures { result ≤ 1 }
 {
     match refuse(alloc, form, None, &[], refusal, None) {
@@ -61,15 +61,17 @@ fn refuse_input<W: Write>(alloc: Global, form: Form, refusal: &Refusal, out: &mu
 }
 
 // The bytes of the input. No more than one above the limit is read.
-fn read_all<R: Read>(alloc: Global, input: &mut R) -> Result<Vec<u8>, Refusal> {
+fn read_all<R: Read>(alloc: Global, input: &mut R) -> Result<Vec<u8>, TraceError> {
     let mut bytes = Vec::new(alloc);
     match input.take(MAX_INPUT as u64 + 1).read_to_end(&mut bytes) {
         Ok(_) => {}
-        Err(error) if error.kind() == io::ErrorKind::OutOfMemory => return Err(Refusal::NoMemory),
-        Err(_) => return Err(Refusal::ReadFailed),
+        Err(error) if error.kind() == io::ErrorKind::OutOfMemory => return Err(
+            TraceError::NoMemory,
+        ),
+        Err(_) => return Err(TraceError::ReadFailed),
     }
     if bytes.len() > MAX_INPUT {
-        return Err(Refusal::TooLong);
+        return Err(TraceError::TooLong);
     }
     Ok(bytes)
 }

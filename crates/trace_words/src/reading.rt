@@ -1,9 +1,9 @@
 // A script that is read and told.
 
+use crate::errors::TraceError;
 use crate::json::{Ops, OrNull, Paths};
 use crate::pages::{OpLines, PathsLines};
 use crate::places::place;
-use crate::refusals::Refusal;
 use hex::FromHexError;
 use paths::{CheckError, check};
 use script::limits::MAX_SCRIPT_SIZE;
@@ -33,7 +33,7 @@ pub fn tell(alloc: Global, text: &str, form: Form) -> Result<Told, AllocError> {
     match hex::decode(alloc, text) {
         Ok(bytes) => tell_bytes(alloc, bytes.as_slice(), form),
         Err(FromHexError::OutOfMemory) => Err(AllocError),
-        Err(_) => refuse(alloc, form, None, &[], &Refusal::BadHex, None),
+        Err(_) => refuse(alloc, form, None, &[], &TraceError::BadHex, None),
     }
 }
 
@@ -60,7 +60,7 @@ fn tell_part(
     let Ok(part) = Script::parse(alloc, &bytes[..read.min(bytes.len())]) else {
         return Err(AllocError);
     };
-    let refusal = Refusal::Parse(error);
+    let refusal = TraceError::Parse(error);
     let len = Some(bytes.len() as u64);
     refuse(alloc, form, len, part.ops(), &refusal, Some(fault as u64))
 }
@@ -84,7 +84,7 @@ fn tell_script(alloc: Global, script: &Script, form: Form) -> Result<Told, Alloc
         Err(CheckError::NoMemory) => Err(AllocError),
         Err(error) => {
             let byte = place(alloc, ops, &error)?;
-            let refusal = Refusal::Check(error);
+            let refusal = TraceError::Check(error);
             refuse(alloc, form, Some(size as u64), ops, &refusal, byte)
         }
     }
@@ -106,7 +106,7 @@ pub fn refuse(
     form: Form,
     bytes: Option<u64>,
     ops: &[Op],
-    refusal: &Refusal,
+    refusal: &TraceError,
     byte: Option<u64>,
 ) -> Result<Told, AllocError> {
     let text = match form {

@@ -7,7 +7,7 @@ use std::fmt;
 
 /// Why input is refused: what `enforce` prints after its word `refused`.
 #[derive(Drop)]
-pub enum Refusal {
+pub enum TraceError {
     /// Memory ran out.
     NoMemory,
     /// A text is not hexadecimal.
@@ -22,21 +22,21 @@ pub enum Refusal {
     ReadFailed,
 }
 
-impl fmt::Display for Refusal {
+impl fmt::Display for TraceError {
     fn fmt<W: fmt::Write>(&self, f: &mut fmt::Formatter<W>) -> fmt::Result {
         match self {
-            Refusal::NoMemory => write!(f, "NoMemory"),
-            Refusal::BadHex => write!(f, "BadHex"),
-            Refusal::Parse(error) => write!(f, "{error}"),
-            Refusal::Check(error) => write!(f, "{error}"),
-            Refusal::TooLong => write!(f, "TooLong"),
-            Refusal::ReadFailed => write!(f, "ReadFailed"),
+            TraceError::NoMemory => write!(f, "NoMemory"),
+            TraceError::BadHex => write!(f, "BadHex"),
+            TraceError::Parse(error) => write!(f, "{error}"),
+            TraceError::Check(error) => write!(f, "{error}"),
+            TraceError::TooLong => write!(f, "TooLong"),
+            TraceError::ReadFailed => write!(f, "ReadFailed"),
         }
     }
 }
 
-impl From<AllocError> for Refusal {
-    fn from(_error: AllocError) -> Refusal {
-        Refusal::NoMemory
+impl From<AllocError> for TraceError {
+    fn from(_error: AllocError) -> TraceError {
+        TraceError::NoMemory
     }
 }
