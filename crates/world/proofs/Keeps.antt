@@ -65,7 +65,7 @@ unrefused o ch number there revoked unkept = rw (there, revoked, unkept) refl
 pub is_kept_by : (n new : Node) (channel number : ℕ) (claims : List ClaimParts) (m : Option Message) → IsSetFor n channel number claims → IsAnswered (calls.Keep channel number claims) (Ok m) n new
     → (keep_refusal number (channel_of n channel) ≡ None) × IsKept n channel number new
 is_kept_by n new channel number claims m set is =
-    (unrefused _ set.ch number set.there set.revoked set.unkept, record { claims = claims; set = set; answer = answered _ set.ch number claims set.there set.revoked set.unkept set.set; after = is.1.1 })
+    (unrefused _ set.ch number set.there set.revoked set.unkept, record { claims = claims; set = set; answer = answered _ set.ch number claims set.there set.revoked set.unkept set.set; after = is.2 })
 
 pub unkept_by : (n new : Node) (channel number : ℕ) (claims : List ClaimParts) (e : EventError) → IsSetFor n channel number claims → IsAnswered (calls.Keep channel number claims) (Err e) n new
     → IsRefusal (keep_refusal number (channel_of n channel)) e × (new ≡ n)

@@ -7,5 +7,5 @@ returns-in-Ok c =
     let made = c.in-Ok.ensures.tested (rights_of c.args.channel.now) c.signer.ensures.rights in
     (made.0, c.into_tx.ensures.value ∙ ap (λ f. f.tx) made.1)
 
-pub returns : goal.returns
-returns c = c.in-Err.ensures.tested (rights_of c.args.channel.now) c.signer.ensures.rights
+pub returns-in-Err : goal.returns-in-Err
+returns-in-Err c = c.in-Err.ensures.tested (rights_of c.args.channel.now) c.signer.ensures.rights

@@ -5,15 +5,15 @@ use Rattle.world.specs.Keeping.{keep_refusal, IsSetFor}
 use Rattle.world.proofs.Keeps.{set_for, refused_so}
 use Rattle.world.proofs.keeping.set_for.Goals as goal
 
-pub returns-in-Ok : goal.returns-in-Ok
-returns-in-Ok c =
+pub returns-in-Ok-set_of : goal.returns-in-Ok-set_of
+returns-in-Ok-set_of c =
     let i = c.me.inside in
     let n : Node = record { history = i.book; lines = i.lines.items; read = i.read; learnt = i.learnt.items; jobs = i.jobs.items; taken = i.taken.items } in
-    subst (λ (m : Node). IsSetFor m c.args.channel c.args.number c.in-Ok-claims.claims) c.me.view_is
-    (set_for n c.args.channel c.args.number c.in-Ok.state c.in-Ok-claims.claims c.in-Ok.ensures c.in-Ok-claims.ensures)
+    subst (λ (m : Node). IsSetFor m c.args.channel c.args.number c.in-Ok-set_of.claims) c.me.view_is
+    (set_for n c.args.channel c.args.number c.in-Ok.state c.in-Ok-set_of.claims c.in-Ok.ensures c.in-Ok-set_of.ensures)
 
-pub returns-in-Err : goal.returns-in-Err
-returns-in-Err c =
+pub returns : goal.returns
+returns c =
     let i = c.me.inside in
     let n : Node = record { history = i.book; lines = i.lines.items; read = i.read; learnt = i.learnt.items; jobs = i.jobs.items; taken = i.taken.items } in
     subst (λ (m : Node). IsRefusal (keep_refusal c.args.number (channel_of m c.args.channel)) c.of_keep.result) c.me.view_is

@@ -14,7 +14,7 @@ pub returns-in-Ok : goal.returns-in-Ok
 returns-in-Ok c =
     is_answered c.args.self.now c.call.new.self c.args.call (reply_form c.call.result) c.in-Ok.message c.call.ensures.book c.call.ensures.rest c.in-Ok.ensures.0 c.in-Ok.ensures.1
 
-pub returns : goal.returns
-returns c =
+pub returns-in-Err : goal.returns-in-Err
+returns-in-Err c =
     is_undone c.args.self.now c.call.new.self c.args.call (reply_form c.call.result) c.of_reply.result c.requires c.call.ensures.book c.call.ensures.rest c.in-Err.ensures.0
     (ap (λ r. refusal_in (reply_form r)) (sym c.in-Err.ensures.1) ∙ c.of_reply.ensures)
