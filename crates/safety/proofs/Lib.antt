@@ -1,5 +1,5 @@
 pub mod Slots
-pub mod Opened
+pub mod Satisfied
 pub mod Spelt
 pub mod Ran
 pub mod Spent

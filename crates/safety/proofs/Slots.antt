@@ -10,7 +10,7 @@ use Rattle.std.proofs.lemmas.Grind.{reverse_onto}
 use Rattle.script.specs.Token.{token_of}
 use Rattle.script.specs.declared.spending.Spend.{Spend}
 use Rattle.facts.specs.Meaning.{slot_of}
-use Rattle.safety.specs.Opening.{HasToken}
+use Rattle.safety.specs.Satisfying.{HasToken}
 
 -- what holds of an element of a list, holds of its first, or of one of the others
 pub any_first : {X : Type 0} (P : X → Type 0) (x : X) (xs : List X) → Any P (x ∷ xs) → P x ⊎ Any P xs

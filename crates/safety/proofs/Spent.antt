@@ -26,10 +26,10 @@ use Rattle.commit.specs.Commitments.{Contents}
 use Rattle.terms.specs.Scripts.{to_local, key_hash}
 use Rattle.penalty.specs.Claimable.{Claimable, htlc_form, penalty_on, payment_on, htlc_penalty_on}
 use Rattle.penalty.proofs.Programs.{same_htlc}
-use Rattle.safety.specs.Opening.{HasToken, HasKeyOf, OpensToLocal}
+use Rattle.safety.specs.Satisfying.{HasToken, HasKeyOf, SatisfiesToLocal}
 use Rattle.safety.specs.Spending.{Waits, peer_keys, IsPeerKeyOn, of_script, of_key, CanSpend, by_peer, by_owner, by_twin}
 use Rattle.safety.proofs.Slots.{same_bytes}
-use Rattle.safety.proofs.Opened.{to_local_opens, key_hash_opens, offered_opens, received_opens}
+use Rattle.safety.proofs.Satisfied.{to_local_satisfied, key_hash_satisfied, offered_satisfied, received_satisfied}
 use Rattle.safety.proofs.Spelt.{to_local_ops, offered_ops, received_ops}
 use Rattle.safety.proofs.Ran.{Ran, ran_script, ran_key}
 
@@ -96,10 +96,10 @@ pub spends_to_local : (c : Contents) (place : Place) → c.delay < 2 ^ 16 → is
     → (t : Transaction) (input : TxIn) (counted height : ℕ) → run_of t input (output_at place) ≡ Some (Clean counted height) → CanSpend (Waits t input c.delay) c (penalty_on c place) t input
 spends_to_local c place l k d e t input counted height run =
     ⊎_elim (λ w. by_twin (of_script w))
-    (λ (r : Ran t input (spelling (local_ops c)) place.value (local_ops c) counted height). opened r (to_local_opens c.keys.revocation c.delay c.keys.delayed l k d (spend_of t input (spelling (local_ops c)) place.value) r.items counted height r.clean))
+    (λ (r : Ran t input (spelling (local_ops c)) place.value (local_ops c) counted height). opened r (to_local_satisfied c.keys.revocation c.delay c.keys.delayed l k d (spend_of t input (spelling (local_ops c)) place.value) r.items counted height r.clean))
     (ran_script t input (spelling (local_ops c)) place.value (local_ops c) counted height (to_local_ops c.keys.revocation c.delay c.keys.delayed l k d) (on_program t input place _ counted height (e ∙ same_to_local c) run))
   where
-    opened : (r : Ran t input (spelling (local_ops c)) place.value (local_ops c) counted height) → OpensToLocal c.keys.revocation c.delay c.keys.delayed (spend_of t input (spelling (local_ops c)) place.value) r.items → CanSpend (Waits t input c.delay) c (penalty_on c place) t input
+    opened : (r : Ran t input (spelling (local_ops c)) place.value (local_ops c) counted height) → SatisfiesToLocal c.keys.revocation c.delay c.keys.delayed (spend_of t input (spelling (local_ops c)) place.value) r.items → CanSpend (Waits t input c.delay) c (penalty_on c place) t input
     opened r (inl a) = by_peer c.keys.revocation (revocation_there c place) (r.among _ a)
     opened r (inr b) = by_owner (record { form = refl; token = r.among _ b.0; late = waits t input (spelling (local_ops c)) place.value c.delay l b.1 })
 
@@ -107,7 +107,7 @@ pub spends_to_remote : (Late : Type 0) (c : Contents) (place : Place) → place.
     → (t : Transaction) (input : TxIn) (counted height : ℕ) → run_of t input (output_at place) ≡ Some (Clean counted height) → CanSpend Late c (payment_on c place) t input
 spends_to_remote Late c place e t input counted height run =
     by_hashed Late c (payment_on c place) t input c.keys.remote (payment_there c place) input.witness (λ x y. y)
-    (key_hash_opens (hash160 c.keys.remote) (length-ripemd160 _) (spend_of t input (spelling (key_hash (hash160 c.keys.remote))) place.value) input.witness counted height
+    (key_hash_satisfied (hash160 c.keys.remote) (length-ripemd160 _) (spend_of t input (spelling (key_hash (hash160 c.keys.remote))) place.value) input.witness counted height
     (ran_key t input c.keys.remote place.value counted height (on_program t input place _ counted height e run)))
 
 -- an HTLC's output, once its opcodes are read, and are opened by a key of the revocation key's hash or by the peer's HTLC key
@@ -129,7 +129,7 @@ spends_htlc Late c Offered h place x k l e t input counted height run =
     let p : length (ripemd160 h.hash) ≡ 20 = length-ripemd160 _ in
     ⊎_elim (λ w. by_twin (of_script w))
     (λ (s : Ran t input (spelling (htlc_form c.keys Offered h).ops) place.value (htlc_form c.keys Offered h).ops counted height). spends_by Late c Offered h place t input counted height s
-    (offered_opens (hash160 c.keys.revocation) c.keys.remote_htlc c.keys.local_htlc (ripemd160 h.hash) r p k l _ s.items counted height s.clean))
+    (offered_satisfied (hash160 c.keys.revocation) c.keys.remote_htlc c.keys.local_htlc (ripemd160 h.hash) r p k l _ s.items counted height s.clean))
     (ran_script t input (spelling (htlc_form c.keys Offered h).ops) place.value (htlc_form c.keys Offered h).ops counted height
     (offered_ops (hash160 c.keys.revocation) c.keys.remote_htlc c.keys.local_htlc (ripemd160 h.hash) r p k l) (on_program t input place _ counted height (e ∙ same_program c Offered h) run))
 spends_htlc Late c Received h place x k l e t input counted height run =
@@ -137,6 +137,6 @@ spends_htlc Late c Received h place x k l e t input counted height run =
     let p : length (ripemd160 h.hash) ≡ 20 = length-ripemd160 _ in
     ⊎_elim (λ w. by_twin (of_script w))
     (λ (s : Ran t input (spelling (htlc_form c.keys Received h).ops) place.value (htlc_form c.keys Received h).ops counted height). spends_by Late c Received h place t input counted height s
-    (received_opens (hash160 c.keys.revocation) c.keys.remote_htlc c.keys.local_htlc (ripemd160 h.hash) h.expiry x r p k l _ s.items counted height s.clean))
+    (received_satisfied (hash160 c.keys.revocation) c.keys.remote_htlc c.keys.local_htlc (ripemd160 h.hash) h.expiry x r p k l _ s.items counted height s.clean))
     (ran_script t input (spelling (htlc_form c.keys Received h).ops) place.value (htlc_form c.keys Received h).ops counted height
     (received_ops (hash160 c.keys.revocation) c.keys.remote_htlc c.keys.local_htlc (ripemd160 h.hash) h.expiry x r p k l) (on_program t input place _ counted height (e ∙ same_program c Received h) run))

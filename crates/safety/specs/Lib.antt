@@ -1,4 +1,4 @@
-pub mod Opening
+pub mod Satisfying
 pub mod Signing
 pub mod Spending
 pub mod Owning

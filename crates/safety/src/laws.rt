@@ -3,7 +3,7 @@
 ghost use Rattle.std.specs.Prelude.{◌<◌, ◌^◌, ℕ, List};
 ghost use Rattle.chain.specs.Blocks.{Contents as Block};
 ghost use Rattle.penalty.specs.declared.states.RevokedState.{RevokedState as State};
-ghost use Rattle.safety.specs.Opening.{ToLocalOpens, KeyHashOpens, OfferedOpens, ReceivedOpens};
+ghost use Rattle.safety.specs.Satisfying.{ToLocalSatisfied, KeyHashSatisfied, OfferedSatisfied, ReceivedSatisfied};
 ghost use Rattle.safety.specs.Signing.{OneDigest, OneToken};
 ghost use Rattle.safety.specs.Spending.{AreSpentSo, AreTakenSo, HasShortDelay, WhoCanSpend, WhoSpends};
 ghost use Rattle.safety.specs.Owning.{OnlyPeerSigns};
@@ -15,20 +15,20 @@ use penalty::RevokedState;
 
 /// Whatever runs clean on to_local has a token of the revocation key; or one of the delayed key, and a sequence that CHECKSEQUENCEVERIFY accepts for the
 /// delay.
-pub fn who_opens_to_local()
-    ensures { ToLocalOpens }
+pub fn who_satisfies_to_local()
+    ensures { ToLocalSatisfied }
 {}
 
 /// Whatever runs clean on to_remote has a key of its hash, and that key's token.
-pub fn who_opens_a_key_hash()
-    ensures { KeyHashOpens }
+pub fn who_satisfies_a_key_hash()
+    ensures { KeyHashSatisfied }
 {}
 
 /// Whatever runs clean on an HTLC's script has a key of the revocation key's hash and that key's token, or a token of the remote key. In the second case it also has,
 /// for an offered HTLC, the local key's token or the preimage; for a received one, both of these, or a lock time that CHECKLOCKTIMEVERIFY accepts for the expiry.
-pub fn who_opens_an_htlc()
-    ensures offered { OfferedOpens }
-    ensures received { ReceivedOpens }
+pub fn who_satisfies_an_htlc()
+    ensures offered { OfferedSatisfied }
+    ensures received { ReceivedSatisfied }
 {}
 
 /// Whatever input runs clean on an output that a revoked state lets the owner's peer claim has a token of one of the peer's keys over its own digest, a key that

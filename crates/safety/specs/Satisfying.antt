@@ -28,41 +28,41 @@ pub record HasPreimage (witness : List (List ℕ)) (hash : List ℕ) : Type 0 wh
   pub hashed : hash160 preimage ≡ hash
 
 -- whatever runs clean on these opcodes has this, under any spend
-abbrev pub Opens : List Op → (Spend → List (List ℕ) → Type 0) → Type 0
-Opens ops Has =
+abbrev pub OnSatisfied : List Op → (Spend → List (List ℕ) → Type 0) → Type 0
+OnSatisfied ops Has =
     (spend : Spend) (witness : List (List ℕ)) (counted height : ℕ) → outcome spend ops witness ≡ Clean counted height → Has spend witness
 
 -- the revocation key's token; or the delayed key's, and a sequence that CHECKSEQUENCEVERIFY accepts for the delay (BIP 112)
-abbrev pub OpensToLocal : (revocation : List ℕ) (delay : ℕ) (delayed : List ℕ) → Spend → List (List ℕ) → Type 0
-OpensToLocal revocation delay delayed spend witness = HasToken spend witness revocation ⊎ (HasToken spend witness delayed × (age_passes spend delay ≡ true))
+abbrev pub SatisfiesToLocal : (revocation : List ℕ) (delay : ℕ) (delayed : List ℕ) → Spend → List (List ℕ) → Type 0
+SatisfiesToLocal revocation delay delayed spend witness = HasToken spend witness revocation ⊎ (HasToken spend witness delayed × (age_passes spend delay ≡ true))
 
-abbrev pub ToLocalOpens : Type 0
-ToLocalOpens =
+abbrev pub ToLocalSatisfied : Type 0
+ToLocalSatisfied =
     (revocation : List ℕ) (delay : ℕ) (delayed : List ℕ) → delay < 2 ^ 16 → is_key revocation ≡ true → is_key delayed ≡ true
-    → Opens (to_local revocation delay delayed) (OpensToLocal revocation delay delayed)
+    → OnSatisfied (to_local revocation delay delayed) (SatisfiesToLocal revocation delay delayed)
 
-abbrev pub KeyHashOpens : Type 0
-KeyHashOpens = (hash : List ℕ) → length hash ≡ 20 → Opens (key_hash hash) (λ spend witness. HasKeyOf spend witness hash)
+abbrev pub KeyHashSatisfied : Type 0
+KeyHashSatisfied = (hash : List ℕ) → length hash ≡ 20 → OnSatisfied (key_hash hash) (λ spend witness. HasKeyOf spend witness hash)
 
 -- a key of the revocation hash, with its token; or the remote key's token, and with it the local key's token or the preimage
-abbrev pub OpensOffered : (revocation_hash remote local payment_hash : List ℕ) → Spend → List (List ℕ) → Type 0
-OpensOffered revocation_hash remote local payment_hash spend witness =
+abbrev pub SatisfiesOffered : (revocation_hash remote local payment_hash : List ℕ) → Spend → List (List ℕ) → Type 0
+SatisfiesOffered revocation_hash remote local payment_hash spend witness =
     HasKeyOf spend witness revocation_hash ⊎ (HasToken spend witness remote × (HasToken spend witness local ⊎ HasPreimage witness payment_hash))
 
-abbrev pub OfferedOpens : Type 0
-OfferedOpens =
+abbrev pub OfferedSatisfied : Type 0
+OfferedSatisfied =
     (revocation_hash remote local payment_hash : List ℕ) → length revocation_hash ≡ 20 → length payment_hash ≡ 20 → is_key remote ≡ true → is_key local ≡ true
-    → Opens (offered revocation_hash remote local payment_hash) (OpensOffered revocation_hash remote local payment_hash)
+    → OnSatisfied (offered revocation_hash remote local payment_hash) (SatisfiesOffered revocation_hash remote local payment_hash)
 
 -- a key of the revocation hash, with its token; or the remote key's token, and with it the local key's token and the preimage, or a lock time
 -- that CHECKLOCKTIMEVERIFY accepts for the expiry (BIP 65)
-abbrev pub OpensReceived : (revocation_hash remote local payment_hash : List ℕ) (expiry : ℕ) → Spend → List (List ℕ) → Type 0
-OpensReceived revocation_hash remote local payment_hash expiry spend witness =
+abbrev pub SatisfiesReceived : (revocation_hash remote local payment_hash : List ℕ) (expiry : ℕ) → Spend → List (List ℕ) → Type 0
+SatisfiesReceived revocation_hash remote local payment_hash expiry spend witness =
     HasKeyOf spend witness revocation_hash
     ⊎ (HasToken spend witness remote × ((HasToken spend witness local × HasPreimage witness payment_hash) ⊎ (lock_passes spend expiry ≡ true)))
 
-abbrev pub ReceivedOpens : Type 0
-ReceivedOpens =
+abbrev pub ReceivedSatisfied : Type 0
+ReceivedSatisfied =
     (revocation_hash remote local payment_hash : List ℕ) (expiry : ℕ) → expiry < 2 ^ 32 → length revocation_hash ≡ 20 → length payment_hash ≡ 20
     → is_key remote ≡ true → is_key local ≡ true
-    → Opens (received revocation_hash remote local payment_hash expiry) (OpensReceived revocation_hash remote local payment_hash expiry)
+    → OnSatisfied (received revocation_hash remote local payment_hash expiry) (SatisfiesReceived revocation_hash remote local payment_hash expiry)

@@ -1,4 +1,4 @@
--- Who opens the forms: by the listing of their paths.
+-- Who satisfies the forms: by the listing of their paths.
 use Rattle.std.proofs.Common.{◌≡◌, ℕ, zero, suc, ◌<◌, Bool, true, false, List, [], ◌∷◌, length, reverse, sym, refl, subst, inl, inr, arith}
 use Rattle.std.specs.Prelude.{◌&&◌, ◌||◌, ◌==◌}
 use Rattle.std.specs.List.{Any}
@@ -14,15 +14,15 @@ use Rattle.terms.specs.Scripts.{to_local, key_hash, offered, received}
 use Rattle.forms.specs.Ways.{to_local_ways, key_hash_ways, offered_ways, received_ways}
 use Rattle.forms.proofs.Forms.{key_length}
 use Rattle.forms.proofs.Listed.{to_local-listed, key_hash-listed, offered-listed, received-listed}
-use Rattle.safety.specs.Opening.{HasToken, HasKeyOf, HasPreimage, OpensToLocal, ToLocalOpens, KeyHashOpens, OpensOffered, OfferedOpens, OpensReceived, ReceivedOpens}
+use Rattle.safety.specs.Satisfying.{HasToken, HasKeyOf, HasPreimage, SatisfiesToLocal, ToLocalSatisfied, KeyHashSatisfied, SatisfiesOffered, OfferedSatisfied, SatisfiesReceived, ReceivedSatisfied}
 use Rattle.safety.proofs.Slots.{slot_contained, same_bytes, slot_token}
 
-pub to_local_opens : ToLocalOpens
-to_local_opens revocation delay delayed h k l spend witness counted height e =
+pub to_local_satisfied : ToLocalSatisfied
+to_local_satisfied revocation delay delayed h k l spend witness counted height e =
     opened (listing-exhaustive (to_local revocation delay delayed) (to_local_ways revocation delay delayed)
     (to_local-listed revocation delay delayed h k l (key_length revocation k) (key_length delayed l)) spend witness counted height e)
   where
-    opened : Any (OpensBy spend witness counted height) (to_local_ways revocation delay delayed) → OpensToLocal revocation delay delayed spend witness
+    opened : Any (OpensBy spend witness counted height) (to_local_ways revocation delay delayed) → SatisfiesToLocal revocation delay delayed spend witness
     opened (zero, y, i, f, p) =
         let o = subst (OpensBy spend witness counted height) (sym f) p in
         inl (slot_token spend witness 1 revocation (omega (arith, o.meets.exact)) o.meets.holds.1.1.0)
@@ -50,8 +50,8 @@ preimage_in witness hash n s e = record {
   hashed = same_bytes (hash160 (slot_of (reverse witness) 0)) hash e;
 }
 
-pub key_hash_opens : KeyHashOpens
-key_hash_opens hash n spend witness counted height e = opened (listing-exhaustive (key_hash hash) (key_hash_ways hash) (key_hash-listed hash n) spend witness counted height e)
+pub key_hash_satisfied : KeyHashSatisfied
+key_hash_satisfied hash n spend witness counted height e = opened (listing-exhaustive (key_hash hash) (key_hash_ways hash) (key_hash-listed hash n) spend witness counted height e)
   where
     opened : Any (OpensBy spend witness counted height) (key_hash_ways hash) → HasKeyOf spend witness hash
     opened (zero, y, i, f, p) =
@@ -77,12 +77,12 @@ both_tokens spend witness remote local n e =
     let b = both_assigned (slot_of (reverse witness) 2) (slot_of (reverse witness) 1) remote local spend.digest e in
     (slot_token spend witness 2 remote (omega (arith, n)) b.0, slot_token spend witness 1 local (omega (arith, n)) b.1)
 
-pub offered_opens : OfferedOpens
-offered_opens revocation_hash remote local payment_hash m n k l spend witness counted height e =
+pub offered_satisfied : OfferedSatisfied
+offered_satisfied revocation_hash remote local payment_hash m n k l spend witness counted height e =
     opened (listing-exhaustive (offered revocation_hash remote local payment_hash) (offered_ways revocation_hash remote local payment_hash)
     (offered-listed revocation_hash remote local payment_hash k l (key_length remote k) (key_length local l) m n) spend witness counted height e)
   where
-    opened : Any (OpensBy spend witness counted height) (offered_ways revocation_hash remote local payment_hash) → OpensOffered revocation_hash remote local payment_hash spend witness
+    opened : Any (OpensBy spend witness counted height) (offered_ways revocation_hash remote local payment_hash) → SatisfiesOffered revocation_hash remote local payment_hash spend witness
     opened (zero, y, i, f, p) =
         let o = subst (OpensBy spend witness counted height) (sym f) p in
         inl (key_in spend witness revocation_hash o.meets.exact o.meets.holds.0 o.meets.holds.1.1.1.0)
@@ -95,12 +95,12 @@ offered_opens revocation_hash remote local payment_hash m n k l spend witness co
         inr (slot_token spend witness 1 remote (omega (arith, o.meets.exact)) o.meets.holds.1.1.1.1.0, inr (preimage_in witness payment_hash (omega (arith, o.meets.exact)) o.meets.holds.1.0 o.meets.holds.1.1.0))
     opened (suc (suc (suc j)), y, i, f, p) = absurd (omega (arith, i))
 
-pub received_opens : ReceivedOpens
-received_opens revocation_hash remote local payment_hash expiry h m n k l spend witness counted height e =
+pub received_satisfied : ReceivedSatisfied
+received_satisfied revocation_hash remote local payment_hash expiry h m n k l spend witness counted height e =
     opened (listing-exhaustive (received revocation_hash remote local payment_hash expiry) (received_ways revocation_hash remote local payment_hash expiry)
     (received-listed revocation_hash remote local payment_hash expiry h k l (key_length remote k) (key_length local l) m n) spend witness counted height e)
   where
-    opened : Any (OpensBy spend witness counted height) (received_ways revocation_hash remote local payment_hash expiry) → OpensReceived revocation_hash remote local payment_hash expiry spend witness
+    opened : Any (OpensBy spend witness counted height) (received_ways revocation_hash remote local payment_hash expiry) → SatisfiesReceived revocation_hash remote local payment_hash expiry spend witness
     opened (zero, y, i, f, p) =
         let o = subst (OpensBy spend witness counted height) (sym f) p in
         inl (key_in spend witness revocation_hash o.meets.exact o.meets.holds.0 o.meets.holds.1.1.1.0)
