@@ -15,6 +15,7 @@ own_of name d = do
   update ← own_named name d
   Some (Own side channel update)
 
+-- a side signs
 unfoldable pub sign_of : Data → Option Event
 sign_of d = do
   form ← array_of 3 d
@@ -22,6 +23,7 @@ sign_of d = do
   channel ← item_of 2 u64_of form
   Some (Sign side channel)
 
+-- a side receives its oldest message
 unfoldable pub deliver_of : Data → Option Event
 deliver_of d = do
   form ← array_of 3 d
@@ -29,6 +31,7 @@ deliver_of d = do
   channel ← item_of 2 u64_of form
   Some (Deliver side channel)
 
+-- a side keeps penalties
 unfoldable pub keep_of : Data → Option Event
 keep_of d = do
   form ← array_of 4 d
@@ -37,6 +40,7 @@ keep_of d = do
   number ← item_of 3 u64_of form
   Some (Keep side channel number)
 
+-- a commitment is broadcast
 unfoldable pub commitment_of : Data → Option Event
 commitment_of d = do
   form ← array_of 4 d
@@ -45,6 +49,7 @@ commitment_of d = do
   number ← item_of 3 u64_of form
   Some (Broadcast side channel number)
 
+-- an HTLC transaction is
 unfoldable pub htlc_transaction_of : Data → Option Event
 htlc_transaction_of d = do
   form ← array_of 5 d
@@ -54,18 +59,7 @@ htlc_transaction_of d = do
   htlc ← item_of 4 u64_of form
   Some (BroadcastHtlc side channel number htlc)
 
-unfoldable pub blocks_of : Data → Option Event
-blocks_of d = do
-  form ← array_of 2 d
-  count ← item_of 1 u64_of form
-  Some (Blocks count)
-
-unfoldable pub look_of : Data → Option Event
-look_of d = do
-  form ← array_of 2 d
-  side ← item_of 1 side_of form
-  Some (Look side)
-
+-- a side takes jobs
 unfoldable pub take_of : Data → Option Event
 take_of d = do
   form ← array_of 3 d
@@ -73,6 +67,7 @@ take_of d = do
   count ← item_of 2 u64_of form
   Some (Take side count)
 
+-- a side releases claims
 unfoldable pub release_of : Data → Option Event
 release_of d = do
   form ← array_of 3 d
@@ -80,12 +75,27 @@ release_of d = do
   count ← item_of 2 u64_of form
   Some (Release side count)
 
+-- blocks give way
 unfoldable pub reorg_of : Data → Option Event
 reorg_of d = do
   form ← array_of 3 d
   depth ← item_of 1 u64_of form
   forgotten ← item_of 2 u64_of form
   Some (Reorg depth forgotten)
+
+-- blocks are made
+unfoldable pub blocks_of : Data → Option Event
+blocks_of d = do
+  form ← array_of 2 d
+  count ← item_of 1 u64_of form
+  Some (Blocks count)
+
+-- a side reads blocks
+unfoldable pub look_of : Data → Option Event
+look_of d = do
+  form ← array_of 2 d
+  side ← item_of 1 side_of form
+  Some (Look side)
 
 -- a commitment, or, with a fifth item, the HTLC transaction of that HTLC
 unfoldable pub broadcast_of : Data → Option Event
