@@ -8,13 +8,13 @@ pub take_over-requires-clause-lines : goal.take_over-requires-clause-lines
 take_over-requires-clause-lines c =
     let me = c.args.me.now in
     let reader = c.in_ok-read_blocks.field-0 in
-    ap length c.into_parts-parts.ensures.watches ∙ each_line me (me.read + 1) _ (reading_in reader) c.in_ok-read_blocks.ensures
+    ap length c.in_ok-parts.ensures.watches ∙ each_line me (me.read + 1) _ (reading_in reader) c.in_ok-read_blocks.ensures
 
 pub returns-clause-looks : goal.returns-clause-looks
 returns-clause-looks c =
     let reader = c.in_ok-read_blocks.field-0 in
-    let parts = c.into_parts-parts.result in
-    let same = parts_are parts reader c.into_parts-parts.ensures.watches c.into_parts-parts.ensures.learnt c.into_parts-parts.ensures.due in
+    let parts = c.in_ok-parts.parts in
+    let same = parts_are parts reader c.in_ok-parts.ensures.watches c.in_ok-parts.ensures.learnt c.in_ok-parts.ensures.due in
     record {
       found = reading_in reader;
       reads = c.in_ok-read_blocks.ensures;
