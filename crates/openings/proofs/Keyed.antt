@@ -21,7 +21,10 @@ are_terms seeds c o p r a b ea eb fields =
     subst (λ (x : BaseKeys). IfSome r (λ t. HasFields t o p.capacity p.opener p.feerate (party_of p.a x) (party_of p.b (bases_of (seed_in seeds c B))))) ea
     (subst (λ (x : BaseKeys). IfSome r (λ t. HasFields t o p.capacity p.opener p.feerate (party_of p.a a) (party_of p.b x))) eb fields)
 
+keyed : (seeds : Seeds) (c : ℕ) (o : OutPoint) (p : ProposedTerms) (t : Terms) → AreTermsOf seeds c o p t → HaveKeys seeds c t
+keyed seeds c o p t h A = subst (λ (x : Party). IsSeedOf (seed_in seeds c A) x.bases) (sym h.a_is) (are_seeds (seed_in seeds c A))
+keyed seeds c o p t h B = subst (λ (x : Party). IsSeedOf (seed_in seeds c B) x.bases) (sym h.b_is) (are_seeds (seed_in seeds c B))
+
 pub have_keys : (seeds : Seeds) (c : ℕ) (o : OutPoint) (p : ProposedTerms) (r : Option Terms) → IfSome r (AreTermsOf seeds c o p) → IfSome r (HaveKeys seeds c)
 have_keys seeds c o p None h = h
-have_keys seeds c o p (Some t) h A = subst (λ (x : Party). IsSeedOf (seed_in seeds c A) x.bases) (sym h.a_is) (are_seeds (seed_in seeds c A))
-have_keys seeds c o p (Some t) h B = subst (λ (x : Party). IsSeedOf (seed_in seeds c B) x.bases) (sym h.b_is) (are_seeds (seed_in seeds c B))
+have_keys seeds c o p (Some t) h = keyed seeds c o p t h
