@@ -69,7 +69,8 @@ impl Board {
     // one seat more in the list, which has room for it
     fn seat(&self, mut list: Vec<Seat>, place: atomic_table::Seat<(), SeatView>) -> Vec<Seat>
         requires place { IsDealer self.now place 1 }
-        requires list { All (IsNewSeatOf self.now) list.items × (length list.items < vec_capacity list) }
+        requires list { All (IsNewSeatOf self.now) list.items
+            × (length list.items < vec_capacity list) }
         ensures list { AreSeats self.now (length list.items + 1) result.items }
         ensures room { vec_capacity result ≡ vec_capacity list }
     {

@@ -8,7 +8,7 @@ use Rattle.book.specs.declared.calls.Call.{Call}
 use Rattle.book.specs.declared.calls.Entry.{Entry}
 use Rattle.book.specs.Books.{replayed}
 use Rattle.book.specs.Replies.{is_accepted, answer_of, extended, history_after}
-use Rattle.book.specs.Accepted.{is_taken, are_accepted, all_accepted, first_refused_after, first_refused, IsHistory, begins, called, AcceptedMeans}
+use Rattle.book.specs.Accepted.{is_taken, are_accepted, all_accepted, first_refused_after, first_refused, IsHistory, begins, adds_call, AcceptedMeans}
 
 -- one more entry
 pub one_more : (tokens_of : Signing) (history : List Entry) (e : Entry) → all_accepted tokens_of (history ++ e ∷ []) ≡ (is_taken tokens_of (reverse history) e && all_accepted tokens_of history)
@@ -24,12 +24,12 @@ all_accepted_after tokens_of history seat call ok = by (is_accepted (answer_of t
 
 accepted : (tokens_of : Signing) (history : List Entry) → IsHistory tokens_of history → all_accepted tokens_of history ≡ true
 accepted tokens_of _ begins = refl
-accepted tokens_of _ (called {history} seat call before) = all_accepted_after tokens_of history seat call (accepted tokens_of history before)
+accepted tokens_of _ (adds_call {history} seat call before) = all_accepted_after tokens_of history seat call (accepted tokens_of history before)
 
 -- accepted entries, the newest first, are a history
 reached : (tokens_of : Signing) (es : List Entry) → are_accepted tokens_of es ≡ true → IsHistory tokens_of (reverse es)
 reached tokens_of [] ok = begins
-reached tokens_of (e ∷ es) ok = subst (IsHistory tokens_of) (grown (is_accepted (answer_of tokens_of (replayed (reverse (reverse es))) e.call)) taken) (called e.seat e.call (reached tokens_of es parts.1))
+reached tokens_of (e ∷ es) ok = subst (IsHistory tokens_of) (grown (is_accepted (answer_of tokens_of (replayed (reverse (reverse es))) e.call)) taken) (adds_call e.seat e.call (reached tokens_of es parts.1))
   where
     parts : (is_taken tokens_of es e ≡ true) × (are_accepted tokens_of es ≡ true)
     parts = and_parts (is_taken tokens_of es e) (are_accepted tokens_of es) ok
@@ -118,7 +118,7 @@ refused tokens_of history i at =
 
 pub accepted_means : AcceptedMeans
 accepted_means = record {
-  called = λ tokens_of history. (accepted tokens_of history, λ ok. subst (IsHistory tokens_of) (reverse-reverse history) (reached tokens_of (reverse history) ok));
+  accepted_exactly = λ tokens_of history. (accepted tokens_of history, λ ok. subst (IsHistory tokens_of) (reverse-reverse history) (reached tokens_of (reverse history) ok));
   none_refused = none_refused;
   refused = refused;
 }

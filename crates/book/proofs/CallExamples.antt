@@ -8,12 +8,12 @@ use Rattle.terms.specs.declared.sides.Side.TheVariants.{A, B}
 use Rattle.terms.specs.declared.agreement.BaseKeys.{BaseKeys}
 use Rattle.terms.specs.declared.agreement.Terms.{Terms}
 use Rattle.updates.specs.declared.changes.Update.TheVariants.{Add}
-use Rattle.updates.specs.declared.refusals.Refusal.TheVariants.{NoUpdates as NothingCovered, WrongSecret, NotYourTurn}
+use Rattle.updates.specs.declared.errors.ChannelError.TheVariants.{NoUpdates as NothingCovered, WrongSecret, NotYourTurn}
 use Rattle.claim.specs.Claims.{ClaimParts}
 use Rattle.filling.specs.declared.errors.FillError.TheVariants.{NoRight, SameOutpoint}
 use Rattle.channel.specs.declared.messages.Message.TheVariants.{Updated as UpdateMessage, CommitmentSigned, RevokeAndAck}
 use Rattle.channel.specs.Points.{secret_at, point_at, is_foreign}
-use Rattle.channel.specs.States.{State, opened as opened_state, after_update, after_sign, after}
+use Rattle.channel.specs.States.{State, state_at_opening as opened_state, after_update, after_sign, after}
 use Rattle.updates.specs.declared.changes.OwnUpdate.TheVariants.{Offer}
 use Rattle.terms.specs.Agreement.{party}
 use Rattle.book.specs.declared.calls.Opening.{Opening}

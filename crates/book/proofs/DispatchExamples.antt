@@ -1,6 +1,6 @@
 -- The answers of one call for all: of which of the six each is, what it gives where it is accepted, and the numbers of the refusals.
 use Rattle.std.proofs.Common.{◌≡◌, ℕ, true, List, [], ◌∷◌, map, Option, Some, None, Result, Ok, Err, refl}
-use Rattle.updates.specs.declared.refusals.Refusal.TheVariants as refuses
+use Rattle.updates.specs.declared.errors.ChannelError.TheVariants as refuses
 use Rattle.filling.specs.Filled.{Filling}
 use Rattle.filling.specs.declared.errors.FillError.TheVariants as fills
 use Rattle.channel.specs.declared.messages.Message.{Message}

@@ -11,7 +11,7 @@ use Rattle.claim.proofs.TokenForms.{token-length, token-signature, key-length}
 use Rattle.terms.specs.declared.agreement.Terms.{Terms}
 use Rattle.terms.specs.Agreement.{party}
 use Rattle.terms.specs.Sides.{other}
-use Rattle.updates.specs.declared.refusals.Refusal.TheVariants.{NotYourTurn, NoUpdates, BadSignature}
+use Rattle.updates.specs.declared.errors.ChannelError.TheVariants.{NotYourTurn, NoUpdates, BadSignature}
 use Rattle.updates.specs.Refusals.{Test, first_refusal, covers_nothing}
 use Rattle.commit.specs.declared.outputs.HtlcOutput.{HtlcOutput}
 use Rattle.commit.specs.Keys.{keys_of}

@@ -7,8 +7,8 @@ use Rattle.keys.specs.declared.compressed.Key.{Key}
 use Rattle.claim.specs.Claims.{ClaimParts}
 use Rattle.filling.specs.declared.errors.FillError.{FillError}
 use Rattle.filling.specs.declared.errors.FillError.TheVariants as fills
-use Rattle.updates.specs.declared.refusals.Refusal.{Refusal}
-use Rattle.updates.specs.declared.refusals.Refusal.TheVariants as refuses
+use Rattle.updates.specs.declared.errors.ChannelError.{ChannelError}
+use Rattle.updates.specs.declared.errors.ChannelError.TheVariants as refuses
 use Rattle.updates.specs.Refusals.{IsRefusal}
 use Rattle.channel.specs.Tokens.{peer_tokens}
 use Rattle.channel.specs.declared.messages.Message.TheVariants.{RevokeAndAck}
@@ -34,7 +34,7 @@ use Rattle.book.proofs.Fundings.{stands}
 
 -- memory ran out, or a refusal is the first that holds
 
-to_take : (first : Option Refusal) (r : Refusal) → IsRefusal first r → (r ≡ refuses.NoMemory) ⊎ (first ≡ Some r)
+to_take : (first : Option ChannelError) (r : ChannelError) → IsRefusal first r → (r ≡ refuses.NoMemory) ⊎ (first ≡ Some r)
 to_take first refuses.NoMemory is = inl refl
 to_take first refuses.AmountZero is = inr is
 to_take first refuses.BelowMinimum is = inr is
@@ -74,11 +74,11 @@ to_fill first fills.SameOutpoint is = inr is
 
 -- ---- the answers of refused calls
 
-step_answer : (chs : Channels) (c : ℕ) (ch : ChannelBook) (step : Step) (r : Refusal) → slice_get chs c ≡ Some ch → step_refusal peer_tokens ch.state step ≡ Some r
+step_answer : (chs : Channels) (c : ℕ) (ch : ChannelBook) (step : Step) (r : ChannelError) → slice_get chs c ≡ Some ch → step_refusal peer_tokens ch.state step ≡ Some r
     → answer_of peer_tokens chs (Stepping c step) ≡ stepped (Err (Refused r))
 step_answer chs c ch step r found is = rw (found, is) refl
 
-revoke_answer : (chs : Channels) (c : ℕ) (ch : ChannelBook) (secret : List ℕ) (next_point : Key) (r : Refusal) → slice_get chs c ≡ Some ch
+revoke_answer : (chs : Channels) (c : ℕ) (ch : ChannelBook) (secret : List ℕ) (next_point : Key) (r : ChannelError) → slice_get chs c ≡ Some ch
     → receive_refusal peer_tokens ch.state (RevokeAndAck secret next_point) ≡ Some r → answer_of peer_tokens chs (Revoke c secret next_point) ≡ revoked (Err (Refused r))
 revoke_answer chs c ch secret next_point r found is = rw (found, is) refl
 
@@ -106,12 +106,12 @@ module _ (history new : List Entry) (channels : List (OutPoint × ChannelBook)) 
   there : slice_get (replay history) c ≡ Some x
   there = stands history channels k c x found
 
-  pub step_refused : (step : Step) (r : Refusal) → IsRefusal (step_refusal peer_tokens x.state step) r → IsCall (stepped (Err (Refused refuses.NoMemory))) (stepped (Err (Refused r))) history new seat (Stepping c step)
+  pub step_refused : (step : Step) (r : ChannelError) → IsRefusal (step_refusal peer_tokens x.state step) r → IsCall (stepped (Err (Refused refuses.NoMemory))) (stepped (Err (Refused r))) history new seat (Stepping c step)
   step_refused step r is =
       let first = step_refusal peer_tokens x.state step in
       by_first (Stepping c step) (λ e. stepped (Err (Refused e))) refuses.NoMemory r first (λ e. refl) (step_answer (replay history) c x step r there) (to_take first r is)
 
-  pub revoke_refused : (secret : List ℕ) (next_point : Key) (r : Refusal) → IsRefusal (receive_refusal peer_tokens x.state (RevokeAndAck secret next_point)) r
+  pub revoke_refused : (secret : List ℕ) (next_point : Key) (r : ChannelError) → IsRefusal (receive_refusal peer_tokens x.state (RevokeAndAck secret next_point)) r
       → IsCall (revoked (Err (Refused refuses.NoMemory))) (revoked (Err (Refused r))) history new seat (Revoke c secret next_point)
   revoke_refused secret next_point r is =
       let first = receive_refusal peer_tokens x.state (RevokeAndAck secret next_point) in

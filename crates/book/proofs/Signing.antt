@@ -2,8 +2,8 @@
 use Rattle.std.proofs.Common.{◌≡◌, ℕ, ◌<◌, ◌≤◌, ◌||◌, Bool, true, false, List, [], ◌∷◌, length, Option, Some, None, refl, sym, ap, ◌∙◌}
 use Rattle.std.specs.Prelude.{nat_le}
 use Rattle.std.proofs.lemmas.Option.{none-some}
-use Rattle.updates.specs.declared.refusals.Refusal.{Refusal}
-use Rattle.updates.specs.declared.refusals.Refusal.TheVariants.{NoUpdates as NothingNew, NotYourTurn}
+use Rattle.updates.specs.declared.errors.ChannelError.{ChannelError}
+use Rattle.updates.specs.declared.errors.ChannelError.TheVariants.{NoUpdates as NothingNew, NotYourTurn}
 use Rattle.updates.specs.Refusals.{first_refusal, covers_nothing}
 use Rattle.channel.specs.declared.limits.TheConstants.{LAST_NUMBER}
 use Rattle.channel.specs.States.{sign_refusal as state_refusal}
@@ -22,7 +22,7 @@ early waits missing = if_so waits AwaitingRevocation (if_missing missing None)
 abbrev whole : Bool → Option ℕ → Bool → Option SignError
 whole waits missing nothing = if_so waits AwaitingRevocation (if_missing missing (if_so nothing NoUpdates None))
 
-abbrev later : Bool → Bool → Option Refusal
+abbrev later : Bool → Bool → Option ChannelError
 later waits nothing = first_refusal ((waits, NotYourTurn) ∷ (nothing, NothingNew) ∷ [])
 
 none_of : (waits : Bool) (missing : Option ℕ) (nothing : Bool) → early waits missing ≡ None → later waits nothing ≡ None → whole waits missing nothing ≡ None
@@ -31,7 +31,7 @@ none_of false (Some n) nothing e f = absurd (some_none _ e)
 none_of false None true e f = absurd (some_none _ f)
 none_of false None false e f = refl
 
-new_of : (waits : Bool) (missing : Option ℕ) (nothing : Bool) (r : Refusal) → early waits missing ≡ None → later waits nothing ≡ Some r → whole waits missing nothing ≡ Some NoUpdates
+new_of : (waits : Bool) (missing : Option ℕ) (nothing : Bool) (r : ChannelError) → early waits missing ≡ None → later waits nothing ≡ Some r → whole waits missing nothing ≡ Some NoUpdates
 new_of true missing nothing r e f = absurd (some_none _ e)
 new_of false (Some n) nothing r e f = absurd (some_none _ e)
 new_of false None true r e f = refl
@@ -49,7 +49,7 @@ waits_of ch = ch.state.awaiting || nat_le LAST_NUMBER ch.state.peer_number
 pub none_refused : (ch : ChannelBook) → early_sign_refusal ch ≡ None → state_refusal ch.state ≡ None → sign_refusal ch ≡ None
 none_refused ch = none_of (waits_of ch) (first_missing ch) (covers_nothing ch.state.held.own ch.state.held.theirs)
 
-pub new_refused : (ch : ChannelBook) (r : Refusal) → early_sign_refusal ch ≡ None → state_refusal ch.state ≡ Some r → sign_refusal ch ≡ Some NoUpdates
+pub new_refused : (ch : ChannelBook) (r : ChannelError) → early_sign_refusal ch ≡ None → state_refusal ch.state ≡ Some r → sign_refusal ch ≡ Some NoUpdates
 new_refused ch = new_of (waits_of ch) (first_missing ch) (covers_nothing ch.state.held.own ch.state.held.theirs)
 
 pub first_refused : (ch : ChannelBook) (e : SignError) → early_sign_refusal ch ≡ Some e → sign_refusal ch ≡ Some e

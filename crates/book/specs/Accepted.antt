@@ -31,11 +31,11 @@ first_refused tokens_of history = first_refused_after tokens_of [] history
 -- the histories that calls lead to
 pub data IsHistory (tokens_of : Signing) : List Entry → Type 0 where
   begins : IsHistory tokens_of []
-  called : {history : List Entry} (seat : ℕ) (call : Call) → IsHistory tokens_of history → IsHistory tokens_of (history_after tokens_of history seat call)
+  adds_call : {history : List Entry} (seat : ℕ) (call : Call) → IsHistory tokens_of history → IsHistory tokens_of (history_after tokens_of history seat call)
 
 -- they are those of which each entry is accepted; and the first that is not is at this place
 pub record AcceptedMeans : Type 0 where
-  pub called : (tokens_of : Signing) (history : List Entry) → IsHistory tokens_of history ↔ (all_accepted tokens_of history ≡ true)
+  pub accepted_exactly : (tokens_of : Signing) (history : List Entry) → IsHistory tokens_of history ↔ (all_accepted tokens_of history ≡ true)
   pub none_refused : (tokens_of : Signing) (history : List Entry) → (first_refused tokens_of history ≡ None) ↔ (all_accepted tokens_of history ≡ true)
   pub refused :
       (tokens_of : Signing) (history : List Entry) (i : ℕ) → first_refused tokens_of history ≡ Some i → (all_accepted tokens_of (take i history) ≡ true)

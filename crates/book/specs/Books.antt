@@ -3,7 +3,7 @@ use Rattle.std.specs.Prelude.{ℕ, zero, suc, ◌+◌, ◌==◌, nat_lt, Bool, i
 use Rattle.std.specs.List.{list_any}
 use Rattle.tx.specs.declared.input.OutPoint.{OutPoint}
 use Rattle.channel.specs.declared.messages.Message.TheVariants.{Updated as UpdateMessage, CommitmentSigned, RevokeAndAck}
-use Rattle.channel.specs.States.{State, update_of, opened, after_update, after_sign, after}
+use Rattle.channel.specs.States.{State, update_of, state_at_opening, after_update, after_sign, after}
 use Rattle.book.specs.declared.calls.Opening.{Opening}
 use Rattle.book.specs.declared.calls.Step.{Step}
 use Rattle.book.specs.declared.calls.Step.TheVariants.{Own, Updated, Signed}
@@ -32,7 +32,7 @@ stepped (Updated u) s = after s (UpdateMessage u)
 stepped (Signed tokens) s = after s (CommitmentSigned tokens)
 
 abbrev pub opened_by : Opening → ChannelBook
-opened_by o = record { state = opened o.terms o.side o.seed o.first_point o.next_point; kept = [] }
+opened_by o = record { state = state_at_opening o.terms o.side o.seed o.first_point o.next_point; kept = [] }
 
 abbrev pub with_state : (State → State) → ChannelBook → ChannelBook
 with_state f ch = record { state = f ch.state; kept = ch.kept }

@@ -1,6 +1,6 @@
 -- One call for the six of a book: the reply, and the one where memory ran out.
 use Rattle.std.specs.Prelude.{Err}
-use Rattle.updates.specs.declared.refusals.Refusal.TheVariants.{NoMemory as refusal_memory}
+use Rattle.updates.specs.declared.errors.ChannelError.TheVariants.{NoMemory as refusal_memory}
 use Rattle.filling.specs.declared.errors.FillError.TheVariants.{NoMemory as fill_memory}
 use Rattle.book.specs.declared.calls.Call.{Call}
 use Rattle.book.specs.declared.calls.Call.TheVariants.{Open, Step, Sign, Revoke, Keep, Release}

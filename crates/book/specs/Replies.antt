@@ -3,7 +3,7 @@ use Rattle.std.specs.Prelude.{ℕ, Bool, true, false, not, ◌||◌, nat_lt, nat
 use Rattle.std.specs.List.{list_any}
 use Rattle.std.specs.Str.{bytes_eq}
 use Rattle.tx.specs.Parts.{Output}
-use Rattle.updates.specs.declared.refusals.Refusal.{Refusal}
+use Rattle.updates.specs.declared.errors.ChannelError.{ChannelError}
 use Rattle.updates.specs.Refusals.{covers_nothing}
 use Rattle.claim.specs.Claims.{ClaimParts}
 use Rattle.filling.specs.Filling.{filling_of}
@@ -75,7 +75,7 @@ open_refusal tokens_of chs o =
     (if_so (not (bytes_eq o.token (tokens_of o.terms (first_of o.terms o.side (point_at o.seed 0))).commitment)) BadSignature None))
 
 -- the channel's refusal
-abbrev pub step_refusal : Signing → State → Step → Option Refusal
+abbrev pub step_refusal : Signing → State → Step → Option ChannelError
 step_refusal tokens_of s (Own u) = update_refusal s (update_of s u)
 step_refusal tokens_of s (Updated u) = receive_refusal tokens_of s (UpdateMessage u)
 step_refusal tokens_of s (Signed tokens) = receive_refusal tokens_of s (CommitmentSigned tokens)

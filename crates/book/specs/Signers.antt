@@ -42,7 +42,7 @@ fill_refusal claims outputs r preimages =
 abbrev pub RightsAreTested : Type 0
 RightsAreTested = (r : Rights) (key : List ℕ) → may_sign r key ≡ true ↔ MaySign r key
 
--- the first reason is the one that `fill` answers, memory aside
+-- the first reason is the one that `fill` answers, barring out-of-memory
 pub record RefusalsAreFound : Type 0 where
   pub refused :
       (claims : List ClaimParts) (outputs : List Output) (r : Rights) (preimages : List (List ℕ)) (e : FillError) → IsFirstRefusal claims outputs r preimages e

@@ -34,7 +34,8 @@ fn has_parts(
     commitment: &CommitmentState,
     secret: &[u8; 32],
 ) -> bool
-    ensures { IsTrue result ↔ HasParts terms.now commitment.now.view owner commitment.now.number secret.now state.now }
+    ensures { IsTrue result ↔ HasParts terms.now commitment.now.view owner commitment.now.number
+        secret.now state.now }
 {
     state.number == commitment.number
         && state.owner == owner

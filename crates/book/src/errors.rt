@@ -6,7 +6,7 @@ ghost use Rattle.book.specs.declared.errors.EntryError.TheVariants.{NoMemory};
 use filling::FillError;
 use std::alloc::{AllocError, AllocFailed};
 use thiserror::Error;
-use updates::Refusal;
+use updates::ChannelError;
 
 /// Why a channel is not opened.
 #[derive(Clone, Copy, Debug, PartialEq, Eq, Drop, Error)]
@@ -30,7 +30,7 @@ pub enum OpenError {
 pub enum StepError {
     /// The channel refuses it, or memory ran out.
     #[error("{0}")]
-    Refused(Refusal),
+    Refused(ChannelError),
     /// The book has no channel of this index.
     #[error("NoSuchChannel")]
     NoSuchChannel,

@@ -16,7 +16,7 @@ use resolve::Known;
 use std::alloc::{AllocError, Global};
 use std::marker::Model;
 use tx::OutPoint;
-use updates::Refusal;
+use updates::ChannelError;
 
 /// A node's book. A contract sees it as its history, the oldest entry first.
 #[derive(Drop)]
@@ -43,7 +43,7 @@ impl Book {
     ghost use Rattle.std.specs.Prelude.{◌≡◌, [], true, Err, length, slice_get, option_map, IfOk, IfErr, MatchResult};
     ghost use Rattle.std.specs.Option.{option_and_then, option_copied};
     ghost use Rattle.channel.specs.Tokens.{peer_tokens};
-    ghost use Rattle.updates.specs.declared.refusals.Refusal.TheVariants.{NoMemory as refusal_memory};
+    ghost use Rattle.updates.specs.declared.errors.ChannelError.TheVariants.{NoMemory as refusal_memory};
     ghost use Rattle.filling.specs.declared.errors.FillError.TheVariants.{NoMemory as fill_memory};
     ghost use Rattle.book.specs.Accepted.{all_accepted};
     ghost use Rattle.book.specs.Guarding.{is_guarded};
@@ -83,7 +83,8 @@ impl Book {
 
     /// The channel of an index, where there is one.
     pub fn channel(&self, channel: u64) -> Option<&Channel>
-        ensures { option_copied result ≡ option_map (λ ch. ch.state) (slice_get (replay self.now) channel) }
+        ensures { option_copied result ≡ option_map (λ ch. ch.state)
+            (slice_get (replay self.now) channel) }
     {
         match self.channels.get_index(channel as usize) {
             Some((_, open)) => Some(open.channel()),
@@ -93,7 +94,8 @@ impl Book {
 
     /// Whether the penalties of the peer's revoked commitment of a number are kept; `None` where there is no such channel, or the commitment is not revoked.
     pub fn keeps(&self, channel: u64, number: u64) -> Option<bool>
-        ensures { result ≡ option_and_then (λ ch. kept_at ch number) (slice_get (replay self.now) channel) }
+        ensures { result ≡ option_and_then (λ ch. kept_at ch number)
+            (slice_get (replay self.now) channel) }
     {
         match self.channels.get_index(channel as usize) {
             Some((_, open)) => open.keeps(number),
@@ -111,7 +113,8 @@ impl Book {
     /// Opens a channel, and gives its index: BookFull where there are 65,536, SameFunding where one has the same funding output, BadSignature where the token is not
     /// the peer's on this side's commitment 0. A refusal leaves the book as it was.
     pub fn open(&mut self, seat: u32, opening: Opening) -> Result<u64, OpenError>
-        ensures { IsCall (opened (Err OpenError.NoMemory)) (opened result) self.old self.new seat (Call.Open opening) }
+        ensures { IsCall (opened (Err OpenError.NoMemory)) (opened result) self.old self.new seat
+            (Call.Open opening) }
     {
         if self.channels.len() >= MAX_CHANNELS {
             return Err(OpenError::BookFull);
@@ -148,7 +151,8 @@ impl Book {
         channel: u64,
         step: Step,
     ) -> Result<Option<Message>, StepError>
-        ensures { IsCall (stepped (Err (StepError.Refused refusal_memory))) (step_reply result) self.old self.new seat (Call.Step channel step) }
+        ensures { IsCall (stepped (Err (StepError.Refused refusal_memory)))
+            (step_reply result) self.old self.new seat (Call.Step channel step) }
     {
         let index = channel as usize;
         if index >= self.channels.len() {
@@ -156,7 +160,7 @@ impl Book {
         }
         match self.entries.reserve(1) {
             Ok(()) => {}
-            Err(_) => return Err(StepError::Refused(Refusal::NoMemory)),
+            Err(_) => return Err(StepError::Refused(ChannelError::NoMemory)),
         }
         let open = &mut self.channels[index];
         let taken = match open.step(step) {
@@ -177,7 +181,8 @@ impl Book {
         secret: [u8; 32],
         next_point: Key,
     ) -> Result<u64, StepError>
-        ensures { IsCall (revoked (Err (StepError.Refused refusal_memory))) (revoked result) self.old self.new seat (Call.Revoke channel secret next_point) }
+        ensures { IsCall (revoked (Err (StepError.Refused refusal_memory)))
+            (revoked result) self.old self.new seat (Call.Revoke channel secret next_point) }
     {
         let index = channel as usize;
         if index >= self.channels.len() {
@@ -185,7 +190,7 @@ impl Book {
         }
         match self.entries.reserve(1) {
             Ok(()) => {}
-            Err(_) => return Err(StepError::Refused(Refusal::NoMemory)),
+            Err(_) => return Err(StepError::Refused(ChannelError::NoMemory)),
         }
         let open = &mut self.channels[index];
         let number = match open.revoke(secret, next_point) {
@@ -204,7 +209,8 @@ impl Book {
     /// Signs the peer's next commitment, and gives the message: NoSuchChannel, AwaitingRevocation, PenaltiesMissing with the least number of a revoked commitment whose
     /// penalties are not kept, NoUpdates. A refusal leaves the book as it was.
     pub fn sign(&mut self, seat: u32, channel: u64) -> Result<Message, SignError>
-        ensures { IsCall (signed (Err SignError.NoMemory)) (signed result) self.old self.new seat (Call.Sign channel) }
+        ensures { IsCall (signed (Err SignError.NoMemory)) (signed result) self.old self.new seat
+            (Call.Sign channel) }
     {
         let index = channel as usize;
         if index >= self.channels.len() {
@@ -233,7 +239,8 @@ impl Book {
         number: u64,
         claims: List<Claim>,
     ) -> Result<(), KeepError>
-        ensures { IsCall (kept (Err KeepError.NoMemory)) (kept result) self.old self.new seat (Call.Keep channel number claims) }
+        ensures { IsCall (kept (Err KeepError.NoMemory)) (kept result) self.old self.new seat
+            (Call.Keep channel number claims) }
     {
         let index = channel as usize;
         if index >= self.channels.len() {
@@ -267,7 +274,8 @@ impl Book {
         number: u64,
         set: PenaltySet,
     ) -> Result<(), KeepError>
-        ensures { IsCall (kept (Err KeepError.NoMemory)) (kept result) self.old self.new seat (Call.Keep channel number set.claims) }
+        ensures { IsCall (kept (Err KeepError.NoMemory)) (kept result) self.old self.new seat
+            (Call.Keep channel number set.claims) }
     {
         let index = channel as usize;
         if index >= self.channels.len() {
@@ -294,7 +302,8 @@ impl Book {
 
     /// Fills the claims of a batch by the channel's signer: NoSuchChannel, else the refusal of `fill`. A refusal leaves the book as it was.
     pub fn release(&mut self, seat: u32, channel: u64, batch: Batch) -> Result<Filled, ReleaseError>
-        ensures { IsCall (released (Err (ReleaseError.Unfilled fill_memory))) (released result) self.old self.new seat (Call.Release channel batch) }
+        ensures { IsCall (released (Err (ReleaseError.Unfilled fill_memory)))
+            (released result) self.old self.new seat (Call.Release channel batch) }
     {
         let index = channel as usize;
         if index >= self.channels.len() {
@@ -316,7 +325,9 @@ impl Book {
 
     /// The state of the peer's revoked commitment of a number whose penalties are not kept, for its penalties to be built: NoSuchChannel, NotRevoked, AlreadyKept.
     pub fn revoked(&self, channel: u64, number: u64) -> Result<RevokedState, KeepError>
-        ensures { let there = slice_get (replay self.now) channel in MatchResult result (IsRevokedIn number there) (IsKeepRefusal (early_keep_refusal number there)) }
+        ensures { let there = slice_get (replay self.now) channel
+            in MatchResult result (IsRevokedIn number there)
+            (IsKeepRefusal (early_keep_refusal number there)) }
     {
         let index = channel as usize;
         if index >= self.channels.len() {
@@ -327,7 +338,8 @@ impl Book {
 
     /// What the book knows of a channel, with the preimages of its fulfils in the order of the history: NoSuchChannel. It goes over the whole history.
     pub fn known(&self, channel: u64) -> Result<Known, KnowError>
-        ensures known { IfOk result (IsKnownIn self.now channel (slice_get (replay self.now) channel)) }
+        ensures known { IfOk result (IsKnownIn self.now channel
+            (slice_get (replay self.now) channel)) }
         ensures err { IfErr result (IsKnowRefusal (slice_get (replay self.now) channel)) }
     {
         let index = channel as usize;

@@ -23,7 +23,8 @@ fn penalties_of(
     secret: [u8; 32],
 ) -> Result<PenaltySet, AllocError>
     requires { refusal_of terms.now commitment.now.view ≡ None }
-    ensures { IfOk result (λ p. HasParts terms.now commitment.now.view owner commitment.now.number secret p.state) }
+    ensures { IfOk result (λ p. HasParts terms.now commitment.now.view owner commitment.now.number
+        secret p.state) }
 {
     let view = commitment.view.copy()?;
     match RevokedState::new(*terms, view, owner, commitment.number, secret) {
@@ -42,7 +43,9 @@ pub(crate) fn are_penalties(
     claims: &[Claim],
 ) -> Result<bool, AllocError>
     requires { refusal_of terms.now commitment.now.view ≡ None }
-    ensures { IfOk result (λ b. b ≡ are_claims_on (claimable_in (commitment_of terms.now commitment.now.view owner commitment.now.number (point_of secret))) claims.now) }
+    ensures { IfOk result (λ b. b ≡ are_claims_on
+        (claimable_in (commitment_of terms.now commitment.now.view owner commitment.now.number
+        (point_of secret))) claims.now) }
 {
     let set = penalties_of(alloc, terms, owner, commitment, secret)?;
     Ok(is_set(&set, claims))

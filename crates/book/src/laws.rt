@@ -26,7 +26,7 @@ pub fn rights_are_tested()
     ensures { RightsAreTested }
 {}
 
-/// The first reason why claims are not filled is the one that `fill` answers, memory aside.
+/// The first reason why claims are not filled is the one that `fill` answers, barring out-of-memory.
 pub fn refusals_are_found()
     ensures { RefusalsAreFound }
 {}

@@ -106,7 +106,8 @@ fn keep_of(
     number: u64,
     claims: List<PlainClaim>,
 ) -> Result<Call, EntryError>
-    ensures { Answers result (with_claims (claims_of claims) (λ cs. Ok (Call.Keep channel number cs))) }
+    ensures { Answers result (with_claims (claims_of claims)
+        (λ cs. Ok (Call.Keep channel number cs))) }
 {
     match claims_of(alloc, claims) {
         Ok(claims) => Ok(Call::Keep {
@@ -132,7 +133,8 @@ fn release_of(
     outputs: List<TxOut>,
     preimages: List<[u8; 32]>,
 ) -> Result<Call, EntryError>
-    ensures { Answers result (with_claims (claims_of claims) (release_of channel outputs preimages)) }
+    ensures { Answers result (with_claims (claims_of claims)
+        (release_of channel outputs preimages)) }
 {
     match claims_of(alloc, claims) {
         Ok(claims) => match batch_of(claims, outputs, preimages) {

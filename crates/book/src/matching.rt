@@ -62,7 +62,8 @@ fn keeps(checked: &Checked)
 
 // Whether a claim that any transaction may make claims what another one does, in the same way.
 fn is_alike(kept: &Claim, claim: &Claim) -> bool
-    ensures { result ≡ (same_claimable (claimed_by claim.now) (claimed_by kept.now) && not (is_fixed claim.now.shell)) }
+    ensures { result ≡ (same_claimable (claimed_by claim.now) (claimed_by kept.now) && not
+        (is_fixed claim.now.shell)) }
 {
     same_place(claim.place(), kept.place())
         && claim.checked().script().bytes() == kept.checked().script().bytes()
@@ -74,7 +75,8 @@ fn is_alike(kept: &Claim, claim: &Claim) -> bool
 // The same, where both are claims: they were accepted, on checked scripts.
 fn is_claim_on(kept: &Claim, claim: &Claim) -> bool
     ensures value { result ≡ is_claim_on (claimed_by kept.now) claim.now }
-    ensures exact { kept.now.shell ≡ Open → IsTrue result → IsClaimOn (claimed_by kept.now) claim.now }
+    ensures exact { kept.now.shell ≡ Open → IsTrue result
+        → IsClaimOn (claimed_by kept.now) claim.now }
 {
     keeps(kept.checked());
     keeps(claim.checked());
@@ -86,7 +88,8 @@ fn is_claim_on(kept: &Claim, claim: &Claim) -> bool
 // Whether claims claim what others do, in the same ways, one after another.
 fn are_claims_on(kept: &[Claim], claims: &[Claim]) -> bool
     ensures value { result ≡ all_match (λ k c. is_claim_on (claimed_by k) c) kept.now claims.now }
-    ensures exact { All (λ k. k.shell ≡ Open) kept.now → IsTrue result → AreClaimsOn (map claimed_by kept.now) claims.now }
+    ensures exact { All (λ k. k.shell ≡ Open) kept.now → IsTrue result
+        → AreClaimsOn (map claimed_by kept.now) claims.now }
 {
     let mut others = claims;
     for one in kept {

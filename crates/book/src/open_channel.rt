@@ -23,7 +23,7 @@ use penalty::RevokedState;
 use resolve::Known;
 use std::alloc::{AllocError, Global};
 use std::marker::Model;
-use updates::Refusal;
+use updates::ChannelError;
 
 /// A channel, and which of the peer's revoked commitments have their penalties kept. A contract sees it as its `ChannelBook`.
 #[derive(Drop)]
@@ -56,7 +56,7 @@ pub(crate) struct Taken {
 }
 
 // The channel receives tokens. Gives them back, with the message that answers them.
-fn receive_tokens(channel: &mut Channel, tokens: Tokens) -> Result<Taken, Refusal>
+fn receive_tokens(channel: &mut Channel, tokens: Tokens) -> Result<Taken, ChannelError>
     ensures step { IfOk result (λ t. t.step ≡ Step.Signed tokens) }
     ensures message { IfOk result (λ t. cons_option t.message [] ≡ messages_of channel.old
         (Step.Signed tokens)) }
@@ -80,7 +80,7 @@ fn receive_tokens(channel: &mut Channel, tokens: Tokens) -> Result<Taken, Refusa
 }
 
 // The channel takes a step. Gives it back, with the message that it sends or that answers it.
-fn take(channel: &mut Channel, step: Step) -> Result<Taken, Refusal>
+fn take(channel: &mut Channel, step: Step) -> Result<Taken, ChannelError>
     ensures step { IfOk result (λ t. t.step ≡ step) }
     ensures message { IfOk result (λ t. cons_option t.message [] ≡ messages_of channel.old step) }
     ensures ok { IfOk result (λ _. channel.new ≡ stepped step channel.old) }
@@ -154,14 +154,14 @@ impl OpenChannel {
         ) {
             Ok(channel) => Ok(OpenChannel::new(alloc, channel)),
             Err(refusal) => match refusal {
-                Refusal::NoMemory => Err(OpenError::NoMemory),
+                ChannelError::NoMemory => Err(OpenError::NoMemory),
                 _ => Err(OpenError::BadSignature),
             },
         }
     }
 
     /// Takes a step. A refusal leaves all as it was.
-    pub(crate) fn step(&mut self, step: Step) -> Result<Taken, Refusal>
+    pub(crate) fn step(&mut self, step: Step) -> Result<Taken, ChannelError>
         ensures step { IfOk result (λ t. t.step ≡ step) }
         ensures message { IfOk result (λ t. cons_option t.message []
             ≡ messages_of self.old.state step) }
@@ -174,7 +174,7 @@ impl OpenChannel {
     }
 
     /// Receives a revocation, and gives its number. A refusal leaves all as it was.
-    pub(crate) fn revoke(&mut self, secret: [u8; 32], next_point: Key) -> Result<u64, Refusal>
+    pub(crate) fn revoke(&mut self, secret: [u8; 32], next_point: Key) -> Result<u64, ChannelError>
         ensures number { IfOk result (λ n. n ≡ length self.old.state.secrets) }
         ensures ok { IfOk result (λ _. self.new ≡ with_state
             (λ s. after s (RevokeAndAck secret next_point)) self.old) }
@@ -185,7 +185,7 @@ impl OpenChannel {
     {
         match self.flags.reserve(1) {
             Ok(()) => {}
-            Err(_) => return Err(Refusal::NoMemory),
+            Err(_) => return Err(ChannelError::NoMemory),
         }
         let number = self.flags.len() as u64;
         match self
@@ -228,7 +228,7 @@ impl OpenChannel {
         match self.channel.signed() {
             Ok(message) => Ok(message),
             Err(refusal) => match refusal {
-                Refusal::NoMemory => Err(SignError::NoMemory),
+                ChannelError::NoMemory => Err(SignError::NoMemory),
                 _ => Err(SignError::NoUpdates),
             },
         }

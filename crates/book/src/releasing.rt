@@ -39,10 +39,14 @@ fn lent(alloc: Global, claims: &[Claim]) -> Result<Vec<&Claim>, AllocError>
 /// Fills the claims of a batch by a signer, as a book's `release` does by the channel's: MixedShells, SameOutpoint, OutputsExceed, and then by claim and slot NoRight where the signer has no right to
 /// the key, and NoPreimage where the batch has none of the hash. `tested` says so by any rights to the same keys.
 pub fn filled(alloc: Global, batch: &Batch, signer: &Signer) -> Result<Filled, FillError>
-    ensures by_signer { MatchResult result (IsFillingOf batch.now.claims batch.now.outputs signer.now batch.now.preimages) (IsFirstRefusal batch.now.claims batch.now.outputs signer.now batch.now.preimages) }
-    ensures tested { (rights : Rights) → ((key : List ℕ) → MaySign signer.now key ↔ MaySign rights key) →
-        let first = fill_refusal batch.now.claims batch.now.outputs rights batch.now.preimages in
-        MatchResult result (λ f. (first ≡ None) × (f ≡ filling_by batch.now)) (IsFillRefusal first) }
+    ensures by_signer { MatchResult result
+        (IsFillingOf batch.now.claims batch.now.outputs signer.now batch.now.preimages)
+        (IsFirstRefusal batch.now.claims batch.now.outputs signer.now batch.now.preimages) }
+    ensures tested { (rights : Rights)
+        → ((key : List ℕ) → MaySign signer.now key ↔ MaySign rights key)
+        → let first = fill_refusal batch.now.claims batch.now.outputs rights batch.now.preimages
+        in MatchResult result (λ f. (first ≡ None) × (f ≡ filling_by batch.now))
+        (IsFillRefusal first) }
 {
     let outputs = copies(alloc, batch.outputs.values())?;
     let claims = lent(alloc, batch.claims.values())?;

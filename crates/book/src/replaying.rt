@@ -19,7 +19,7 @@ use keys::Key;
 use lists::List;
 use std::alloc::{AllocError, Global};
 use texts::PlainEntry;
-use updates::Refusal;
+use updates::ChannelError;
 
 // Why an entry is not put into a book.
 #[derive(Clone, Copy, Debug, PartialEq, Eq, Drop)]
@@ -38,11 +38,11 @@ fn stop_of_open(error: &OpenError) -> Stop
 }
 
 fn stop_of_step(error: &StepError) -> Stop
-    ensures { IsStop (StepError.Refused Refusal.NoMemory) error.now result }
+    ensures { IsStop (StepError.Refused ChannelError.NoMemory) error.now result }
 {
     match error {
         StepError::Refused(refusal) => match refusal {
-            Refusal::NoMemory => Stop::NoMemory,
+            ChannelError::NoMemory => Stop::NoMemory,
             _ => Stop::Refused,
         },
         StepError::NoSuchChannel => Stop::Refused,
@@ -113,7 +113,8 @@ fn enter_revoke(
     secret: [u8; 32],
     next_point: Key,
 ) -> Result<(), Stop>
-    ensures { Enters result book.old book.new (by_seat seat (Call.Revoke channel secret next_point)) }
+    ensures { Enters result book.old book.new
+        (by_seat seat (Call.Revoke channel secret next_point)) }
 {
     match book.revoke(seat, channel, secret, next_point) {
         Ok(_) => Ok(()),
@@ -221,7 +222,8 @@ impl Book {
     /// The dump of the book's history, which is loaded as this history. The only error is that memory ran out.
     pub fn dump(&self, alloc: Global) -> Result<String, AllocError>
         ensures text { IfOk result (λ text. string_bytes text ≡ dump_of self.now) }
-        ensures reads { IfOk result (λ text. read (string_bytes text) ≡ Some (history_data self.now)) }
+        ensures reads { IfOk result (λ text. read (string_bytes text) ≡ Some
+            (history_data self.now)) }
 
         // What the text is loaded as.
         ensures loads { IfOk result (λ text. loaded peer_tokens (string_bytes text) ≡ Ok self.now) }

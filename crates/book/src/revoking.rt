@@ -17,7 +17,8 @@ fn revoked_by(
     secret: [u8; 32],
 ) -> Result<RevokedState, AllocError>
     requires { refusal_of channel.now.held.terms commitment.now.view ≡ None }
-    ensures { IfOk result (HasParts channel.now.held.terms commitment.now.view (other channel.now.held.side) commitment.now.number secret) }
+    ensures { IfOk result (HasParts channel.now.held.terms commitment.now.view
+        (other channel.now.held.side) commitment.now.number secret) }
 {
     let view = commitment.view.copy()?;
     let owner = channel.side().other();

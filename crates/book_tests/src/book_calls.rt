@@ -11,7 +11,7 @@ use lists::List;
 use std::alloc::Global;
 use std::process::Abort;
 use terms::Side;
-use updates::Refusal;
+use updates::ChannelError;
 
 #[test]
 fn opens_a_funding_output_once(rt: HostRuntime) {
@@ -43,7 +43,7 @@ fn takes_the_secret_of_the_seed_alone(rt: HostRuntime) {
     let mut b = opened(&rt, alloc, Side::B);
     let came = offered(&rt, &mut a, &mut b);
     let wrong = a.revoke(0, 0, [0; 32], came.next_point);
-    assert!(rt; wrong == Err(StepError::Refused(Refusal::WrongSecret)));
+    assert!(rt; wrong == Err(StepError::Refused(ChannelError::WrongSecret)));
     assert!(rt; a.sign(0, 0).err() == Some(SignError::AwaitingRevocation));
     assert!(rt; a.revoke(0, 0, came.secret, came.next_point) == Ok(0));
     assert_eq!(rt; a.entries().len(), 4);

@@ -1,4 +1,4 @@
-//! Tests of the libraries `texts`, `scenario`, `book` and `openings`.
+//! Tests of the libraries `texts`, `scenario` and `book`.
 //!
 //! They stand in a crate of their own, so that each of these libraries is proved once. The examples of the libraries'
 //! pages are among them.
@@ -12,8 +12,6 @@ mod kept_sets;
 mod known_states;
 #[cfg(test)]
 mod loaded_dumps;
-#[cfg(test)]
-mod opened_sides;
 #[cfg(test)]
 mod plain;
 #[cfg(test)]

@@ -10,7 +10,7 @@ use Rattle.tx.specs.Parts.{Output}
 use Rattle.tx.specs.Fields.{Transaction}
 use Rattle.tx.specs.Spelling.{transaction_id}
 use Rattle.chain.specs.Blocks.{Contents, Creation, same_outpoint, grant_id, grant_outpoint, creations_from, created_by, created_by_all, granted_at, grants_in, created_of, has_id}
-use Rattle.chain.specs.Tested.{have_passed, is_tested}
+use Rattle.chain.specs.Checked.{have_passed, is_checked}
 use Rattle.chain.specs.Conserving.{GrantsAreApart}
 use Rattle.chain.proofs.Noting.{swapped}
 use Rattle.chain.proofs.Passing.{passed, next_passed}
@@ -170,9 +170,9 @@ apart_transaction n t ts older free grants new apart =
     (differ_outputs before id (length older) 0 t.outputs apart (λ q e from. nobody_of id q before e others))
 
 apart_transactions : (n : ℕ) (ts : List Transaction) (older : List Contents) → Free n (behind ts older) → grants_in older ≤ n → have_passed older ts ≡ true → Differ (created_of older) → Differ (created_of older ++ created_by_all (length older) ts)
-apart_transactions n [] older free grants tested apart = rw (append-nil (created_of older)) apart
-apart_transactions n (t ∷ ts) older free grants tested apart =
-    let passes = next_passed older t ts tested in
+apart_transactions n [] older free grants checked apart = rw (append-nil (created_of older)) apart
+apart_transactions n (t ∷ ts) older free grants checked apart =
+    let passes = next_passed older t ts checked in
     let fewer : Free n (behind ts older) = record { among = free.among; from = λ g below. less (bytes_eq (transaction_id t) (grant_id g)) (list_any (λ t. bytes_eq (transaction_id t) (grant_id g)) ts) (has_id older (grant_id g)) (free.from g below) } in
     apart_transaction n t ts older free grants (passed (behind ts older) t passes.0).new_id (apart_transactions n ts older fewer grants passes.1 apart)
 
@@ -197,17 +197,17 @@ apart_grants n ts (o ∷ os) older free below apart =
     let rest : Differ (before ++ given) = apart_grants n ts os older free (omega (arith, below)) apart in
     rw (← append_assoc before given (one ∷ [])) (differ_one (before ++ given) one rest (nobody_of (grant_id g) one.outpoint (before ++ given) refl others))
 
-apart_all : (n : ℕ) (blocks : List Contents) → Free n blocks → grants_in blocks ≤ n → is_tested blocks ≡ true → AreApart blocks
-apart_all n [] free below tested = tt
-apart_all n (b ∷ older) free below tested =
+apart_all : (n : ℕ) (blocks : List Contents) → Free n blocks → grants_in blocks ≤ n → is_checked blocks ≡ true → AreApart blocks
+apart_all n [] free below checked = tt
+apart_all n (b ∷ older) free below checked =
     let h = length older in
-    let parts = and_parts (have_passed older b.transactions) (is_tested older) tested in
+    let parts = and_parts (have_passed older b.transactions) (is_checked older) checked in
     let free_behind : Free n (behind b.transactions older) = record { among = free.among; from = free.from } in
     let first = apart_all n older (free_older n b older free) (omega (arith, below)) parts.1 in
     let second = apart_transactions n b.transactions older free_behind (omega (arith, below)) parts.0 first in
     rw (← append_assoc (created_of older) (created_by_all h b.transactions) (granted_at h (grants_in older) b.granted))
     (apart_grants n b.transactions b.granted older free_behind below second)
 
--- where the grants have ids of their own, no two outputs of a tested chain stand at one outpoint
-pub are_apart : (blocks : List Contents) → is_tested blocks ≡ true → GrantsAreApart blocks → AreApart blocks
-are_apart blocks tested grants = apart_all (grants_in blocks) blocks (record { among = grants.among_grants; from = grants.from_transactions }) (omega arith) tested
+-- where the grants have ids of their own, no two outputs of a checked chain stand at one outpoint
+pub are_apart : (blocks : List Contents) → is_checked blocks ≡ true → GrantsAreApart blocks → AreApart blocks
+are_apart blocks checked grants = apart_all (grants_in blocks) blocks (record { among = grants.among_grants; from = grants.from_transactions }) (omega arith) checked

@@ -15,11 +15,11 @@ use Rattle.tx.specs.Parts.{Output}
 use Rattle.tx.specs.Fields.{Transaction}
 use Rattle.tx.specs.Spelling.{transaction_id}
 use Rattle.chain.specs.Blocks.{Contents, Standing, Creation, Coin, empty_block, height_of, same_outpoint, grant_outpoint, creations_from, created_by, created_by_all, granted_at, grants_in, created_of, names, is_named, created_at, coin_at, unspent_of, transactions_of, value_at, paid_in, paid_out, fee_of, fees_of, granted_of}
-use Rattle.chain.specs.Tests.{names_twice, transaction_refusal}
-use Rattle.chain.specs.Tested.{have_passed, is_tested}
+use Rattle.chain.specs.Checks.{names_twice, transaction_refusal}
+use Rattle.chain.specs.Checked.{have_passed, is_checked}
 use Rattle.chain.specs.Connecting.{with_grant, unless_refused, added}
-use Rattle.chain.specs.declared.refusal.Refusal.{Refusal}
-use Rattle.chain.specs.declared.refusal.BlockError.{BlockError}
+use Rattle.chain.specs.declared.errors.ChainError.{ChainError}
+use Rattle.chain.specs.declared.errors.BlockError.{BlockError}
 use Rattle.chain.specs.declared.commands.Command.{Command}
 use Rattle.chain.specs.declared.commands.Command.TheVariants as command
 use Rattle.chain.specs.declared.commands.Answer.{Answer}
@@ -215,8 +215,8 @@ named_flat q [] = refl
 named_flat q (b ∷ older) = list_any-append (names q) b.transactions (transactions_of older) ∙ ap (λ x. list_any (names q) b.transactions || x) (named_flat q older)
 
 -- the fees of what stands on the chain do not change with what is added
-same_fees : (before after : List Contents) (new : List Creation) → Extends before after new → is_tested before ≡ true → sum_by (fee_of after) (transactions_of before) ≡ fees_of before
-same_fees before after new e tested = fees_stay before after new (transactions_of before) e (λ q n. named_created before q tested (sym (named_flat q before) ∙ n))
+same_fees : (before after : List Contents) (new : List Creation) → Extends before after new → is_checked before ≡ true → sum_by (fee_of after) (transactions_of before) ≡ fees_of before
+same_fees before after new e checked = fees_stay before after new (transactions_of before) e (λ q n. named_created before q checked (sym (named_flat q before) ∙ n))
 
 worth_split : (P : OutPoint → Bool) (xs ys : List Creation) → worth (left P (xs ++ ys)) ≡ worth (left P xs) + worth (left P ys)
 worth_split P xs ys = ap worth (filter-append (λ c. not (P c.outpoint)) xs ys) ∙ sum_by-append (λ c. c.output.value) (left P xs) (left P ys)
@@ -256,24 +256,24 @@ named_before : (b : List Contents) (q : OutPoint) (n m : Bool) → (n || m) ≡ 
 named_before b q true m e f g = f refl
 named_before b q false m e f g = g e
 
-conserves_transaction : (t : Transaction) (ts : List Transaction) (older : List Contents) → is_tested (at_end t ts older) ≡ true → AreApart (at_end t ts older) → Conserves (behind ts older) → Conserves (at_end t ts older)
+conserves_transaction : (t : Transaction) (ts : List Transaction) (older : List Contents) → is_checked (at_end t ts older) ≡ true → AreApart (at_end t ts older) → Conserves (behind ts older) → Conserves (at_end t ts older)
 unfolding Conserves
-conserves_transaction t ts older tested apart before =
+conserves_transaction t ts older checked apart before =
     let b = behind ts older in
     let a = at_end t ts older in
     let h = length older in
     let new = created_by h t in
     let e = extends_transaction t ts older in
-    let parts = and_parts (have_passed older (t ∷ ts)) (is_tested older) tested in
+    let parts = and_parts (have_passed older (t ∷ ts)) (is_checked older) checked in
     let passes = next_passed older t ts parts.0 in
     let facts = passed b t passes.0 in
-    let tested_before : is_tested b ≡ true = rw passes.1 parts.1 in
+    let checked_before : is_checked b ≡ true = rw passes.1 parts.1 in
     let apart_all : Differ (created_of b ++ new) = rw e at apart in
     let there : (q : OutPoint) → names q t ≡ true → (is_some (found q (created_of b)) ≡ true) × (is_named b q ≡ false) = λ q n. fresh_there (coin_at b q) (is_named b q) (created_at b q) (named_fresh b (height_of b) t t.inputs q facts.inputs n) refl in
     let shift : (q : OutPoint) → is_named a q ≡ (names q t || is_named b q) = λ q. or_moved (names q t) (list_any (names q) ts) (is_named older q) in
     let spent = spend_all (created_of b) (is_named b) t.inputs (apart_before (created_of b) new apart_all) facts.once there in
     let old : worth (left (is_named a) (created_of b)) ≡ worth (left (λ q. names q t || is_named b q) (created_of b)) = ap worth (left_same (is_named a) (λ q. names q t || is_named b q) (created_of b) shift) in
-    let fresh : left (is_named a) new ≡ new = new_left (is_named a) (created_of b) new (λ q n. named_before b q (names q t) (is_named b q) (sym (shift q) ∙ n) (λ m. (there q m).0) (named_created b q tested_before)) (unlike (created_of b) new apart_all) in
+    let fresh : left (is_named a) new ≡ new = new_left (is_named a) (created_of b) new (λ q n. named_before b q (names q t) (is_named b q) (sym (shift q) ∙ n) (λ m. (there q m).0) (named_created b q checked_before)) (unlike (created_of b) new apart_all) in
     let whole : worth (unspent_of a) ≡ worth (left (is_named a) (created_of b)) + worth new = ap (λ xs. worth (left (is_named a) xs)) e ∙ worth_split (is_named a) (created_of b) new ∙ ap (λ xs. worth (left (is_named a) (created_of b)) + worth xs) fresh in
     let paid : paid_in a t.inputs ≡ paid_in b t.inputs = paid_stays b a new t.inputs e (λ q n. (there q n).0) in
     ap (λ n. worth (unspent_of a) + n) (sum_head (fee_of a) t (transactions_of b))
@@ -282,7 +282,7 @@ conserves_transaction t ts older tested apart before =
     (ap (λ n. n + paid_in b t.inputs) old ∙ ap (λ n. worth (left (λ q. names q t || is_named b q) (created_of b)) + n) (sum_same b t.inputs) ∙ spent)
     (le_true (paid_out t.outputs) (paid_in b t.inputs) facts.covered)
     (ap (λ n. n - paid_out t.outputs) paid)
-    (ap (λ n. worth (unspent_of b) + n) (same_fees b a new e tested_before) ∙ before)
+    (ap (λ n. worth (unspent_of b) + n) (same_fees b a new e checked_before) ∙ before)
 
 extends_grant : (o : Output) (b : Contents) (older : List Contents) → Extends (b ∷ older) (with_grant (b ∷ older) o) (record { outpoint = grant_outpoint (grants_in older + length b.granted); output = o; height = length older } ∷ [])
 extends_grant o b older =
@@ -297,102 +297,102 @@ sums_moved a b c = omega arith
 granted_more : (u' u v fees g' g : ℕ) → u' ≡ u + v → u + fees ≡ g → g' ≡ v + g → u' + fees ≡ g'
 granted_more u' u v fees g' g e f h = omega arith
 
-conserves_grant : (o : Output) (b : Contents) (older : List Contents) → is_tested (b ∷ older) ≡ true → AreApart (with_grant (b ∷ older) o) → Conserves (b ∷ older) → Conserves (with_grant (b ∷ older) o)
+conserves_grant : (o : Output) (b : Contents) (older : List Contents) → is_checked (b ∷ older) ≡ true → AreApart (with_grant (b ∷ older) o) → Conserves (b ∷ older) → Conserves (with_grant (b ∷ older) o)
 unfolding Conserves
-conserves_grant o b older tested apart before =
+conserves_grant o b older checked apart before =
     let bs : List Contents = b ∷ older in
     let granted = with_grant bs o in
     let one : List Creation = record { outpoint = grant_outpoint (grants_in older + length b.granted); output = o; height = length older } ∷ [] in
     let e = extends_grant o b older in
     let apart_all : Differ (created_of bs ++ one) = rw e at apart in
-    let fresh : left (is_named bs) one ≡ one = new_left (is_named bs) (created_of bs) one (λ q n. named_created bs q tested n) (unlike (created_of bs) one apart_all) in
+    let fresh : left (is_named bs) one ≡ one = new_left (is_named bs) (created_of bs) one (λ q n. named_created bs q checked n) (unlike (created_of bs) one apart_all) in
     let whole : worth (unspent_of granted) ≡ worth (unspent_of bs) + o.value = ap (λ xs. worth (left (is_named bs) xs)) e ∙ worth_split (is_named bs) (created_of bs) one ∙ ap (λ xs. worth (unspent_of bs) + worth xs) fresh ∙ ap (λ n. worth (unspent_of bs) + n) (zero-add o.value) in
     let g : granted_of granted ≡ o.value + granted_of bs =
     sum_head (λ b. paid_out b.granted) (record b { granted = o ∷ b.granted }) older
     ∙ ap (λ n. n + granted_of older) (sum_head (λ o. o.value) o b.granted)
     ∙ sums_moved o.value (paid_out b.granted) (granted_of older)
     ∙ ap (λ n. o.value + n) (sym (sum_head (λ b. paid_out b.granted) b older)) in
-    ap (λ n. worth (unspent_of granted) + n) (same_fees bs granted one e tested)
+    ap (λ n. worth (unspent_of granted) + n) (same_fees bs granted one e checked)
     ∙ granted_more (worth (unspent_of granted)) (worth (unspent_of bs)) o.value (fees_of bs) (granted_of granted) (granted_of bs) whole before g
 
-conserves_grants : (ts : List Transaction) (gs : List Output) (older : List Contents) → is_tested (behind ts older) ≡ true → AreApart (record { transactions = ts; granted = gs } ∷ older) → Conserves (behind ts older) → Conserves (record { transactions = ts; granted = gs } ∷ older)
-conserves_grants ts [] older tested apart before = before
-conserves_grants ts (o ∷ os) older tested apart before =
+conserves_grants : (ts : List Transaction) (gs : List Output) (older : List Contents) → is_checked (behind ts older) ≡ true → AreApart (record { transactions = ts; granted = gs } ∷ older) → Conserves (behind ts older) → Conserves (record { transactions = ts; granted = gs } ∷ older)
+conserves_grants ts [] older checked apart before = before
+conserves_grants ts (o ∷ os) older checked apart before =
     let b : Contents = record { transactions = ts; granted = os } in
     let fewer : AreApart (b ∷ older) = apart_before (created_of (b ∷ older)) _ (rw (extends_grant o b older) at apart) in
-    conserves_grant o b older tested apart (conserves_grants ts os older tested fewer before)
+    conserves_grant o b older checked apart (conserves_grants ts os older checked fewer before)
 
-conserves_begun : (older : List Contents) → is_tested older ≡ true → Conserves older → Conserves (empty_block ∷ older)
+conserves_begun : (older : List Contents) → is_checked older ≡ true → Conserves older → Conserves (empty_block ∷ older)
 unfolding Conserves
-conserves_begun older tested before =
+conserves_begun older checked before =
     ap (λ xs. worth (left (is_named older) xs) + fees_of (empty_block ∷ older)) (append-nil (created_of older))
-    ∙ ap (λ n. worth (unspent_of older) + n) (same_fees older (empty_block ∷ older) [] refl tested) ∙ before
+    ∙ ap (λ n. worth (unspent_of older) + n) (same_fees older (empty_block ∷ older) [] refl checked) ∙ before
 
-conserves_block : (ts : List Transaction) (older : List Contents) → is_tested (behind ts older) ≡ true → AreApart (behind ts older) → Conserves older → Conserves (behind ts older)
-conserves_block [] older tested apart before = conserves_begun older tested before
-conserves_block (t ∷ ts) older tested apart before =
-    let parts = and_parts (have_passed older (t ∷ ts)) (is_tested older) tested in
-    let tested_before : is_tested (behind ts older) ≡ true = rw (next_passed older t ts parts.0).1 parts.1 in
+conserves_block : (ts : List Transaction) (older : List Contents) → is_checked (behind ts older) ≡ true → AreApart (behind ts older) → Conserves older → Conserves (behind ts older)
+conserves_block [] older checked apart before = conserves_begun older checked before
+conserves_block (t ∷ ts) older checked apart before =
+    let parts = and_parts (have_passed older (t ∷ ts)) (is_checked older) checked in
+    let checked_before : is_checked (behind ts older) ≡ true = rw (next_passed older t ts parts.0).1 parts.1 in
     let fewer : AreApart (behind ts older) = apart_before (created_of (behind ts older)) _ (rw (extends_transaction t ts older) at apart) in
-    conserves_transaction t ts older tested apart (conserves_block ts older tested_before fewer before)
+    conserves_transaction t ts older checked apart (conserves_block ts older checked_before fewer before)
 
-conserves_all : (blocks : List Contents) → is_tested blocks ≡ true → AreApart blocks → Conserves blocks
+conserves_all : (blocks : List Contents) → is_checked blocks ≡ true → AreApart blocks → Conserves blocks
 unfolding Conserves
-conserves_all [] tested apart = refl
-conserves_all (b ∷ older) tested apart =
+conserves_all [] checked apart = refl
+conserves_all (b ∷ older) checked apart =
     let h = length older in
     let cs = created_by_all h b.transactions in
-    let parts = and_parts (have_passed older b.transactions) (is_tested older) tested in
+    let parts = and_parts (have_passed older b.transactions) (is_checked older) checked in
     let gs = granted_at h (grants_in older) b.granted in
     let whole : Differ ((created_of older ++ cs) ++ gs) = rw (append_assoc (created_of older) cs gs) apart in
     let first : Differ (created_of older ++ cs) = apart_before (created_of older ++ cs) gs whole in
     let fewer : AreApart (behind b.transactions older) = rw (append-nil cs) first in
-    conserves_grants b.transactions b.granted older tested apart (conserves_block b.transactions older tested fewer (conserves_all older parts.1 (apart_before (created_of older) cs first)))
+    conserves_grants b.transactions b.granted older checked apart (conserves_block b.transactions older checked fewer (conserves_all older parts.1 (apart_before (created_of older) cs first)))
 
-tested_by : (index : ℕ) (older : List Contents) (t : Transaction) (ts : List Transaction) (r : Option Refusal) (rest : Result (List Contents) BlockError) (new : List Contents) → transaction_refusal (behind ts older) t ≡ r → unless_refused index r rest ≡ Ok new → is_tested (behind ts older) ≡ true → (rest ≡ Ok new) × (is_tested (at_end t ts older) ≡ true)
-tested_by index older t ts None rest new e a tested = (a, rw e tested)
-tested_by index older t ts (Some r) rest new e a tested = absurd cc
+tested_by : (index : ℕ) (older : List Contents) (t : Transaction) (ts : List Transaction) (r : Option ChainError) (rest : Result (List Contents) BlockError) (new : List Contents) → transaction_refusal (behind ts older) t ≡ r → unless_refused index r rest ≡ Ok new → is_checked (behind ts older) ≡ true → (rest ≡ Ok new) × (is_checked (at_end t ts older) ≡ true)
+tested_by index older t ts None rest new e a checked = (a, rw e checked)
+tested_by index older t ts (Some r) rest new e a checked = absurd cc
 
 same_blocks : (a b : List Contents) (x y : Result (List Contents) BlockError) → x ≡ Ok a → y ≡ Ok b → x ≡ y → a ≡ b
 same_blocks a b x y e f g = cc
 
-tested_added : (index : ℕ) (older : List Contents) (ts txs : List Transaction) (new : List Contents) → added index (behind ts older) txs ≡ Ok new → is_tested (behind ts older) ≡ true → is_tested new ≡ true
-tested_added index older ts [] new e tested = ap is_tested (sym (same_blocks (behind ts older) new (Ok (behind ts older)) (Ok new) refl refl e)) ∙ tested
-tested_added index older ts (t ∷ txs) new e tested =
-    let n = tested_by index older t ts (transaction_refusal (behind ts older) t) (added (index + 1) (at_end t ts older) txs) new refl e tested in
-    tested_added (index + 1) older (t ∷ ts) txs new n.0 n.1
+checked_added : (index : ℕ) (older : List Contents) (ts txs : List Transaction) (new : List Contents) → added index (behind ts older) txs ≡ Ok new → is_checked (behind ts older) ≡ true → is_checked new ≡ true
+checked_added index older ts [] new e checked = ap is_checked (sym (same_blocks (behind ts older) new (Ok (behind ts older)) (Ok new) refl refl e)) ∙ checked
+checked_added index older ts (t ∷ txs) new e checked =
+    let n = tested_by index older t ts (transaction_refusal (behind ts older) t) (added (index + 1) (at_end t ts older) txs) new refl e checked in
+    checked_added (index + 1) older (t ∷ ts) txs new n.0 n.1
 
-tested_grant : (blocks : List Contents) (o : Output) → is_tested blocks ≡ true → is_tested (with_grant blocks o) ≡ true
-tested_grant [] o e = e
-tested_grant (b ∷ older) o e = e
+checked_grant : (blocks : List Contents) (o : Output) → is_checked blocks ≡ true → is_checked (with_grant blocks o) ≡ true
+checked_grant [] o e = e
+checked_grant (b ∷ older) o e = e
 
-tested_drop : (blocks : List Contents) (k : ℕ) → is_tested blocks ≡ true → is_tested (drop k blocks) ≡ true
-tested_drop blocks zero e = e
-tested_drop [] (suc k) e = e
-tested_drop (b ∷ older) (suc k) e = tested_drop older k (and_parts (have_passed older b.transactions) (is_tested older) e).1
+checked_drop : (blocks : List Contents) (k : ℕ) → is_checked blocks ≡ true → is_checked (drop k blocks) ≡ true
+checked_drop blocks zero e = e
+checked_drop [] (suc k) e = e
+checked_drop (b ∷ older) (suc k) e = checked_drop older k (and_parts (have_passed older b.transactions) (is_checked older) e).1
 
-tested_call : (old : Standing) (c : Command) (a : Answer) (new : Standing) → Answered old c a new → is_tested old.blocks ≡ true → is_tested new.blocks ≡ true
-tested_call old (command.Grant o) (answer.Grant (Ok p)) new h t = rw h.2 (tested_grant old.blocks o t)
-tested_call old (command.Grant o) (answer.Grant (Err e)) new h t = rw h.0 t
-tested_call old (command.CheckInput x i) (answer.CheckInput r) new h t = rw h.0 t
-tested_call old (command.Connect txs) (answer.Connect (Ok n)) new h t = tested_added 0 old.blocks [] txs.items new.blocks h.0 t
-tested_call old (command.Connect txs) (answer.Connect (Err e)) new h t = rw h.0 t
-tested_call old (command.Disconnect k) (answer.Disconnect (Ok txs)) new h t = rw h.2 (tested_drop old.blocks k t)
-tested_call old (command.Disconnect k) (answer.Disconnect (Err e)) new h t = rw h.0 t
-tested_call old command.Unspent (answer.Unspent u) new h t = rw h.0 t
-tested_call old command.Height (answer.Height n) new h t = rw h.0 t
-tested_call old command.Fees (answer.Fees n) new h t = rw h.0 t
-tested_call old c a new h t = absurd h
+checked_call : (old : Standing) (c : Command) (a : Answer) (new : Standing) → Answered old c a new → is_checked old.blocks ≡ true → is_checked new.blocks ≡ true
+checked_call old (command.Grant o) (answer.Grant (Ok p)) new h t = rw h.2 (checked_grant old.blocks o t)
+checked_call old (command.Grant o) (answer.Grant (Err e)) new h t = rw h.0 t
+checked_call old (command.CheckInput x i) (answer.CheckInput r) new h t = rw h.0 t
+checked_call old (command.Connect txs) (answer.Connect (Ok n)) new h t = checked_added 0 old.blocks [] txs.items new.blocks h.0 t
+checked_call old (command.Connect txs) (answer.Connect (Err e)) new h t = rw h.0 t
+checked_call old (command.Disconnect k) (answer.Disconnect (Ok txs)) new h t = rw h.2 (checked_drop old.blocks k t)
+checked_call old (command.Disconnect k) (answer.Disconnect (Err e)) new h t = rw h.0 t
+checked_call old command.Unspent (answer.Unspent u) new h t = rw h.0 t
+checked_call old command.Height (answer.Height n) new h t = rw h.0 t
+checked_call old command.Fees (answer.Fees n) new h t = rw h.0 t
+checked_call old c a new h t = absurd h
 
-pub tested_replay : (old : Standing) (cs : List Command) (answers : List Answer) (new : Standing) → Replays old cs answers new → is_tested old.blocks ≡ true → is_tested new.blocks ≡ true
-tested_replay old [] [] new r t = rw r t
-tested_replay old [] (a ∷ answers) new r t = absurd r
-tested_replay old (c ∷ cs) [] new r t = absurd r
-tested_replay old (c ∷ cs) (a ∷ answers) new r t = tested_replay r.0 cs answers new r.2 (tested_call old c a r.0 r.1 t)
+pub checked_replay : (old : Standing) (cs : List Command) (answers : List Answer) (new : Standing) → Replays old cs answers new → is_checked old.blocks ≡ true → is_checked new.blocks ≡ true
+checked_replay old [] [] new r t = rw r t
+checked_replay old [] (a ∷ answers) new r t = absurd r
+checked_replay old (c ∷ cs) [] new r t = absurd r
+checked_replay old (c ∷ cs) (a ∷ answers) new r t = checked_replay r.0 cs answers new r.2 (checked_call old c a r.0 r.1 t)
 
-pub conserved_there : (blocks : List Contents) → is_tested blocks ≡ true → GrantsAreApart blocks → sum_by (λ c. c.output.value) (unspent_of blocks) + fees_of blocks ≡ granted_of blocks
+pub conserved_there : (blocks : List Contents) → is_checked blocks ≡ true → GrantsAreApart blocks → sum_by (λ c. c.output.value) (unspent_of blocks) + fees_of blocks ≡ granted_of blocks
 unfolding Conserves
-conserved_there blocks tested grants = conserves_all blocks tested (are_apart blocks tested grants)
+conserved_there blocks checked grants = conserves_all blocks checked (are_apart blocks checked grants)
 
 pub conserved : (commands : List Command) (answers : List Answer) (s : Standing) → Replays (record { blocks = empty_block ∷ []; greatest = 0 }) commands answers s → GrantsAreApart s.blocks → sum_by (λ c. c.output.value) (unspent_of s.blocks) + fees_of s.blocks ≡ granted_of s.blocks
-conserved commands answers s r grants = conserved_there s.blocks (tested_replay (record { blocks = empty_block ∷ []; greatest = 0 }) commands answers s r refl) grants
+conserved commands answers s r grants = conserved_there s.blocks (checked_replay (record { blocks = empty_block ∷ []; greatest = 0 }) commands answers s r refl) grants

@@ -4,11 +4,11 @@ use Rattle.tx.specs.declared.input.OutPoint.{OutPoint}
 use Rattle.tx.specs.declared.input.TxIn.{TxIn}
 use Rattle.tx.specs.Parts.{Output}
 use Rattle.tx.specs.Fields.{Transaction}
-use Rattle.chain.specs.declared.refusal.Refusal.{Refusal}
-use Rattle.chain.specs.declared.refusal.Refusal.TheVariants.{Spent, Unknown, NotFinal, TooYoung, Twice}
+use Rattle.chain.specs.declared.errors.ChainError.{ChainError}
+use Rattle.chain.specs.declared.errors.ChainError.TheVariants.{Spent, Unknown, NotFinal, TooYoung, Twice}
 use Rattle.chain.specs.Blocks.{Contents, Standing, empty_block, height_of, granted_at, grants_in, grant_outpoint, creations_from, is_named, paid_out, granted_of}
 use Rattle.chain.specs.Locks.{is_final, is_old_enough}
-use Rattle.chain.specs.Tests.{coin_refusal, names_twice, transaction_refusal}
+use Rattle.chain.specs.Checks.{coin_refusal, names_twice, transaction_refusal}
 use Rattle.chain.specs.Connecting.{Connects, ConnectsSome, Disconnects, is_too_deep, is_program}
 
 abbrev first : OutPoint
@@ -119,7 +119,7 @@ greatest_stays s c = c.2
 greatest_grows : (s : Standing) → Connects (standing (replicate 9 empty_block) 8) [] (Ok 9) s → s.greatest ≡ 9
 greatest_grows s c = c.2
 
-greatest_of_some : (refusals : List (Option Refusal)) (s : Standing) → ConnectsSome (standing (replicate 3 empty_block) 8) [] refusals s → s.greatest ≡ 8
+greatest_of_some : (refusals : List (Option ChainError)) (s : Standing) → ConnectsSome (standing (replicate 3 empty_block) 8) [] refusals s → s.greatest ≡ 8
 greatest_of_some refusals s c = c.2 ∙ ap (λ blocks. max 8 (height_of blocks)) c.0
 
 greatest_of_taken : (txs : List Transaction) (s : Standing) → Disconnects (standing (replicate 9 empty_block) 8) 6 (Ok txs) s → s.greatest ≡ 8

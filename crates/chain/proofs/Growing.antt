@@ -9,10 +9,10 @@ use Rattle.std.proofs.lemmas.Bool.{false≢true}
 use Rattle.std.proofs.lemmas.Bool.Decides.{nat_tests}
 use Rattle.tx.specs.Parts.{Output}
 use Rattle.tx.specs.Fields.{Transaction}
-use Rattle.chain.specs.declared.refusal.Refusal.{Refusal}
-use Rattle.chain.specs.declared.refusal.BlockError.{BlockError}
+use Rattle.chain.specs.declared.errors.ChainError.{ChainError}
+use Rattle.chain.specs.declared.errors.BlockError.{BlockError}
 use Rattle.chain.specs.Blocks.{Contents, Standing, empty_block, height_of, grants_in, transactions_of}
-use Rattle.chain.specs.Tests.{transaction_refusal}
+use Rattle.chain.specs.Checks.{transaction_refusal}
 use Rattle.chain.specs.Connecting.{with_transaction, with_grant, unless_refused, added, has_grant, is_too_deep}
 use Rattle.chain.specs.Storing.{taken_off, newest_granted, ChangesNewest, MayTakeOff}
 use Rattle.chain.proofs.Lists.{reverse_more, any_reversed}
@@ -49,7 +49,7 @@ pub goes_on : (s s' : Standing) (index : ℕ) (t : Transaction) (rest : List Tra
 goes_on s s' index t rest whole e passes same = rw same (sym (ap (λ r. unless_refused index r (added (index + 1) (with_transaction s.blocks t) rest)) passes) ∙ e)
 
 -- one that does not is named
-pub stops_at : (s : Standing) (index : ℕ) (t : Transaction) (rest : List Transaction) (whole : Result (List Contents) BlockError) (refusal : Refusal) → added index s.blocks (t ∷ rest) ≡ whole → transaction_refusal s.blocks t ≡ Some refusal → whole ≡ Err (record { index = index; refusal = refusal })
+pub stops_at : (s : Standing) (index : ℕ) (t : Transaction) (rest : List Transaction) (whole : Result (List Contents) BlockError) (refusal : ChainError) → added index s.blocks (t ∷ rest) ≡ whole → transaction_refusal s.blocks t ≡ Some refusal → whole ≡ Err (record { index = index; refusal = refusal })
 stops_at s index t rest whole refusal e refused = sym e ∙ ap (λ r. unless_refused index r (added (index + 1) (with_transaction s.blocks t) rest)) refused
 
 none_granted : (n : ℕ) (blocks : List Contents) → newest_granted blocks ≡ [] → length blocks ≡ n + 1 → MayTakeOff blocks

@@ -18,8 +18,8 @@ use Rattle.tx.specs.Spelling.{transaction_id}
 use Rattle.chain.specs.Blocks.{Contents, Creation, Coin, empty_block, height_of, same_outpoint, grant_outpoint, creations_from, created_by, created_by_all, granted_at, grants_in, created_of, names, is_named, created_at, coin_at, has_id}
 use Rattle.chain.specs.Connecting.{with_transaction, with_grant}
 use Rattle.chain.specs.Storing.{MayTakeOff}
-use Rattle.chain.specs.Tests.{transaction_refusal}
-use Rattle.chain.specs.Tested.{have_passed, is_tested}
+use Rattle.chain.specs.Checks.{transaction_refusal}
+use Rattle.chain.specs.Checked.{have_passed, is_checked}
 use Rattle.chain.specs.Indexing.{IsIndex, new_coin, first_new, is_output_below, unless_height, without, with_mark}
 use Rattle.chain.specs.Scanning.{spot_of}
 use Rattle.chain.proofs.Finding.{none_by_others, found_by_index}
@@ -54,24 +54,24 @@ created_next t ts older =
     ∙ sym (append_assoc (created_of older) (created_by_all h ts) (created_by h t))
     ∙ ap (λ xs. (created_of older ++ xs) ++ created_by h t) (sym (append-nil (created_by_all h ts)))
 
-none_named : (blocks : List Contents) (q : OutPoint) (named : Bool) → is_tested blocks ≡ true → is_named blocks q ≡ named → is_some (created_at blocks q) ≡ false → named ≡ false
-none_named blocks q false tested e none = refl
-none_named blocks q true tested e none = absurd (false≢true (sym none ∙ named_created blocks q tested e))
+none_named : (blocks : List Contents) (q : OutPoint) (named : Bool) → is_checked blocks ≡ true → is_named blocks q ≡ named → is_some (created_at blocks q) ≡ false → named ≡ false
+none_named blocks q false checked e none = refl
+none_named blocks q true checked e none = absurd (false≢true (sym none ∙ named_created blocks q checked e))
 
 -- what one transaction more leaves at an outpoint
-pub coin_next : (t : Transaction) (ts : List Transaction) (older : List Contents) (q : OutPoint) → is_tested (behind ts older) ≡ true → coin_at (at_end t ts older) q ≡ with_mark (names q t) true (option_or (coin_at (behind ts older) q) (first_new (created_by (length older) t) q))
-coin_next t ts older q tested =
+pub coin_next : (t : Transaction) (ts : List Transaction) (older : List Contents) (q : OutPoint) → is_checked (behind ts older) ≡ true → coin_at (at_end t ts older) q ≡ with_mark (names q t) true (option_or (coin_at (behind ts older) q) (first_new (created_by (length older) t) q))
+coin_next t ts older q checked =
     let p : Creation → Bool = λ c. same_outpoint c.outpoint q in
     let before = behind ts older in
     ap (option_map (coin (is_named (at_end t ts older) q))) (ap (find p) (created_next t ts older) ∙ find-append p (created_of before) (created_by (length older) t))
     ∙ ap (λ s. option_map (coin s) (option_or (created_at before q) (find p (created_by (length older) t)))) (or_shift (names q t) (list_any (names q) ts) (is_named older q))
-    ∙ seen (names q t) (is_named before q) (created_at before q) (find p (created_by (length older) t)) (none_named before q (is_named before q) tested refl)
+    ∙ seen (names q t) (is_named before q) (created_at before q) (find p (created_by (length older) t)) (none_named before q (is_named before q) checked refl)
 
 pub id_next : (t : Transaction) (ts : List Transaction) (older : List Contents) (id : List ℕ) → has_id (at_end t ts older) id ≡ (bytes_eq (transaction_id t) id || has_id (behind ts older) id)
 id_next t ts older id = or_shift (bytes_eq (transaction_id t) id) (list_any (λ t. bytes_eq (transaction_id t) id) ts) (has_id older id)
 
-tested_next : (t : Transaction) (ts : List Transaction) (older : List Contents) → is_tested (behind ts older) ≡ true → transaction_refusal (behind ts older) t ≡ None → is_tested (at_end t ts older) ≡ true
-tested_next t ts older tested passes = rw passes tested
+checked_next : (t : Transaction) (ts : List Transaction) (older : List Contents) → is_checked (behind ts older) ≡ true → transaction_refusal (behind ts older) t ≡ None → is_checked (at_end t ts older) ≡ true
+checked_next t ts older checked passes = rw passes checked
 
 plain : (b : Contents) → b.granted ≡ [] → b ≡ record { transactions = b.transactions; granted = [] }
 plain b e = ap (λ g. let c : Contents = record { transactions = b.transactions; granted = g } in c) e
@@ -84,16 +84,16 @@ pub follows : (blocks : List Contents) (t : Transaction) (coins coins' : OutPoin
 follows [] t coins coins' ids ids' height may h passes more named i = absurd may
 follows (b ∷ older) t coins coins' ids ids' height may h passes more named i =
     let e = plain b may in
-    let tested : is_tested (behind b.transactions older) ≡ true = ap (λ (c : Contents). is_tested (c ∷ older)) (sym e) ∙ i.tested in
+    let checked : is_checked (behind b.transactions older) ≡ true = ap (λ (c : Contents). is_checked (c ∷ older)) (sym e) ∙ i.checked in
     let new : with_transaction (b ∷ older) t ≡ at_end t b.transactions older = ap (λ (c : Contents). with_transaction (c ∷ older) t) e in
     rw new (record {
       coins_are = λ q.
           more q
           ∙ ap (λ x. with_mark (names q t) true (option_or x (first_new (created_by height t) q))) (i.coins_are q ∙ ap (λ (c : Contents). coin_at (c ∷ older) q) e)
           ∙ ap (λ n. with_mark (names q t) true (option_or (coin_at (behind b.transactions older) q) (first_new (created_by n t) q))) (h ∙ omega arith)
-          ∙ sym (coin_next t b.transactions older q tested);
+          ∙ sym (coin_next t b.transactions older q checked);
       ids_are = λ id. named id ∙ ap (λ x. bytes_eq (transaction_id t) id || x) (i.ids_are id ∙ ap (λ (c : Contents). has_id (c ∷ older) id) e) ∙ sym (id_next t b.transactions older id);
-      tested = tested_next t b.transactions older tested (ap (λ (c : Contents). transaction_refusal (c ∷ older) t) (sym e) ∙ passes);
+      checked = checked_next t b.transactions older checked (ap (λ (c : Contents). transaction_refusal (c ∷ older) t) (sym e) ∙ passes);
     })
 
 -- the same index, as contracts see it
@@ -101,7 +101,7 @@ pub same_index : (blocks : List Contents) (coins coins' : OutPoint → Option Co
 same_index blocks coins coins' ids ids' c d i = record {
   coins_are = λ q. c q ∙ i.coins_are q;
   ids_are = λ id. d id ∙ i.ids_are id;
-  tested = i.tested;
+  checked = i.checked;
 }
 
 AreLow : ℕ → List Creation → Type 0
@@ -275,10 +275,10 @@ follows_back (b ∷ older) t coins coins' ids ids' height may h less named i =
     let ts = b.transactions in
     let new : with_transaction (b ∷ older) t ≡ at_end t ts older = ap (λ (c : Contents). with_transaction (c ∷ older) t) e in
     let at : height ≡ length older = h ∙ omega arith in
-    let tested = and_parts (have_passed older (t ∷ ts)) (is_tested older) (ap is_tested (sym new) ∙ i.tested) in
-    let passes = next_passed older t ts tested.0 in
+    let checked = and_parts (have_passed older (t ∷ ts)) (is_checked older) (ap is_checked (sym new) ∙ i.checked) in
+    let passes = next_passed older t ts checked.0 in
     let facts = passed (behind ts older) t passes.0 in
-    let before : is_tested (behind ts older) ≡ true = rw passes.1 tested.1 in
+    let before : is_checked (behind ts older) ≡ true = rw passes.1 checked.1 in
     let same : b ∷ older ≡ behind ts older = ap (λ (c : Contents). c ∷ older) e in
     rw same (record {
       coins_are = λ q.
@@ -292,7 +292,7 @@ follows_back (b ∷ older) t coins coins' ids ids' height may h less named i =
           ∙ ap (λ u. cond u false (ids id)) (is_eq-slice_cmp (transaction_id t) id)
           ∙ ap (cond (bytes_eq (transaction_id t) id) false) (i.ids_are id ∙ ap (λ bs. has_id bs id) new ∙ id_next t ts older id)
           ∙ id_by (transaction_id t) id (bytes_eq (transaction_id t) id) (has_id (behind ts older)) refl facts.new_id;
-      tested = before;
+      checked = before;
     })
 
 -- an empty block more or fewer changes nothing
@@ -300,7 +300,7 @@ pub begun : (blocks : List Contents) (q : OutPoint) → coin_at (empty_block ∷
 begun blocks q = ap (λ xs. option_map (coin (is_named blocks q)) (find (λ c. same_outpoint c.outpoint q) xs)) (append-nil (created_of blocks))
 
 pub index_begun : (blocks : List Contents) (coins : OutPoint → Option Coin) (ids : List ℕ → Bool) → IsIndex blocks coins ids → IsIndex (empty_block ∷ blocks) coins ids
-index_begun blocks coins ids i = record { coins_are = λ q. i.coins_are q ∙ sym (begun blocks q); ids_are = i.ids_are; tested = i.tested }
+index_begun blocks coins ids i = record { coins_are = λ q. i.coins_are q ∙ sym (begun blocks q); ids_are = i.ids_are; checked = i.checked }
 
 pub index_ended : (blocks : List Contents) (b : Contents) (coins : OutPoint → Option Coin) (ids : List ℕ → Bool) → b.transactions ≡ [] → b.granted ≡ [] → IsIndex (b ∷ blocks) coins ids → IsIndex blocks coins ids
 index_ended blocks b coins ids none nor i =
@@ -308,7 +308,7 @@ index_ended blocks b coins ids none nor i =
     record {
       coins_are = λ q. i.coins_are q ∙ ap (λ (c : Contents). coin_at (c ∷ blocks) q) e ∙ begun blocks q;
       ids_are = λ id. i.ids_are id ∙ ap (λ (c : Contents). has_id (c ∷ blocks) id) e;
-      tested = ap (λ (c : Contents). is_tested (c ∷ blocks)) (sym e) ∙ i.tested;
+      checked = ap (λ (c : Contents). is_checked (c ∷ blocks)) (sym e) ∙ i.checked;
     }
 
 spent_by : (named : Bool) (x : Option Creation) (c : Coin) → Some c ≡ option_map (coin named) x → c.spent ≡ named
@@ -324,11 +324,11 @@ no_coin named None e = refl
 no_coin named (Some x) e = absurd cc
 
 -- where there is none, no input names it
-pub none_spent : (blocks : List Contents) (o : OutPoint) → is_tested blocks ≡ true → None ≡ coin_at blocks o → false ≡ is_named blocks o
-none_spent blocks o tested e = sym (none_named blocks o (is_named blocks o) tested refl (no_coin (is_named blocks o) (created_at blocks o) e))
+pub none_spent : (blocks : List Contents) (o : OutPoint) → is_checked blocks ≡ true → None ≡ coin_at blocks o → false ≡ is_named blocks o
+none_spent blocks o checked e = sym (none_named blocks o (is_named blocks o) checked refl (no_coin (is_named blocks o) (created_at blocks o) e))
 
-coin_granted : (b : Contents) (older : List Contents) (o : Output) (q : OutPoint) → is_tested (b ∷ older) ≡ true → coin_at (with_grant (b ∷ older) o) q ≡ option_or (coin_at (b ∷ older) q) (first_new (record { outpoint = grant_outpoint (grants_in (b ∷ older)); output = o; height = length older } ∷ []) q)
-coin_granted b older o q tested =
+coin_granted : (b : Contents) (older : List Contents) (o : Output) (q : OutPoint) → is_checked (b ∷ older) ≡ true → coin_at (with_grant (b ∷ older) o) q ≡ option_or (coin_at (b ∷ older) q) (first_new (record { outpoint = grant_outpoint (grants_in (b ∷ older)); output = o; height = length older } ∷ []) q)
+coin_granted b older o q checked =
     let p : Creation → Bool = λ c. same_outpoint c.outpoint q in
     let h = length older in
     let one : List Creation = record { outpoint = grant_outpoint (grants_in older + length b.granted); output = o; height = h } ∷ [] in
@@ -337,7 +337,7 @@ coin_granted b older o q tested =
     let whole : created_of older ++ (ts ++ (gs ++ one)) ≡ (created_of older ++ (ts ++ gs)) ++ one =
     ap (λ xs. created_of older ++ xs) (sym (append_assoc ts gs one)) ∙ sym (append_assoc (created_of older) (ts ++ gs) one) in
     ap (option_map (coin (is_named (b ∷ older) q))) (ap (find p) whole ∙ find-append p (created_of (b ∷ older)) one)
-    ∙ seen false (is_named (b ∷ older) q) (created_at (b ∷ older) q) (find p one) (none_named (b ∷ older) q (is_named (b ∷ older) q) tested refl)
+    ∙ seen false (is_named (b ∷ older) q) (created_at (b ∷ older) q) (find p one) (none_named (b ∷ older) q (is_named (b ∷ older) q) checked refl)
 
 -- one grant more, where what is kept follows it
 pub follows_grant : (blocks blocks' : List Contents) (o : Output) (coins coins' : OutPoint → Option Coin) (ids : List ℕ → Bool) (outpoint : OutPoint) (height : ℕ) → 0 < length blocks → blocks' ≡ with_grant blocks o → outpoint ≡ grant_outpoint (grants_in blocks) → height ≡ height_of blocks
@@ -351,9 +351,9 @@ follows_grant (b ∷ older) blocks' o coins coins' ids outpoint height some new 
           ∙ ap (λ x. option_or x (first_new (record { outpoint = outpoint; output = o; height = height } ∷ []) q)) (i.coins_are q)
           ∙ ap (λ a. option_or (coin_at (b ∷ older) q) (first_new (record { outpoint = a; output = o; height = height } ∷ []) q)) at
           ∙ ap (λ n. option_or (coin_at (b ∷ older) q) (first_new (record { outpoint = grant_outpoint (grants_in (b ∷ older)); output = o; height = n } ∷ []) q)) (h ∙ omega arith)
-          ∙ sym (coin_granted b older o q i.tested);
+          ∙ sym (coin_granted b older o q i.checked);
       ids_are = i.ids_are;
-      tested = i.tested;
+      checked = i.checked;
     })
 
 nothing : (x : Option Coin) → true ≡ not (is_some x) → x ≡ None

@@ -1,15 +1,15 @@
 -- How a block takes those of the transactions that pass.
 use Rattle.std.proofs.Common.{◌≡◌, List, [], ◌∷◌, length, refl, arith}
 use Rattle.tx.specs.Fields.{Transaction}
-use Rattle.chain.specs.declared.refusal.Refusal.{Refusal}
-use Rattle.chain.specs.declared.refusal.Refusal.TheVariants.{NoMemory}
+use Rattle.chain.specs.declared.errors.ChainError.{ChainError}
+use Rattle.chain.specs.declared.errors.ChainError.TheVariants.{NoMemory}
 use Rattle.chain.specs.Blocks.{Contents}
 use Rattle.chain.specs.Refusals.{UnlessMemory}
-use Rattle.chain.specs.Tests.{transaction_refusal}
+use Rattle.chain.specs.Checks.{transaction_refusal}
 use Rattle.chain.specs.Connecting.{unless_refusal, refusals_of}
 
 -- a refusal other than for memory is the stated one
-pub named : (P : Type 0) (e : Refusal) → (e ≡ NoMemory → ⊥) → UnlessMemory e P → P
+pub named : (P : Type 0) (e : ChainError) → (e ≡ NoMemory → ⊥) → UnlessMemory e P → P
 named P NoMemory other h = absurd (other refl)
 named P e other h = h
 

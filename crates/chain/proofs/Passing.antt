@@ -9,18 +9,18 @@ use Rattle.tx.specs.declared.input.OutPoint.{OutPoint}
 use Rattle.tx.specs.declared.input.TxIn.{TxIn}
 use Rattle.tx.specs.Fields.{Transaction}
 use Rattle.tx.specs.Spelling.{transaction_id}
-use Rattle.chain.specs.declared.refusal.Refusal.{Refusal}
-use Rattle.chain.specs.declared.refusal.Refusal.TheVariants.{Spent, Twice, OutputsExceed}
+use Rattle.chain.specs.declared.errors.ChainError.{ChainError}
+use Rattle.chain.specs.declared.errors.ChainError.TheVariants.{Spent, Twice, OutputsExceed}
 use Rattle.chain.specs.Blocks.{Contents, Creation, Coin, height_of, same_outpoint, created_by, created_by_all, granted_at, grants_in, created_of, names, is_named, created_at, coin_at, has_id, paid_in, paid_out}
-use Rattle.chain.specs.Tests.{required, first_of, coin_refusal, input_refusal, inputs_refusal, names_twice, transaction_refusal}
-use Rattle.chain.specs.Tested.{have_passed, is_tested}
+use Rattle.chain.specs.Checks.{required, first_of, coin_refusal, input_refusal, inputs_refusal, names_twice, transaction_refusal}
+use Rattle.chain.specs.Checked.{have_passed, is_checked}
 use Rattle.chain.proofs.Noting.{same_is}
 
-test_passed : (b : Bool) (r : Refusal) (next : Option Refusal) → required b r next ≡ None → (b ≡ true) × (next ≡ None)
+test_passed : (b : Bool) (r : ChainError) (next : Option ChainError) → required b r next ≡ None → (b ≡ true) × (next ≡ None)
 test_passed true r next e = (refl, e)
 test_passed false r next e = absurd cc
 
-both_passed : (a b : Option Refusal) → first_of a b ≡ None → (a ≡ None) × (b ≡ None)
+both_passed : (a b : Option ChainError) → first_of a b ≡ None → (a ≡ None) × (b ≡ None)
 both_passed None b e = (refl, e)
 both_passed (Some r) b e = absurd cc
 
@@ -77,7 +77,7 @@ pub coin_created : {A B : Type 0} (f : A → B) (x : Option A) (c : B) → optio
 coin_created f None c e = absurd cc
 coin_created f (Some a) c e = refl
 
-none_passes : (r : Option Refusal) → is_none r ≡ true → r ≡ None
+none_passes : (r : Option ChainError) → is_none r ≡ true → r ≡ None
 none_passes None e = refl
 none_passes (Some r) e = absurd (false≢true e)
 
@@ -106,12 +106,12 @@ named_in_block older (t ∷ ts) q e n =
     ap (λ xs. is_some (find p xs)) (sym whole) ∙ found_stays p (created_of older ++ created_by_all (length older) ts) (created_by (length older) t) earlier
 
 -- what an input on the chain names was created
-pub named_created : (blocks : List Contents) (q : OutPoint) → is_tested blocks ≡ true → is_named blocks q ≡ true → is_some (created_at blocks q) ≡ true
+pub named_created : (blocks : List Contents) (q : OutPoint) → is_checked blocks ≡ true → is_named blocks q ≡ true → is_some (created_at blocks q) ≡ true
 named_created [] q e n = absurd (false≢true n)
 named_created (b ∷ older) q e n =
     let p : Creation → Bool = λ c. same_outpoint c.outpoint q in
     let h = length older in
-    let parts = and_parts (have_passed older b.transactions) (is_tested older) e in
+    let parts = and_parts (have_passed older b.transactions) (is_checked older) e in
     elim (or_cases (list_any (names q) b.transactions) (is_named older q) n) [
       | inl s ↦
           ap (λ xs. is_some (find p xs)) (sym (append_assoc (created_of older) (created_by_all h b.transactions) (granted_at h (grants_in older) b.granted)))

@@ -9,12 +9,12 @@ use Rattle.tx.specs.Parts.{Output}
 use Rattle.tx.specs.Fields.{Transaction}
 use Rattle.tx.specs.Spelling.{transaction_id}
 use Rattle.sighash.specs.Programs.{run_of}
-use Rattle.chain.specs.declared.refusal.Refusal.{Refusal}
-use Rattle.chain.specs.declared.refusal.Refusal.TheVariants.{NoMemory, Spent, Unknown, NotFinal, TooYoung, Script, BadProgram}
+use Rattle.chain.specs.declared.errors.ChainError.{ChainError}
+use Rattle.chain.specs.declared.errors.ChainError.TheVariants.{NoMemory, Spent, Unknown, NotFinal, TooYoung, Script, BadProgram}
 use Rattle.chain.specs.Blocks.{Contents, Standing, Creation, empty_block, Coin, same_outpoint, creations_from, created_by, created_by_all, granted_at, grant_outpoint, grants_in, created_of, is_named}
 use Rattle.chain.specs.Locks.{is_final, is_old_enough}
 use Rattle.chain.specs.Refusals.{UnlessMemory, Answers}
-use Rattle.chain.specs.Tests.{required, run_refusal, coin_refusal, input_refusal}
+use Rattle.chain.specs.Checks.{required, run_refusal, coin_refusal, input_refusal}
 use Rattle.chain.specs.Spending.{IsOneOf, IsPaid, IsGranted, IsCreated, MaySpend, IsExact}
 use Rattle.chain.specs.declared.commands.Command.{Command}
 use Rattle.chain.specs.declared.commands.Command.TheVariants as command
@@ -23,7 +23,7 @@ use Rattle.chain.specs.declared.commands.Answer.TheVariants as answer
 use Rattle.chain.specs.Replays.{Answered, Replays}
 use Rattle.chain.specs.Conserving.{GrantsAreApart}
 use Rattle.chain.proofs.Apart.{Nobody, Differ, or_parts, are_apart}
-use Rattle.chain.proofs.Conserved.{tested_replay}
+use Rattle.chain.proofs.Conserved.{checked_replay}
 use Rattle.chain.proofs.Noting.{same_is, itself, swapped}
 
 in_same : {A : Type 0} (x y : A) (xs : List A) → x ≡ y → IsOneOf y xs → IsOneOf x xs
@@ -162,17 +162,17 @@ one_found o (x ∷ xs) c apart (inr h) e =
     rw other (one_found o xs c apart.1 h e)
 
 -- an answer with the memory that it wants
-abbrev answer_of : Option Refusal → Result (Unit {0}) Refusal
+abbrev answer_of : Option ChainError → Result (Unit {0}) ChainError
 answer_of None = Ok tt
 answer_of (Some e) = Err e
 
-answered : (x : Option Refusal) (r : Result (Unit {0}) Refusal) → Answers x r → (r ≡ Err NoMemory → ⊥) → r ≡ answer_of x
+answered : (x : Option ChainError) (r : Result (Unit {0}) ChainError) → Answers x r → (r ≡ Err NoMemory → ⊥) → r ≡ answer_of x
 answered x (Ok u) h never = sym (ap answer_of h)
 answered x (Err NoMemory) h never = absurd (never refl)
 answered x (Err e) h never = sym (ap answer_of h)
 
--- what is tested of an output that nothing names
-abbrev late_refusal : Bool → Bool → Option Outcome → Option Refusal
+-- what is checked of an output that nothing names
+abbrev late_refusal : Bool → Bool → Option Outcome → Option ChainError
 late_refusal final old run = required final NotFinal (required old TooYoung (run_refusal run))
 
 late_passes : (final old : Bool) (run : Option Outcome) → answer_of (late_refusal final old run) ≡ Ok tt → (final ≡ true) × (old ≡ true) × (counted depth : ℕ) × (run ≡ Some (Clean counted depth))
@@ -197,7 +197,7 @@ late_unknown true false run e = cc
 late_unknown false old run e = cc
 
 -- where nothing was created
-exact_none : (blocks : List Contents) (t : Transaction) (input : TxIn) (r : Result (Unit {0}) Refusal) → r ≡ Err Unknown → ((output : Output) (height : ℕ) → IsCreated blocks input.outpoint output height → ⊥) → IsExact blocks t input r
+exact_none : (blocks : List Contents) (t : Transaction) (input : TxIn) (r : Result (Unit {0}) ChainError) → r ≡ Err Unknown → ((output : Output) (height : ℕ) → IsCreated blocks input.outpoint output height → ⊥) → IsExact blocks t input r
 exact_none blocks t input r e nothing = record {
   passes = (λ f. absurd cc, λ m. absurd (nothing m.0 m.1 m.2.created));
   unknown = (λ f. nothing, λ f. e);
@@ -208,14 +208,14 @@ exact_none blocks t input r e nothing = record {
 abbrev IsOnly : List Contents → OutPoint → Output → ℕ → Type 0
 IsOnly blocks o output height = IsCreated blocks o output height × ((other : Output) (at : ℕ) → IsCreated blocks o other at → (other ≡ output) × (at ≡ height))
 
-exact_named : (blocks : List Contents) (t : Transaction) (input : TxIn) (r : Result (Unit {0}) Refusal) (output : Output) (height : ℕ) → IsOnly blocks input.outpoint output height → is_named blocks input.outpoint ≡ true → r ≡ Err Spent → IsExact blocks t input r
+exact_named : (blocks : List Contents) (t : Transaction) (input : TxIn) (r : Result (Unit {0}) ChainError) (output : Output) (height : ℕ) → IsOnly blocks input.outpoint output height → is_named blocks input.outpoint ≡ true → r ≡ Err Spent → IsExact blocks t input r
 exact_named blocks t input r output height only named e = record {
   passes = (λ f. absurd cc, λ m. absurd (false≢true (sym m.2.unnamed ∙ named)));
   unknown = (λ f. absurd cc, λ nothing. absurd (nothing output height only.0));
   spent = (λ f. (output, height, only.0, named), λ m. e);
 }
 
-exact_unnamed : (blocks : List Contents) (t : Transaction) (input : TxIn) (r : Result (Unit {0}) Refusal) (output : Output) (height : ℕ) → IsOnly blocks input.outpoint output height → is_named blocks input.outpoint ≡ false → r ≡ answer_of (late_refusal (is_final (length blocks) t.lock_time t.inputs) (is_old_enough (length blocks) t.version input.sequence height) (run_of t input output)) → IsExact blocks t input r
+exact_unnamed : (blocks : List Contents) (t : Transaction) (input : TxIn) (r : Result (Unit {0}) ChainError) (output : Output) (height : ℕ) → IsOnly blocks input.outpoint output height → is_named blocks input.outpoint ≡ false → r ≡ answer_of (late_refusal (is_final (length blocks) t.lock_time t.inputs) (is_old_enough (length blocks) t.version input.sequence height) (run_of t input output)) → IsExact blocks t input r
 exact_unnamed blocks t input r output height only unnamed e =
     let final = is_final (length blocks) t.lock_time t.inputs in
     let old = is_old_enough (length blocks) t.version input.sequence height in
@@ -233,7 +233,7 @@ exact_unnamed blocks t input r output height only unnamed e =
     all_passed : (final old : Bool) (run : Option Outcome) → final ≡ true → old ≡ true → (counted depth : ℕ) → run ≡ Some (Clean counted depth) → answer_of (late_refusal final old run) ≡ Ok tt
     all_passed final old run e f counted depth g = rw (e, f, g) refl
 
-by_name : (blocks : List Contents) (t : Transaction) (input : TxIn) (r : Result (Unit {0}) Refusal) (c : Creation) (named : Bool) → is_named blocks input.outpoint ≡ named → IsOnly blocks input.outpoint c.output c.height
+by_name : (blocks : List Contents) (t : Transaction) (input : TxIn) (r : Result (Unit {0}) ChainError) (c : Creation) (named : Bool) → is_named blocks input.outpoint ≡ named → IsOnly blocks input.outpoint c.output c.height
     → r ≡ answer_of (coin_refusal (length blocks) t input (Some (record { output = c.output; height = c.height; spent = named }))) → IsExact blocks t input r
 by_name blocks t input r c true n only e = exact_named blocks t input r c.output c.height only n e
 by_name blocks t input r c false n only e = exact_unnamed blocks t input r c.output c.height only n e
@@ -241,7 +241,7 @@ by_name blocks t input r c false n only e = exact_unnamed blocks t input r c.out
 same_creation : (c d : Creation) → Some c ≡ Some d → c ≡ d
 same_creation c d e = cc
 
-exact_at : (blocks : List Contents) (t : Transaction) (input : TxIn) (r : Result (Unit {0}) Refusal) (x : Option Creation) → Differ (created_of blocks) → found input.outpoint (created_of blocks) ≡ x
+exact_at : (blocks : List Contents) (t : Transaction) (input : TxIn) (r : Result (Unit {0}) ChainError) (x : Option Creation) → Differ (created_of blocks) → found input.outpoint (created_of blocks) ≡ x
     → r ≡ answer_of (coin_refusal (length blocks) t input (option_map (λ (c : Creation). let d : Coin = record { output = c.output; height = c.height; spent = is_named blocks input.outpoint } in d) x)) → IsExact blocks t input r
 exact_at blocks t input r None apart f e =
     exact_none blocks t input r e (λ output height h. let a = one_found input.outpoint (created_of blocks) (created input.outpoint output height) apart (to_created blocks input.outpoint output height h) refl in cc)
@@ -252,8 +252,8 @@ exact_at blocks t input r (Some c) apart f e =
     same_creation (created input.outpoint other at) c (sym (one_found input.outpoint (created_of blocks) (created input.outpoint other at) apart (to_created blocks input.outpoint other at h) refl) ∙ f) in
     by_name blocks t input r c (is_named blocks input.outpoint) refl (there, λ other at h. (ap (λ d. d.output) (same other at h), ap (λ d. d.height) (same other at h))) e
 
-pub tested_exactly : (commands : List Command) (answers : List Answer) (s : Standing) → Replays (record { blocks = empty_block ∷ []; greatest = 0 }) commands answers s → GrantsAreApart s.blocks → (t : Transaction) (index : ℕ) (input : TxIn) → slice_get t.inputs index ≡ Some input → (r : Result (Unit {0}) Refusal) → Answered s (command.CheckInput t index) (answer.CheckInput r) s → (r ≡ Err NoMemory → ⊥) → IsExact s.blocks t input r
-tested_exactly commands answers s replays grants t index input at r a never =
-    let apart = are_apart s.blocks (tested_replay (record { blocks = empty_block ∷ []; greatest = 0 }) commands answers s replays refl) grants in
+pub checked_exactly : (commands : List Command) (answers : List Answer) (s : Standing) → Replays (record { blocks = empty_block ∷ []; greatest = 0 }) commands answers s → GrantsAreApart s.blocks → (t : Transaction) (index : ℕ) (input : TxIn) → slice_get t.inputs index ≡ Some input → (r : Result (Unit {0}) ChainError) → Answered s (command.CheckInput t index) (answer.CheckInput r) s → (r ≡ Err NoMemory → ⊥) → IsExact s.blocks t input r
+checked_exactly commands answers s replays grants t index input at r a never =
+    let apart = are_apart s.blocks (checked_replay (record { blocks = empty_block ∷ []; greatest = 0 }) commands answers s replays refl) grants in
     let b : Answers (input_refusal s.blocks (length s.blocks) t input) r = rw at at a.1 in
     exact_at s.blocks t input r (found input.outpoint (created_of s.blocks)) apart refl (answered (input_refusal s.blocks (length s.blocks) t input) r b never)

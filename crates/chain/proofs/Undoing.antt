@@ -3,10 +3,10 @@ use Rattle.std.proofs.Common.{◌≡◌, ℕ, ◌+◌, false, List, [], ◌∷�
 use Rattle.std.specs.List.{list_any}
 use Rattle.std.proofs.lemmas.List.Folds.{list_any-append}
 use Rattle.tx.specs.Fields.{Transaction}
-use Rattle.chain.specs.declared.refusal.Refusal.{Refusal}
-use Rattle.chain.specs.declared.refusal.BlockError.{BlockError}
+use Rattle.chain.specs.declared.errors.ChainError.{ChainError}
+use Rattle.chain.specs.declared.errors.BlockError.{BlockError}
 use Rattle.chain.specs.Blocks.{Contents, Standing, empty_block}
-use Rattle.chain.specs.Tests.{transaction_refusal}
+use Rattle.chain.specs.Checks.{transaction_refusal}
 use Rattle.chain.specs.Connecting.{added, unless_refused, unless_refusal, passing_added, has_grant, Connects, ConnectsSome}
 use Rattle.chain.specs.Marking.{IsGrown}
 
@@ -51,7 +51,7 @@ by_newest : (old new : Standing) → Newest new.blocks empty_block old.blocks �
 by_newest old new n = record { above = n.0 ∷ []; blocks = n.1; no_grant = rw n.2 refl }
 
 -- each new block is such growth
-pub grown_by_some : (old new : Standing) (txs : List Transaction) (refusals : List (Option Refusal)) → ConnectsSome old txs refusals new → IsGrown old new
+pub grown_by_some : (old new : Standing) (txs : List Transaction) (refusals : List (Option ChainError)) → ConnectsSome old txs refusals new → IsGrown old new
 grown_by_some old new txs refusals h = let n = passing_newest empty_block old.blocks txs in by_newest old new (n.0, h.0 ∙ n.1, n.2)
 
 pub grown_by_connect : (old new : Standing) (txs : List Transaction) (height : ℕ) → Connects old txs (Ok height) new → IsGrown old new

@@ -9,7 +9,7 @@ use Rattle.std.specs.Str.{bytes_eq}
 use Rattle.tx.specs.declared.input.OutPoint.{OutPoint}
 use Rattle.chain.specs.declared.coin_map.IndexedCoin.{IndexedCoin}
 use Rattle.chain.specs.Blocks.{Contents, Creation, Coin, same_outpoint, coin_at, has_id}
-use Rattle.chain.specs.Tested.{is_tested}
+use Rattle.chain.specs.Checked.{is_checked}
 
 -- outpoints by their ids, and then by their indices
 abbrev pub outpoint_cmp : OutPoint → OutPoint → Ordering
@@ -54,4 +54,4 @@ with_mark here spent found = if here then option_map (marked spent) found else f
 pub record IsIndex (blocks : List Contents) (coins : OutPoint → Option Coin) (ids : List ℕ → Bool) : Type 0 where
   pub coins_are : (o : OutPoint) → coins o ≡ coin_at blocks o
   pub ids_are : (id : List ℕ) → ids id ≡ has_id blocks id
-  pub tested : is_tested blocks ≡ true
+  pub checked : is_checked blocks ≡ true

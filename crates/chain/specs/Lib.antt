@@ -2,13 +2,13 @@ pub mod Blocks
 pub mod Locks
 pub mod Refusals
 pub mod Running
-pub mod Tests
+pub mod Checks
 pub mod Connecting
 pub mod Marking
 pub mod Storing
 pub mod Scanning
 pub mod Totals
-pub mod Tested
+pub mod Checked
 pub mod Indexing
 pub mod Replays
 pub mod Conserving

@@ -1,9 +1,9 @@
 -- Refusals: their numbers, and results that are the stated one.
 use Rattle.std.specs.Prelude.{◌≡◌, ℕ, Option, Some, None, Result, Ok, Err}
-use Rattle.chain.specs.declared.refusal.Refusal.{Refusal}
-use Rattle.chain.specs.declared.refusal.Refusal.TheVariants.{NoMemory, Spent, Unknown, NotFinal, TooYoung, Script, BadProgram, OutputsExceed, Twice, TooDeep}
+use Rattle.chain.specs.declared.errors.ChainError.{ChainError}
+use Rattle.chain.specs.declared.errors.ChainError.TheVariants.{NoMemory, Spent, Unknown, NotFinal, TooYoung, Script, BadProgram, OutputsExceed, Twice, TooDeep}
 
-abbrev pub number_of : Refusal → ℕ
+abbrev pub number_of : ChainError → ℕ
 number_of NoMemory = 0
 number_of Spent = 1
 number_of Unknown = 2
@@ -16,11 +16,11 @@ number_of Twice = 8
 number_of TooDeep = 9
 
 -- where memory ran out, NoMemory may stand in place of any answer
-abbrev pub UnlessMemory : Refusal → Type 0 → Type 0
+abbrev pub UnlessMemory : ChainError → Type 0 → Type 0
 UnlessMemory NoMemory P = Unit {0}
 UnlessMemory refusal P = P
 
 -- the result is that of this refusal, or Ok where there is none
-abbrev pub Answers : {A : Type 0} → Option Refusal → Result A Refusal → Type 0
+abbrev pub Answers : {A : Type 0} → Option ChainError → Result A ChainError → Type 0
 Answers refusal (Ok x) = refusal ≡ None
 Answers refusal (Err e) = UnlessMemory e (refusal ≡ Some e)

@@ -7,7 +7,7 @@ use Rattle.chain.specs.declared.commands.Answer.TheVariants as answer
 use Rattle.chain.specs.Blocks.{Standing, fees_of, height_of}
 use Rattle.chain.specs.Connecting.{Connects, Disconnects, Grants}
 use Rattle.chain.specs.Refusals.{Answers}
-use Rattle.chain.specs.Tests.{indexed_refusal}
+use Rattle.chain.specs.Checks.{indexed_refusal}
 use Rattle.chain.specs.Totals.{IsUnspent}
 
 -- one call, its answer, and how the list of blocks stands then

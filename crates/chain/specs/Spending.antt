@@ -7,8 +7,8 @@ use Rattle.tx.specs.Parts.{Output}
 use Rattle.tx.specs.Fields.{Transaction}
 use Rattle.tx.specs.Spelling.{transaction_id}
 use Rattle.sighash.specs.Programs.{run_of}
-use Rattle.chain.specs.declared.refusal.Refusal.{Refusal}
-use Rattle.chain.specs.declared.refusal.Refusal.TheVariants.{Spent, Unknown}
+use Rattle.chain.specs.declared.errors.ChainError.{ChainError}
+use Rattle.chain.specs.declared.errors.ChainError.TheVariants.{Spent, Unknown}
 use Rattle.chain.specs.Blocks.{Contents, grant_outpoint, grants_in, is_named}
 use Rattle.chain.specs.Locks.{is_final, is_old_enough}
 
@@ -41,7 +41,7 @@ pub record MaySpend (blocks : List Contents) (t : Transaction) (input : TxIn) (o
   pub clean : (counted depth : ℕ) × (run_of t input output ≡ Some (Clean counted depth))
 
 -- what an answer to the test of an input says of the blocks, and they of it
-pub record IsExact (blocks : List Contents) (t : Transaction) (input : TxIn) (r : Result (Unit {0}) Refusal) : Type 0 where
+pub record IsExact (blocks : List Contents) (t : Transaction) (input : TxIn) (r : Result (Unit {0}) ChainError) : Type 0 where
   pub passes : (r ≡ Ok tt) ↔ ((output : Output) × (height : ℕ) × MaySpend blocks t input output height)
   pub unknown : (r ≡ Err Unknown) ↔ ((output : Output) (height : ℕ) → IsCreated blocks input.outpoint output height → ⊥)
   pub spent : (r ≡ Err Spent) ↔ ((output : Output) × (height : ℕ) × IsCreated blocks input.outpoint output height × (is_named blocks input.outpoint ≡ true))

@@ -3,11 +3,11 @@ use Rattle.std.specs.Prelude.{◌≡◌, List, [], ◌∷◌, length, Result, Ok
 use Rattle.chain.specs.declared.store.Found.{Found}
 use Rattle.tx.specs.Parts.{Output}
 use Rattle.tx.specs.Fields.{Transaction}
-use Rattle.chain.specs.declared.refusal.Refusal.{Refusal}
-use Rattle.chain.specs.declared.refusal.BlockError.{BlockError}
+use Rattle.chain.specs.declared.errors.ChainError.{ChainError}
+use Rattle.chain.specs.declared.errors.BlockError.{BlockError}
 use Rattle.chain.specs.Blocks.{Contents, Standing, Coin}
 use Rattle.chain.specs.Refusals.{UnlessMemory}
-use Rattle.chain.specs.Tests.{transaction_refusal}
+use Rattle.chain.specs.Checks.{transaction_refusal}
 use Rattle.chain.specs.Connecting.{with_transaction, added, unless_refusal, passing_added, refusals_of}
 
 -- an output that was found
@@ -37,7 +37,7 @@ pub record ChangesNewest (old new : Standing) : Type 0 where
   pub greatest : new.greatest ≡ old.greatest
 
 -- a transaction was added to the newest block, or refused
-abbrev pub AddsOne : {A : Type 0} → Standing → Transaction → Result A Refusal → Standing → Type 0
+abbrev pub AddsOne : {A : Type 0} → Standing → Transaction → Result A ChainError → Standing → Type 0
 AddsOne old t (Ok x) new = (transaction_refusal old.blocks t ≡ None) × (new ≡ record old { blocks = with_transaction old.blocks t })
 AddsOne old t (Err e) new = (new ≡ old) × UnlessMemory e (transaction_refusal old.blocks t ≡ Some e)
 
@@ -47,9 +47,9 @@ AddsAll old txs (Ok x) new = ChangesNewest old new × (added 0 old.blocks txs �
 AddsAll old txs (Err e) new = ChangesNewest old new × UnlessMemory e.refusal (added 0 old.blocks txs ≡ Err e)
 
 -- a transaction was offered to the newest block: it was added where nothing refuses it
-abbrev pub Offers : Standing → Transaction → Option Refusal → Standing → Type 0
+abbrev pub Offers : Standing → Transaction → Option ChainError → Standing → Type 0
 Offers old t refusal new = (refusal ≡ transaction_refusal old.blocks t) × (new ≡ record old { blocks = unless_refusal refusal old.blocks t })
 
 -- those of the transactions were added to the newest block that pass behind those before them
-abbrev pub AddsPassing : Standing → List Transaction → List (Option Refusal) → Standing → Type 0
+abbrev pub AddsPassing : Standing → List Transaction → List (Option ChainError) → Standing → Type 0
 AddsPassing old txs refusals new = (new.blocks ≡ passing_added old.blocks txs) × (refusals ≡ refusals_of old.blocks txs)

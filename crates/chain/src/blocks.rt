@@ -142,7 +142,10 @@ impl Block {
 
     // Adds a transaction at the end; where memory runs out, it is given back.
     pub(crate) fn push(&mut self, confirmed: Confirmed) -> Result<(), AllocFailed<Confirmed>>
-        ensures ok { OnOk result (self.new ≡ record self.old { transactions = confirmed ∷ self.old.transactions }) }
+        ensures ok { OnOk result (self.new ≡ record self.old {
+          transactions = confirmed
+              ∷ self.old.transactions;
+        }) }
         ensures err { OnErr result (self.new ≡ self.old) }
         ensures back { IfErr result (λ e. e.value ≡ confirmed) }
     {
@@ -151,7 +154,10 @@ impl Block {
 
     // Adds a granted output at the end.
     pub(crate) fn grant(&mut self, output: TxOut) -> Result<(), AllocError>
-        ensures ok { OnOk result (self.new ≡ record self.old { granted = output ∷ self.old.granted }) }
+        ensures ok { OnOk result (self.new ≡ record self.old {
+          granted = output
+              ∷ self.old.granted;
+        }) }
         ensures err { OnErr result (self.new ≡ self.old) }
     {
         self.granted.push(output)
@@ -159,7 +165,8 @@ impl Block {
 
     // Takes the last transaction off.
     pub(crate) fn pop(&mut self) -> Option<Confirmed>
-        ensures { MatchOption result ((self.old.transactions ≡ []) × (self.new ≡ self.old)) (λ t. self.old ≡ record self.new { transactions = t ∷ self.new.transactions }) }
+        ensures { MatchOption result ((self.old.transactions ≡ []) × (self.new ≡ self.old))
+            (λ t. self.old ≡ record self.new { transactions = t ∷ self.new.transactions }) }
     {
         self.transactions.pop()
     }

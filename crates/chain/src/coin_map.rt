@@ -45,7 +45,8 @@ pub(crate) fn note_output(
     output: &TxOut,
     height: u64,
 ) -> Result<(), AllocError>
-    ensures ok { OnOk result ((q : OutPoint) → noted coins.new q ≡ option_or (noted coins.old q) (first_new (record { outpoint = outpoint; output = output.now; height = height } ∷ []) q)) }
+    ensures ok { OnOk result ((q : OutPoint) → noted coins.new q ≡ option_or (noted coins.old q)
+        (first_new (record { outpoint = outpoint; output = output.now; height = height } ∷ []) q)) }
     ensures err { OnErr result ((q : OutPoint) → noted coins.new q ≡ noted coins.old q) }
 {
     if coins.contains_key(&outpoint) {
@@ -66,7 +67,8 @@ pub(crate) fn forget_output(
     outpoint: &OutPoint,
     height: u64,
 )
-    ensures { (q : OutPoint) → noted coins.new q ≡ without (same_outpoint outpoint.now q) height (noted coins.old q) }
+    ensures { (q : OutPoint) → noted coins.new q ≡ without (same_outpoint outpoint.now q) height
+        (noted coins.old q) }
 {
     let Some(coin) = coins.get(outpoint) else {
         return;
@@ -84,7 +86,8 @@ pub(crate) fn forget_outputs(
     height: u64,
 )
     requires { count ≤ max_outputs }
-    ensures { (q : OutPoint) → noted coins.new q ≡ without (is_output_below id.now count q) height (noted coins.old q) }
+    ensures { (q : OutPoint) → noted coins.new q ≡ without (is_output_below id.now count q) height
+        (noted coins.old q) }
 {
     for index in 0..count {
         let outpoint = OutPoint {
@@ -101,8 +104,10 @@ pub(crate) fn note_outputs(
     confirmed: &Confirmed,
     height: u64,
 ) -> Result<(), AllocError>
-    requires { (q : OutPoint) → q.txid ≡ transaction_id confirmed.now → IfSome (noted coins.old q) (λ c. c.height < height) }
-    ensures ok { OnOk result ((q : OutPoint) → noted coins.new q ≡ option_or (noted coins.old q) (first_new (created_by height confirmed.now) q)) }
+    requires { (q : OutPoint) → q.txid ≡ transaction_id confirmed.now
+        → IfSome (noted coins.old q) (λ c. c.height < height) }
+    ensures ok { OnOk result ((q : OutPoint) → noted coins.new q ≡ option_or (noted coins.old q)
+        (first_new (created_by height confirmed.now) q)) }
     ensures err { OnErr result ((q : OutPoint) → noted coins.new q ≡ noted coins.old q) }
 {
     let outputs = confirmed.tx().outputs();
@@ -121,7 +126,8 @@ pub(crate) fn note_outputs(
 
 /// Marks the output at an outpoint as spent or not.
 fn mark(coins: &mut BTreeMap<OutPoint, IndexedCoin>, outpoint: &OutPoint, spent: bool)
-    ensures { (q : OutPoint) → noted coins.new q ≡ with_mark (same_outpoint outpoint.now q) spent (noted coins.old q) }
+    ensures { (q : OutPoint) → noted coins.new q ≡ with_mark (same_outpoint outpoint.now q) spent
+        (noted coins.old q) }
 {
     if let Some(coin) = coins.get_mut(outpoint) {
         coin.spent = spent;
@@ -130,7 +136,8 @@ fn mark(coins: &mut BTreeMap<OutPoint, IndexedCoin>, outpoint: &OutPoint, spent:
 
 /// Marks the outputs that inputs name as spent or not.
 pub(crate) fn mark_all(coins: &mut BTreeMap<OutPoint, IndexedCoin>, inputs: &[TxIn], spent: bool)
-    ensures { (q : OutPoint) → noted coins.new q ≡ with_mark (list_any (λ i. same_outpoint i.outpoint q) inputs.now) spent (noted coins.old q) }
+    ensures { (q : OutPoint) → noted coins.new q ≡ with_mark
+        (list_any (λ i. same_outpoint i.outpoint q) inputs.now) spent (noted coins.old q) }
 {
     for input in inputs {
         mark(coins, &input.outpoint, spent);

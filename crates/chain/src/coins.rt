@@ -4,11 +4,11 @@ ghost use Rattle.std.specs.Prelude.{◌≡◌, length, slice_get, reverse, Ok, E
 ghost use Rattle.chain.specs.Blocks.{Standing, fees_of, height_of};
 ghost use Rattle.chain.specs.Connecting.{Connects, Disconnects, Grants};
 ghost use Rattle.chain.specs.Refusals.{Answers};
-ghost use Rattle.chain.specs.Tests.{indexed_refusal};
+ghost use Rattle.chain.specs.Checks.{indexed_refusal};
 ghost use Rattle.chain.specs.Totals.{IsUnspent};
 
 use crate::blocks::Block;
-use crate::refusal::{BlockError, Refusal};
+use crate::errors::{BlockError, ChainError};
 use crate::totals::Unspent;
 use std::alloc::AllocError;
 use tx::{OutPoint, Tx, TxOut};
@@ -22,15 +22,16 @@ pub trait Coins {
 
     /// Adds an output to the newest block, and gives its outpoint: the id is SHA-256 twice of `grant` and the number of the grants before
     /// it in eight bytes, the lowest first, and the index 0. `BadProgram` where the script is no program of version 0 (BIP 141).
-    fn grant(&mut self, output: TxOut) -> Result<OutPoint, Refusal>
+    fn grant(&mut self, output: TxOut) -> Result<OutPoint, ChainError>
         ensures { Grants (standing self.old) output result (standing self.new) };
 
-    /// Tests the input of that index for the next block: `Unknown`, `Spent`, `NotFinal`, `TooYoung`, `BadProgram` or `Script`, in this
+    /// Checks the input of that index for the next block: `Unknown`, `Spent`, `NotFinal`, `TooYoung`, `BadProgram` or `Script`, in this
     /// order. An index that no input has names no output, and is `Unknown`.
-    fn check_input(&self, tx: &Tx, index: usize) -> Result<(), Refusal>
-        ensures { Answers (indexed_refusal (standing self.now).blocks (length (standing self.now).blocks) tx.now (slice_get tx.now.inputs index)) result };
+    fn check_input(&self, tx: &Tx, index: usize) -> Result<(), ChainError>
+        ensures { Answers (indexed_refusal (standing self.now).blocks
+            (length (standing self.now).blocks) tx.now (slice_get tx.now.inputs index)) result };
 
-    /// Adds the next block, and gives its height. Each transaction is tested for `Twice`, then its inputs in their order, then for
+    /// Adds the next block, and gives its height. Each transaction is checked for `Twice`, then its inputs in their order, then for
     /// `OutputsExceed`; it may spend outputs of those before it. A refusal names the first transaction at fault and changes nothing.
     fn connect(&mut self, txs: Vec<Tx>) -> Result<u64, BlockError>
         ensures { Connects (standing self.old) txs.items result (standing self.new) };
@@ -38,8 +39,10 @@ pub trait Coins {
     /// Takes so many of the newest blocks off, and gives their transactions in the order of the chain. `TooDeep` where so many do not stand
     /// above the first, where the height would fall more than 6 below the greatest that the chain ever had, or where one of them holds a
     /// grant.
-    fn disconnect(&mut self, k: u64) -> Result<Vec<Tx>, Refusal>
-        ensures { MatchResult result (λ txs. Disconnects (standing self.old) k (Ok txs.items) (standing self.new)) (λ e. Disconnects (standing self.old) k (Err e) (standing self.new)) };
+    fn disconnect(&mut self, k: u64) -> Result<Vec<Tx>, ChainError>
+        ensures { MatchResult result (λ txs. Disconnects (standing self.old) k (Ok txs.items)
+            (standing self.new)) (λ e. Disconnects (standing self.old) k (Err e)
+            (standing self.new)) };
 
     /// The outputs that no input names.
     fn unspent(&self) -> Result<Unspent, AllocError>

@@ -4,7 +4,7 @@ ghost use Rattle.std.specs.Prelude.{◌≡◌, IfOk, OnErr};
 ghost use Rattle.chain.specs.Replays.{Answered, Replays, ReplaysBefore};
 
 use crate::coins::Coins;
-use crate::refusal::{BlockError, Refusal};
+use crate::errors::{BlockError, ChainError};
 use crate::totals::Unspent;
 use std::alloc::{AllocError, Global};
 use tx::{OutPoint, Tx, TxOut};
@@ -32,13 +32,13 @@ pub enum Command {
 #[derive(Debug, Drop)]
 pub enum Answer {
     /// Of `grant`: the outpoint.
-    Grant(Result<OutPoint, Refusal>),
+    Grant(Result<OutPoint, ChainError>),
     /// Of `check_input`.
-    CheckInput(Result<(), Refusal>),
+    CheckInput(Result<(), ChainError>),
     /// Of `connect`: the height of the block.
     Connect(Result<u64, BlockError>),
     /// Of `disconnect`: the transactions of the blocks taken off.
-    Disconnect(Result<Vec<Tx>, Refusal>),
+    Disconnect(Result<Vec<Tx>, ChainError>),
     /// Of `unspent`.
     Unspent(Unspent),
     /// Of `height`.
@@ -64,7 +64,8 @@ fn make_call<C: Coins>(
     chain: &mut C,
     command: &Command,
 ) -> Result<Answer, AllocError>
-    ensures ok { IfOk result (λ a. Answered (C.standing chain.old) command.now a (C.standing chain.new)) }
+    ensures ok { IfOk result (λ a. Answered (C.standing chain.old) command.now a
+        (C.standing chain.new)) }
     ensures err { OnErr result (C.standing chain.new ≡ C.standing chain.old) }
 {
     match command {
@@ -85,8 +86,10 @@ pub fn replay_commands<C: Coins>(
     chain: &mut C,
     commands: &[Command],
 ) -> Result<Vec<Answer>, AllocError>
-    ensures ok { IfOk result (λ answers. Replays (C.standing chain.old) commands.now answers.items (C.standing chain.new)) }
-    ensures err { OnErr result (ReplaysBefore (C.standing chain.old) commands.now (C.standing chain.new)) }
+    ensures ok { IfOk result (λ answers. Replays (C.standing chain.old) commands.now answers.items
+        (C.standing chain.new)) }
+    ensures err { OnErr result (ReplaysBefore (C.standing chain.old) commands.now
+        (C.standing chain.new)) }
 {
     let mut answers = Vec::with_capacity(alloc, commands.len())?;
     for command in commands {

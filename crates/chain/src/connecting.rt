@@ -7,10 +7,10 @@ ghost use Rattle.chain.specs.Connecting.{Connects, ConnectsSome, Disconnects, Gr
 ghost use Rattle.chain.specs.Storing.{AddsOne, AddsAll, AddsPassing, ChangesNewest, MayTakeOff, Offers};
 
 use crate::blocks::{Block, Confirmed};
+use crate::checking::check_transaction;
+use crate::errors::{BlockError, ChainError};
 use crate::program::is_program;
-use crate::refusal::{BlockError, Refusal};
 use crate::store::Store;
-use crate::testing::check_transaction;
 use digest::sha256;
 use sha2::{Digest, Sha256};
 use std::alloc::{AllocError, Global};
@@ -32,11 +32,11 @@ pub(crate) fn grant_outpoint(before: u64) -> OutPoint
 }
 
 /// Adds a granted output to the newest block.
-pub(crate) fn grant<S: Store>(store: &mut S, output: TxOut) -> Result<OutPoint, Refusal>
+pub(crate) fn grant<S: Store>(store: &mut S, output: TxOut) -> Result<OutPoint, ChainError>
     ensures { Grants (S.standing store.old) output result (S.standing store.new) }
 {
     if !is_program(output.script().bytes()) {
-        return Err(Refusal::BadProgram);
+        return Err(ChainError::BadProgram);
     }
     let outpoint = grant_outpoint(store.grants());
     store.add_grant(output)?;
@@ -44,7 +44,7 @@ pub(crate) fn grant<S: Store>(store: &mut S, output: TxOut) -> Result<OutPoint, 
 }
 
 /// Adds one transaction to the newest block, where it passes its tests.
-fn add_one<S: Store>(store: &mut S, tx: Tx) -> Result<(), Refusal>
+fn add_one<S: Store>(store: &mut S, tx: Tx) -> Result<(), ChainError>
     requires { MayTakeOff (S.standing store.old).blocks }
     ensures { AddsOne (S.standing store.old) tx result (S.standing store.new) }
 {
@@ -79,7 +79,7 @@ pub(crate) fn connect<S: Store>(store: &mut S, txs: Vec<Tx>) -> Result<u64, Bloc
     if store.begin().is_err() {
         return Err(BlockError {
             index: 0,
-            refusal: Refusal::NoMemory,
+            refusal: ChainError::NoMemory,
         });
     }
     if let Err(error) = add_all(store, txs) {
@@ -92,25 +92,27 @@ pub(crate) fn connect<S: Store>(store: &mut S, txs: Vec<Tx>) -> Result<u64, Bloc
 
 /// Adds one transaction to the newest block, where it passes its tests, and gives its refusal. The only error is that memory ran out.
 #[tactic(auto, using(crate::proofs::Offering::named))]
-fn offer<S: Store>(store: &mut S, tx: Tx) -> Result<Option<Refusal>, AllocError>
+fn offer<S: Store>(store: &mut S, tx: Tx) -> Result<Option<ChainError>, AllocError>
     requires { MayTakeOff (S.standing store.old).blocks }
-    ensures ok { IfOk result (λ refusal. Offers (S.standing store.old) tx refusal (S.standing store.new)) }
+    ensures ok { IfOk result (λ refusal. Offers (S.standing store.old) tx refusal
+        (S.standing store.new)) }
     ensures err { OnErr result (S.standing store.new ≡ S.standing store.old) }
 {
     let Err(refusal) = add_one(store, tx) else {
         return Ok(None);
     };
     match refusal {
-        Refusal::NoMemory => Err(AllocError),
+        ChainError::NoMemory => Err(AllocError),
         _ => Ok(Some(refusal)),
     }
 }
 
 /// Adds those of the transactions to the newest block that pass their tests behind those before them, and gives each one's refusal.
-fn add_passing<S: Store>(store: &mut S, txs: Vec<Tx>) -> Result<Vec<Option<Refusal>>, AllocError>
+fn add_passing<S: Store>(store: &mut S, txs: Vec<Tx>) -> Result<Vec<Option<ChainError>>, AllocError>
     requires { MayTakeOff (S.standing store.old).blocks }
     ensures newest { ChangesNewest (S.standing store.old) (S.standing store.new) }
-    ensures ok { IfOk result (λ refusals. AddsPassing (S.standing store.old) txs.items refusals.items (S.standing store.new)) }
+    ensures ok { IfOk result (λ refusals. AddsPassing
+        (S.standing store.old) txs.items refusals.items (S.standing store.new)) }
 {
     let mut refusals = Vec::new(store.allocator());
     for tx in txs {
@@ -125,8 +127,9 @@ fn add_passing<S: Store>(store: &mut S, txs: Vec<Tx>) -> Result<Vec<Option<Refus
 pub(crate) fn connect_some<S: Store>(
     store: &mut S,
     txs: Vec<Tx>,
-) -> Result<Vec<Option<Refusal>>, AllocError>
-    ensures ok { IfOk result (λ refusals. ConnectsSome (S.standing store.old) txs.items refusals.items (S.standing store.new)) }
+) -> Result<Vec<Option<ChainError>>, AllocError>
+    ensures ok { IfOk result (λ refusals. ConnectsSome
+        (S.standing store.old) txs.items refusals.items (S.standing store.new)) }
     ensures err { OnErr result (S.standing store.new ≡ S.standing store.old) }
 {
     store.begin()?;
@@ -207,7 +210,10 @@ fn copy_onto(transactions: &[Confirmed], txs: &mut Vec<Tx>) -> Result<(), AllocE
 pub(crate) fn take_off_all<S: Store>(store: &mut S, k: u64)
     requires above_first { k ≤ height_of (S.standing store.old).blocks }
     requires no_grant { list_any has_grant (take k (S.standing store.old).blocks) ≡ false }
-    ensures { S.standing store.new ≡ record (S.standing store.old) { blocks = drop k (S.standing store.old).blocks } }
+    ensures { S.standing store.new ≡ record (S.standing store.old) {
+      blocks = drop k
+          (S.standing store.old).blocks;
+    } }
 {
     for _taken in 0..k {
         store.take_off();
@@ -216,11 +222,13 @@ pub(crate) fn take_off_all<S: Store>(store: &mut S, k: u64)
 
 /// Takes so many of the newest blocks off, and gives their transactions in their order.
 #[tactic(auto, using(crate::proofs::Growing::not_too_deep, crate::proofs::Growing::transactions_of_newest))]
-pub(crate) fn disconnect<S: Store>(store: &mut S, k: u64) -> Result<Vec<Tx>, Refusal>
-    ensures { MatchResult result (λ txs. Disconnects (S.standing store.old) k (Ok txs.items) (S.standing store.new)) (λ e. Disconnects (S.standing store.old) k (Err e) (S.standing store.new)) }
+pub(crate) fn disconnect<S: Store>(store: &mut S, k: u64) -> Result<Vec<Tx>, ChainError>
+    ensures { MatchResult result (λ txs. Disconnects (S.standing store.old) k (Ok txs.items)
+        (S.standing store.new)) (λ e. Disconnects (S.standing store.old) k (Err e)
+        (S.standing store.new)) }
 {
     if is_too_deep(&*store, k) {
-        return Err(Refusal::TooDeep);
+        return Err(ChainError::TooDeep);
     }
     let blocks = store.blocks();
     let txs = copied(store.allocator(), newest(blocks, k))?;

@@ -5,11 +5,11 @@ use crate::chain_blocks::Blocks;
 use crate::coin_map::{IndexedCoin, note_output};
 use crate::coins::Coins;
 use crate::connecting::grant_outpoint;
+use crate::errors::{BlockError, ChainError};
 use crate::indexing::{forget_added, index_transaction, unindex_block, unindex_transaction};
-use crate::refusal::{BlockError, Refusal};
 use crate::store::{Found, Store};
 use crate::totals::Unspent;
-use crate::{connecting, testing, totals};
+use crate::{checking, connecting, totals};
 use std::alloc::{AllocError, Global};
 use std::collections::{BTreeMap, BTreeSet};
 use std::marker::Model;
@@ -155,8 +155,9 @@ impl Index {
     /// Adds the next block, of those of the transactions that pass the tests of `connect` behind those before them, in their order, and gives
     /// each one's refusal; `None` where it stands in the block. The only error is that memory ran out, which changes nothing.
     #[tactic(auto, using(crate::proofs::Undoing::grown_by_some, crate::proofs::Undoing::grown_itself))]
-    pub fn connect_some(&mut self, txs: Vec<Tx>) -> Result<Vec<Option<Refusal>>, AllocError>
-        ensures ok { IfOk result (λ refusals. ConnectsSome self.old txs.items refusals.items self.new) }
+    pub fn connect_some(&mut self, txs: Vec<Tx>) -> Result<Vec<Option<ChainError>>, AllocError>
+        ensures ok { IfOk result (λ refusals. ConnectsSome self.old txs.items refusals.items
+            self.new) }
         ensures grown { IfOk result (λ _. IsGrown self.old self.new) }
         ensures err { OnErr result (self.new ≡ self.old) }
     {
@@ -176,7 +177,8 @@ impl Index {
     /// Goes back to how the chain stood at a mark, where blocks alone were added since, as if these had never been there. It takes no memory.
     pub fn undo(&mut self, mark: Mark)
         requires { (before : Standing) × IsMark before mark × IsGrown before self.old }
-        ensures { (before : Standing) → IsMark before mark → IsGrown before self.old → self.new ≡ before }
+        ensures { (before : Standing) → IsMark before mark → IsGrown before self.old
+            → self.new ≡ before }
     {
         let above = Coins::height(self) - mark.height;
         connecting::take_off_all(self, above);
@@ -213,7 +215,9 @@ impl Index {
     /// Conservation, by whatever calls the chain came about: what its unspent outputs are worth and its fees together are the satoshis that
     /// were granted, as long as the ids of its grants differ among themselves and from those of its transactions.
     pub fn conserves_values(&self)
-        ensures { GrantsAreApart self.now.blocks → sum_by (λ c. c.output.value) (unspent_of self.now.blocks) + fees_of self.now.blocks ≡ granted_of self.now.blocks }
+        ensures { GrantsAreApart self.now.blocks
+            → sum_by (λ c. c.output.value) (unspent_of self.now.blocks) + fees_of self.now.blocks
+            ≡ granted_of self.now.blocks }
     {
         let _ = &self.greatest;
     }
@@ -222,19 +226,19 @@ impl Index {
 impl Coins for Index {
     ghost standing = { λ s. s };
 
-    fn grant(&mut self, output: TxOut) -> Result<OutPoint, Refusal> {
+    fn grant(&mut self, output: TxOut) -> Result<OutPoint, ChainError> {
         connecting::grant(self, output)
     }
 
-    fn check_input(&self, tx: &Tx, index: usize) -> Result<(), Refusal> {
-        testing::check_input(self, tx, index)
+    fn check_input(&self, tx: &Tx, index: usize) -> Result<(), ChainError> {
+        checking::check_input(self, tx, index)
     }
 
     fn connect(&mut self, txs: Vec<Tx>) -> Result<u64, BlockError> {
         connecting::connect(self, txs)
     }
 
-    fn disconnect(&mut self, k: u64) -> Result<Vec<Tx>, Refusal> {
+    fn disconnect(&mut self, k: u64) -> Result<Vec<Tx>, ChainError> {
         connecting::disconnect(self, k)
     }
 

@@ -9,7 +9,7 @@ ghost use Rattle.chain.specs.Blocks.{Contents, height_of, same_outpoint};
 ghost use Rattle.chain.specs.Connecting.{with_transaction};
 ghost use Rattle.chain.specs.Indexing.{noted, IsIndex};
 ghost use Rattle.chain.specs.Storing.{MayTakeOff};
-ghost use Rattle.chain.specs.Tests.{transaction_refusal};
+ghost use Rattle.chain.specs.Checks.{transaction_refusal};
 
 use crate::blocks::{Block, Confirmed};
 use crate::coin_map::{IndexedCoin, forget_outputs, mark_all, note_outputs};
@@ -24,10 +24,16 @@ pub(crate) fn index_transaction(
     confirmed: &Confirmed,
     height: u64,
 ) -> Result<(), AllocError>
-    requires { (blocks : List Contents) × (height ≡ height_of blocks) × MayTakeOff blocks × (transaction_refusal blocks confirmed.now ≡ None) × IsIndex blocks (noted coins.old) (contains (slice_cmp nat_cmp) ids.old) }
-    ensures ok { OnOk result ((blocks : List Contents) → MayTakeOff blocks → height ≡ height_of blocks → transaction_refusal blocks confirmed.now ≡ None → IsIndex blocks (noted coins.old) (contains (slice_cmp nat_cmp) ids.old)
-        → IsIndex (with_transaction blocks confirmed.now) (noted coins.new) (contains (slice_cmp nat_cmp) ids.new)) }
-    ensures err { OnErr result ((blocks : List Contents) → IsIndex blocks (noted coins.old) (contains (slice_cmp nat_cmp) ids.old)
+    requires { (blocks : List Contents) × (height ≡ height_of blocks) × MayTakeOff blocks
+        × (transaction_refusal blocks confirmed.now ≡ None)
+        × IsIndex blocks (noted coins.old) (contains (slice_cmp nat_cmp) ids.old) }
+    ensures ok { OnOk result ((blocks : List Contents) → MayTakeOff blocks
+        → height ≡ height_of blocks → transaction_refusal blocks confirmed.now ≡ None
+        → IsIndex blocks (noted coins.old) (contains (slice_cmp nat_cmp) ids.old)
+        → IsIndex (with_transaction blocks confirmed.now) (noted coins.new)
+        (contains (slice_cmp nat_cmp) ids.new)) }
+    ensures err { OnErr result ((blocks : List Contents)
+        → IsIndex blocks (noted coins.old) (contains (slice_cmp nat_cmp) ids.old)
         → IsIndex blocks (noted coins.new) (contains (slice_cmp nat_cmp) ids.new)) }
 {
     let (id, tx) = (confirmed.id(), confirmed.tx());
@@ -47,7 +53,9 @@ pub(crate) fn unindex_transaction(
     confirmed: &Confirmed,
     height: u64,
 )
-    ensures { (blocks : List Contents) → MayTakeOff blocks → height ≡ height_of blocks → IsIndex (with_transaction blocks confirmed.now) (noted coins.old) (contains (slice_cmp nat_cmp) ids.old)
+    ensures { (blocks : List Contents) → MayTakeOff blocks → height ≡ height_of blocks
+        → IsIndex (with_transaction blocks confirmed.now) (noted coins.old)
+        (contains (slice_cmp nat_cmp) ids.old)
         → IsIndex blocks (noted coins.new) (contains (slice_cmp nat_cmp) ids.new) }
 {
     let (id, tx) = (confirmed.id(), confirmed.tx());
@@ -63,7 +71,8 @@ pub(crate) fn unindex_block(
     mut block: Block,
     height: u64,
 )
-    ensures { (older : List Contents) → height ≡ length older → block.granted ≡ [] → IsIndex (block ∷ older) (noted coins.old) (contains (slice_cmp nat_cmp) ids.old)
+    ensures { (older : List Contents) → height ≡ length older → block.granted ≡ []
+        → IsIndex (block ∷ older) (noted coins.old) (contains (slice_cmp nat_cmp) ids.old)
         → IsIndex older (noted coins.new) (contains (slice_cmp nat_cmp) ids.new) }
 {
     while let Some(confirmed) = block.pop() {
@@ -77,7 +86,8 @@ pub(crate) fn forget_added(
     outpoint: &OutPoint,
     added: bool,
 )
-    ensures { (q : OutPoint) → noted coins.new q ≡ (if added && same_outpoint outpoint.now q then None else noted coins.old q) }
+    ensures { (q : OutPoint) → noted coins.new q ≡ (if added && same_outpoint outpoint.now q
+        then None else noted coins.old q) }
 {
     if added {
         coins.remove(outpoint);

@@ -8,8 +8,8 @@ ghost use Rattle.chain.specs.declared.commands.Answer.{Answer};
 ghost use Rattle.chain.specs.Blocks.{Standing, empty_block, unspent_of, fees_of, granted_of};
 ghost use Rattle.chain.specs.declared.commands.Command.TheVariants.{CheckInput as check_input};
 ghost use Rattle.chain.specs.declared.commands.Answer.TheVariants.{CheckInput as input_answer};
-ghost use Rattle.chain.specs.declared.refusal.Refusal.{Refusal};
-ghost use Rattle.chain.specs.declared.refusal.Refusal.TheVariants.{NoMemory};
+ghost use Rattle.chain.specs.declared.errors.ChainError.{ChainError};
+ghost use Rattle.chain.specs.declared.errors.ChainError.TheVariants.{NoMemory};
 ghost use Rattle.chain.specs.Replays.{Answered, Replays};
 ghost use Rattle.chain.specs.Conserving.{GrantsAreApart};
 ghost use Rattle.chain.specs.Spending.{IsExact};
@@ -18,15 +18,20 @@ ghost use Rattle.chain.specs.Spending.{IsExact};
 /// granted, as long as the ids of its grants differ among themselves and from those of its transactions. That could fail only where SHA-256 gives one id to two
 /// different messages, or after 2^64 grants; that the ids of transactions differ is a test of `connect`.
 pub fn values_are_conserved()
-    ensures { (commands : List Command) (answers : List Answer) (s : Standing) → Replays (record { blocks = empty_block ∷ []; greatest = 0 }) commands answers s → GrantsAreApart s.blocks
-        → sum_by (λ c. c.output.value) (unspent_of s.blocks) + fees_of s.blocks ≡ granted_of s.blocks }
+    ensures { (commands : List Command) (answers : List Answer) (s : Standing)
+        → Replays (record { blocks = empty_block ∷ []; greatest = 0 }) commands answers s
+        → GrantsAreApart s.blocks → sum_by (λ c. c.output.value)
+        (unspent_of s.blocks) + fees_of s.blocks ≡ granted_of s.blocks }
 {}
 
-/// What `check_input` answers, said of the blocks: whatever calls a new chain got, and memory aside, it is `Ok` exactly where a transaction or a grant on the chain
+/// What `check_input` answers, said of the blocks: whatever calls a new chain got, and barring out-of-memory, it is `Ok` exactly where a transaction or a grant on the chain
 /// created an output at the outpoint that the input names, nothing on the chain names it, its locks are reached and its program runs clean; `Unknown` exactly where
 /// nothing created one; and `Spent` exactly where something did and an input on the chain names it. The premise is that of conservation.
-pub fn inputs_are_tested_exactly()
-    ensures { (commands : List Command) (answers : List Answer) (s : Standing) → Replays (record { blocks = empty_block ∷ []; greatest = 0 }) commands answers s → GrantsAreApart s.blocks
-        → (t : Transaction) (index : ℕ) (input : TxIn) → slice_get t.inputs index ≡ Some input
-        → (r : Result (Unit {0}) Refusal) → Answered s (check_input t index) (input_answer r) s → (r ≡ Err NoMemory → ⊥) → IsExact s.blocks t input r }
+pub fn inputs_are_checked_exactly()
+    ensures { (commands : List Command) (answers : List Answer) (s : Standing)
+        → Replays (record { blocks = empty_block ∷ []; greatest = 0 }) commands answers s
+        → GrantsAreApart s.blocks → (t : Transaction) (index : ℕ) (input : TxIn)
+        → slice_get t.inputs index ≡ Some input → (r : Result (Unit {0}) ChainError)
+        → Answered s (check_input t index) (input_answer r) s → (r ≡ Err NoMemory → ⊥)
+        → IsExact s.blocks t input r }
 {}

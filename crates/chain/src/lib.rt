@@ -24,27 +24,27 @@
 
 mod blocks;
 mod chain_blocks;
+mod checking;
 mod coin_map;
 mod coins;
 mod commands;
 mod connecting;
+mod errors;
 mod index;
 mod indexing;
 pub mod laws;
 mod locks;
 mod program;
-mod refusal;
 mod scan;
 mod store;
-mod testing;
 mod totals;
 
 pub use blocks::{Block, Confirmed};
 pub use coins::Coins;
 pub use commands::{Answer, Command, replay_commands};
+pub use errors::{BlockError, ChainError};
 pub use index::{Index, Mark};
 pub use program::run_program;
-pub use refusal::{BlockError, Refusal};
 pub use scan::Scan;
 pub use totals::Unspent;
 

@@ -7,7 +7,7 @@ ghost use Rattle.sighash.specs.Programs.{key_hash_script, script_ops, spend_of, 
 ghost use Rattle.chain.specs.Connecting.{is_program};
 ghost use Rattle.chain.specs.Running.{IsRun, IsParsed};
 
-use crate::refusal::Refusal;
+use crate::errors::ChainError;
 use digest::sha256;
 use lists::ByteString;
 use machine::{Run, Stop, run};
@@ -37,14 +37,14 @@ fn key_hash_script(alloc: Global, hash: &[u8]) -> Result<Vec<u8>, AllocError>
 
 /// Reads a script; `BadProgram` where the bytes are none.
 #[tactic(auto, using(sighash::proofs::Parsing::parsed, sighash::proofs::Parsing::unparsed))]
-fn parse(alloc: Global, bytes: &[u8]) -> Result<Script, Refusal>
+fn parse(alloc: Global, bytes: &[u8]) -> Result<Script, ChainError>
     ensures { IsParsed (script_ops bytes.now) result }
 {
     match Script::parse(alloc, bytes) {
         Ok(script) => Ok(script),
         Err(error) => match error {
-            ParseError::NoMemory => Err(Refusal::NoMemory),
-            _ => Err(Refusal::BadProgram),
+            ParseError::NoMemory => Err(ChainError::NoMemory),
+            _ => Err(ChainError::BadProgram),
         },
     }
 }
@@ -59,7 +59,7 @@ fn run_script(
     value: u64,
     script: &[u8],
     items: &[ByteString],
-) -> Result<Run, Refusal>
+) -> Result<Run, ChainError>
     requires cached { cache.now ≡ tx.now }
     requires indexed { slice_get tx.now.inputs index ≡ Some input.now }
     ensures { IsRun (run_of_given tx.now input.now value
@@ -77,8 +77,8 @@ fn run_script(
     };
     match run(alloc, &parsed, items, &spend) {
         Ok(run) => Ok(run),
-        Err(Stop::NoMemory) => Err(Refusal::NoMemory),
-        Err(Stop::At(cause, at)) => Err(Refusal::Script(cause, at)),
+        Err(Stop::NoMemory) => Err(ChainError::NoMemory),
+        Err(Stop::At(cause, at)) => Err(ChainError::Script(cause, at)),
     }
 }
 
@@ -93,7 +93,7 @@ pub fn run_program(
     index: usize,
     input: &TxIn,
     output: &TxOut,
-) -> Result<Run, Refusal>
+) -> Result<Run, ChainError>
     requires cached { cache.now ≡ tx.now }
     requires indexed { slice_get tx.now.inputs index ≡ Some input.now }
     ensures { IsRun (run_of tx.now input.now output.now) result }
@@ -102,7 +102,7 @@ pub fn run_program(
     let witness = input.witness.as_slice();
     if is_key_hash_program(program) {
         if witness.len() != 2 {
-            return Err(Refusal::BadProgram);
+            return Err(ChainError::BadProgram);
         }
         let script = key_hash_script(alloc, &program[2..])?;
         let code = script.as_slice();
@@ -118,14 +118,14 @@ pub fn run_program(
         );
     }
     if !is_script_hash_program(program) {
-        return Err(Refusal::BadProgram);
+        return Err(ChainError::BadProgram);
     }
     let Some((script, items)) = witness.split_last() else {
-        return Err(Refusal::BadProgram);
+        return Err(ChainError::BadProgram);
     };
     let code = script.bytes();
     if sha256(code).as_slice() != &program[2..] {
-        return Err(Refusal::BadProgram);
+        return Err(ChainError::BadProgram);
     }
     run_script(alloc, tx, cache, index, input, output.value(), code, items)
 }

@@ -9,13 +9,13 @@ ghost use Rattle.chain.specs.Scanning.{found_in, at_height, with_height};
 
 use crate::blocks::{Block, Confirmed};
 use crate::chain_blocks::Blocks;
+use crate::checking::{same_outpoint, some_input_names};
 use crate::coins::Coins;
 use crate::connecting::grant_outpoint;
-use crate::refusal::{BlockError, Refusal};
+use crate::errors::{BlockError, ChainError};
 use crate::store::{Found, Store};
-use crate::testing::{same_outpoint, some_input_names};
 use crate::totals::Unspent;
-use crate::{connecting, testing, totals};
+use crate::{checking, connecting, totals};
 use std::alloc::{AllocError, Global};
 use std::marker::Model;
 use tx::{OutPoint, Tx, TxOut};
@@ -101,7 +101,8 @@ fn output_at(outputs: &[TxOut], index: u32) -> Option<&TxOut>
 
 /// The output that a transaction created at an outpoint.
 fn find_in_transaction<'a>(confirmed: &'a Confirmed, outpoint: &OutPoint) -> Option<&'a TxOut>
-    ensures { (height : ℕ) → at_height height result ≡ found_in outpoint.now (created_by height confirmed.now) }
+    ensures { (height : ℕ) → at_height height result ≡ found_in outpoint.now
+        (created_by height confirmed.now) }
 {
     if !same_id(confirmed.id(), &outpoint.txid) {
         return None;
@@ -111,7 +112,8 @@ fn find_in_transaction<'a>(confirmed: &'a Confirmed, outpoint: &OutPoint) -> Opt
 
 /// The first output that transactions created at an outpoint.
 fn find_in_transactions<'a>(transactions: &'a [Confirmed], outpoint: &OutPoint) -> Option<&'a TxOut>
-    ensures { (height : ℕ) → at_height height result ≡ found_in outpoint.now (created_by_all height (reverse transactions.now)) }
+    ensures { (height : ℕ) → at_height height result ≡ found_in outpoint.now
+        (created_by_all height (reverse transactions.now)) }
 {
     for confirmed in transactions {
         if let Some(output) = find_in_transaction(confirmed, outpoint) {
@@ -123,7 +125,8 @@ fn find_in_transactions<'a>(transactions: &'a [Confirmed], outpoint: &OutPoint) 
 
 /// The first output that was granted at an outpoint, where so many grants came before.
 fn find_in_grants<'a>(granted: &'a [TxOut], before: u64, outpoint: &OutPoint) -> Option<&'a TxOut>
-    ensures { (height g : ℕ) → before ≡ g % 2 ^ 64 → at_height height result ≡ found_in outpoint.now (granted_at height g (reverse granted.now)) }
+    ensures { (height g : ℕ) → before ≡ g % 2 ^ 64 → at_height height result ≡ found_in outpoint.now
+        (granted_at height g (reverse granted.now)) }
 {
     for (index, output) in granted.iter().enumerate() {
         if same_outpoint(&grant_outpoint(before.wrapping_add(index as u64)), outpoint) {
@@ -233,19 +236,19 @@ impl Scan {
 impl Coins for Scan {
     ghost standing = { λ s. s };
 
-    fn grant(&mut self, output: TxOut) -> Result<OutPoint, Refusal> {
+    fn grant(&mut self, output: TxOut) -> Result<OutPoint, ChainError> {
         connecting::grant(self, output)
     }
 
-    fn check_input(&self, tx: &Tx, index: usize) -> Result<(), Refusal> {
-        testing::check_input(self, tx, index)
+    fn check_input(&self, tx: &Tx, index: usize) -> Result<(), ChainError> {
+        checking::check_input(self, tx, index)
     }
 
     fn connect(&mut self, txs: Vec<Tx>) -> Result<u64, BlockError> {
         connecting::connect(self, txs)
     }
 
-    fn disconnect(&mut self, k: u64) -> Result<Vec<Tx>, Refusal> {
+    fn disconnect(&mut self, k: u64) -> Result<Vec<Tx>, ChainError> {
         connecting::disconnect(self, k)
     }
 

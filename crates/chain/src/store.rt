@@ -3,7 +3,7 @@
 ghost use Rattle.std.specs.Prelude.{◌≡◌, ◌<◌, ◌≤◌, [], ◌∷◌, length, reverse, OnOk, OnErr, option_map, max, None, ◌%◌, ◌^◌};
 ghost use Rattle.chain.specs.Blocks.{Contents, Standing, Coin, empty_block, height_of, coin_at, has_id, is_named, grants_in};
 ghost use Rattle.chain.specs.Connecting.{with_transaction, with_grant, has_grant};
-ghost use Rattle.chain.specs.Tests.{transaction_refusal};
+ghost use Rattle.chain.specs.Checks.{transaction_refusal};
 ghost use Rattle.chain.specs.Storing.{found_coin, taken_off, MayTakeOff};
 
 use crate::blocks::{Block, Confirmed};
@@ -54,7 +54,8 @@ pub trait Store {
 
     /// Adds an empty block.
     fn begin(&mut self) -> Result<(), AllocError>
-        ensures ok { OnOk result (standing self.new ≡ record (standing self.old) { blocks = empty_block ∷ (standing self.old).blocks }) }
+        ensures ok { OnOk result (standing self.new
+            ≡ record (standing self.old) { blocks = empty_block ∷ (standing self.old).blocks }) }
         ensures some { 0 < length (standing self.old).blocks }
         ensures err { OnErr result (standing self.new ≡ standing self.old) };
 
@@ -62,18 +63,29 @@ pub trait Store {
     fn add(&mut self, confirmed: Confirmed) -> Result<(), AllocError>
         requires passes { transaction_refusal (standing self.old).blocks confirmed ≡ None }
         requires no_grant { MayTakeOff (standing self.old).blocks }
-        ensures ok { OnOk result (standing self.new ≡ record (standing self.old) { blocks = with_transaction (standing self.old).blocks confirmed }) }
+        ensures ok { OnOk result (standing self.new
+            ≡ record (standing self.old) {
+              blocks = with_transaction
+                  (standing self.old).blocks confirmed;
+            }) }
         ensures err { OnErr result (standing self.new ≡ standing self.old) };
 
     /// Takes the newest block off, which holds no grant and is not the first.
     fn take_off(&mut self)
         requires more { 1 < length (standing self.old).blocks }
         requires no_grant { MayTakeOff (standing self.old).blocks }
-        ensures { standing self.new ≡ record (standing self.old) { blocks = taken_off (standing self.old).blocks } };
+        ensures { standing self.new ≡ record (standing self.old) {
+          blocks = taken_off
+              (standing self.old).blocks;
+        } };
 
     /// Adds a granted output to the newest block.
     fn add_grant(&mut self, output: TxOut) -> Result<(), AllocError>
-        ensures ok { OnOk result (standing self.new ≡ record (standing self.old) { blocks = with_grant (standing self.old).blocks output }) }
+        ensures ok { OnOk result (standing self.new
+            ≡ record (standing self.old) {
+              blocks = with_grant
+                  (standing self.old).blocks output;
+            }) }
         ensures err { OnErr result (standing self.new ≡ standing self.old) };
 
     /// How many outputs were granted, where 2^64 is 0 again.
@@ -82,5 +94,8 @@ pub trait Store {
 
     /// Notes the height of the chain.
     fn note_height(&mut self)
-        ensures { standing self.new ≡ record (standing self.old) { greatest = max (standing self.old).greatest (height_of (standing self.old).blocks) } };
+        ensures { standing self.new ≡ record (standing self.old) {
+          greatest = max
+              (standing self.old).greatest (height_of (standing self.old).blocks);
+        } };
 }

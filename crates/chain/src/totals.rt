@@ -8,9 +8,9 @@ ghost use Rattle.chain.specs.Totals.{IsUnspent, unspent_value, unspent_values};
 ghost use Rattle.chain.specs.Scanning.{grants_from};
 
 use crate::blocks::Confirmed;
+use crate::checking::paid_out;
 use crate::connecting::grant_outpoint;
 use crate::store::Store;
-use crate::testing::paid_out;
 use std::alloc::AllocError;
 use tx::{OutPoint, TxIn, TxOut};
 
@@ -63,7 +63,8 @@ fn push_fees<S: Store>(
     transactions: &[Confirmed],
     fees: &mut Vec<u64>,
 ) -> Result<(), AllocError>
-    ensures { IfOk result (λ _. fees.new.items ≡ fees.old.items ++ map (fee_of (S.standing store.now).blocks) transactions.now) }
+    ensures { IfOk result (λ _. fees.new.items ≡ fees.old.items ++ map
+        (fee_of (S.standing store.now).blocks) transactions.now) }
 {
     for confirmed in transactions {
         let tx = confirmed.tx();
@@ -92,7 +93,8 @@ fn push_unless_named<S: Store>(
     value: u64,
     values: &mut Vec<u64>,
 ) -> Result<(), AllocError>
-    ensures { OnOk result (values.new.items ≡ values.old.items ++ unspent_value (S.standing store.now).blocks outpoint.now value) }
+    ensures { OnOk result (values.new.items ≡ values.old.items ++ unspent_value
+        (S.standing store.now).blocks outpoint.now value) }
 {
     if store.is_named(outpoint) {
         return Ok(());
@@ -107,7 +109,9 @@ fn push_outputs<S: Store>(
     confirmed: &Confirmed,
     values: &mut Vec<u64>,
 ) -> Result<(), AllocError>
-    ensures { (height : ℕ) → OnOk result (values.new.items ≡ values.old.items ++ unspent_values (S.standing store.now).blocks (created_by height confirmed.now)) }
+    ensures { (height : ℕ) → OnOk result
+        (values.new.items ≡ values.old.items ++ unspent_values (S.standing store.now).blocks
+        (created_by height confirmed.now)) }
 {
     let outputs = confirmed.tx().outputs();
     for (index, output) in outputs.iter().enumerate() {
@@ -126,7 +130,9 @@ fn push_transactions<S: Store>(
     transactions: &[Confirmed],
     values: &mut Vec<u64>,
 ) -> Result<(), AllocError>
-    ensures { (height : ℕ) → OnOk result (values.new.items ≡ values.old.items ++ unspent_values (S.standing store.now).blocks (flat_map (created_by height) transactions.now)) }
+    ensures { (height : ℕ) → OnOk result
+        (values.new.items ≡ values.old.items ++ unspent_values (S.standing store.now).blocks
+        (flat_map (created_by height) transactions.now)) }
 {
     for confirmed in transactions {
         push_outputs(store, confirmed, values)?;
@@ -141,7 +147,9 @@ fn push_grants<S: Store>(
     before: u64,
     values: &mut Vec<u64>,
 ) -> Result<(), AllocError>
-    ensures { (height g : ℕ) → before ≡ g % 2 ^ 64 → OnOk result (values.new.items ≡ values.old.items ++ unspent_values (S.standing store.now).blocks (grants_from height g granted.now)) }
+    ensures { (height g : ℕ) → before ≡ g % 2 ^ 64
+        → OnOk result (values.new.items ≡ values.old.items ++ unspent_values
+        (S.standing store.now).blocks (grants_from height g granted.now)) }
 {
     for (index, output) in granted.iter().enumerate() {
         let outpoint = grant_outpoint(before.wrapping_add(index as u64));

@@ -1,7 +1,7 @@
 //! What an index does beside the calls that every chain has: blocks of what passes, marks and copies.
 
 use crate::steps::{Cast, Source, Step, play_with};
-use chain::{Index, Refusal};
+use chain::{ChainError, Index};
 use std::process::Abort;
 use tx::Tx;
 
@@ -17,12 +17,12 @@ const SPENDS: [Step; 5] = [
 // They are offered with the spend first, and once more behind what it spends.
 const OFFERED: [usize; 5] = [1, 0, 1, 2, 3];
 
-const REFUSALS: [Option<Refusal>; 5] = [
-    Some(Refusal::Unknown),
+const REFUSALS: [Option<ChainError>; 5] = [
+    Some(ChainError::Unknown),
     None,
     None,
-    Some(Refusal::Spent),
-    Some(Refusal::NotFinal),
+    Some(ChainError::Spent),
+    Some(ChainError::NotFinal),
 ];
 
 // Whether a transaction stands on a chain, by its id.
@@ -69,7 +69,7 @@ fn goes_back_to_a_mark(rt: HostRuntime) {
     let after = [
         Step::Hold(1, 1000, 0),
         Step::Check(0, 0, Ok(())),
-        Step::Check(1, 0, Err(Refusal::Unknown)),
+        Step::Check(1, 0, Err(ChainError::Unknown)),
         Step::Disconnect(6, &[]),
     ];
     play_with(&rt, &mut cast, &mut chain, &after);
@@ -84,7 +84,7 @@ const OF_COPY: [Step; 4] = [
 
 const OF_CHAIN: [Step; 2] = [
     Step::Hold(2, 900, 100),
-    Step::Check(0, 0, Err(Refusal::Spent)),
+    Step::Check(0, 0, Err(ChainError::Spent)),
 ];
 
 // A copy goes its own way.

@@ -2,7 +2,7 @@
 
 use crate::fixtures::{KEY, KEY_PROGRAM, KEY_SCRIPT, TO_LOCAL, TO_LOCAL_PROGRAM, TRUE};
 use crate::steps::{Source, Step, play_all};
-use chain::{Index, Refusal, Scan};
+use chain::{ChainError, Index, Scan};
 use script::{Cause, Kind};
 
 // A lock time of 500 is reached in block 501, not in its own.
@@ -10,7 +10,7 @@ const LOCK_TIME_500: [Step; 7] = [
     Step::Grant(1000),
     Step::Make(2, &[(Source::Granted(0), 0)], &[900], 500),
     Step::Raise(499),
-    Step::Refuse(&[0], 0, Refusal::NotFinal),
+    Step::Refuse(&[0], 0, ChainError::NotFinal),
     Step::Raise(500),
     Step::Connect(&[0], 501),
     Step::Hold(1, 900, 100),
@@ -25,12 +25,12 @@ const TIMES: [Step; 13] = [
     Step::Make(2, &[(Source::Granted(0), 0)], &[1], 500000000),
     Step::Make(2, &[(Source::Granted(0), 0)], &[1], 499999999),
     Step::Check(0, 0, Ok(())),
-    Step::Check(1, 0, Err(Refusal::NotFinal)),
+    Step::Check(1, 0, Err(ChainError::NotFinal)),
     Step::Check(2, 0, Ok(())),
     Step::Check(3, 0, Ok(())),
-    Step::Check(4, 0, Err(Refusal::NotFinal)),
+    Step::Check(4, 0, Err(ChainError::NotFinal)),
     Step::Raise(30),
-    Step::Check(1, 0, Err(Refusal::NotFinal)),
+    Step::Check(1, 0, Err(ChainError::NotFinal)),
 ];
 
 // A coin of height 100 and an age of 144: too young in block 243, old enough in 244. Version 1 is never too young, and its script refuses it.
@@ -42,7 +42,7 @@ const AGE_144: [Step; 12] = [
     Step::Make(1, &[(Source::Granted(0), 144)], &[4000], 0),
     Step::Sign(1, &TO_LOCAL, 5000, &[&[], &TO_LOCAL]),
     Step::Raise(242),
-    Step::Refuse(&[0], 0, Refusal::TooYoung),
+    Step::Refuse(&[0], 0, ChainError::TooYoung),
     VERSION_1_REFUSED,
     Step::Raise(243),
     VERSION_1_REFUSED,
@@ -53,7 +53,7 @@ const AGE_144: [Step; 12] = [
 const VERSION_1_REFUSED: Step = Step::Refuse(
     &[1],
     0,
-    Refusal::Script(Cause::FailedCheck(Kind::Sequence), 4),
+    ChainError::Script(Cause::FailedCheck(Kind::Sequence), 4),
 );
 
 // The rules of BIP 68: the version, bit 31, bit 22, and the low 16 bits.
@@ -66,9 +66,9 @@ const RELATIVE_LOCKS: [Step; 13] = [
     Step::Make(3, &[(Source::Granted(0), 2)], &[1], 0),
     Step::Check(0, 0, Ok(())),
     Step::Check(1, 0, Ok(())),
-    Step::Check(2, 0, Err(Refusal::TooYoung)),
+    Step::Check(2, 0, Err(ChainError::TooYoung)),
     Step::Check(3, 0, Ok(())),
-    Step::Check(4, 0, Err(Refusal::TooYoung)),
+    Step::Check(4, 0, Err(ChainError::TooYoung)),
     Step::Raise(1),
     Step::Check(4, 0, Ok(())),
 ];
@@ -79,12 +79,12 @@ const WITHIN_A_BLOCK: [Step; 11] = [
     Step::Make(2, &[(Source::Granted(0), 0)], &[600, 300], 0),
     Step::Make(2, &[(Source::Made(0, 1), 0)], &[250], 0),
     Step::Make(2, &[(Source::Made(0, 1), 0)], &[240], 0),
-    Step::Refuse(&[1, 0], 0, Refusal::Unknown),
-    Step::Refuse(&[0, 1, 2], 2, Refusal::Spent),
-    Step::Refuse(&[0, 0], 1, Refusal::Twice),
+    Step::Refuse(&[1, 0], 0, ChainError::Unknown),
+    Step::Refuse(&[0, 1, 2], 2, ChainError::Spent),
+    Step::Refuse(&[0, 0], 1, ChainError::Twice),
     Step::Hold(1, 1000, 0),
     Step::Connect(&[0, 1], 1),
-    Step::Refuse(&[2], 0, Refusal::Spent),
+    Step::Refuse(&[2], 0, ChainError::Spent),
     Step::Hold(2, 850, 150),
 ];
 
@@ -99,10 +99,10 @@ const UNKNOWN_OUTPUTS: [Step; 8] = [
         0,
     ),
     Step::Connect(&[0], 1),
-    Step::Check(1, 0, Err(Refusal::Unknown)),
+    Step::Check(1, 0, Err(ChainError::Unknown)),
     Step::Check(1, 1, Ok(())),
-    Step::Check(0, 0, Err(Refusal::Spent)),
-    Step::Check(0, 1, Err(Refusal::Unknown)),
+    Step::Check(0, 0, Err(ChainError::Spent)),
+    Step::Check(0, 1, Err(ChainError::Unknown)),
 ];
 
 // Refusals of the transaction as a whole, and of a grant.
@@ -117,8 +117,8 @@ const WHOLE_REFUSALS: [Step; 9] = [
     ),
     Step::Make(2, &[(Source::Granted(0), 0)], &[600, 401], 0),
     Step::Make(2, &[(Source::Granted(0), 0)], &[600, 400], 0),
-    Step::Refuse(&[0], 0, Refusal::Twice),
-    Step::Refuse(&[1], 0, Refusal::OutputsExceed),
+    Step::Refuse(&[0], 0, ChainError::Twice),
+    Step::Refuse(&[1], 0, ChainError::OutputsExceed),
     Step::Connect(&[2], 1),
     Step::Hold(2, 1000, 0),
 ];
@@ -127,15 +127,15 @@ const WHOLE_REFUSALS: [Step; 9] = [
 const KEY_HASH: [Step; 9] = [
     Step::GrantTo(7000, &KEY_PROGRAM),
     Step::Make(2, &[(Source::Granted(0), 0)], &[6000], 0),
-    Step::Check(0, 0, Err(Refusal::BadProgram)),
+    Step::Check(0, 0, Err(ChainError::BadProgram)),
     Step::Witness(0, &[&[], &[1]]),
     Step::Check(
         0,
         0,
-        Err(Refusal::Script(Cause::FailedCheck(Kind::Verify), 3)),
+        Err(ChainError::Script(Cause::FailedCheck(Kind::Verify), 3)),
     ),
     Step::Sign(0, &KEY_SCRIPT, 7000, &[&KEY, &KEY]),
-    Step::Check(0, 0, Err(Refusal::BadProgram)),
+    Step::Check(0, 0, Err(ChainError::BadProgram)),
     Step::Sign(0, &KEY_SCRIPT, 7000, &[&KEY]),
     Step::Connect(&[0], 1),
 ];
@@ -145,11 +145,11 @@ const SCRIPT_HASH: [Step; 8] = [
     Step::Grant(1000),
     Step::Make(2, &[(Source::Granted(0), 0)], &[1], 0),
     Step::Witness(0, &[&[1], &TRUE]),
-    Step::Check(0, 0, Err(Refusal::Script(Cause::NotOneValue, 1))),
+    Step::Check(0, 0, Err(ChainError::Script(Cause::NotOneValue, 1))),
     Step::Witness(0, &[&[0x52]]),
-    Step::Check(0, 0, Err(Refusal::BadProgram)),
+    Step::Check(0, 0, Err(ChainError::BadProgram)),
     Step::Witness(0, &[]),
-    Step::Check(0, 0, Err(Refusal::BadProgram)),
+    Step::Check(0, 0, Err(ChainError::BadProgram)),
 ];
 
 // Blocks taken off, and what was unspent.
@@ -163,7 +163,7 @@ const REORGANISED: [Step; 12] = [
     Step::Disconnect(2, &[0, 1]),
     Step::Hold(1, 1000, 0),
     Step::Check(0, 0, Ok(())),
-    Step::Check(1, 0, Err(Refusal::Unknown)),
+    Step::Check(1, 0, Err(ChainError::Unknown)),
     Step::Connect(&[0, 1], 1),
     Step::Hold(2, 850, 150),
 ];

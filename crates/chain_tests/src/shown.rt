@@ -1,7 +1,7 @@
 //! Values from outside, the blocks as they are shown, and printed text.
 
 use crate::fixtures::{GRANTED, KEY_PROGRAM, output};
-use chain::{BlockError, Coins, Refusal, Scan};
+use chain::{BlockError, ChainError, Coins, Scan};
 use script::{Cause, Kind};
 use std::alloc::Global;
 use std::process::Abort;
@@ -30,20 +30,20 @@ fn grants_have_their_ids(rt: HostRuntime) {
 #[test]
 fn prints_its_refusals(rt: HostRuntime) {
     for (refusal, printed, number) in [
-        (Refusal::NoMemory, "NoMemory 7", 0),
-        (Refusal::Spent, "Spent 7", 1),
-        (Refusal::Unknown, "Unknown 7", 2),
-        (Refusal::NotFinal, "NotFinal 7", 3),
-        (Refusal::TooYoung, "TooYoung 7", 4),
+        (ChainError::NoMemory, "NoMemory 7", 0),
+        (ChainError::Spent, "Spent 7", 1),
+        (ChainError::Unknown, "Unknown 7", 2),
+        (ChainError::NotFinal, "NotFinal 7", 3),
+        (ChainError::TooYoung, "TooYoung 7", 4),
         (
-            Refusal::Script(Cause::FailedCheck(Kind::Extra), 4),
+            ChainError::Script(Cause::FailedCheck(Kind::Extra), 4),
             "Script FailedCheck Extra 4 7",
             5,
         ),
-        (Refusal::BadProgram, "BadProgram 7", 6),
-        (Refusal::OutputsExceed, "OutputsExceed 7", 7),
-        (Refusal::Twice, "Twice 7", 8),
-        (Refusal::TooDeep, "TooDeep 7", 9),
+        (ChainError::BadProgram, "BadProgram 7", 6),
+        (ChainError::OutputsExceed, "OutputsExceed 7", 7),
+        (ChainError::Twice, "Twice 7", 8),
+        (ChainError::TooDeep, "TooDeep 7", 9),
     ] {
         let error = BlockError { index: 7, refusal };
         let text = format!(in rt.alloc(); "{error}").expect(&rt, "memory");

@@ -1,7 +1,7 @@
 //! Steps that are played on a chain, each with what the chain answers.
 
 use crate::fixtures::{KEY, TRUE_PROGRAM, output, push_item, transaction};
-use chain::{BlockError, Coins, Refusal};
+use chain::{BlockError, ChainError, Coins};
 use sighash::{Token, digest_of};
 use std::alloc::Global;
 use std::process::Abort;
@@ -35,9 +35,9 @@ pub(crate) enum Step {
     // A block of these transactions, and its height.
     Connect(&'static [usize], u64),
     // A block of these transactions, the one at fault, and why.
-    Refuse(&'static [usize], usize, Refusal),
+    Refuse(&'static [usize], usize, ChainError),
     // What an input of a transaction gets in the next block.
-    Check(usize, usize, Result<(), Refusal>),
+    Check(usize, usize, Result<(), ChainError>),
     // Takes so many blocks off, with these transactions.
     Disconnect(u64, &'static [usize]),
     // So many blocks can't be taken off.
@@ -145,7 +145,7 @@ fn grant<C: Coins>(rt: &impl Abort, cast: &mut Cast, chain: &mut C, value: u64, 
 
 fn refuse_grant<C: Coins>(rt: &impl Abort, cast: &Cast, chain: &mut C, script: &[u8]) {
     let granted = chain.grant(output(rt, cast.alloc, 1, script));
-    assert_eq!(rt; granted, Err(Refusal::BadProgram));
+    assert_eq!(rt; granted, Err(ChainError::BadProgram));
 }
 
 // Empty blocks up to a height.
@@ -193,15 +193,15 @@ fn connect<C: Coins>(
 fn is_out_of_memory(answer: &Result<u64, BlockError>) -> bool {
     match answer {
         Ok(_) => false,
-        Err(error) => error.refusal == Refusal::NoMemory,
+        Err(error) => error.refusal == ChainError::NoMemory,
     }
 }
 
 // Takes blocks off; where memory runs out once, the chain is as before.
-fn disconnect<C: Coins>(rt: &impl Abort, chain: &mut C, k: u64) -> Result<Vec<Tx>, Refusal> {
+fn disconnect<C: Coins>(rt: &impl Abort, chain: &mut C, k: u64) -> Result<Vec<Tx>, ChainError> {
     let before = summary_of(rt, chain);
     let answer = chain.disconnect(k);
-    if !matches!(&answer, Err(Refusal::NoMemory)) {
+    if !matches!(&answer, Err(ChainError::NoMemory)) {
         return answer;
     }
     assert_eq!(rt; summary_of(rt, chain), before);
@@ -224,7 +224,7 @@ fn expect_input<C: Coins>(
     chain: &C,
     place: usize,
     index: usize,
-    wanted: Result<(), Refusal>,
+    wanted: Result<(), ChainError>,
 ) {
     let answer = chain.check_input(cast.made(rt, place), index);
     assert_eq!(rt; answer, wanted, "{place}");
@@ -239,7 +239,7 @@ fn expect_off<C: Coins>(rt: &impl Abort, cast: &Cast, chain: &mut C, k: u64, pla
 }
 
 fn expect_deep<C: Coins>(rt: &impl Abort, chain: &mut C, k: u64) {
-    assert_eq!(rt; disconnect(rt, chain, k).err(), Some(Refusal::TooDeep));
+    assert_eq!(rt; disconnect(rt, chain, k).err(), Some(ChainError::TooDeep));
 }
 
 fn expect_shown<C: Coins>(rt: &impl Abort, chain: &C, count: u64, value: u128, fees: u128) {

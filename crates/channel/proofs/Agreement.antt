@@ -11,7 +11,7 @@ use Rattle.channel.specs.declared.messages.Tokens.{Tokens}
 use Rattle.channel.specs.declared.messages.Message.{Message}
 use Rattle.channel.specs.declared.messages.Message.TheVariants.{Updated, CommitmentSigned, RevokeAndAck}
 use Rattle.channel.specs.Points.{secret_at, point_at}
-use Rattle.channel.specs.States.{Signing, State, first_of, opened, update_refusal, sign_refusal, sign_tests, receive_refusal, receive_tests, peers_next, after_update, after_sign, after, answers, signature_message}
+use Rattle.channel.specs.States.{Signing, State, first_of, state_at_opening, update_refusal, sign_refusal, sign_tests, receive_refusal, receive_tests, peers_next, after_update, after_sign, after, answers, signature_message}
 use Rattle.channel.specs.Peers.{World, opened_both, Acts, updates, signs, receives, Steps, by_a, by_b, IsReached, at_opening, then}
 use Rattle.updates.proofs.Sums.{begins, begins_on}
 use Rattle.updates.proofs.Accepting.{AllPass, all_pass}
@@ -203,7 +203,7 @@ agree_acts tokens_of a b to_a to_b me sent rest (receives m rest' q e) g = let h
 abbrev pub IsAgreed : Signing → World → Type 0
 IsAgreed tokens_of w = Agree tokens_of w.a w.b w.to_a w.to_b
 
-meets_opened : (terms : Terms) (side : Side) (seed peers : List ℕ) → other (other side) ≡ side → Meets (opened terms side seed (point_at peers 0) (point_at peers 1)) (opened terms (other side) peers (point_at seed 0) (point_at seed 1))
+meets_opened : (terms : Terms) (side : Side) (seed peers : List ℕ) → other (other side) ≡ side → Meets (state_at_opening terms side seed (point_at peers 0) (point_at peers 1)) (state_at_opening terms (other side) peers (point_at seed 0) (point_at seed 1))
 meets_opened terms side seed peers e = record {
   terms = refl;
   side = e;

@@ -12,7 +12,7 @@ use Rattle.updates.specs.Steady.{Held, holding_signed, holding_signature, holdin
 use Rattle.channel.specs.declared.limits.TheConstants.{LAST_NUMBER}
 use Rattle.channel.specs.declared.commitments.CommitmentState.{CommitmentState}
 use Rattle.channel.specs.Points.{point_at}
-use Rattle.channel.specs.States.{State, opened}
+use Rattle.channel.specs.States.{State, state_at_opening}
 use Rattle.channel.specs.Rights.{rights_of}
 use Rattle.channel.specs.Keeping.{HasBases, CanOpen, HaveSame, IsSignedIf, IsChannel, one_if}
 use Rattle.channel.specs.Numbered.{IsNumbered, AreNumbered}
@@ -43,14 +43,14 @@ bases_same terms terms' side side' seed seed' t s d b = subst (λ x. HasBases x 
 signed_same : (b b' : Bool) (p p' : List ℕ) (l l' : List CommitmentState) → b' ≡ b → p' ≡ p → l' ≡ l → IsSignedIf b p l → IsSignedIf b' p' l'
 signed_same b b' p p' l l' e f g h = subst (λ x. IsSignedIf x p' l') (sym e) (subst (λ x. IsSignedIf b x l') (sym f) (subst (λ x. IsSignedIf b p x) (sym g) h))
 
-pub kept_opened : (s : State) (terms : Terms) (side : Side) (signer r : Rights) (first next : Key) → s ≡ opened terms side signer.seed first next → r.seed ≡ signer.seed
+pub kept_opened : (s : State) (terms : Terms) (side : Side) (signer r : Rights) (first next : Key) → s ≡ state_at_opening terms side signer.seed first next → r.seed ≡ signer.seed
     → r.points ≡ first.bytes ∷ next.bytes ∷ (point_at signer.seed 0).bytes ∷ (point_at signer.seed 1).bytes ∷ [] → r.secrets ≡ signer.secrets → CanOpen terms side signer → IsChannel s r
 kept_opened s terms side signer r first next e seed points secrets can =
     subst (λ (t : State). IsChannel t r) (sym e)
     (record {
       bases = can.bases;
       points =
-          subst (λ l. HaveSame l (rights_of (opened terms side signer.seed first next)).points) (sym points)
+          subst (λ l. HaveSame l (rights_of (state_at_opening terms side signer.seed first next)).points) (sym points)
           (first_four first.bytes next.bytes (point_at signer.seed 0).bytes (point_at signer.seed 1).bytes);
       count = ap length points;
       learnt = secrets ∙ can.no_secrets;

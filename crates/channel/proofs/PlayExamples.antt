@@ -7,7 +7,7 @@ use Rattle.terms.specs.declared.agreement.BaseKeys.{BaseKeys}
 use Rattle.terms.specs.declared.agreement.Terms.{Terms}
 use Rattle.updates.specs.declared.changes.OwnUpdate.{OwnUpdate}
 use Rattle.updates.specs.declared.changes.OwnUpdate.TheVariants.{Offer, Fulfil, Fail, SetFee}
-use Rattle.updates.specs.declared.refusals.Refusal.TheVariants.{AmountZero, BelowMinimum, ExpiryTooLarge, OverBalance, UnknownHtlc, WrongPreimage, NoUpdates, NotYourTurn, NotOpener}
+use Rattle.updates.specs.declared.errors.ChannelError.TheVariants.{AmountZero, BelowMinimum, ExpiryTooLarge, OverBalance, UnknownHtlc, WrongPreimage, NoUpdates, NotYourTurn, NotOpener}
 use Rattle.channel.specs.declared.commitments.CommitmentState.{CommitmentState}
 use Rattle.channel.specs.declared.plays.Action.{Action}
 use Rattle.channel.specs.declared.plays.Action.TheVariants.{Own, Sign, Deliver}

@@ -3,8 +3,8 @@ use Rattle.std.proofs.Common.{◌≡◌, List, [], ◌∷◌, refl, sym, subst, 
 use Rattle.terms.specs.declared.sides.Side.{Side}
 use Rattle.terms.specs.declared.sides.Side.TheVariants.{A, B}
 use Rattle.updates.specs.declared.changes.Update.{Update}
-use Rattle.updates.specs.declared.refusals.Refusal.{Refusal}
-use Rattle.updates.specs.declared.refusals.Refusal.TheVariants.{NoMemory}
+use Rattle.updates.specs.declared.errors.ChannelError.{ChannelError}
+use Rattle.updates.specs.declared.errors.ChannelError.TheVariants.{NoMemory}
 use Rattle.channel.specs.declared.messages.Message.{Message}
 use Rattle.channel.specs.declared.messages.Message.TheVariants.{Updated}
 use Rattle.channel.specs.declared.plays.Action.{Action}
@@ -26,7 +26,7 @@ acts_step tokens_of w B me sent rest acts = by_b acts
 -- what each step keeps, a play keeps
 
 module _ (tokens_of : Signing) (P : World → Type 0) (keeps : (w v : World) → Steps tokens_of w v → P w → P v) where
-  kept_unless : (w v : World) (r : Option Refusal) → (r ≡ None → Steps tokens_of w v) → P w → P (unless r w v).world
+  kept_unless : (w v : World) (r : Option ChannelError) → (r ≡ None → Steps tokens_of w v) → P w → P (unless r w v).world
   kept_unless w v None s g = keeps w v (s refl) g
   kept_unless w v (Some r) s g = g
 

@@ -1,7 +1,7 @@
 -- What a state is once all messages of its queue came.
 use Rattle.std.proofs.Common.{◌≡◌, ℕ, ◌+◌, true, List, [], ◌∷◌, ◌++◌, sym, ◌∙◌, refl, arith, None, append-nil, append_assoc}
 use Rattle.updates.specs.declared.changes.Update.{Update}
-use Rattle.updates.specs.Stages.{Stages, made}
+use Rattle.updates.specs.Stages.{Stages, with_update}
 use Rattle.channel.specs.declared.commitments.CommitmentState.{CommitmentState}
 use Rattle.channel.specs.declared.messages.Message.{Message}
 use Rattle.channel.specs.declared.messages.Message.TheVariants.{Updated, CommitmentSigned, RevokeAndAck}
@@ -69,7 +69,7 @@ drained_made (RevokeAndAck secret next_point ∷ queue) u s = drained_made queue
 pub flows_made : (tokens_of : Signing) (queue : List Message) (u : Update) (s : State) → Flows tokens_of queue s → Flows tokens_of queue (after_update u s)
 flows_made tokens_of [] u s f = tt
 flows_made tokens_of (Updated v ∷ queue) u s f =
-    (update_accepted s.held.terms (other s.held.side) s.held.theirs s.held.own s.held.theirs (made u s.held.own) v (record { known = refl; settled = refl; others_known = (u ∷ [], refl); others_settled = begins s.held.own.settled }) f.0, flows_made tokens_of queue u (after s (Updated v)) f.1)
+    (update_accepted s.held.terms (other s.held.side) s.held.theirs s.held.own s.held.theirs (with_update u s.held.own) v (record { known = refl; settled = refl; others_known = (u ∷ [], refl); others_settled = begins s.held.own.settled }) f.0, flows_made tokens_of queue u (after s (Updated v)) f.1)
 flows_made tokens_of (CommitmentSigned tokens ∷ queue) u s f = (f.0, flows_made tokens_of queue u (after s (CommitmentSigned tokens)) f.1)
 flows_made tokens_of (RevokeAndAck secret next_point ∷ queue) u s f = (f.0, flows_made tokens_of queue u (after s (RevokeAndAck secret next_point)) f.1)
 

@@ -14,7 +14,7 @@ use Rattle.channel.specs.declared.messages.Tokens.{Tokens}
 use Rattle.channel.specs.declared.messages.Message.{Message}
 use Rattle.channel.specs.declared.messages.Message.TheVariants.{Updated, CommitmentSigned, RevokeAndAck}
 use Rattle.channel.specs.Points.{point_at}
-use Rattle.channel.specs.States.{Signing, State, opened, sign_tests, receive_tests, receive_refusal, peers_next, own_next, after_update, after_sign, after}
+use Rattle.channel.specs.States.{Signing, State, state_at_opening, sign_tests, receive_tests, receive_refusal, peers_next, own_next, after_update, after_sign, after}
 use Rattle.channel.specs.Peers.{starts, updated_once, signed_once, received_once}
 use Rattle.channel.specs.Recording.{own_newest, peers_newest, peers_signed, IsRecorded, SidesRecord}
 
@@ -83,7 +83,7 @@ recorded_revocation s secret next_point e r = record {
   past_count = longer r.past (peers_newest s) s.peer_number r.past_count;
 }
 
-recorded_opened : (terms : Terms) (side : Side) (seed : List ℕ) (point next_point : Key) → IsRecorded (opened terms side seed point next_point)
+recorded_opened : (terms : Terms) (side : Side) (seed : List ℕ) (point next_point : Key) → IsRecorded (state_at_opening terms side seed point next_point)
 recorded_opened terms side seed point next_point = record {
   older = [];
   mine = refl;

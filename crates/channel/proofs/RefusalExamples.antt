@@ -10,10 +10,10 @@ use Rattle.terms.specs.declared.sides.Side.TheVariants.{A, B}
 use Rattle.terms.specs.declared.agreement.BaseKeys.{BaseKeys}
 use Rattle.terms.specs.declared.agreement.Terms.{Terms}
 use Rattle.updates.specs.declared.changes.Update.TheVariants.{Add, Fulfil, Fail, Fee}
-use Rattle.updates.specs.declared.refusals.Refusal.TheVariants.{AmountZero, BelowMinimum, ExpiryTooLarge, WrongId, OverBalance, UnknownHtlc, NoUpdates, BadSignature, WrongSecret, NotYourTurn, NotOpener}
+use Rattle.updates.specs.declared.errors.ChannelError.TheVariants.{AmountZero, BelowMinimum, ExpiryTooLarge, WrongId, OverBalance, UnknownHtlc, NoUpdates, BadSignature, WrongSecret, NotYourTurn, NotOpener}
 use Rattle.channel.specs.declared.messages.Message.TheVariants.{Updated, CommitmentSigned, RevokeAndAck}
 use Rattle.channel.specs.Points.{index_of, secret_at, point_at, is_foreign}
-use Rattle.channel.specs.States.{State, opened, update_refusal, sign_refusal, receive_refusal, after_update, after_sign, after, answers}
+use Rattle.channel.specs.States.{State, state_at_opening, update_refusal, sign_refusal, receive_refusal, after_update, after_sign, after, answers}
 use Rattle.channel.proofs.Samples.{key, secret, point_key, tokens_of, tokens}
 
 -- a commitment number's index: the first, the second and the last
@@ -66,10 +66,10 @@ module _ (funding : OutPoint) (bases : BaseKeys) (seed : List ℕ) where
   }
 
   abbrev a : State
-  a = opened terms A seed point_key (key 1)
+  a = state_at_opening terms A seed point_key (key 1)
 
   abbrev b : State
-  b = opened terms B seed (key 0) (key 1)
+  b = state_at_opening terms B seed (key 0) (key 1)
 
   -- what A may offer
   offers : (update_refusal a (Add (htlc 0 0 500000000)) ≡ Some AmountZero)

@@ -8,7 +8,7 @@ use Rattle.terms.specs.declared.agreement.BaseKeys.{BaseKeys}
 use Rattle.terms.specs.declared.agreement.Terms.{Terms}
 use Rattle.updates.specs.declared.changes.OwnUpdate.{OwnUpdate}
 use Rattle.updates.specs.declared.changes.OwnUpdate.TheVariants.{Offer, Fail, SetFee}
-use Rattle.updates.specs.declared.refusals.Refusal.TheVariants.{NotOpener, NotYourTurn, UnknownHtlc}
+use Rattle.updates.specs.declared.errors.ChannelError.TheVariants.{NotOpener, NotYourTurn, UnknownHtlc}
 use Rattle.channel.specs.declared.commitments.CommitmentState.{CommitmentState}
 use Rattle.channel.specs.declared.plays.Action.{Action}
 use Rattle.channel.specs.declared.plays.Action.TheVariants.{Own, Sign, Deliver}

@@ -10,14 +10,14 @@ use Rattle.updates.proofs.Funds.{settled_past, settled_known, settled_receiver, 
 use Rattle.updates.proofs.OneSide.{steady_none, steady_made, steady_signed, steady_update, steady_signature, steady_revocation, sound_at}
 use Rattle.channel.specs.declared.messages.Message.{Message}
 use Rattle.channel.specs.declared.messages.Message.TheVariants.{Updated, CommitmentSigned, RevokeAndAck}
-use Rattle.channel.specs.States.{Signing, State, opened, update_refusal, receive_refusal, after_update, after_sign, after}
+use Rattle.channel.specs.States.{Signing, State, state_at_opening, update_refusal, receive_refusal, after_update, after_sign, after}
 use Rattle.channel.specs.Peers.{IsLived, starts, updated_once, signed_once, received_once}
 use Rattle.channel.specs.Agreeing.{IsSoundState, SidesAreSound}
 
 abbrev pub IsKept : State → Type 0
 IsKept s = IsSteady s.held
 
-pub kept_opened : (terms : Terms) (side : Side) (seed : List ℕ) (point next_point : Key) → IsKept (opened terms side seed point next_point)
+pub kept_opened : (terms : Terms) (side : Side) (seed : List ℕ) (point next_point : Key) → IsKept (state_at_opening terms side seed point next_point)
 kept_opened terms side seed point next_point = steady_none terms side
 
 pub kept_updated : (s : State) (u : Update) → update_refusal s u ≡ None → IsKept s → IsKept (after_update u s)

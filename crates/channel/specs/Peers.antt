@@ -8,7 +8,7 @@ use Rattle.updates.specs.declared.changes.Update.{Update}
 use Rattle.channel.specs.declared.messages.Message.{Message}
 use Rattle.channel.specs.declared.messages.Message.TheVariants.{Updated}
 use Rattle.channel.specs.Points.{point_at}
-use Rattle.channel.specs.States.{Signing, State, opened, update_refusal, sign_refusal, receive_refusal, after_update, after_sign, after, answers, signature_message}
+use Rattle.channel.specs.States.{Signing, State, state_at_opening, update_refusal, sign_refusal, receive_refusal, after_update, after_sign, after, answers, signature_message}
 
 pub record World : Type 0 where
   pub a : State
@@ -19,8 +19,8 @@ pub record World : Type 0 where
 -- both sides of a new channel, of one value of the terms, each with the other's points
 abbrev pub opened_both : Terms → List ℕ → List ℕ → World
 opened_both terms seed_a seed_b = record {
-  a = opened terms A seed_a (point_at seed_b 0) (point_at seed_b 1);
-  b = opened terms B seed_b (point_at seed_a 0) (point_at seed_a 1);
+  a = state_at_opening terms A seed_a (point_at seed_b 0) (point_at seed_b 1);
+  b = state_at_opening terms B seed_b (point_at seed_a 0) (point_at seed_a 1);
   to_a = [];
   to_b = [];
 }
@@ -51,7 +51,7 @@ pub data IsReached (tokens_of : Signing) (terms : Terms) (seed_a seed_b : List �
 
 -- the states of one side that its own calls and any messages lead to, whoever sent them
 pub data IsLived (tokens_of : Signing) : State → Type 0 where
-  starts : (terms : Terms) (side : Side) (seed : List ℕ) (point next_point : Key) → IsLived tokens_of (opened terms side seed point next_point)
+  starts : (terms : Terms) (side : Side) (seed : List ℕ) (point next_point : Key) → IsLived tokens_of (state_at_opening terms side seed point next_point)
   updated_once : {s : State} (u : Update) → update_refusal s u ≡ None → IsLived tokens_of s → IsLived tokens_of (after_update u s)
   signed_once : {s : State} → sign_refusal s ≡ None → IsLived tokens_of s → IsLived tokens_of (after_sign s)
   received_once : {s : State} (m : Message) → receive_refusal tokens_of s m ≡ None → IsLived tokens_of s → IsLived tokens_of (after s m)

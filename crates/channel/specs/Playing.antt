@@ -3,8 +3,8 @@ use Rattle.std.specs.Prelude.{◌≡◌, List, [], ◌∷◌, ◌++◌, Option, 
 use Rattle.terms.specs.declared.sides.Side.{Side}
 use Rattle.terms.specs.declared.sides.Side.TheVariants.{A, B}
 use Rattle.updates.specs.declared.changes.Update.{Update}
-use Rattle.updates.specs.declared.refusals.Refusal.{Refusal}
-use Rattle.updates.specs.declared.refusals.Refusal.TheVariants.{NoMemory}
+use Rattle.updates.specs.declared.errors.ChannelError.{ChannelError}
+use Rattle.updates.specs.declared.errors.ChannelError.TheVariants.{NoMemory}
 use Rattle.channel.specs.declared.messages.Message.{Message}
 use Rattle.channel.specs.declared.messages.Message.TheVariants.{Updated}
 use Rattle.channel.specs.declared.plays.Action.{Action}
@@ -34,7 +34,7 @@ moved A w me rest sent = record { a = me; b = w.b; to_a = rest; to_b = w.to_b ++
 moved B w me rest sent = record { a = w.a; b = me; to_a = w.to_a ++ sent; to_b = rest }
 
 -- the second world, where nothing refuses
-abbrev pub unless : Option Refusal → World → World → Played
+abbrev pub unless : Option ChannelError → World → World → Played
 unless None w v = record { world = v; outcome = Done }
 unless (Some r) w v = record { world = w; outcome = Refused r }
 

@@ -10,8 +10,8 @@ use Rattle.updates.specs.declared.changes.Update.{Update}
 use Rattle.updates.specs.declared.changes.Update.TheVariants.{Add, Fulfil as Fulfilling, Fail as Failing, Fee}
 use Rattle.updates.specs.declared.changes.OwnUpdate.{OwnUpdate}
 use Rattle.updates.specs.declared.changes.OwnUpdate.TheVariants.{Offer, Fulfil, Fail, SetFee}
-use Rattle.updates.specs.declared.refusals.Refusal.{Refusal}
-use Rattle.updates.specs.declared.refusals.Refusal.TheVariants.{NoUpdates, BadSignature, WrongSecret, NotYourTurn}
+use Rattle.updates.specs.declared.errors.ChannelError.{ChannelError}
+use Rattle.updates.specs.declared.errors.ChannelError.TheVariants.{NoUpdates, BadSignature, WrongSecret, NotYourTurn}
 use Rattle.updates.specs.Views.{view_by}
 use Rattle.updates.specs.Stages.{Stages}
 use Rattle.updates.specs.Refusals.{Test, first_refusal, covers_nothing}
@@ -45,8 +45,8 @@ abbrev pub first_of : Terms → Side → Key → CommitmentState
 first_of terms owner point = record { view = view_by terms owner [] []; owner = owner; number = 0; point = point }
 
 -- a side of a new channel, with the peer's points for 0 and 1
-abbrev pub opened : Terms → Side → List ℕ → Key → Key → State
-opened terms side seed point next_point = record {
+abbrev pub state_at_opening : Terms → Side → List ℕ → Key → Key → State
+state_at_opening terms side seed point next_point = record {
   held = holding_none terms side;
   seed = seed;
   awaiting = false;
@@ -96,13 +96,13 @@ receive_tests tokens_of s (RevokeAndAck secret next_point) =
     (not s.awaiting, NotYourTurn) ∷ (not (bytes_eq (point_of secret) s.point.bytes), WrongSecret) ∷ (is_foreign s.secrets secret, WrongSecret) ∷ []
 
 -- the refusals of an update of one's own, of a signature to be given out, and of a received message
-abbrev pub update_refusal : State → Update → Option Refusal
+abbrev pub update_refusal : State → Update → Option ChannelError
 update_refusal s u = first_refusal (own_tests s.held u)
 
-abbrev pub sign_refusal : State → Option Refusal
+abbrev pub sign_refusal : State → Option ChannelError
 sign_refusal s = first_refusal (sign_tests s)
 
-abbrev pub receive_refusal : Signing → State → Message → Option Refusal
+abbrev pub receive_refusal : Signing → State → Message → Option ChannelError
 receive_refusal tokens_of s m = first_refusal (receive_tests tokens_of s m)
 
 -- the update that a side in this state makes: an offer has the next id

@@ -6,7 +6,7 @@ use Rattle.terms.specs.declared.sides.Side.{Side}
 use Rattle.terms.specs.declared.agreement.Terms.{Terms}
 use Rattle.terms.specs.Agreement.{party}
 use Rattle.terms.specs.Sides.{other}
-use Rattle.updates.specs.declared.refusals.Refusal.TheVariants.{BadSignature}
+use Rattle.updates.specs.declared.errors.ChannelError.TheVariants.{BadSignature}
 use Rattle.updates.specs.Refusals.{Test}
 use Rattle.commit.specs.Commitments.{Contents, commitment_of}
 use Rattle.commit.specs.Building.{refusal_of}

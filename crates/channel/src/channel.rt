@@ -11,7 +11,7 @@ use sighash::Token;
 use std::alloc::{AllocError, Global};
 use std::marker::Model;
 use terms::{Side, Terms};
-use updates::{Ledger, OwnUpdate, Refusal, Update};
+use updates::{ChannelError, Ledger, OwnUpdate, Update};
 
 /// One side of a channel: its updates, the numbers of both sides' commitments, the peer's points and secrets, and every commitment that was signed. A
 /// contract sees it as its `State`.
@@ -70,7 +70,7 @@ impl Channel {
     ghost use Rattle.std.specs.Prelude.{◌≡◌, ◌↔◌, ℕ, List, ◌+◌, ◌^◌, ◌<◌, ◌≤◌, ◌||◌, nat_le, [], ◌∷◌, ◌++◌, false, true, None, length, slice_get, option_map, IfOk, IfErr, IfSome, IfNone, OnErr, MatchResult};
     ghost use Rattle.std.specs.List.{cons_option};
     ghost use Rattle.updates.specs.declared.changes.Update.TheVariants.{Add, Fulfil, Fail, Fee};
-    ghost use Rattle.updates.specs.declared.refusals.Refusal.TheVariants.{NoMemory};
+    ghost use Rattle.updates.specs.declared.errors.ChannelError.TheVariants.{NoMemory};
     ghost use Rattle.updates.specs.Refusals.{first_refusal, IsRefusal};
     ghost use Rattle.updates.specs.Steady.{next_htlc};
     ghost use Rattle.channel.specs.declared.messages.Message.TheVariants.{Updated, CommitmentSigned, RevokeAndAck};
@@ -83,7 +83,7 @@ impl Channel {
     ghost use Rattle.keys.specs.Rights.{MaySign};
     ghost use Rattle.updates.specs.Shares.{IsSoundIn};
     ghost use Rattle.channel.specs.Tokens.{IsBuilt, opening_tests, peer_tokens as tokens_of};
-    ghost use Rattle.channel.specs.States.{opened, peers_next, own_next, update_of, update_refusal, sign_refusal, receive_refusal, receive_tests, after_update, after_sign, after, answers, signature_message};
+    ghost use Rattle.channel.specs.States.{state_at_opening, peers_next, own_next, update_of, update_refusal, sign_refusal, receive_refusal, receive_tests, after_update, after_sign, after, answers, signature_message};
 
     /// A side of a new channel, with the peer's points for 0 and 1, and the peer's token on this side's commitment 0: BadSignature where it is
     /// another. The signer learnt nothing yet, and its funding and HTLC base keys stand in the terms.
@@ -95,9 +95,10 @@ impl Channel {
         first_point: Key,
         next_point: Key,
         token: &Token,
-    ) -> Result<Channel, Refusal>
+    ) -> Result<Channel, ChannelError>
         requires { CanOpen terms side signer }
-        ensures ok { IfOk result (λ c. c ≡ opened terms side signer.seed first_point next_point) }
+        ensures ok { IfOk result (λ c. c ≡ state_at_opening terms side signer.seed first_point
+            next_point) }
         ensures tested { let first = first_refusal (opening_tests terms side signer.seed token.now)
             in MatchResult result (λ _. first ≡ None) (IsRefusal first) }
     {
@@ -168,7 +169,8 @@ impl Channel {
     /// This side's commitments that the peer signed, by number.
     pub fn own_commitments(&self) -> &[CommitmentState]
         ensures commitments { result.now ≡ self.now.mine }
-        ensures numbered { AreNumbered self.now.held.terms self.now.held.side (self.now.number + 1) result.now }
+        ensures numbered { AreNumbered self.now.held.terms self.now.held.side
+            (self.now.number + 1) result.now }
     {
         self.mine.as_slice()
     }
@@ -176,7 +178,8 @@ impl Channel {
     /// The peer's commitments that were signed, by number: the revoked ones, the newest, and the one after it where its revocation is awaited.
     pub fn peers_commitments(&self) -> &[CommitmentState]
         ensures commitments { result.now ≡ self.now.signed }
-        ensures numbered { AreNumbered self.now.held.terms (other self.now.held.side) (self.now.peer_number + 1 + one_if self.now.awaiting) result.now }
+        ensures numbered { AreNumbered self.now.held.terms (other self.now.held.side)
+            (self.now.peer_number + 1 + one_if self.now.awaiting) result.now }
     {
         self.signed.as_slice()
     }
@@ -191,7 +194,8 @@ impl Channel {
     /// The peer's tokens on this side's commitment of a number, where the peer signed it: those that came with its signature. The only error is that
     /// memory ran out.
     pub fn own_tokens(&self, number: u64) -> Result<Option<Tokens>, AllocError>
-        ensures { IfOk result (λ t. t ≡ option_map (tokens_of self.now.held.terms) (slice_get self.now.mine number)) }
+        ensures { IfOk result (λ t. t ≡ option_map (tokens_of self.now.held.terms)
+            (slice_get self.now.mine number)) }
     {
         let Some(commitment) = self.own_commitment(number) else {
             return Ok(None);
@@ -225,17 +229,26 @@ impl Channel {
     pub fn signer(&self) -> &Signer
         ensures seed { result.now.seed ≡ self.now.seed }
         ensures bases { HasBases self.now.held.terms self.now.held.side self.now.seed }
-        ensures rights { (key : List ℕ) → MaySign result.now key ↔ MaySign (rights_of self.now) key }
+        ensures rights { (key : List ℕ) → MaySign result.now key
+            ↔ MaySign (rights_of self.now) key }
     {
         &self.signer
     }
 
     /// Offers an HTLC of `amount` millisatoshis, and gives the message. It is tested for AmountZero, BelowMinimum, ExpiryTooLarge, TooManyHtlcs and
     /// OverBalance, in this order. A refusal leaves the channel as it was.
-    pub fn offer(&mut self, amount: u64, hash: [u8; 32], expiry: u32) -> Result<Message, Refusal>
-        ensures message { IfOk result (λ m. m ≡ Updated (Add (next_htlc self.old.held.own amount hash expiry))) }
-        ensures ok { IfOk result (λ _. self.new ≡ after_update (Add (next_htlc self.old.held.own amount hash expiry)) self.old) }
-        ensures tested { let first = update_refusal self.old (Add (next_htlc self.old.held.own amount hash expiry))
+    pub fn offer(
+        &mut self,
+        amount: u64,
+        hash: [u8; 32],
+        expiry: u32,
+    ) -> Result<Message, ChannelError>
+        ensures message { IfOk result (λ m. m ≡ Updated
+            (Add (next_htlc self.old.held.own amount hash expiry))) }
+        ensures ok { IfOk result (λ _. self.new ≡ after_update
+            (Add (next_htlc self.old.held.own amount hash expiry)) self.old) }
+        ensures tested { let first = update_refusal self.old
+            (Add (next_htlc self.old.held.own amount hash expiry))
             in MatchResult result (λ _. first ≡ None) (IsRefusal first) }
         ensures err { OnErr result (self.new ≡ self.old) }
     {
@@ -247,10 +260,11 @@ impl Channel {
 
     /// Fulfils an HTLC of the peer, and gives the message: UnknownHtlc where the peer has none of this id that passed all stages and that nobody
     /// removed, else WrongPreimage. A refusal leaves the channel as it was.
-    pub fn fulfil(&mut self, id: u64, preimage: [u8; 32]) -> Result<Message, Refusal>
+    pub fn fulfil(&mut self, id: u64, preimage: [u8; 32]) -> Result<Message, ChannelError>
         ensures message { IfOk result (λ m. m ≡ Updated (Fulfil id preimage)) }
         ensures ok { IfOk result (λ _. self.new ≡ after_update (Fulfil id preimage) self.old) }
-        ensures tested { let first = update_refusal self.old (Fulfil id preimage) in MatchResult result (λ _. first ≡ None) (IsRefusal first) }
+        ensures tested { let first = update_refusal self.old (Fulfil id preimage)
+            in MatchResult result (λ _. first ≡ None) (IsRefusal first) }
         ensures err { OnErr result (self.new ≡ self.old) }
     {
         match self.ledger.fulfil(id, preimage) {
@@ -260,10 +274,11 @@ impl Channel {
     }
 
     /// Fails an HTLC of the peer, and gives the message: UnknownHtlc as of `fulfil`. A refusal leaves the channel as it was.
-    pub fn fail(&mut self, id: u64) -> Result<Message, Refusal>
+    pub fn fail(&mut self, id: u64) -> Result<Message, ChannelError>
         ensures message { IfOk result (λ m. m ≡ Updated (Fail id)) }
         ensures ok { IfOk result (λ _. self.new ≡ after_update (Fail id) self.old) }
-        ensures tested { let first = update_refusal self.old (Fail id) in MatchResult result (λ _. first ≡ None) (IsRefusal first) }
+        ensures tested { let first = update_refusal self.old (Fail id)
+            in MatchResult result (λ _. first ≡ None) (IsRefusal first) }
         ensures err { OnErr result (self.new ≡ self.old) }
     {
         match self.ledger.fail(id) {
@@ -273,10 +288,11 @@ impl Channel {
     }
 
     /// Changes the feerate, and gives the message: NotOpener where this side did not open the channel. A refusal leaves the channel as it was.
-    pub fn set_fee(&mut self, rate: u32) -> Result<Message, Refusal>
+    pub fn set_fee(&mut self, rate: u32) -> Result<Message, ChannelError>
         ensures message { IfOk result (λ m. m ≡ Updated (Fee rate)) }
         ensures ok { IfOk result (λ _. self.new ≡ after_update (Fee rate) self.old) }
-        ensures tested { let first = update_refusal self.old (Fee rate) in MatchResult result (λ _. first ≡ None) (IsRefusal first) }
+        ensures tested { let first = update_refusal self.old (Fee rate)
+            in MatchResult result (λ _. first ≡ None) (IsRefusal first) }
         ensures err { OnErr result (self.new ≡ self.old) }
     {
         match self.ledger.set_fee(rate) {
@@ -287,10 +303,12 @@ impl Channel {
 
     /// Makes an update, and gives the message: refused as [`offer`](Channel::offer), [`fulfil`](Channel::fulfil), [`fail`](Channel::fail) and
     /// [`set_fee`](Channel::set_fee). A refusal leaves the channel as it was.
-    pub fn make(&mut self, update: &OwnUpdate) -> Result<Message, Refusal>
+    pub fn make(&mut self, update: &OwnUpdate) -> Result<Message, ChannelError>
         ensures message { IfOk result (λ m. m ≡ Updated (update_of self.old update.now)) }
-        ensures ok { IfOk result (λ _. self.new ≡ after_update (update_of self.old update.now) self.old) }
-        ensures tested { let first = update_refusal self.old (update_of self.old update.now) in MatchResult result (λ _. first ≡ None) (IsRefusal first) }
+        ensures ok { IfOk result (λ _. self.new ≡ after_update
+            (update_of self.old update.now) self.old) }
+        ensures tested { let first = update_refusal self.old (update_of self.old update.now)
+            in MatchResult result (λ _. first ≡ None) (IsRefusal first) }
         ensures err { OnErr result (self.new ≡ self.old) }
     {
         match update {
@@ -307,16 +325,17 @@ impl Channel {
 
     // This side's next commitment.
     #[tactic(auto, using(crate::proofs::Built::built_view))]
-    fn own_next(&self) -> Result<CommitmentState, Refusal>
+    fn own_next(&self) -> Result<CommitmentState, ChannelError>
         requires { self.now.number < last_number }
         ensures ok { IfOk result (λ c. c ≡ own_next self.now) }
         ensures built { IfOk result (λ c. IsBuilt self.now.held.terms c) }
-        ensures sound { IfOk result (λ _. IsSoundIn self.now.held self.now.held.own.past_receiver self.now.held.theirs.known) }
+        ensures sound { IfOk result (λ _. IsSoundIn self.now.held self.now.held.own.past_receiver
+            self.now.held.theirs.known) }
         ensures err { IfErr result (λ e. e ≡ NoMemory) }
     {
         let view = match self.ledger.view_to_receive() {
             Ok(view) => view,
-            Err(_) => return Err(Refusal::NoMemory),
+            Err(_) => return Err(ChannelError::NoMemory),
         };
         Ok(CommitmentState {
             view,
@@ -328,16 +347,17 @@ impl Channel {
 
     // The peer's next commitment.
     #[tactic(auto, using(crate::proofs::Built::built_view))]
-    fn peers_next(&self) -> Result<CommitmentState, Refusal>
+    fn peers_next(&self) -> Result<CommitmentState, ChannelError>
         requires { self.now.peer_number < last_number }
         ensures ok { IfOk result (λ c. c ≡ peers_next self.now) }
         ensures built { IfOk result (λ c. IsBuilt self.now.held.terms c) }
-        ensures sound { IfOk result (λ _. IsSoundIn self.now.held self.now.held.own.known self.now.held.theirs.past_receiver) }
+        ensures sound { IfOk result (λ _. IsSoundIn self.now.held self.now.held.own.known
+            self.now.held.theirs.past_receiver) }
         ensures err { IfErr result (λ e. e ≡ NoMemory) }
     {
         let view = match self.ledger.view_to_sign() {
             Ok(view) => view,
-            Err(_) => return Err(Refusal::NoMemory),
+            Err(_) => return Err(ChannelError::NoMemory),
         };
         Ok(CommitmentState {
             view,
@@ -348,27 +368,30 @@ impl Channel {
     }
 
     // Whether this side may sign.
-    fn check_sign(&self) -> Result<(), Refusal>
-        ensures tested { MatchResult result (λ _. sign_refusal self.now ≡ None) (IsRefusal (sign_refusal self.now)) }
+    fn check_sign(&self) -> Result<(), ChannelError>
+        ensures tested { MatchResult result (λ _. sign_refusal self.now ≡ None)
+            (IsRefusal (sign_refusal self.now)) }
         ensures waits { IfOk result (λ _. self.now.awaiting ≡ false) }
         ensures below { IfOk result (λ _. self.now.peer_number < last_number) }
     {
         if self.awaiting || self.peer_number >= LAST_NUMBER {
-            return Err(Refusal::NotYourTurn);
+            return Err(ChannelError::NotYourTurn);
         }
         if self.ledger.signs_nothing() {
-            return Err(Refusal::NoUpdates);
+            return Err(ChannelError::NoUpdates);
         }
         Ok(())
     }
 
     /// The peer's next commitment, which [`signed`](Channel::signed) would sign: NotYourTurn while a signature awaits its revocation, and past the last
     /// number, else NoUpdates where it would cover no new update.
-    pub fn ready(&self) -> Result<CommitmentState, Refusal>
+    pub fn ready(&self) -> Result<CommitmentState, ChannelError>
         ensures ok { IfOk result (λ c. c ≡ peers_next self.now) }
         ensures built { IfOk result (λ c. IsBuilt self.now.held.terms c) }
-        ensures sound { IfOk result (λ _. IsSoundIn self.now.held self.now.held.own.known self.now.held.theirs.past_receiver) }
-        ensures tested { MatchResult result (λ _. sign_refusal self.now ≡ None) (IsRefusal (sign_refusal self.now)) }
+        ensures sound { IfOk result (λ _. IsSoundIn self.now.held self.now.held.own.known
+            self.now.held.theirs.past_receiver) }
+        ensures tested { MatchResult result (λ _. sign_refusal self.now ≡ None)
+            (IsRefusal (sign_refusal self.now)) }
     {
         match self.check_sign() {
             Ok(()) => self.peers_next(),
@@ -377,10 +400,11 @@ impl Channel {
     }
 
     /// Signs the peer's next commitment, and gives the message: refused as [`ready`](Channel::ready). A refusal leaves the channel as it was.
-    pub fn signed(&mut self) -> Result<Message, Refusal>
+    pub fn signed(&mut self) -> Result<Message, ChannelError>
         ensures message { IfOk result (λ m. m ≡ signature_message tokens_of self.old) }
         ensures ok { IfOk result (λ _. self.new ≡ after_sign self.old) }
-        ensures tested { MatchResult result (λ _. sign_refusal self.old ≡ None) (IsRefusal (sign_refusal self.old)) }
+        ensures tested { MatchResult result (λ _. sign_refusal self.old ≡ None)
+            (IsRefusal (sign_refusal self.old)) }
         ensures err { OnErr result (self.new ≡ self.old) }
     {
         match self.check_sign() {
@@ -389,16 +413,16 @@ impl Channel {
         }
         let next = match self.peers_next() {
             Ok(next) => next,
-            Err(_) => return Err(Refusal::NoMemory),
+            Err(_) => return Err(ChannelError::NoMemory),
         };
         let alloc = *self.signed.allocator();
         let tokens = match sign_tokens(alloc, &self.signer, self.ledger.terms(), &next) {
             Ok(tokens) => tokens,
-            Err(_) => return Err(Refusal::NoMemory),
+            Err(_) => return Err(ChannelError::NoMemory),
         };
         match self.signed.push(next) {
             Ok(()) => {}
-            Err(_) => return Err(Refusal::NoMemory),
+            Err(_) => return Err(ChannelError::NoMemory),
         }
         self.ledger.sign();
         self.awaiting = true;
@@ -420,40 +444,44 @@ impl Channel {
     }
 
     // This side's next commitment, where the peer's tokens are for it.
-    fn check_signature(&self, tokens: &Tokens) -> Result<CommitmentState, Refusal>
+    fn check_signature(&self, tokens: &Tokens) -> Result<CommitmentState, ChannelError>
         ensures ok { IfOk result (λ c. c ≡ own_next self.now) }
-        ensures tested { let first = receive_refusal tokens_of self.now (CommitmentSigned tokens.now)
-            in MatchResult result (λ _. first ≡ None) (IsRefusal first) }
-        ensures sound { IfOk result (λ _. IsSoundIn self.now.held self.now.held.own.past_receiver self.now.held.theirs.known) }
+        ensures tested { let first = receive_refusal tokens_of self.now
+            (CommitmentSigned tokens.now) in MatchResult result (λ _. first ≡ None)
+            (IsRefusal first) }
+        ensures sound { IfOk result (λ _. IsSoundIn self.now.held self.now.held.own.past_receiver
+            self.now.held.theirs.known) }
         ensures below { IfOk result (λ _. self.now.number < last_number) }
     {
         if self.number >= LAST_NUMBER {
-            return Err(Refusal::NotYourTurn);
+            return Err(ChannelError::NotYourTurn);
         }
         if self.ledger.receives_nothing() {
-            return Err(Refusal::NoUpdates);
+            return Err(ChannelError::NoUpdates);
         }
         let next = match self.own_next() {
             Ok(next) => next,
-            Err(_) => return Err(Refusal::NoMemory),
+            Err(_) => return Err(ChannelError::NoMemory),
         };
         let alloc = *self.mine.allocator();
         let expected = match peer_tokens(alloc, self.ledger.terms(), &next) {
             Ok(expected) => expected,
-            Err(_) => return Err(Refusal::NoMemory),
+            Err(_) => return Err(ChannelError::NoMemory),
         };
         if !same_tokens(tokens, &expected) {
-            return Err(Refusal::BadSignature);
+            return Err(ChannelError::BadSignature);
         }
         Ok(next)
     }
 
     // A signature came. It is answered at once.
-    fn receive_signature(&mut self, tokens: &Tokens) -> Result<Message, Refusal>
-        ensures answer { IfOk result (λ m. m ∷ [] ≡ answers self.old (CommitmentSigned tokens.now)) }
+    fn receive_signature(&mut self, tokens: &Tokens) -> Result<Message, ChannelError>
+        ensures answer { IfOk result (λ m. m ∷ [] ≡ answers self.old
+            (CommitmentSigned tokens.now)) }
         ensures ok { IfOk result (λ _. self.new ≡ after self.old (CommitmentSigned tokens.now)) }
-        ensures tested { let first = receive_refusal tokens_of self.old (CommitmentSigned tokens.now)
-            in MatchResult result (λ _. first ≡ None) (IsRefusal first) }
+        ensures tested { let first = receive_refusal tokens_of self.old
+            (CommitmentSigned tokens.now) in MatchResult result (λ _. first ≡ None)
+            (IsRefusal first) }
         ensures err { OnErr result (self.new ≡ self.old) }
     {
         let next = match self.check_signature(tokens) {
@@ -462,13 +490,13 @@ impl Channel {
         };
         match self.mine.reserve(1) {
             Ok(()) => {}
-            Err(_) => return Err(Refusal::NoMemory),
+            Err(_) => return Err(ChannelError::NoMemory),
         }
         let secret = own_secret(&self.signer, self.number);
         let next_point = own_point(&self.signer, self.number + 2);
         match self.signer.learn_point(&next_point) {
             Ok(()) => {}
-            Err(_) => return Err(Refusal::NoMemory),
+            Err(_) => return Err(ChannelError::NoMemory),
         }
         self.mine.push(next).unwrap();
         self.ledger.receive_signature();
@@ -477,24 +505,30 @@ impl Channel {
     }
 
     // A revocation came.
-    fn receive_revocation(&mut self, secret: &[u8; 32], next_point: &Key) -> Result<(), Refusal>
-        ensures ok { IfOk result (λ _. self.new ≡ after self.old (RevokeAndAck secret.now next_point.now)) }
-        ensures tested { let first = receive_refusal tokens_of self.old (RevokeAndAck secret.now next_point.now)
+    fn receive_revocation(
+        &mut self,
+        secret: &[u8; 32],
+        next_point: &Key,
+    ) -> Result<(), ChannelError>
+        ensures ok { IfOk result (λ _. self.new ≡ after self.old
+            (RevokeAndAck secret.now next_point.now)) }
+        ensures tested { let first = receive_refusal tokens_of self.old
+            (RevokeAndAck secret.now next_point.now)
             in MatchResult result (λ _. first ≡ None) (IsRefusal first) }
         ensures err { OnErr result (self.new ≡ self.old) }
     {
         if !self.awaiting {
-            return Err(Refusal::NotYourTurn);
+            return Err(ChannelError::NotYourTurn);
         }
         if point(secret).bytes != self.point.bytes {
-            return Err(Refusal::WrongSecret);
+            return Err(ChannelError::WrongSecret);
         }
         let Some(secrets) = self.with_secret(secret) else {
-            return Err(Refusal::WrongSecret);
+            return Err(ChannelError::WrongSecret);
         };
         match self.signer.learn_revocation(secret, next_point) {
             Ok(()) => {}
-            Err(_) => return Err(Refusal::NoMemory),
+            Err(_) => return Err(ChannelError::NoMemory),
         }
         self.secrets = secrets;
         self.ledger.receive_revocation();
@@ -512,7 +546,7 @@ impl Channel {
     /// The channel has moved on by the time this returns: a caller has to store what it received, where a restart finds it, before it sends the answer, since a
     /// `revoke_and_ack` gives up the commitment before and can't be taken back (BOLT 2, "Message Retransmission"). What the tests leave open is for the caller to
     /// screen beforehand: whether a received feerate is one that it would pay or that still confirms, and whether the sender keeps a reserve.
-    pub fn receive(&mut self, message: &Message) -> Result<Option<Message>, Refusal>
+    pub fn receive(&mut self, message: &Message) -> Result<Option<Message>, ChannelError>
         ensures answer { IfOk result (λ m. cons_option m [] ≡ answers self.old message.now) }
         ensures ok { IfOk result (λ _. self.new ≡ after self.old message.now) }
         ensures tested { let first = receive_refusal tokens_of self.old message.now

@@ -2,7 +2,7 @@
 
 ghost use Rattle.std.specs.Prelude.{◌≡◌, ◌^◌, ◌<◌, [], ◌∷◌, None, IfOk, IfErr, MatchResult, not};
 ghost use Rattle.std.specs.Str.{bytes_eq};
-ghost use Rattle.updates.specs.declared.refusals.Refusal.TheVariants.{NoMemory, BadSignature};
+ghost use Rattle.updates.specs.declared.errors.ChannelError.TheVariants.{NoMemory, BadSignature};
 ghost use Rattle.terms.specs.Sides.{other};
 ghost use Rattle.channel.specs.Points.{secret_at, point_at};
 ghost use Rattle.channel.specs.States.{first_of};
@@ -19,7 +19,7 @@ use secrets::from_seed;
 use sighash::Token;
 use std::alloc::{AllocError, Global};
 use terms::{Side, Terms};
-use updates::{Ledger, Refusal};
+use updates::{ChannelError, Ledger};
 
 // The index of the secret of commitment number 0.
 pub(crate) const FIRST_INDEX: u64 = 281_474_976_710_655;
@@ -52,7 +52,8 @@ pub(crate) fn with_opening_points(
 ) -> Result<Signer, AllocError>
     requires { signer.points ≡ [] }
     ensures seed { IfOk result (λ s. s.seed ≡ signer.seed) }
-    ensures points { IfOk result (λ s. s.points ≡ first.now.bytes ∷ next.now.bytes ∷ (point_at signer.seed 0).bytes ∷ (point_at signer.seed 1).bytes ∷ []) }
+    ensures points { IfOk result (λ s. s.points ≡ first.now.bytes ∷ next.now.bytes
+        ∷ (point_at signer.seed 0).bytes ∷ (point_at signer.seed 1).bytes ∷ []) }
     ensures secrets { IfOk result (λ s. s.secrets ≡ signer.secrets) }
 {
     let own = opening_points(&signer);
@@ -72,9 +73,10 @@ pub fn opening_token(
     side: Side,
     signer: &Signer,
     point: &Key,
-) -> Result<Token, Refusal>
+) -> Result<Token, ChannelError>
     requires { (party side terms.now).bases.funding.bytes ≡ base_key signer.now.seed Funding }
-    ensures ok { IfOk result (λ t. t ≡ (peer_tokens terms.now (first_of terms.now (other side) point.now)).commitment) }
+    ensures ok { IfOk result (λ t. t ≡ (peer_tokens terms.now
+        (first_of terms.now (other side) point.now)).commitment) }
     ensures err { IfErr result (λ e. e ≡ NoMemory) }
 {
     match first_commitment(alloc, *terms, side.other(), *point) {
@@ -108,7 +110,7 @@ pub(crate) fn first_commitment(
     terms: Terms,
     owner: Side,
     point: Key,
-) -> Result<CommitmentState, Refusal>
+) -> Result<CommitmentState, ChannelError>
     ensures ok { IfOk result (λ c. c ≡ first_of terms owner point) }
     ensures built { IfOk result (λ c. IsBuilt terms c) }
     ensures err { IfErr result (λ e. e ≡ NoMemory) }
@@ -120,7 +122,7 @@ pub(crate) fn first_commitment(
             number: 0,
             point,
         }),
-        Err(_) => Err(Refusal::NoMemory),
+        Err(_) => Err(ChannelError::NoMemory),
     }
 }
 
@@ -137,20 +139,21 @@ fn test_token(
     terms: &Terms,
     commitment: &CommitmentState,
     token: &Token,
-) -> Result<(), Refusal>
+) -> Result<(), ChannelError>
     requires { IsBuilt terms.now commitment.now }
-    ensures { let first = first_refusal ((not (bytes_eq token.now (peer_tokens terms.now commitment.now).commitment), BadSignature) ∷ [])
-        in MatchResult result (λ _. first ≡ None) (IsRefusal first) }
+    ensures { let first = first_refusal
+        ((not (bytes_eq token.now (peer_tokens terms.now commitment.now).commitment), BadSignature)
+        ∷ []) in MatchResult result (λ _. first ≡ None) (IsRefusal first) }
 {
     match peer_tokens(alloc, terms, commitment) {
         Ok(expected) => {
             if token.bytes() == expected.commitment.bytes() {
                 Ok(())
             } else {
-                Err(Refusal::BadSignature)
+                Err(ChannelError::BadSignature)
             }
         }
-        Err(_) => Err(Refusal::NoMemory),
+        Err(_) => Err(ChannelError::NoMemory),
     }
 }
 
@@ -170,14 +173,15 @@ fn first_of_own(
     side: Side,
     signer: &Signer,
     token: &Token,
-) -> Result<Vec<CommitmentState>, Refusal>
-    ensures ok { IfOk result (λ v. v.items ≡ first_of terms side (point_at signer.now.seed 0) ∷ []) }
+) -> Result<Vec<CommitmentState>, ChannelError>
+    ensures ok { IfOk result (λ v. v.items ≡ first_of terms side (point_at signer.now.seed 0)
+        ∷ []) }
     ensures tested { let first = first_refusal (opening_tests terms side signer.now.seed token.now)
         in MatchResult result (λ _. first ≡ None) (IsRefusal first) }
 {
     let first = match first_commitment(alloc, terms, side, own_point(signer, 0)) {
         Ok(first) => first,
-        Err(_) => return Err(Refusal::NoMemory),
+        Err(_) => return Err(ChannelError::NoMemory),
     };
     match test_token(alloc, &terms, &first, token) {
         Ok(()) => Ok(alone(alloc, first)?),
@@ -208,8 +212,9 @@ pub(crate) fn first_commitments(
     signer: &Signer,
     peers: Key,
     token: &Token,
-) -> Result<FirstCommitments, Refusal>
-    ensures mine { IfOk result (λ f. f.mine.items ≡ first_of terms side (point_at signer.now.seed 0) ∷ []) }
+) -> Result<FirstCommitments, ChannelError>
+    ensures mine { IfOk result (λ f. f.mine.items ≡ first_of terms side (point_at signer.now.seed 0)
+        ∷ []) }
     ensures signed { IfOk result (λ f. f.signed.items ≡ first_of terms (other side) peers ∷ []) }
     ensures tested { let first = first_refusal (opening_tests terms side signer.now.seed token.now)
         in MatchResult result (λ _. first ≡ None) (IsRefusal first) }

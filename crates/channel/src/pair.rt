@@ -15,7 +15,7 @@ use std::alloc::Global;
 use std::collections::VecDeque;
 use std::marker::Model;
 use terms::Side;
-use updates::Refusal;
+use updates::ChannelError;
 
 /// Two channels of one value of the terms, each with a queue of messages that are on their way to it. A contract sees it as a `World`: one that steps of two
 /// honest peers led to from a new channel.
@@ -42,7 +42,7 @@ impl Model for Pair {
 
 impl Pair {
     ghost use Rattle.std.specs.Prelude.{◌≡◌, [], IfOk, IfErr, OnErr};
-    ghost use Rattle.updates.specs.declared.refusals.Refusal.TheVariants.{NoMemory};
+    ghost use Rattle.updates.specs.declared.errors.ChannelError.TheVariants.{NoMemory};
     ghost use Rattle.channel.specs.Peers.{AreOpened};
     ghost use Rattle.channel.specs.Playing.{state_of, IsStep, IsPlay, AreDelivered};
     ghost use Rattle.channel.specs.Agreeing.{AgreesThroughout};
@@ -74,8 +74,9 @@ impl Pair {
 
     /// Plays steps in turn, and gives the outcome of each; a refused step changes nothing, and the next one is played. No delivery is refused unless memory ran
     /// out, and the two agree at every moment. The only error is that no memory was there for the outcomes: then no step was played.
-    pub fn play(&mut self, steps: &[PairStep]) -> Result<Vec<Outcome>, Refusal>
-        ensures played { IfOk result (λ outcomes. IsPlay tokens_of self.old steps.now outcomes.items self.new) }
+    pub fn play(&mut self, steps: &[PairStep]) -> Result<Vec<Outcome>, ChannelError>
+        ensures played { IfOk result (λ outcomes. IsPlay tokens_of self.old steps.now outcomes.items
+            self.new) }
         ensures delivered { IfOk result (λ outcomes. AreDelivered steps.now outcomes.items) }
         ensures agreed { AgreesThroughout tokens_of self.old steps.now }
         ensures none { IfErr result (λ e. e ≡ NoMemory) }
@@ -84,7 +85,7 @@ impl Pair {
         let alloc = *self.to_a.allocator();
         let mut outcomes = match Vec::with_capacity(alloc, steps.len()) {
             Ok(outcomes) => outcomes,
-            Err(_) => return Err(Refusal::NoMemory),
+            Err(_) => return Err(ChannelError::NoMemory),
         };
         for next in steps {
             let outcome = self.step(next);
@@ -111,10 +112,11 @@ fn turn(
     to_peer: &mut VecDeque<Message>,
     action: &Action,
 ) -> Outcome
-    ensures { IsTurn tokens_of action.now me.old to_me.old.items to_peer.old.items result me.new to_me.new.items to_peer.new.items }
+    ensures { IsTurn tokens_of action.now me.old to_me.old.items to_peer.old.items result me.new
+        to_me.new.items to_peer.new.items }
 {
     if to_peer.reserve(1).is_err() {
-        return Outcome::Refused(Refusal::NoMemory);
+        return Outcome::Refused(ChannelError::NoMemory);
     }
     match *action {
         Action::Own(update) => send(to_peer, me.make(&update)),
@@ -124,9 +126,10 @@ fn turn(
 }
 
 // The message of a call of one's own is sent.
-fn send(to_peer: &mut VecDeque<Message>, sent: Result<Message, Refusal>) -> Outcome
+fn send(to_peer: &mut VecDeque<Message>, sent: Result<Message, ChannelError>) -> Outcome
     requires { deque_len to_peer.old < deque_capacity to_peer.old }
-    ensures { MatchResult sent (λ m. (result ≡ Done) × (to_peer.new.items ≡ to_peer.old.items ++ m ∷ []))
+    ensures { MatchResult sent (λ m. (result ≡ Done)
+        × (to_peer.new.items ≡ to_peer.old.items ++ m ∷ []))
         (λ e. (result ≡ Refused e) × (to_peer.new.items ≡ to_peer.old.items)) }
 {
     match sent {
@@ -145,7 +148,8 @@ fn deliver(
     to_peer: &mut VecDeque<Message>,
 ) -> Outcome
     requires { deque_len to_peer.old < deque_capacity to_peer.old }
-    ensures { IsTurn tokens_of Deliver me.old to_me.old.items to_peer.old.items result me.new to_me.new.items to_peer.new.items }
+    ensures { IsTurn tokens_of Deliver me.old to_me.old.items to_peer.old.items result me.new
+        to_me.new.items to_peer.new.items }
 {
     let Some(message) = to_me.front() else {
         return Outcome::NoMessage;

@@ -1,7 +1,7 @@
 //! Steps of two peers.
 
 use terms::Side;
-use updates::{OwnUpdate, Refusal};
+use updates::{ChannelError, OwnUpdate};
 
 /// What one of two peers does.
 #[derive(Clone, Copy, Debug, PartialEq, Eq, Drop)]
@@ -26,7 +26,7 @@ pub struct PairStep {
 pub enum Outcome {
     Done,
     /// Nothing changed.
-    Refused(Refusal),
+    Refused(ChannelError),
     /// No message was on its way to the side. Nothing changed.
     NoMessage,
 }

@@ -2,7 +2,7 @@
 
 ghost use Rattle.std.specs.Prelude.{◌≡◌, map, IfOk, IfErr};
 ghost use Rattle.script.specs.Token.{token_of};
-ghost use Rattle.updates.specs.declared.refusals.Refusal.TheVariants.{NoMemory};
+ghost use Rattle.updates.specs.declared.errors.ChannelError.TheVariants.{NoMemory};
 ghost use Rattle.keys.specs.Rights.{MaySign};
 ghost use Rattle.commit.specs.Signing.{commitment_digest, htlc_digests};
 ghost use Rattle.channel.specs.States.{all_eq, same_tokens};
@@ -16,7 +16,7 @@ use lists::List;
 use sighash::Token;
 use std::alloc::{AllocError, Global};
 use terms::Terms;
-use updates::Refusal;
+use updates::ChannelError;
 
 // What the owner's peer signs, and its keys for it.
 #[derive(Drop)]
@@ -27,7 +27,11 @@ struct Signable {
 }
 
 // The commitment, whose transaction keeps the limits.
-fn build_whole(alloc: Global, terms: &Terms, state: &CommitmentState) -> Result<Commitment, Refusal>
+fn build_whole(
+    alloc: Global,
+    terms: &Terms,
+    state: &CommitmentState,
+) -> Result<Commitment, ChannelError>
     requires { IsBuilt terms.now state.now }
     ensures ok { IfOk result (λ c. c ≡ contents_of terms.now state.now) }
     ensures err { IfErr result (λ e. e ≡ NoMemory) }
@@ -41,23 +45,29 @@ fn build_whole(alloc: Global, terms: &Terms, state: &CommitmentState) -> Result<
         &state.point,
     ) {
         Ok(commitment) => Ok(commitment),
-        Err(BuildError::NoMemory) => Err(Refusal::NoMemory),
+        Err(BuildError::NoMemory) => Err(ChannelError::NoMemory),
         Err(_) => unreachable!(),
     }
 }
 
 // What the owner's peer signs of a commitment.
-fn make_signable(alloc: Global, terms: &Terms, state: &CommitmentState) -> Result<Signable, Refusal>
+fn make_signable(
+    alloc: Global,
+    terms: &Terms,
+    state: &CommitmentState,
+) -> Result<Signable, ChannelError>
     requires { IsBuilt terms.now state.now }
-    ensures commitment { IfOk result (λ s. s.digests.commitment ≡ commitment_digest terms.now (contents_of terms.now state.now)) }
-    ensures htlcs { IfOk result (λ s. s.digests.htlcs ≡ htlc_digests (contents_of terms.now state.now)) }
+    ensures commitment { IfOk result (λ s. s.digests.commitment ≡ commitment_digest terms.now
+        (contents_of terms.now state.now)) }
+    ensures htlcs { IfOk result (λ s. s.digests.htlcs ≡ htlc_digests
+        (contents_of terms.now state.now)) }
     ensures funding_key { IfOk result (λ s. s.funding_key.bytes ≡ funding_key terms.now state.now) }
     ensures htlc_key { IfOk result (λ s. s.htlc_key.bytes ≡ htlc_key terms.now state.now) }
     ensures err { IfErr result (λ e. e ≡ NoMemory) }
 {
     let commitment = match build_whole(alloc, terms, state) {
         Ok(commitment) => commitment,
-        Err(_) => return Err(Refusal::NoMemory),
+        Err(_) => return Err(ChannelError::NoMemory),
     };
     let htlc_key = commitment.keys().remote_htlc;
     match signing_digests(alloc, terms, &commitment) {
@@ -66,7 +76,7 @@ fn make_signable(alloc: Global, terms: &Terms, state: &CommitmentState) -> Resul
             funding_key: terms.party(state.owner.other()).bases.funding,
             htlc_key,
         }),
-        Err(_) => Err(Refusal::NoMemory),
+        Err(_) => Err(ChannelError::NoMemory),
     }
 }
 
@@ -86,14 +96,14 @@ pub(crate) fn peer_tokens(
     alloc: Global,
     terms: &Terms,
     state: &CommitmentState,
-) -> Result<Tokens, Refusal>
+) -> Result<Tokens, ChannelError>
     requires { IsBuilt terms.now state.now }
     ensures ok { IfOk result (λ t. t ≡ peer_tokens terms.now state.now) }
     ensures err { IfErr result (λ e. e ≡ NoMemory) }
 {
     let signable = match make_signable(alloc, terms, state) {
         Ok(signable) => signable,
-        Err(_) => return Err(Refusal::NoMemory),
+        Err(_) => return Err(ChannelError::NoMemory),
     };
     let digests = signable.digests;
     match tokens_by(alloc, &signable.htlc_key, digests.htlcs.values()) {
@@ -101,7 +111,7 @@ pub(crate) fn peer_tokens(
             commitment: Token::new(&signable.funding_key.bytes, &digests.commitment),
             htlcs: List::from_vec(htlcs),
         }),
-        Err(_) => Err(Refusal::NoMemory),
+        Err(_) => Err(ChannelError::NoMemory),
     }
 }
 
@@ -122,7 +132,7 @@ pub(crate) fn sign_commitment(
     signer: &Signer,
     terms: &Terms,
     state: &CommitmentState,
-) -> Result<Token, Refusal>
+) -> Result<Token, ChannelError>
     requires built { IsBuilt terms.now state.now }
     requires funding { MaySign signer.now (funding_key terms.now state.now) }
     ensures ok { IfOk result (λ t. t ≡ (peer_tokens terms.now state.now).commitment) }
@@ -130,7 +140,7 @@ pub(crate) fn sign_commitment(
 {
     match make_signable(alloc, terms, state) {
         Ok(signable) => Ok(sign_one(signer, &signable.funding_key, &signable.digests.commitment)),
-        Err(_) => Err(Refusal::NoMemory),
+        Err(_) => Err(ChannelError::NoMemory),
     }
 }
 
@@ -157,7 +167,7 @@ pub(crate) fn sign_tokens(
     signer: &Signer,
     terms: &Terms,
     state: &CommitmentState,
-) -> Result<Tokens, Refusal>
+) -> Result<Tokens, ChannelError>
     requires built { IsBuilt terms.now state.now }
     requires funding { MaySign signer.now (funding_key terms.now state.now) }
     requires htlc { MaySign signer.now (htlc_key terms.now state.now) }
@@ -166,7 +176,7 @@ pub(crate) fn sign_tokens(
 {
     let signable = match make_signable(alloc, terms, state) {
         Ok(signable) => signable,
-        Err(_) => return Err(Refusal::NoMemory),
+        Err(_) => return Err(ChannelError::NoMemory),
     };
     let digests = signable.digests;
     match sign_all(alloc, signer, &signable.htlc_key, digests.htlcs.values()) {
@@ -174,7 +184,7 @@ pub(crate) fn sign_tokens(
             commitment: sign_one(signer, &signable.funding_key, &digests.commitment),
             htlcs: List::from_vec(htlcs),
         }),
-        Err(_) => Err(Refusal::NoMemory),
+        Err(_) => Err(ChannelError::NoMemory),
     }
 }
 

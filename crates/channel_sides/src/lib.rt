@@ -19,7 +19,7 @@
 ghost use Rattle.std.specs.Prelude.{◌≡◌, IfOk};
 ghost use Rattle.terms.specs.Sides.{other};
 ghost use Rattle.channel.specs.Points.{point_at};
-ghost use Rattle.channel.specs.States.{opened};
+ghost use Rattle.channel.specs.States.{state_at_opening};
 ghost use Rattle.channel.specs.Keeping.{HasBases, CanOpen};
 ghost use Rattle.channel.specs.Peers.{AreOpened};
 
@@ -55,7 +55,8 @@ fn open_side(
 ) -> Result<Channel>
     requires own { CanOpen terms side signer }
     requires peers { HasBases terms (other side) peer.now.seed }
-    ensures { IfOk result (λ c. c ≡ opened terms side signer.seed (point_at peer.now.seed 0) (point_at peer.now.seed 1)) }
+    ensures { IfOk result (λ c. c ≡ state_at_opening terms side signer.seed
+        (point_at peer.now.seed 0) (point_at peer.now.seed 1)) }
 {
     let own = opening_points(&signer);
     let token = opening_token(alloc, &terms, side.other(), peer, &own.first)?;

@@ -9,10 +9,15 @@ use parties::{FUNDING, party, terms_of};
 use std::alloc::Global;
 use std::process::Abort;
 use terms::{Side, Terms};
-use updates::Refusal;
+use updates::ChannelError;
 
 /// A side of this channel, to which its peer gives a token for the commitment of this number.
-pub fn open(rt: &impl Abort, alloc: Global, side: Side, number: u64) -> Result<Channel, Refusal> {
+pub fn open(
+    rt: &impl Abort,
+    alloc: Global,
+    side: Side,
+    number: u64,
+) -> Result<Channel, ChannelError> {
     let (a, b) = (Signer::new(alloc, &[1; 32]), Signer::new(alloc, &[2; 32]));
     let (of_a, of_b) = (party(&a, 80_000_000), party(&b, 20_000_000));
     let terms = terms_of(FUNDING, 100_000, of_a, of_b).expect(rt, "terms");
@@ -30,7 +35,7 @@ fn open_with(
     signer: Signer,
     peer: &Signer,
     number: u64,
-) -> Result<Channel, Refusal>
+) -> Result<Channel, ChannelError>
     requires own { CanOpen terms side signer }
     requires peers { HasBases terms (other side) peer.now.seed }
 {
@@ -60,7 +65,7 @@ fn offer_and_sign(
     amount: u64,
     hash: [u8; 32],
     expiry: u32,
-) -> Result<(Message, Message), Refusal> {
+) -> Result<(Message, Message), ChannelError> {
     let offer = channel.offer(amount, hash, expiry)?;
     let signature = channel.signed()?;
     Ok((offer, signature))

@@ -5,14 +5,14 @@ use channel::{Channel, Message, Tokens, opening_points};
 use keys::{Base, Signer, point, revocation};
 use std::process::Abort;
 use terms::Side;
-use updates::{OwnUpdate, Refusal};
+use updates::{ChannelError, OwnUpdate};
 
 // A new channel wants the peer's token on its commitment 0.
 #[test]
 fn opens_with_the_peers_token(rt: HostRuntime) {
     assert!(rt; open(&rt, rt.alloc(), Side::A, 0).is_ok());
     let refusal = open(&rt, rt.alloc(), Side::A, 1).err();
-    assert!(rt; matches!(&refusal, Some(Refusal::BadSignature)));
+    assert!(rt; matches!(&refusal, Some(ChannelError::BadSignature)));
 }
 
 // How many tokens on HTLC transactions a message has, where it is a `commitment_signed`.
@@ -25,9 +25,9 @@ fn htlc_tokens(message: &Message) -> Option<usize> {
 
 // A side that has nothing to sign, and not so much to offer, is refused both.
 fn refuses(rt: &impl Abort, channel: &mut Channel) {
-    assert_eq!(rt; channel.signed().err(), Some(Refusal::NoUpdates));
+    assert_eq!(rt; channel.signed().err(), Some(ChannelError::NoUpdates));
     let refusal = channel.offer(80_000_001, [9; 32], 500).err();
-    assert_eq!(rt; refusal, Some(Refusal::OverBalance));
+    assert_eq!(rt; refusal, Some(ChannelError::OverBalance));
 }
 
 // An offer is signed once.
@@ -40,7 +40,7 @@ fn offers_and_signs(rt: HostRuntime) {
     assert_eq!(rt; (offered, next.number, next.view.a.balance), (true, 1, 0));
     let message = channel.signed().expect(&rt, "tokens");
     assert_eq!(rt; htlc_tokens(&message), Some(1));
-    assert_eq!(rt; channel.signed().err(), Some(Refusal::NotYourTurn));
+    assert_eq!(rt; channel.signed().err(), Some(ChannelError::NotYourTurn));
 }
 
 // Each other update of one's own finds memory.
@@ -69,7 +69,7 @@ fn makes_its_own_updates(rt: HostRuntime) {
         (true, true, 2000, 79_999_000)
     );
     let failed = channel.make(&OwnUpdate::Fail { id: 0 }).err();
-    assert_eq!(rt; failed, Some(Refusal::UnknownHtlc));
+    assert_eq!(rt; failed, Some(ChannelError::UnknownHtlc));
 }
 
 // B signs A's commitment with the HTLC, and fails it.

@@ -21,7 +21,7 @@ use Rattle.claim.specs.declared.parts.Shell.TheVariants.{Open, Fixed}
 use Rattle.claim.specs.declared.errors.AcceptError.{AcceptError}
 use Rattle.claim.specs.declared.errors.AcceptError.TheVariants.{NoSuchPath}
 use Rattle.claim.specs.Evidence.{evidence_of}
-use Rattle.claim.specs.Fitting.{IsRefusal, StandsRound, Opens}
+use Rattle.claim.specs.Fitting.{IsRefusal, StandsRound, Spends}
 use Rattle.claim.proofs.Locks.{age-small}
 use Rattle.claim.specs.Judgement.{has_polarity, is_met, first_unmet_or, judgement_of_path, judgement_of, height_of, age_of, is_shell, known_digest, needed_height}
 use Rattle.claim.specs.Claims.{ClaimParts, IsAccepted, IsBare, TakesPath, path_of, sequence_of, lock_time_of, FitsClaim, IsWhole}
@@ -75,7 +75,7 @@ pub judgement_of-from : {A : Type 0} (ways : CheckedScript) (index : ℕ) (slots
 judgement_of-from ways index slots place shell p script (Ok x) at e h = ap is_ok (judgement_of-same ways index slots place shell p script at e ∙ h)
 judgement_of-from ways index slots place shell p script (Err c) at e h = subst (λ j. IsRefusal j c) (sym (judgement_of-same ways index slots place shell p script at e)) h
 
-pub accepted-opens : (ways : CheckedScript) (index : ℕ) (slots : List Slot) (place : Place) (shell : Shell) (bytes : List ℕ) → Spells ways.ops bytes → length bytes ≤ 10000 → All (IsSound ways.ops) ways.paths → (p : Path) → judgement_of ways index slots place shell ≡ Ok p → Opens ways.ops p slots place shell
+pub accepted-opens : (ways : CheckedScript) (index : ℕ) (slots : List Slot) (place : Place) (shell : Shell) (bytes : List ℕ) → Spells ways.ops bytes → length bytes ≤ 10000 → All (IsSound ways.ops) ways.paths → (p : Path) → judgement_of ways index slots place shell ≡ Ok p → Spends ways.ops p slots place shell
 accepted-opens ways index slots place shell bytes spells short all p e = judgement_of-opens ways index slots place shell p spells.each (subst (λ b. length b ≤ 10000) (sym spells.same) short) all e
 
 pub accepted-sound : (ways : CheckedScript) (index : ℕ) (slots : List Slot) (place : Place) (shell : Shell) (p : Path) → All (IsSound ways.ops) ways.paths → judgement_of ways index slots place shell ≡ Ok p → IsSound ways.ops p

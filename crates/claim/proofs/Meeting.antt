@@ -34,7 +34,7 @@ use Rattle.sighash.specs.Programs.{spend_of, given_of, script_ops, run_of}
 use Rattle.claim.specs.declared.errors.AcceptError.{AcceptError}
 use Rattle.claim.specs.declared.errors.AcceptError.TheVariants.{WrongArity, Unmet, Contradiction, WrongProgram, WrongShell}
 use Rattle.claim.specs.Evidence.{hash_evidence, size_evidence, truth_evidence, bytes_evidence, form_evidence, key_form_evidence, evidence_of}
-use Rattle.claim.specs.Fitting.{FillsSlot, FillsSlots, Fits, output_at, Opens}
+use Rattle.claim.specs.Fitting.{FillsSlot, FillsSlots, Fits, output_at, Spends}
 use Rattle.claim.specs.Judgement.{has_polarity, is_met, first_unmet_or, path_or_refusal, is_program, is_shell, known_digest, judgement_of_path, judgement_of}
 use Rattle.claim.proofs.Shells.{round_of}
 use Rattle.sighash.proofs.Parsing.{parsed_spelling}
@@ -184,8 +184,8 @@ fits-runs ways index slots place shell p valid short j s t input f =
     (ap (given_of place.program) f.witness ∙ given place.program script f.items j.program (λ k. key_items (fits_spend ways place t input) ways.ops place.program f.items p.ops p.height valid short k clean))
     (parsed_spelling ways.ops valid short) clean
 
--- an accepted path of a sound script opens the output
-pub judgement_of-opens : (ways : CheckedScript) (index : ℕ) (slots : List Slot) (place : Place) (shell : Shell) (p : Path) → All IsOp ways.ops → length (spelling ways.ops) ≤ 10000 → All (IsSound ways.ops) ways.paths → judgement_of ways index slots place shell ≡ Ok p → Opens ways.ops p slots place shell
+-- an accepted path of a sound script spends the output
+pub judgement_of-opens : (ways : CheckedScript) (index : ℕ) (slots : List Slot) (place : Place) (shell : Shell) (p : Path) → All IsOp ways.ops → length (spelling ways.ops) ≤ 10000 → All (IsSound ways.ops) ways.paths → judgement_of ways index slots place shell ≡ Ok p → Spends ways.ops p slots place shell
 judgement_of-opens ways index slots place shell p valid short all e =
     let j = judgement_of-ok ways index slots place shell p e in
     let s : IsSound ways.ops p = sound-at ways.ops ways.paths index p all j.at in

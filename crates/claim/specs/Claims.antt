@@ -10,7 +10,7 @@ use Rattle.claim.specs.declared.parts.Slot.{Slot}
 use Rattle.claim.specs.declared.parts.Place.{Place}
 use Rattle.claim.specs.declared.parts.Shell.{Shell}
 use Rattle.claim.specs.Judgement.{judgement_of, bare_shell, needed_height, age_of}
-use Rattle.claim.specs.Fitting.{Fits, Opens}
+use Rattle.claim.specs.Fitting.{Fits, Spends}
 
 -- the shell of a claim: a fixed transaction has no witness item
 abbrev pub IsBare : Shell → Type 0
@@ -55,9 +55,9 @@ pub record FitsClaim (c : ClaimParts) (t : Transaction) (input : TxIn) : Type 0 
   pub taken : TakesPath c path
   pub fits : Fits (spelling c.ways.ops) path c.slots c.place c.shell t input
 
--- whatever fits a claim opens its output
-abbrev pub IsOpening : ClaimParts → Type 0
-IsOpening c = (p : Path) → TakesPath c p → Opens c.ways.ops p c.slots c.place c.shell
+-- whatever fits a claim spends its output
+abbrev pub IsSpending : ClaimParts → Type 0
+IsSpending c = (p : Path) → TakesPath c p → Spends c.ways.ops p c.slots c.place c.shell
 
 -- what every claim is: its script is opcodes that are at most 10,000 bytes, with the paths that are listed for them; a path was accepted for it; and its
 -- shell is bare

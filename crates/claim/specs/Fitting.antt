@@ -60,9 +60,9 @@ pub record Fits (script : List ℕ) (p : Path) (slots : List Slot) (place : Plac
 abbrev pub output_at : Place → Output
 output_at place = record { value = place.value; script = place.program }
 
--- whatever fits the claim meets its path, and opens the output: run as BIP 141 runs the place's program on the input's whole witness, under
+-- whatever fits the claim meets its path, and spends the output: run as BIP 141 runs the place's program on the input's whole witness, under
 -- the place's value, it is clean, with the path's counted opcodes and height; and its items are at most 1,000
-pub record Opens (ops : List Op) (p : Path) (slots : List Slot) (place : Place) (shell : Shell) : Type 0 where
+pub record Spends (ops : List Op) (p : Path) (slots : List Slot) (place : Place) (shell : Shell) : Type 0 where
   pub meets : (t : Transaction) (input : TxIn) (fits : Fits (spelling ops) p slots place shell t input) → Meets (spend_of t input (spelling ops) place.value) fits.items p.arity p.facts
   pub clean : (t : Transaction) (input : TxIn) → Fits (spelling ops) p slots place shell t input → run_of t input (output_at place) ≡ Some (Clean p.ops p.height)
   pub short : (t : Transaction) (input : TxIn) (fits : Fits (spelling ops) p slots place shell t input) → length fits.items ≤ max_stack_size

@@ -6,11 +6,11 @@ use Rattle.script.specs.Clean.{IsClean}
 use Rattle.tx.specs.declared.input.TxIn.{TxIn}
 use Rattle.tx.specs.Fields.{Transaction}
 use Rattle.sighash.specs.Programs.{spend_of}
-use Rattle.claim.specs.Claims.{ClaimParts, IsWhole, FitsClaim, IsOpening, sequence_of, lock_time_of}
+use Rattle.claim.specs.Claims.{ClaimParts, IsWhole, FitsClaim, IsSpending, sequence_of, lock_time_of}
 
--- it opens the output
-abbrev pub AcceptedOpen : Type 0
-AcceptedOpen = (c : ClaimParts) → IsWhole c → IsOpening c
+-- it spends the output
+abbrev pub AcceptedSpend : Type 0
+AcceptedSpend = (c : ClaimParts) → IsWhole c → IsSpending c
 
 -- step by step, its script runs clean on the items of the witness, with the counted opcodes and the height of the claim's path
 abbrev pub FittingRunsClean : Type 0

@@ -2,7 +2,7 @@
 
 ghost use Rattle.std.specs.Prelude.{◌≡◌, MatchResult, IfOk};
 ghost use Rattle.claim.specs.Judgement.{judgement_of, bare_shell};
-ghost use Rattle.claim.specs.Claims.{IsAcceptedOf, IsOpening, IsWhole};
+ghost use Rattle.claim.specs.Claims.{IsAcceptedOf, IsSpending, IsWhole};
 ghost use Rattle.claim.specs.Fitting.{IsRefusal};
 
 use crate::claims::Claim;
@@ -40,8 +40,9 @@ pub fn accept(
     place: Place,
     shell: Shell,
 ) -> Result<Claim, AcceptError>
-    ensures accepted { MatchResult result (IsAcceptedOf checked path slots.items place shell) (IsRefusal (judgement_of checked path slots.items place (bare_shell shell))) }
-    ensures opens { IfOk result IsOpening }
+    ensures accepted { MatchResult result (IsAcceptedOf checked path slots.items place shell)
+        (IsRefusal (judgement_of checked path slots.items place (bare_shell shell))) }
+    ensures spends { IfOk result IsSpending }
     ensures whole { IfOk result IsWhole }
 {
     let shell = bare(shell);
@@ -49,7 +50,7 @@ pub fn accept(
         Err(refusal) => Err(refusal),
         Ok(()) => {
             let claim = Claim::new(checked, path, List::from_vec(slots), place, shell);
-            // The proof learns from its path that the claim opens the output.
+            // The proof learns from its path that the claim spends the output.
             let _ = claim.path();
             Ok(claim)
         }

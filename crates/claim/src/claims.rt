@@ -45,7 +45,7 @@ fn path_at(paths: &[Path], index: usize) -> &Path
 impl Claim {
     ghost use Rattle.std.specs.Prelude.{is_ok, IsTrue, IfOk, Some, true};
     ghost use Rattle.claim.specs.Judgement.{judgement_of, is_shell};
-    ghost use Rattle.claim.specs.Claims.{IsBare, IsOpening, IsWhole, TakesPath, path_of, sequence_of, lock_time_of};
+    ghost use Rattle.claim.specs.Claims.{IsBare, IsSpending, IsWhole, TakesPath, path_of, sequence_of, lock_time_of};
     ghost use Rattle.paths.specs.Sound.{IsSound};
 
     // A claim that was judged, round which a fixed transaction is bare.
@@ -58,7 +58,13 @@ impl Claim {
     ) -> Claim
         requires judged { IsTrue (is_ok (judgement_of checked index slots place shell)) }
         requires bare { IsBare shell }
-        ensures { result ≡ record { ways = checked; index = index; slots = slots; place = place; shell = shell } }
+        ensures { result ≡ record {
+          ways = checked;
+          index = index;
+          slots = slots;
+          place = place;
+          shell = shell;
+        } }
     {
         Claim {
             checked,
@@ -105,7 +111,7 @@ impl Claim {
         ensures at { path_of self.now ≡ Some result.now }
         ensures shell { is_shell result.now self.now.place self.now.shell ≡ true }
         ensures sound { IsSound self.now.ways.ops result.now }
-        ensures opens { IsOpening self.now }
+        ensures spends { IsSpending self.now }
         ensures whole { IsWhole self.now }
     {
         // The proof learns from its bytes and opcodes that the script has its limits.

@@ -195,7 +195,8 @@ fn is_no(answer: Option<bool>) -> bool
 
 // Whether tokens of an increasing choice of the keys are shown, one for each slot: each key in turn is taken for the first slot that is left.
 fn has_choice(known: Option<[u8; 32]>, slots: &[Slot], places: &[usize], keys: &[KeySource]) -> bool
-    ensures { result ≡ exists_choice (λ i key. is_yes (token_evidence known slots.now i key)) places.now keys.now }
+    ensures { result ≡ exists_choice (λ i key. is_yes (token_evidence known slots.now i key))
+        places.now keys.now }
 {
     let mut taken: usize = 0;
     for key in keys {
@@ -224,7 +225,8 @@ fn has_refused(
     places: &[usize],
     keys: &[KeySource],
 ) -> bool
-    ensures { result ≡ list_any (λ i. list_all (λ key. is_no (token_evidence known slots.now i key)) keys.now) places.now }
+    ensures { result ≡ list_any (λ i. list_all
+        (λ key. is_no (token_evidence known slots.now i key)) keys.now) places.now }
 {
     places
         .iter()
@@ -233,7 +235,8 @@ fn has_refused(
 
 // Whether of each key it is shown that the slot is its token, or that it is not.
 fn is_decided(known: Option<[u8; 32]>, slots: &[Slot], place: usize, keys: &[KeySource]) -> bool
-    ensures { result ≡ list_all (λ key. is_some (token_evidence known slots.now place key)) keys.now }
+    ensures { result ≡ list_all (λ key. is_some (token_evidence known slots.now place key))
+        keys.now }
 {
     keys.iter()
         .all(|key| token_evidence(known, slots, place, key).is_some())
@@ -246,7 +249,8 @@ fn are_decided(
     places: &[usize],
     keys: &[KeySource],
 ) -> bool
-    ensures { result ≡ list_all (λ i. list_all (λ key. is_some (token_evidence known slots.now i key)) keys.now) places.now }
+    ensures { result ≡ list_all (λ i. list_all
+        (λ key. is_some (token_evidence known slots.now i key)) keys.now) places.now }
 {
     places
         .iter()

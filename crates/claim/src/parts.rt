@@ -46,7 +46,8 @@ pub enum Shell {
 impl WitnessItem {
     /// The item, or back again where it has more than 520 bytes.
     pub fn new(item: ByteString) -> Result<Self, ByteString>
-        ensures { MatchResult result (λ w. w.item ≡ item) (λ i. (i ≡ item) × (MAX_SCRIPT_ELEMENT_SIZE < length item)) }
+        ensures { MatchResult result (λ w. w.item ≡ item)
+            (λ i. (i ≡ item) × (MAX_SCRIPT_ELEMENT_SIZE < length item)) }
     {
         if item.len() > MAX_SCRIPT_ELEMENT_SIZE {
             return Err(item);

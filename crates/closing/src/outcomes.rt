@@ -1,6 +1,6 @@
 // What comes of a claim.
 
-use chain::Refusal;
+use chain::ChainError;
 use claim::AcceptError;
 use filling::FillError;
 use std::fmt;
@@ -10,7 +10,7 @@ use std::fmt;
 pub enum Outcome {
     NotAccepted(AcceptError),
     NotFilled(FillError),
-    NotConnected(Refusal),
+    NotConnected(ChainError),
     /// A block took the transaction: the age and the height that the claim asked for.
     Connected(u16, u64),
 }

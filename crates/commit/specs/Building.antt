@@ -18,7 +18,7 @@ refusal_number NoMemory = 0
 refusal_number TooManyOutputs = 1
 refusal_number ValueTooLarge = 2
 
--- why outputs make no transaction: the first refusal that holds, memory aside
+-- why outputs make no transaction: the first refusal that holds, barring out-of-memory
 unfoldable pub refusal_of : List CommitmentOutput → Option BuildError
 refusal_of outputs =
     if nat_lt max_outputs (length outputs) then Some TooManyOutputs

@@ -52,7 +52,9 @@ fn outputs_in_order(
     owner: Side,
     keys: &CommitmentKeys,
 ) -> Result<Vec<CommitmentOutput>, AllocError>
-    ensures { IfOk result (λ v. v.items ≡ in_order (outputs_of (party owner terms.now).delay (bytes_of keys.now) (amounts_of terms.now view.now owner))) }
+    ensures { IfOk result (λ v. v.items ≡ in_order
+        (outputs_of (party owner terms.now).delay (bytes_of keys.now)
+        (amounts_of terms.now view.now owner))) }
 {
     let amounts = commitment_amounts(alloc, terms, view, owner)?;
     let mut outputs = collect_outputs(alloc, terms.party(owner).delay, keys, &amounts)?;

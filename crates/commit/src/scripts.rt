@@ -120,7 +120,8 @@ fn to_local_bytes(
     delay: u16,
     delayed: &Key,
 ) -> Result<Vec<u8>, AllocError>
-    ensures { IfOk result (λ v. v.items ≡ spelling (to_local revocation.now.bytes delay delayed.now.bytes)) }
+    ensures { IfOk result (λ v. v.items ≡ spelling
+        (to_local revocation.now.bytes delay delayed.now.bytes)) }
 {
     let mut bytes = Vec::with_capacity(alloc, 80)?;
     bytes.extend_from_slice(&IF_KEY)?;
@@ -195,7 +196,8 @@ impl HtlcScripts {
 
     // The bytes that both directions begin with.
     fn begin(&self, alloc: Global) -> Result<Vec<u8>, AllocError>
-        ensures { IfOk result (λ v. v.items ≡ htlc_start self.now.revocation_hash self.now.keys.remote_htlc.bytes) }
+        ensures { IfOk result (λ v. v.items
+            ≡ htlc_start self.now.revocation_hash self.now.keys.remote_htlc.bytes) }
     {
         let mut bytes = Vec::with_capacity(alloc, HTLC_SCRIPT_SIZE)?;
         bytes.extend_from_slice(&KEY_HASH)?;
@@ -208,7 +210,9 @@ impl HtlcScripts {
 
     // The bytes of an offered HTLC's script.
     fn offered(&self, alloc: Global, payment: &[u8; 20]) -> Result<Vec<u8>, AllocError>
-        ensures { IfOk result (λ v. v.items ≡ spelling (offered self.now.revocation_hash self.now.keys.remote_htlc.bytes self.now.keys.local_htlc.bytes payment.now)) }
+        ensures { IfOk result (λ v. v.items ≡ spelling
+            (offered self.now.revocation_hash self.now.keys.remote_htlc.bytes
+            self.now.keys.local_htlc.bytes payment.now)) }
     {
         let mut bytes = self.begin(alloc)?;
         bytes.extend_from_slice(&TIMEOUT_KEY)?;
@@ -226,7 +230,9 @@ impl HtlcScripts {
         payment: &[u8; 20],
         expiry: u32,
     ) -> Result<Vec<u8>, AllocError>
-        ensures { IfOk result (λ v. v.items ≡ spelling (received self.now.revocation_hash self.now.keys.remote_htlc.bytes self.now.keys.local_htlc.bytes payment.now expiry)) }
+        ensures { IfOk result (λ v. v.items ≡ spelling
+            (received self.now.revocation_hash self.now.keys.remote_htlc.bytes
+            self.now.keys.local_htlc.bytes payment.now expiry)) }
     {
         let mut bytes = self.begin(alloc)?;
         bytes.extend_from_slice(&IF_PREIMAGE)?;
@@ -247,7 +253,8 @@ impl HtlcScripts {
         direction: Direction,
         htlc: &Htlc,
     ) -> Result<ByteString, AllocError>
-        ensures { IfOk result (λ s. s ≡ htlc_script_of (bytes_of self.now.keys) direction htlc.now) }
+        ensures { IfOk result (λ s. s ≡ htlc_script_of
+            (bytes_of self.now.keys) direction htlc.now) }
     {
         let payment = ripemd160(&htlc.hash);
         let bytes = match direction {

@@ -66,7 +66,8 @@ fn htlc_digest(
     script: &[u8],
 ) -> Result<[u8; 32], AllocError>
     requires low { satoshis_of htlc.now.htlc.amount ≤ max_value }
-    requires its_script { script.now ≡ htlc_script commitment.now.keys htlc.now.direction htlc.now.htlc }
+    requires its_script { script.now ≡ htlc_script commitment.now.keys htlc.now.direction
+        htlc.now.htlc }
     ensures { IfOk result (λ d. d ≡ htlc_digest_of commitment.now htlc.now) }
 {
     let tx = commitment.second_stage(alloc, htlc)?;
@@ -85,7 +86,8 @@ fn push_digest(
     digests: &mut Vec<[u8; 32]>,
 ) -> Result<(), AllocError>
     requires { IsOutputOf commitment.now.keys output.now }
-    ensures { OnOk result (digests.new.items ≡ digests.old.items ++ map (htlc_digest_of commitment.now) (cons_option (htlc_at index output.now.kind) [])) }
+    ensures { OnOk result (digests.new.items ≡ digests.old.items ++ map
+        (htlc_digest_of commitment.now) (cons_option (htlc_at index output.now.kind) [])) }
 {
     if let Some(htlc) = htlc_at(index, &output.kind) {
         digests.push(htlc_digest(alloc, commitment, &htlc, output.script.bytes())?)?;
@@ -112,7 +114,8 @@ pub fn signing_digests(
     terms: &Terms,
     commitment: &Commitment,
 ) -> Result<Digests, AllocError>
-    ensures commitment { IfOk result (λ d. d.commitment ≡ commitment_digest_of terms.now commitment.now) }
+    ensures commitment { IfOk result (λ d. d.commitment
+        ≡ commitment_digest_of terms.now commitment.now) }
     ensures htlcs { IfOk result (λ d. d.htlcs ≡ htlc_digests_of commitment.now) }
 {
     let first = commitment_digest(alloc, terms, commitment)?;

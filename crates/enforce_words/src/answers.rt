@@ -1,8 +1,8 @@
 // What each program answers.
 
+use crate::errors::CommandError;
 use crate::listings::paths_text;
 use crate::playing::play;
-use crate::refusals::Refusal;
 use digest::ripemd160;
 use facts::texts::Hex;
 use hex::FromHexError;
@@ -40,7 +40,7 @@ pub fn answer<R: Read>(
     alloc: Global,
     command: &Command<'_>,
     input: &mut R,
-) -> Result<String, Refusal> {
+) -> Result<String, CommandError> {
     match command {
         Command::Ripemd(text) => hash_text(alloc, text),
         Command::Paths(text) => listing(alloc, text),
@@ -49,25 +49,25 @@ pub fn answer<R: Read>(
 }
 
 // The hash of a message that is written in hexadecimal.
-fn hash_text(alloc: Global, text: &str) -> Result<String, Refusal> {
+fn hash_text(alloc: Global, text: &str) -> Result<String, CommandError> {
     let message = bytes_of(alloc, text)?;
     let hash = ripemd160(message.as_slice());
     Ok(format!(in alloc; "{}\n", Hex(&hash))?)
 }
 
 // The ways through a script that is written in hexadecimal.
-fn listing(alloc: Global, text: &str) -> Result<String, Refusal> {
+fn listing(alloc: Global, text: &str) -> Result<String, CommandError> {
     let bytes = bytes_of(alloc, text)?;
-    let script = Script::parse(alloc, bytes.as_slice()).map_err(Refusal::Parse)?;
-    let checked = check(alloc, script).map_err(Refusal::Check)?;
+    let script = Script::parse(alloc, bytes.as_slice()).map_err(CommandError::Parse)?;
+    let checked = check(alloc, script).map_err(CommandError::Check)?;
     Ok(paths_text(alloc, checked.paths())?)
 }
 
 // The bytes of a hexadecimal text, in either letter case.
-fn bytes_of(alloc: Global, text: &str) -> Result<Vec<u8>, Refusal> {
+fn bytes_of(alloc: Global, text: &str) -> Result<Vec<u8>, CommandError> {
     match hex::decode(alloc, text) {
         Ok(bytes) => Ok(bytes),
-        Err(FromHexError::OutOfMemory) => Err(Refusal::NoMemory),
-        Err(_) => Err(Refusal::BadHex),
+        Err(FromHexError::OutOfMemory) => Err(CommandError::NoMemory),
+        Err(_) => Err(CommandError::BadHex),
     }
 }

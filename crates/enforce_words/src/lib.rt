@@ -18,9 +18,9 @@ ghost use Rattle.std.specs.Prelude.{◌≡◌, ◌≤◌, ◌⊎◌};
 
 mod answers;
 mod endings;
+mod errors;
 mod listings;
 mod playing;
-mod refusals;
 
 use crate::answers::{Command, answer};
 use std::alloc::Global;

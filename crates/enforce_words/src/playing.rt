@@ -1,7 +1,7 @@
 // A scenario that is read and played.
 
 use crate::endings::text_of;
-use crate::refusals::Refusal;
+use crate::errors::CommandError;
 use scenario::Scenario;
 use std::alloc::{AllocError, Global};
 use std::io;
@@ -13,24 +13,26 @@ const MAX_INPUT: usize = 4_194_304;
 
 /// Plays the scenario that the input is, and gives the lines of its events and of the world in which they end. Refused are, in this order, input that can't be read
 /// (`ReadFailed`), input that is too long (`TooLong`), what is no scenario, and what the limits or the two sides don't allow.
-pub fn play<R: Read>(alloc: Global, input: &mut R) -> Result<String, Refusal> {
+pub fn play<R: Read>(alloc: Global, input: &mut R) -> Result<String, CommandError> {
     let text = read_all(alloc, input)?;
-    let scenario = Scenario::read(alloc, text.as_slice()).map_err(Refusal::Scenario)?;
+    let scenario = Scenario::read(alloc, text.as_slice()).map_err(CommandError::Scenario)?;
     let world = World::new(alloc, &scenario.seeds, scenario.channels.values());
-    let mut world = world.map_err(Refusal::World)?;
+    let mut world = world.map_err(CommandError::World)?;
     Ok(lines_of(alloc, &mut world, &scenario)?)
 }
 
 // The bytes of the input. No more than one above the limit is read.
-fn read_all<R: Read>(alloc: Global, input: &mut R) -> Result<Vec<u8>, Refusal> {
+fn read_all<R: Read>(alloc: Global, input: &mut R) -> Result<Vec<u8>, CommandError> {
     let mut bytes = Vec::new(alloc);
     match input.take(MAX_INPUT as u64 + 1).read_to_end(&mut bytes) {
         Ok(_) => {}
-        Err(error) if error.kind() == io::ErrorKind::OutOfMemory => return Err(Refusal::NoMemory),
-        Err(_) => return Err(Refusal::ReadFailed),
+        Err(error) if error.kind() == io::ErrorKind::OutOfMemory => return Err(
+            CommandError::NoMemory,
+        ),
+        Err(_) => return Err(CommandError::ReadFailed),
     }
     if bytes.len() > MAX_INPUT {
-        return Err(Refusal::TooLong);
+        return Err(CommandError::TooLong);
     }
     Ok(bytes)
 }

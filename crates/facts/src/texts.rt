@@ -134,7 +134,9 @@ fn write_hash<W: fmt::Write>(
     hash: &[u8],
     p: &str,
 ) -> fmt::Result
-    ensures { WritesOnOk W.write_str_gives f.old result (codes "hash " ++ (decimal slot ++ (codes " " ++ (hex_text hash.now ++ (codes " " ++ p.now))))) f.new }
+    ensures { WritesOnOk W.write_str_gives f.old result
+        (codes "hash " ++ (decimal slot ++ (codes " "
+        ++ (hex_text hash.now ++ (codes " " ++ p.now))))) f.new }
 {
     write!(f, "hash {slot} {} {p}", Hex(hash))
 }
@@ -146,7 +148,9 @@ fn write_item<W: fmt::Write>(
     item: &[u8],
     p: &str,
 ) -> fmt::Result
-    ensures { WritesOnOk W.write_str_gives f.old result (codes "is " ++ (decimal slot ++ (codes " " ++ (bytes_text item.now ++ (codes " " ++ p.now))))) f.new }
+    ensures { WritesOnOk W.write_str_gives f.old result
+        (codes "is " ++ (decimal slot ++ (codes " "
+        ++ (bytes_text item.now ++ (codes " " ++ p.now))))) f.new }
 {
     write!(f, "is {slot} {} {p}", Bytes(item))
 }
@@ -158,7 +162,9 @@ fn write_token<W: fmt::Write>(
     key: &KeySource,
     p: &str,
 ) -> fmt::Result
-    ensures { WritesOnOk W.write_str_gives f.old result (codes "token " ++ (decimal slot ++ (codes " " ++ (key_text key.now ++ (codes " " ++ p.now))))) f.new }
+    ensures { WritesOnOk W.write_str_gives f.old result
+        (codes "token " ++ (decimal slot ++ (codes " "
+        ++ (key_text key.now ++ (codes " " ++ p.now))))) f.new }
 {
     write!(f, "token {slot} {key} {p}")
 }
@@ -170,7 +176,9 @@ fn write_assigned<W: fmt::Write>(
     keys: &[KeySource],
     p: &str,
 ) -> fmt::Result
-    ensures { WritesOnOk W.write_str_gives f.old result (codes "assigned " ++ (comma_separated decimal slots.now ++ (codes " " ++ (comma_separated key_text keys.now ++ (codes " " ++ p.now))))) f.new }
+    ensures { WritesOnOk W.write_str_gives f.old result
+        (codes "assigned " ++ (comma_separated decimal slots.now
+        ++ (codes " " ++ (comma_separated key_text keys.now ++ (codes " " ++ p.now))))) f.new }
 {
     write!(f, "assigned {} {} {p}", Slots(slots), Keys(keys))
 }

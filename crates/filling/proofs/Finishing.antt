@@ -13,7 +13,7 @@ use Rattle.filling.specs.declared.errors.FillError.TheVariants.{NoMemory, NoRigh
 use Rattle.filling.specs.Filling.{filled_input, transaction_for, signed_transaction}
 use Rattle.filling.specs.Filled.{Filling, AllRunClean, AllFit, IsFillingOf}
 use Rattle.filling.specs.Refusals.{AreFillable, Lacks, LacksFirst, UnlessMemory, all_slots, ArePassed, IsFirstRefusal}
-use Rattle.filling.specs.Standing.{IsUnsigned, AllOpen}
+use Rattle.filling.specs.Standing.{IsUnsigned, AllCanSpend}
 use Rattle.filling.proofs.Fitted.{all-fit, all-clean}
 
 none_lacks : (r : Rights) (ps : List (List ℕ)) (e : FillError) → ((slot : Slot) → Lacks r ps slot e → ⊥) → (slots : List Slot) → LacksFirst r ps slots e → ⊥
@@ -47,13 +47,13 @@ refused claims outputs r ps SameOutpoint p l = absurd (none_lacks r ps SameOutpo
 abbrev pub with_inputs : Transaction → List TxIn → Transaction
 with_inputs t inputs = record { version = t.version; inputs = inputs; outputs = t.outputs; lock_time = t.lock_time }
 
-fit : (claims : List ClaimParts) (r : Rights) (ps : List (List ℕ)) (t : Transaction) (inputs : List TxIn) → IsUnsigned claims t → AllOpen claims → inputs ≡ map (filled_input t ps) claims → AreFillable r ps (all_slots claims) → AllFit (with_inputs t inputs) claims inputs
+fit : (claims : List ClaimParts) (r : Rights) (ps : List (List ℕ)) (t : Transaction) (inputs : List TxIn) → IsUnsigned claims t → AllCanSpend claims → inputs ≡ map (filled_input t ps) claims → AreFillable r ps (all_slots claims) → AllFit (with_inputs t inputs) claims inputs
 fit claims r ps t inputs u o e f = subst (λ xs. AllFit (with_inputs t xs) claims xs) (sym e) (all-fit t r ps claims u o f)
 
-pub clean : (claims : List ClaimParts) (r : Rights) (ps : List (List ℕ)) (t : Transaction) (inputs : List TxIn) (places : List Place) → IsUnsigned claims t → AllOpen claims → inputs ≡ map (filled_input t ps) claims → AreFillable r ps (all_slots claims) → places ≡ map (λ c. c.place) claims → AllRunClean (with_inputs t inputs) inputs places
+pub clean : (claims : List ClaimParts) (r : Rights) (ps : List (List ℕ)) (t : Transaction) (inputs : List TxIn) (places : List Place) → IsUnsigned claims t → AllCanSpend claims → inputs ≡ map (filled_input t ps) claims → AreFillable r ps (all_slots claims) → places ≡ map (λ c. c.place) claims → AllRunClean (with_inputs t inputs) inputs places
 clean claims r ps t inputs places u o e f p = subst (AllRunClean (with_inputs t inputs) inputs) (sym p) (all-clean (with_inputs t inputs) claims inputs o (fit claims r ps t inputs u o e f))
 
-pub filling : (claims : List ClaimParts) (outputs : List Output) (r : Rights) (ps : List (List ℕ)) (t : Transaction) (inputs : List TxIn) (places : List Place) (f : Filling) → ArePassed claims outputs → t ≡ transaction_for claims outputs → IsUnsigned claims t → AllOpen claims → inputs ≡ map (filled_input t ps) claims → AreFillable r ps (all_slots claims) → places ≡ map (λ c. c.place) claims → f ≡ record { tx = with_inputs t inputs; places = places } → IsFillingOf claims outputs r ps f
+pub filling : (claims : List ClaimParts) (outputs : List Output) (r : Rights) (ps : List (List ℕ)) (t : Transaction) (inputs : List TxIn) (places : List Place) (f : Filling) → ArePassed claims outputs → t ≡ transaction_for claims outputs → IsUnsigned claims t → AllCanSpend claims → inputs ≡ map (filled_input t ps) claims → AreFillable r ps (all_slots claims) → places ≡ map (λ c. c.place) claims → f ≡ record { tx = with_inputs t inputs; places = places } → IsFillingOf claims outputs r ps f
 filling claims outputs r ps t inputs places f a g u o e k p w =
     subst (IsFillingOf claims outputs r ps) (sym w)
     (record {

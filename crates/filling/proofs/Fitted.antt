@@ -23,7 +23,7 @@ use Rattle.claim.specs.Claims.{ClaimParts, path_of}
 use Rattle.filling.specs.Filling.{script_of, unsigned_input, preimage_of, first_some, digest_for, item_for, items_for, filled_input, signed_transaction}
 use Rattle.filling.specs.Refusals.{IsFillable, AreFillable, LacksFirst, all_slots}
 use Rattle.filling.specs.declared.errors.FillError.{FillError}
-use Rattle.filling.specs.Standing.{Stands, AllStand, IsUnsigned, IsOpen, AllOpen}
+use Rattle.filling.specs.Standing.{Stands, AllStand, IsUnsigned, CanSpend, AllCanSpend}
 use Rattle.filling.specs.Filled.{AllRunClean, AllFit}
 use Rattle.filling.proofs.Lists.{contains-at, contains-first, contains-later}
 use Rattle.filling.proofs.Standing.{bare-of, stands-signed}
@@ -105,7 +105,7 @@ filled-length spend (slot ∷ slots) [] f = absurd f
 filled-length spend (slot ∷ slots) (x ∷ w) f = ap suc (filled-length spend slots w f.1)
 
 -- so the slots of a claim are at most 1,000
-pub slots-short : (c : ClaimParts) (r : Rights) (ps : List (List ℕ)) (t : Transaction) (i : ℕ) → IsOpen c → slice_get t.inputs i ≡ Some (unsigned_input c) → unsigned_transaction t ≡ t → Stands t c → AreFillable r ps c.slots → length c.slots ≤ 1000
+pub slots-short : (c : ClaimParts) (r : Rights) (ps : List (List ℕ)) (t : Transaction) (i : ℕ) → CanSpend c → slice_get t.inputs i ≡ Some (unsigned_input c) → unsigned_transaction t ≡ t → Stands t c → AreFillable r ps c.slots → length c.slots ≤ 1000
 slots-short c r ps t i o here bare s a =
     let w = witness_for c.place.program (script_of c) (items_for t ps c) in
     let u : Transaction = record { version = t.version; inputs = inputs_with_witness t.inputs i w; outputs = t.outputs; lock_time = t.lock_time } in
@@ -117,7 +117,7 @@ slots-short c r ps t i o here bare s a =
     omega (arith, low, length-reverse f.items, n)
 
 -- the inputs of the whole, of which these are some
-all-fit_in : (u t : Transaction) (r : Rights) (ps : List (List ℕ)) (claims : List ClaimParts) → unsigned_transaction u ≡ t → unsigned_transaction t ≡ t → ((x : TxIn) → Contains (map (filled_input t ps) claims) x → Contains u.inputs x) → AllOpen claims → AllStand t claims → AreFillable r ps (all_slots claims) → AllFit u claims (map (filled_input t ps) claims)
+all-fit_in : (u t : Transaction) (r : Rights) (ps : List (List ℕ)) (claims : List ClaimParts) → unsigned_transaction u ≡ t → unsigned_transaction t ≡ t → ((x : TxIn) → Contains (map (filled_input t ps) claims) x → Contains u.inputs x) → AllCanSpend claims → AllStand t claims → AreFillable r ps (all_slots claims) → AllFit u claims (map (filled_input t ps) claims)
 all-fit_in u t r ps [] e b m o s f = tt
 all-fit_in u t r ps (c ∷ claims) e b m o s f =
     let w = parted r ps c.slots (all_slots claims) f in (
@@ -129,14 +129,14 @@ signed_bare : (t : Transaction) (ps : List (List ℕ)) (claims : List ClaimParts
 signed_bare t ps [] = refl
 signed_bare t ps (c ∷ claims) = ap (λ l. unsigned_input c ∷ l) (signed_bare t ps claims)
 
-pub all-fit : (t : Transaction) (r : Rights) (ps : List (List ℕ)) (claims : List ClaimParts) → IsUnsigned claims t → AllOpen claims → AreFillable r ps (all_slots claims) → AllFit (signed_transaction t ps claims) claims (map (filled_input t ps) claims)
+pub all-fit : (t : Transaction) (r : Rights) (ps : List (List ℕ)) (claims : List ClaimParts) → IsUnsigned claims t → AllCanSpend claims → AreFillable r ps (all_slots claims) → AllFit (signed_transaction t ps claims) claims (map (filled_input t ps) claims)
 all-fit t r ps claims i o f =
     all-fit_in (signed_transaction t ps claims) t r ps claims
     (ap (λ is. record { version = t.version; inputs = is; outputs = t.outputs; lock_time = t.lock_time }) (signed_bare t ps claims ∙ sym i.inputs))
     (bare-of claims t i.inputs) (λ x n. n) o i.stands f
 
 -- what fits runs clean
-pub all-clean : (u : Transaction) (claims : List ClaimParts) (inputs : List TxIn) → AllOpen claims → AllFit u claims inputs → AllRunClean u inputs (map (λ c. c.place) claims)
+pub all-clean : (u : Transaction) (claims : List ClaimParts) (inputs : List TxIn) → AllCanSpend claims → AllFit u claims inputs → AllRunClean u inputs (map (λ c. c.place) claims)
 all-clean u [] [] o f = tt
 all-clean u [] (x ∷ inputs) o f = absurd f
 all-clean u (c ∷ claims) [] o f = absurd f

@@ -7,7 +7,7 @@ use Rattle.claim.specs.Claims.{ClaimParts}
 use Rattle.filling.specs.declared.errors.FillError.{FillError}
 use Rattle.filling.specs.declared.errors.FillError.TheVariants.{NoMemory, NoRight, NoPreimage, OutputsExceed, MixedShells, SameOutpoint}
 use Rattle.filling.specs.Refusals.{AreFillable, LacksFirst, UnlessMemory, all_slots}
-use Rattle.filling.specs.Standing.{IsOpen, AllOpen}
+use Rattle.filling.specs.Standing.{CanSpend, AllCanSpend}
 use Rattle.filling.proofs.Lists.{split, slice_get-map}
 use Rattle.filling.proofs.Fitted.{joined, lacks-here, lacks-later}
 
@@ -53,5 +53,5 @@ lacks-at r ps claims i d c h e go x u =
     unless x (LacksFirst r ps c.now.slots x) (LacksFirst r ps (all_slots (values claims)) x)
     (λ l. go x (subst (λ l. LacksFirst r ps (all_slots (values l)) x) (sym (split claims i d c h e)) (lacks-here r ps c.now.slots (all_slots (values (drop (i + 1) claims))) x l))) u
 
-pub opening-next : (claims : List (Bor ClaimParts)) (i : ℕ) (d c : Bor ClaimParts) → i < length claims → c ≡ get_or claims i d → IsOpen c.now → (AllOpen (values (drop i claims)) → AllOpen (values claims)) → AllOpen (values (drop (i + 1) claims)) → AllOpen (values claims)
-opening-next claims i d c h e o go rest = go (subst (λ l. AllOpen (values l)) (sym (split claims i d c h e)) (o, rest))
+pub opening-next : (claims : List (Bor ClaimParts)) (i : ℕ) (d c : Bor ClaimParts) → i < length claims → c ≡ get_or claims i d → CanSpend c.now → (AllCanSpend (values (drop i claims)) → AllCanSpend (values claims)) → AllCanSpend (values (drop (i + 1) claims)) → AllCanSpend (values claims)
+opening-next claims i d c h e o go rest = go (subst (λ l. AllCanSpend (values l)) (sym (split claims i d c h e)) (o, rest))

@@ -3,7 +3,7 @@ use Rattle.std.specs.Prelude.{◌≡◌, List, [], ◌∷◌, map, Some}
 use Rattle.tx.specs.Fields.{Transaction}
 use Rattle.paths.specs.declared.state.Path.{Path}
 use Rattle.claim.specs.Fitting.{StandsRound}
-use Rattle.claim.specs.Claims.{ClaimParts, path_of, TakesPath, IsOpening}
+use Rattle.claim.specs.Claims.{ClaimParts, path_of, TakesPath, IsSpending}
 use Rattle.filling.specs.Filling.{unsigned_input}
 
 -- the transaction may stand round a claim
@@ -19,13 +19,13 @@ pub record IsUnsigned (claims : List ClaimParts) (t : Transaction) : Type 0 wher
   pub inputs : t.inputs ≡ map unsigned_input claims
   pub stands : AllStand t claims
 
--- a claim takes a path, and whatever fits it opens its output
-pub record IsOpen (c : ClaimParts) : Type 0 where
+-- a claim takes a path, and whatever fits it spends its output
+pub record CanSpend (c : ClaimParts) : Type 0 where
   pub path : Path
   pub at : path_of c ≡ Some path
   pub taken : TakesPath c path
-  pub opens : IsOpening c
+  pub opens : IsSpending c
 
-abbrev pub AllOpen : List ClaimParts → Type 0
-AllOpen [] = Unit {0}
-AllOpen (c ∷ claims) = IsOpen c × AllOpen claims
+abbrev pub AllCanSpend : List ClaimParts → Type 0
+AllCanSpend [] = Unit {0}
+AllCanSpend (c ∷ claims) = CanSpend c × AllCanSpend claims

@@ -56,7 +56,9 @@ pub fn fill(
     requires some { 1 ≤ length claims.now }
     requires inputs { length claims.now ≤ max_inputs }
     requires outputs { length outputs.items ≤ max_outputs }
-    ensures { MatchResult result (IsFillingOf (map (λ c. c.now) claims.now) outputs.items signer.now preimages.now) (IsFirstRefusal (map (λ c. c.now) claims.now) outputs.items signer.now preimages.now) }
+    ensures { MatchResult result (IsFillingOf
+        (map (λ c. c.now) claims.now) outputs.items signer.now preimages.now)
+        (IsFirstRefusal (map (λ c. c.now) claims.now) outputs.items signer.now preimages.now) }
 {
     if are_mixed(claims) {
         return Err(FillError::MixedShells);

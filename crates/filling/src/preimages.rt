@@ -34,7 +34,8 @@ impl<'a> Model for Preimages<'a> {
 
 // The preimages in the order of their hashes.
 fn indexed(alloc: Global, given: &[[u8; 32]]) -> Result<BTreeMap<[u8; 32], [u8; 32]>, AllocError>
-    ensures { IfOk result (λ m. (h : List ℕ) → get (slice_cmp nat_cmp) m h ≡ preimage_of given.now h) }
+    ensures { IfOk result (λ m. (h : List ℕ)
+        → get (slice_cmp nat_cmp) m h ≡ preimage_of given.now h) }
 {
     let mut by_hash = BTreeMap::new(alloc);
     for preimage in given {

@@ -48,7 +48,8 @@ fn open_transaction(alloc: Global, claims: &[&Claim], outputs: Vec<TxOut>) -> Re
     requires some { 1 ≤ length claims.now }
     requires inputs { length claims.now ≤ max_inputs }
     requires outputs { length outputs.items ≤ max_outputs }
-    ensures value { IfOk result (λ t. t ≡ open_transaction (map (λ c. c.now) claims.now) outputs.items) }
+    ensures value { IfOk result (λ t. t ≡ open_transaction
+        (map (λ c. c.now) claims.now) outputs.items) }
     ensures below { IfOk result (λ t. t.lock_time < LOCKTIME_THRESHOLD) }
 {
     let inputs = unsigned_inputs(alloc, claims)?;
@@ -66,7 +67,8 @@ pub(crate) fn unsigned(
     requires inputs { length claims.now ≤ max_inputs }
     requires outputs { length outputs.items ≤ max_outputs }
     requires unmixed { are_mixed (map (λ c. c.now) claims.now) ≡ false }
-    ensures value { IfOk result (λ t. t ≡ transaction_for (map (λ c. c.now) claims.now) outputs.items) }
+    ensures value { IfOk result (λ t. t ≡ transaction_for
+        (map (λ c. c.now) claims.now) outputs.items) }
     ensures unsigned { IfOk result (IsUnsigned (map (λ c. c.now) claims.now)) }
 {
     if claims.len() > 1 {

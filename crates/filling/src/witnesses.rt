@@ -6,7 +6,7 @@ ghost use Rattle.tx.specs.Limits.{max_inputs, max_bytes};
 ghost use Rattle.std.specs.List.{list_all};
 ghost use Rattle.filling.specs.Filling.{item_for, unsigned_input, filled_input, script_of};
 ghost use Rattle.filling.specs.Refusals.{IsFillable, AreFillable, Lacks, LacksFirst, UnlessMemory, all_slots};
-ghost use Rattle.filling.specs.Standing.{IsUnsigned, Stands, IsOpen, AllOpen};
+ghost use Rattle.filling.specs.Standing.{IsUnsigned, Stands, CanSpend, AllCanSpend};
 ghost use Rattle.tx.specs.Fields.{unsigned_transaction};
 ghost use Rattle.claim.specs.Fitting.{witness_for};
 
@@ -123,9 +123,9 @@ fn filled_input(
     ensures value { MatchResult result (λ x. (x ≡ filled_input cache.now preimages.now claim.now)
         × AreFillable signer.now preimages.now claim.now.slots)
         (λ e. UnlessMemory e (LacksFirst signer.now preimages.now claim.now.slots e)) }
-    ensures open { IfOk result (λ x. IsOpen claim.now) }
+    ensures can_spend { IfOk result (λ x. CanSpend claim.now) }
 {
-    // The proof learns from the path that the claim opens its output.
+    // The proof learns from the path that the claim spends its output.
     let _ = claim.path();
     let digest = cache
         .digest_of(index, claim.checked().script().bytes(), claim.place().value)
@@ -153,7 +153,7 @@ pub(crate) fn filled_inputs(
         × AreFillable signer.now preimages.now (all_slots (map (λ c. c.now) claims.now)))
         (λ e. UnlessMemory e (LacksFirst signer.now preimages.now
         (all_slots (map (λ c. c.now) claims.now)) e)) }
-    ensures open { IfOk result (λ xs. AllOpen (map (λ c. c.now) claims.now)) }
+    ensures can_spend { IfOk result (λ xs. AllCanSpend (map (λ c. c.now) claims.now)) }
 {
     let cache = SighashCache::new(tx);
     let mut inputs = Inputs::new(alloc);

@@ -61,7 +61,8 @@ impl ClaimKind {
     /// The index of the path that a claim of this kind takes, among those of its form.
     pub fn path(&self) -> usize
         ensures value { result ≡ path_taken_by self.now }
-        ensures claims { (form : CheckedScript) (index : ℕ) (place : Place) (shell : Shell) → Claims self.now form index place shell → result ≡ index }
+        ensures claims { (form : CheckedScript) (index : ℕ) (place : Place) (shell : Shell)
+            → Claims self.now form index place shell → result ≡ index }
     {
         match self {
             ClaimKind::Penalty { .. } | ClaimKind::HtlcPenalty { .. } | ClaimKind::KeyHash { .. } =>
@@ -95,7 +96,8 @@ fn pair(alloc: Global, top: Slot, below: Slot) -> Result<Vec<Slot>, AllocError>
 
 // The slots of a claim by both HTLC keys, the top one given.
 fn by_both(alloc: Global, top: Slot, local: &Key, token: &Token) -> Result<Vec<Slot>, AllocError>
-    ensures { IfOk result (λ v. map filling_of v.items ≡ filling_of top ∷ Signature local.now.bytes ∷ Bytes token.now ∷ Bytes [] ∷ []) }
+    ensures { IfOk result (λ v. map filling_of v.items ≡ filling_of top ∷ Signature local.now.bytes
+        ∷ Bytes token.now ∷ Bytes [] ∷ []) }
 {
     let mut slots = pair(alloc, top, Slot::Sig(*local))?;
     slots.push(exact(alloc, token.bytes())?)?;

@@ -85,8 +85,9 @@ impl<J: Drop> JobTaker<J> {
     pub fn take<R: Wait>(&self, rt: &R, pass: &mut Pass<J>) -> Option<J>
         requires { TakesWith self.now pass.old }
         ensures pass { TakesWith self.now pass.new }
-        ensures taken { MatchOption result ((hand_of pass.new ≡ hand_of pass.old) × WasEmpty (hand_of pass.old))
-            (λ job. IsTake (hand_of pass.old) job (hand_of pass.new)) }
+        ensures taken { MatchOption result ((hand_of pass.new ≡ hand_of pass.old)
+            × WasEmpty (hand_of pass.old)) (λ job. IsTake (hand_of pass.old) job
+            (hand_of pass.new)) }
     {
         self.taker.recv_as::<Takes, R>(rt, pass).ok()
     }

@@ -166,7 +166,8 @@ impl BaseKeys {
 
     /// The keys that derive from these at a point, and their revocation keys at a revoked one.
     pub(crate) fn keys_after(&self, point: &Key, revoked: &Key) -> [[u8; 33]; 10]
-        ensures { result ≡ keys_at self.now point.now.bytes ++ revocations_at self.now revoked.now.bytes }
+        ensures { result ≡ keys_at self.now point.now.bytes
+            ++ revocations_at self.now revoked.now.bytes }
     {
         let [a, b, c, d, e] = self.keys_at(point);
         let [f, g, h, i, j] = self.revocations_at(revoked);

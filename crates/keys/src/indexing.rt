@@ -11,8 +11,11 @@ use std::collections::BTreeSet;
 
 /// Adds keys to a set, all or none: where memory runs out, the set keeps the keys that it had.
 pub(crate) fn insert_all(set: &mut BTreeSet<[u8; 33]>, keys: &[[u8; 33]]) -> Result<(), AllocError>
-    ensures ok { OnOk result ((q : List ℕ) → contains (slice_cmp nat_cmp) set.new q ≡ (is_among q keys.now || contains (slice_cmp nat_cmp) set.old q)) }
-    ensures err { OnErr result ((q : List ℕ) → contains (slice_cmp nat_cmp) set.new q ≡ contains (slice_cmp nat_cmp) set.old q) }
+    ensures ok { OnOk result ((q : List ℕ)
+        → contains (slice_cmp nat_cmp) set.new q ≡ (is_among q keys.now || contains
+        (slice_cmp nat_cmp) set.old q)) }
+    ensures err { OnErr result ((q : List ℕ) → contains (slice_cmp nat_cmp) set.new q ≡ contains
+        (slice_cmp nat_cmp) set.old q) }
 {
     let Some((key, others)) = keys.split_first() else {
         return Ok(());

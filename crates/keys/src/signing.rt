@@ -99,7 +99,10 @@ impl Signer {
     /// Learns a per-commitment point, one's own or the peer's: from now on the signer may sign for what derives from its bases there. Want of
     /// memory leaves it as it was.
     pub fn learn_point(&mut self, point: &Key) -> Result<(), AllocError>
-        ensures ok { OnOk result (self.new ≡ record self.old { points = self.old.points ++ point.now.bytes ∷ [] }) }
+        ensures ok { OnOk result (self.new ≡ record self.old {
+          points = self.old.points
+              ++ point.now.bytes ∷ [];
+        }) }
         ensures err { OnErr result (self.new ≡ self.old) }
     {
         self.points.reserve(1)?;
@@ -111,7 +114,10 @@ impl Signer {
     /// Learns a per-commitment secret of the peer: from now on the signer may sign for the revocation keys of its bases at the secret's point.
     /// Where memory runs out, it is as it was.
     pub fn learn_secret(&mut self, secret: &[u8; 32]) -> Result<(), AllocError>
-        ensures ok { OnOk result (self.new ≡ record self.old { secrets = self.old.secrets ++ secret.now ∷ [] }) }
+        ensures ok { OnOk result (self.new ≡ record self.old {
+          secrets = self.old.secrets
+              ++ secret.now ∷ [];
+        }) }
         ensures err { OnErr result (self.new ≡ self.old) }
     {
         self.secrets.reserve(1)?;

@@ -66,14 +66,16 @@ impl<T: Drop> Stack<T> {
 
     /// Takes the top off, where there is one.
     pub fn pop(&mut self) -> Option<T>
-        ensures { MatchOption result ((self.old ≡ []) × (self.new ≡ [])) (λ x. self.old ≡ x ∷ self.new) }
+        ensures { MatchOption result ((self.old ≡ []) × (self.new ≡ []))
+            (λ x. self.old ≡ x ∷ self.new) }
     {
         self.items.pop()
     }
 
     /// The top, where there is one.
     pub fn top(&self) -> Option<&T>
-        ensures { MatchOption result (self.now ≡ []) (λ x. (rest : List T) × (self.now ≡ x.now ∷ rest)) }
+        ensures { MatchOption result (self.now ≡ [])
+            (λ x. (rest : List T) × (self.now ≡ x.now ∷ rest)) }
     {
         self.items.last()
     }

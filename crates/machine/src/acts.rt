@@ -99,8 +99,10 @@ fn push(stack: &mut Stack<ByteString>, item: ByteString) -> Result<Jump, Halt>
 // IF, and NOTIF, which runs where the top is false.
 #[tactic(auto, unfolding(script::specs::Step::effect))]
 fn enter(stack: &mut Stack<ByteString>, wanted: bool) -> Result<Jump, Halt>
-    ensures on_true { (spend : Spending) → wanted ≡ true → Does spend Op.If stack.old stack.new result }
-    ensures on_false { (spend : Spending) → wanted ≡ false → Does spend Op.NotIf stack.old stack.new result }
+    ensures on_true { (spend : Spending) → wanted ≡ true
+        → Does spend Op.If stack.old stack.new result }
+    ensures on_false { (spend : Spending) → wanted ≡ false
+        → Does spend Op.NotIf stack.old stack.new result }
 {
     let top = take(stack)?;
     if is_true(top.bytes()) == wanted {

@@ -39,7 +39,8 @@ pub fn is_age_reached(spend: &Spend, age: u64) -> bool
 
 /// The lock on top of the stack: a number of at most 5 bytes that is not negative, else the check of its kind fails.
 pub fn read_lock(stack: &Stack<ByteString>, kind: Kind) -> Result<u64, Halt>
-    ensures { MatchResult result (λ n. IsLock stack.now kind n) (λ h. IfStop h (λ c. HasNoLock stack.now kind c)) }
+    ensures { MatchResult result (λ n. IsLock stack.now kind n)
+        (λ h. IfStop h (λ c. HasNoLock stack.now kind c)) }
 {
     let Some(top) = stack.top() else {
         return Err(Halt::Stop(Cause::MissingOperand));

@@ -68,8 +68,8 @@ fn take_many(
     stack: &mut Stack<ByteString>,
     count: usize,
 ) -> Result<Stack<ByteString>, Halt>
-    ensures { MatchResult result
-        (λ p. (count ≤ length stack.old) × (p ≡ reverse (front count stack.old)) × (stack.new ≡ behind count stack.old))
+    ensures { MatchResult result (λ p. (count ≤ length stack.old)
+        × (p ≡ reverse (front count stack.old)) × (stack.new ≡ behind count stack.old))
         (λ h. IfStop h (λ c. (c ≡ Cause.MissingOperand) × (length stack.old < count))) }
 {
     let mut entries = Stack::new(alloc);

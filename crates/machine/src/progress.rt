@@ -67,9 +67,9 @@ impl Machine {
 // Counts an opcode.
 fn count(op: &Op, counted: &mut usize) -> Result<(), Halt>
     requires { counted.old ≤ MAX_OPS_PER_SCRIPT }
-    ensures { MatchResult result
-        (λ _. (counted.new ≡ counted.old + weight op.now) × (counted.new ≤ MAX_OPS_PER_SCRIPT))
-        (λ h. (h ≡ Halt.Stop Cause.TooManyOps) × (MAX_OPS_PER_SCRIPT < counted.old + weight op.now)) }
+    ensures { MatchResult result (λ _. (counted.new ≡ counted.old + weight op.now)
+        × (counted.new ≤ MAX_OPS_PER_SCRIPT)) (λ h. (h ≡ Halt.Stop Cause.TooManyOps)
+        × (MAX_OPS_PER_SCRIPT < counted.old + weight op.now)) }
 {
     *counted += op.weight();
     if *counted > MAX_OPS_PER_SCRIPT {

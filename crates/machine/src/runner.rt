@@ -84,7 +84,8 @@ fn load(alloc: Global, witness: &[ByteString]) -> Result<Stack<ByteString>, Allo
 
 // The end of a run.
 fn finish(machine: &Machine, at: usize) -> Result<Run, Stop>
-    ensures { IsOutcome (at_end at machine.now.ifs machine.now.stack machine.now.counted machine.now.height) result }
+    ensures { IsOutcome (at_end at machine.now.ifs machine.now.stack machine.now.counted
+        machine.now.height) result }
 {
     if !machine.ifs.is_empty() {
         return Err(Stop::At(Cause::OpenBranch, at));

@@ -39,7 +39,8 @@ impl Skip {
     /// What is still jumped over after an opcode that was.
     pub fn after(self, op: &Op) -> Option<Skip>
         requires { self.depth ≤ MAX_OPS_PER_SCRIPT }
-        ensures jumps { (rest : List Opcode) → skip_length self.stop self.depth (op.now ∷ rest) ≡ suc (ahead_of result rest) }
+        ensures jumps { (rest : List Opcode)
+            → skip_length self.stop self.depth (op.now ∷ rest) ≡ suc (ahead_of result rest) }
         ensures shallow { depth_of result ≤ self.depth + weight op.now }
     {
         match op {

@@ -12,17 +12,17 @@ use Rattle.std.specs.List.{list_any}
 use Rattle.tx.specs.Spelling.{transaction_id}
 use Rattle.chain.specs.Marking.{IsGrown}
 use Rattle.tx.specs.Fields.{Transaction}
-use Rattle.chain.specs.declared.refusal.Refusal.{Refusal}
+use Rattle.chain.specs.declared.errors.ChainError.{ChainError}
 use Rattle.chain.specs.Blocks.{Contents, Standing, empty_block}
-use Rattle.chain.specs.Tests.{transaction_refusal}
+use Rattle.chain.specs.Checks.{transaction_refusal}
 use Rattle.chain.specs.Connecting.{unless_refusal, refusals_of, has_grant}
 use Rattle.mempool.specs.Mining.{Mined, waits, is_taken, still_waiting, blocks_after, has_waiting, IsNextBlock}
 
-abbrev Fewer : List Transaction → List (Option Refusal) → Type 0
+abbrev Fewer : List Transaction → List (Option ChainError) → Type 0
 Fewer ts rs = length (filter is_taken rs) + length (still_waiting ts rs) ≤ length ts
 
 -- one more of them, whatever it was refused for
-one_fewer : (t : Transaction) (ts : List Transaction) (r : Option Refusal) (rs : List (Option Refusal)) → Fewer ts rs → Fewer (t ∷ ts) (r ∷ rs)
+one_fewer : (t : Transaction) (ts : List Transaction) (r : Option ChainError) (rs : List (Option ChainError)) → Fewer ts rs → Fewer (t ∷ ts) (r ∷ rs)
 one_fewer t ts None rs rest = omega arith
 one_fewer t ts (Some r) rs rest = by (waits (Some r)) refl
   where
@@ -72,7 +72,7 @@ none_left : (ts : List Transaction) → still_waiting ts [] ≡ []
 none_left [] = refl
 none_left (t ∷ ts) = refl
 
-pub past_last : (t : Transaction) (ts items : List Transaction) (rs rs' : List (Option Refusal)) (left whole : List Transaction) → length rs ≡ 0 → rs' ≡ rs → items ≡ t ∷ ts → left ++ still_waiting items rs ≡ whole
+pub past_last : (t : Transaction) (ts items : List Transaction) (rs rs' : List (Option ChainError)) (left whole : List Transaction) → length rs ≡ 0 → rs' ≡ rs → items ≡ t ∷ ts → left ++ still_waiting items rs ≡ whole
     → left ++ still_waiting ts rs' ≡ whole
 past_last t ts items [] rs' left whole none same is e = rw (same, none_left ts) (ap (λ us. left ++ still_waiting us []) (sym is) ∙ e)
 past_last t ts items (r ∷ rs) rs' left whole none same is e = absurd (omega (arith, none))

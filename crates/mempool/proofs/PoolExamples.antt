@@ -1,7 +1,7 @@
 -- The orders of a pool, worked out by hand from what its blocks are said to take and to leave.
 use Rattle.std.proofs.Common.{◌≡◌, true, false, map, List, [], ◌∷◌, Some, None, refl}
 use Rattle.tx.specs.Fields.{Transaction}
-use Rattle.chain.specs.declared.refusal.Refusal.TheVariants.{NoMemory, Spent, Unknown, NotFinal, TooYoung, Script, BadProgram, OutputsExceed, Twice, TooDeep}
+use Rattle.chain.specs.declared.errors.ChainError.TheVariants.{NoMemory, Spent, Unknown, NotFinal, TooYoung, Script, BadProgram, OutputsExceed, Twice, TooDeep}
 use Rattle.chain.specs.Blocks.{Contents}
 use Rattle.mempool.specs.Mining.{waits, is_taken, still_waiting, kept_of, is_on, with_fillings, pool_after}
 

@@ -4,8 +4,8 @@ use Rattle.std.specs.List.{list_any}
 use Rattle.std.specs.Str.{bytes_eq}
 use Rattle.tx.specs.Fields.{Transaction}
 use Rattle.tx.specs.Spelling.{transaction_id}
-use Rattle.chain.specs.declared.refusal.Refusal.{Refusal}
-use Rattle.chain.specs.declared.refusal.Refusal.TheVariants.{NotFinal, TooYoung, Unknown}
+use Rattle.chain.specs.declared.errors.ChainError.{ChainError}
+use Rattle.chain.specs.declared.errors.ChainError.TheVariants.{NotFinal, TooYoung, Unknown}
 use Rattle.chain.specs.Blocks.{Contents, Standing, empty_block, height_of, has_id, transactions_of}
 use Rattle.chain.specs.Connecting.{passing_added, refusals_of}
 
@@ -16,18 +16,18 @@ pub record Mined : Type 0 where
   pub txs : ℕ
 
 -- what is refused for this waits for a later block; the rest is dropped
-abbrev pub waits : Option Refusal → Bool
+abbrev pub waits : Option ChainError → Bool
 waits (Some NotFinal) = true
 waits (Some TooYoung) = true
 waits (Some Unknown) = true
 waits refusal = false
 
-abbrev pub is_taken : Option Refusal → Bool
+abbrev pub is_taken : Option ChainError → Bool
 is_taken None = true
 is_taken (Some refusal) = false
 
 -- those of the transactions that wait, by what each was refused for
-abbrev pub still_waiting : List Transaction → List (Option Refusal) → List Transaction
+abbrev pub still_waiting : List Transaction → List (Option ChainError) → List Transaction
 still_waiting [] rs = []
 still_waiting (t ∷ ts) [] = []
 still_waiting (t ∷ ts) (r ∷ rs) = if waits r then t ∷ still_waiting ts rs else still_waiting ts rs

@@ -4,7 +4,7 @@ ghost use Rattle.std.specs.Prelude.{◌≡◌, length, filter, IfOk, OnErr};
 ghost use Rattle.chain.specs.Marking.{IsGrown};
 ghost use Rattle.mempool.specs.Mining.{waits as waits_for, is_taken, still_waiting, IsNextBlock, AreNewBlocks};
 
-use chain::{Index, Refusal};
+use chain::{ChainError, Index};
 use std::alloc::{AllocError, Global};
 use tx::Tx;
 
@@ -18,11 +18,11 @@ pub struct Mined {
 }
 
 // Whether a transaction that the chain refuses for this waits for a later block: its lock is not reached, or nothing created an output that it spends.
-fn waits(refusal: &Option<Refusal>) -> bool
+fn waits(refusal: &Option<ChainError>) -> bool
     ensures { result ≡ waits_for refusal.now }
 {
     match refusal {
-        Some(Refusal::NotFinal) | Some(Refusal::TooYoung) | Some(Refusal::Unknown) => true,
+        Some(ChainError::NotFinal) | Some(ChainError::TooYoung) | Some(ChainError::Unknown) => true,
         _ => false,
     }
 }
@@ -39,7 +39,7 @@ pub(crate) fn copied(alloc: Global, txs: &[Tx]) -> Result<Vec<Tx>, AllocError>
 }
 
 // How many were taken.
-fn taken_in(refusals: &[Option<Refusal>]) -> u64
+fn taken_in(refusals: &[Option<ChainError>]) -> u64
     ensures { result ≡ length (filter is_taken refusals.now) }
 {
     refusals.iter().filter(|refusal| refusal.is_none()).count() as u64
@@ -49,7 +49,7 @@ fn taken_in(refusals: &[Option<Refusal>]) -> u64
 fn waiting_of(
     alloc: Global,
     txs: Vec<Tx>,
-    refusals: &[Option<Refusal>],
+    refusals: &[Option<ChainError>],
 ) -> Result<Vec<Tx>, AllocError>
     ensures { IfOk result (λ left. left.items ≡ still_waiting txs.items refusals.now) }
 {
@@ -68,7 +68,8 @@ fn waiting_of(
 // One more block of the transactions that the chain allows, in their order. Where memory ran out, the chain has the block or not.
 #[tactic(auto, using(crate::proofs::Blocks::not_grown))]
 fn mine_one(alloc: Global, chain: &mut Index, waiting: Vec<Tx>) -> Result<Mined, AllocError>
-    ensures ok { IfOk result (λ m. IsNextBlock chain.old waiting.items chain.new m.waiting.items m.txs) }
+    ensures ok { IfOk result (λ m. IsNextBlock chain.old waiting.items chain.new m.waiting.items
+        m.txs) }
     ensures grown { IsGrown chain.old chain.new }
 {
     let txs = copied(alloc, &waiting)?;
@@ -83,7 +84,8 @@ fn mine_one(alloc: Global, chain: &mut Index, waiting: Vec<Tx>) -> Result<Mined,
 // So many more blocks. Where memory ran out, the chain has some of them.
 #[tactic(auto, using(crate::proofs::Blocks::not_grown, crate::proofs::Blocks::grown_on))]
 fn mine_all(alloc: Global, chain: &mut Index, pool: &[Tx], count: u64) -> Result<Mined, AllocError>
-    ensures ok { IfOk result (λ m. AreNewBlocks count chain.old pool.now chain.new m.waiting.items m.txs) }
+    ensures ok { IfOk result (λ m. AreNewBlocks count chain.old pool.now chain.new m.waiting.items
+        m.txs) }
     ensures grown { IsGrown chain.old chain.new }
 {
     let mut waiting = copied(alloc, pool)?;
@@ -99,7 +101,8 @@ fn mine_all(alloc: Global, chain: &mut Index, pool: &[Tx], count: u64) -> Result
 /// Makes so many blocks. Each takes, in the order of the pool, what the chain allows; what is NotFinal, TooYoung or Unknown waits for the next one, and the rest is
 /// dropped. The only error is that memory ran out, which leaves the chain as it was.
 pub fn mine(alloc: Global, chain: &mut Index, pool: &[Tx], count: u64) -> Result<Mined, AllocError>
-    ensures ok { IfOk result (λ m. AreNewBlocks count chain.old pool.now chain.new m.waiting.items m.txs) }
+    ensures ok { IfOk result (λ m. AreNewBlocks count chain.old pool.now chain.new m.waiting.items
+        m.txs) }
     ensures err { OnErr result (chain.new ≡ chain.old) }
 {
     let mark = chain.mark();

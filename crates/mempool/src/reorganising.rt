@@ -13,7 +13,7 @@ ghost use Rattle.mempool.specs.Reorganising.{IsRefusal, reorg_refusal, IsTakenOf
 
 use crate::errors::ReorgError;
 use crate::mining::{Mined, copied, mine};
-use chain::{Block, Coins, Index, Refusal};
+use chain::{Block, ChainError, Coins, Index};
 use std::alloc::{AllocError, Global};
 use std::collections::BTreeSet;
 use tx::{Tx, txid};
@@ -38,14 +38,15 @@ pub struct Reorganised {
 
 // Takes the newest blocks off, and gives their transactions but for the last ones: TooDeep, NoSuchTx.
 fn taken_off(chain: &mut Index, depth: u64, forgotten: u64) -> Result<Vec<Tx>, ReorgError>
-    ensures { MatchResult result (λ txs. IsTakenOff chain.old depth forgotten (Ok txs.items) chain.new) (λ e. IsTakenOff chain.old depth forgotten (Err e) chain.new) }
+    ensures { MatchResult result (λ txs. IsTakenOff chain.old depth forgotten
+        (Ok txs.items) chain.new) (λ e. IsTakenOff chain.old depth forgotten (Err e) chain.new) }
 {
     if depth == 0 {
         return Err(ReorgError::TooDeep);
     }
     let mut txs = match chain.disconnect(depth) {
         Ok(txs) => txs,
-        Err(Refusal::TooDeep) => return Err(ReorgError::TooDeep),
+        Err(ChainError::TooDeep) => return Err(ReorgError::TooDeep),
         Err(_) => return Err(ReorgError::NoMemory),
     };
     let count = txs.len() as u64;
@@ -58,7 +59,8 @@ fn taken_off(chain: &mut Index, depth: u64, forgotten: u64) -> Result<Vec<Tx>, R
 
 // The ids of transactions.
 fn ids_of(alloc: Global, txs: &[Tx]) -> Result<BTreeSet<[u8; 32]>, AllocError>
-    ensures { IfOk result (λ ids. (id : List ℕ) → contains (slice_cmp nat_cmp) ids id ≡ has_waiting txs.now id) }
+    ensures { IfOk result (λ ids. (id : List ℕ)
+        → contains (slice_cmp nat_cmp) ids id ≡ has_waiting txs.now id) }
 {
     let mut ids = BTreeSet::new(alloc);
     for tx in txs {
@@ -69,7 +71,8 @@ fn ids_of(alloc: Global, txs: &[Tx]) -> Result<BTreeSet<[u8; 32]>, AllocError>
 
 // Whether a transaction stands on the chain, or has one of these ids.
 fn is_on(chain: &Index, ids: &BTreeSet<[u8; 32]>, tx: &Tx) -> bool
-    ensures { result ≡ (has_id chain.now.blocks (transaction_id tx.now) || contains (slice_cmp nat_cmp) ids.now (transaction_id tx.now)) }
+    ensures { result ≡ (has_id chain.now.blocks (transaction_id tx.now) || contains
+        (slice_cmp nat_cmp) ids.now (transaction_id tx.now)) }
 {
     let id = txid(tx);
     chain.has_id(&id) || ids.contains(&id)
@@ -82,7 +85,8 @@ fn add_released(
     pool: &mut Vec<Tx>,
     released: &[Tx],
 ) -> Result<(), AllocError>
-    ensures { OnOk result (pool.new.items ≡ with_fillings chain.now.blocks pool.old.items released.now) }
+    ensures { OnOk result (pool.new.items ≡ with_fillings chain.now.blocks pool.old.items
+        released.now) }
 {
     let ids = ids_of(alloc, pool)?;
     for tx in released {
@@ -102,7 +106,8 @@ fn branch_of(
     depth: u64,
     forgotten: u64,
 ) -> Result<Branch, ReorgError>
-    ensures ok { IfOk result (λ b. IsBranch chain.now pool.now released.now depth forgotten b.chain b.pool.items) }
+    ensures ok { IfOk result (λ b. IsBranch chain.now pool.now released.now depth forgotten b.chain
+        b.pool.items) }
     ensures err { IfErr result (λ e. IsRefusal (reorg_refusal chain.now depth forgotten) e) }
 {
     let mut chain = chain.copy()?;
@@ -136,7 +141,8 @@ pub fn reorganise(
     depth: u64,
     forgotten: u64,
 ) -> Result<Reorganised, ReorgError>
-    ensures ok { IfOk result (λ r. IsReorganised chain.now pool.now released.now depth forgotten r.chain r.pool.items r.txs) }
+    ensures ok { IfOk result (λ r. IsReorganised chain.now pool.now released.now depth forgotten
+        r.chain r.pool.items r.txs) }
     ensures err { IfErr result (λ e. IsRefusal (reorg_refusal chain.now depth forgotten) e) }
 {
     let Branch {

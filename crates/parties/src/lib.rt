@@ -43,7 +43,13 @@ pub fn key_of(fill: u8) -> Option<Key>
 
 /// Base keys that are all one.
 pub fn one_key(key: Key) -> BaseKeys
-    ensures { result ≡ record { funding = key; payment = key; delayed = key; htlc = key; revocation = key } }
+    ensures { result ≡ record {
+      funding = key;
+      payment = key;
+      delayed = key;
+      htlc = key;
+      revocation = key;
+    } }
 {
     BaseKeys {
         funding: key,
@@ -57,7 +63,13 @@ pub fn one_key(key: Key) -> BaseKeys
 /// A side with these base keys, which begins with so many millisatoshis: a dust limit of 546 satoshis, a delay of 144 blocks, HTLCs of at least 1,000
 /// millisatoshis.
 pub fn party_with(bases: BaseKeys, start: u64) -> Party
-    ensures { result ≡ record { dust = 546; delay = 144; minimum = 1000; start = start; bases = bases } }
+    ensures { result ≡ record {
+      dust = 546;
+      delay = 144;
+      minimum = 1000;
+      start = start;
+      bases = bases;
+    } }
 {
     Party {
         dust: 546,

@@ -24,7 +24,7 @@ use Rattle.paths.specs.declared.state.Path.{Path}
 use Rattle.paths.specs.Plain.{Listed}
 use Rattle.paths.specs.Rules.{pop_of, pop, ask, condition_of, insist, rule_of}
 use Rattle.paths.specs.Listing.{is_balanced, with_excess, is_low, ahead_by, states_after_jump, states_after_rule, states_after, path_of, path_at_end, end_of, paths_at_end, with_paths, begins, walk_along, walk, beginning, listing}
-use Rattle.paths.specs.Exhaustive.{OpensBy, IsExhaustive}
+use Rattle.paths.specs.Exhaustive.{SatisfiesBy, IsExhaustive}
 use Rattle.paths.proofs.SoundWords.{Gives, entries_of, IsShort, move_by, Asks, Follows, run_state_of}
 use Rattle.paths.proofs.SoundPops.{gives_then, gives_map, gives_result_if, stated_join, pop_grows, asks_grows, pop_entries}
 use Rattle.paths.proofs.SoundRules.{FollowsTo, IsDecided, condition_good}
@@ -318,17 +318,17 @@ passes_start ops spend w counted height sh e = record {
   clean = ap (λ h. outcome_from spend 0 ops (record { ahead = 0; stack = w; counted = 0; open_ifs = []; height = h })) (add-zero (length w)) ∙ e;
 }
 
-opens_good : (ops : List Op) (spend : Spend) (witness : List (List ℕ)) (counted height : ℕ) → list_any is_long witness ≡ false → IsGood ops spend (reverse witness) counted height (OpensBy spend witness counted height)
+opens_good : (ops : List Op) (spend : Spend) (witness : List (List ℕ)) (counted height : ℕ) → list_any is_long witness ≡ false → IsGood ops spend (reverse witness) counted height (SatisfiesBy spend witness counted height)
 opens_good ops spend witness counted height short s n h c t = record {
   meets = record { exact = sym (length-reverse witness) ∙ sym n; short = short; holds = h };
   counts = c;
   tallest = t;
 }
 
-listing_met : (ops : List Op) (spend : Spend) (witness : List (List ℕ)) (counted height : ℕ) → outcome spend ops witness ≡ Clean counted height → Gives (Among (OpensBy spend witness counted height)) (listing ops)
+listing_met : (ops : List Op) (spend : Spend) (witness : List (List ℕ)) (counted height : ℕ) → outcome spend ops witness ≡ Clean counted height → Gives (Among (SatisfiesBy spend witness counted height)) (listing ops)
 unfolding listing
 listing_met ops spend witness counted height e =
-    let P : Path → Type 0 = OpensBy spend witness counted height in
+    let P : Path → Type 0 = SatisfiesBy spend witness counted height in
     let c = clean_start spend ops witness counted height e in
     gives_result_if (Among P) (is_balanced ops []) OpenBranch _ (λ b.
     gives_result_if (Among P) (nat_le (counted_in ops) 201) TooMany _ (λ few.
@@ -339,4 +339,4 @@ listing_met ops spend witness counted height e =
 -- whatever runs clean on a listed script meets a listed path
 pub listing-exhaustive : (ops : List Op) (paths : List Path) → listing ops ≡ Ok paths → IsExhaustive ops paths
 listing-exhaustive ops paths l spend witness counted height e =
-    any_among (OpensBy spend witness counted height) paths (rw l at (listing_met ops spend witness counted height e))
+    any_among (SatisfiesBy spend witness counted height) paths (rw l at (listing_met ops spend witness counted height e))

@@ -41,7 +41,7 @@ past_open spend op rest p ifs l e =
     result_if-true (leb (p.counted + weight op) 201) ManyCounted _ (le-leb _ 201 l)
     ∙ ap (λ o. o >>= state_after_skip_or_run spend op rest p.ahead p (p.counted + weight op)) e
 
--- the list opens so
+-- the list is satisfied so
 balanced_step : (r : Result (List Bool) Cause) (go : List Bool → Bool) → balanced_with r go ≡ true → (ifs : List Bool) × (r ≡ Ok ifs) × (go ifs ≡ true)
 balanced_step (Ok ifs) go e = (ifs, refl, e)
 balanced_step (Err c) go e = absurd (true≢false (sym e))

@@ -1,4 +1,4 @@
--- What a listing says of whoever opens the script.
+-- What a listing says of whoever satisfies the script.
 use Rattle.std.specs.Prelude.{◌≡◌, ℕ, true, List, [], Ok, IfSome, All, Any, ◌↔◌}
 use Rattle.script.specs.declared.opcode.Op.{Op}
 use Rattle.script.specs.declared.spending.Spend.{Spend}
@@ -6,17 +6,17 @@ use Rattle.script.specs.Step.{lock_passes, age_passes}
 use Rattle.script.specs.Run.{Clean, outcome}
 use Rattle.paths.specs.declared.state.Path.{Path}
 use Rattle.paths.specs.Listing.{listing}
-use Rattle.paths.specs.Exhaustive.{OpensBy}
+use Rattle.paths.specs.Exhaustive.{SatisfiesBy}
 use Rattle.paths.specs.Sound.{IsSound}
 
 -- whatever meets a listed path runs clean, as the path says
 abbrev pub ListedAreSound : Type 0
 ListedAreSound = (ops : List Op) (paths : List Path) → listing ops ≡ Ok paths → All (IsSound ops) paths
 
--- a listed script opens exactly for whoever meets a listed path, with that path's counted opcodes and height
-abbrev pub OpensExactly : Type 0
-OpensExactly =
-    (ops : List Op) (paths : List Path) (spend : Spend) (witness : List (List ℕ)) (counted height : ℕ) → listing ops ≡ Ok paths → (outcome spend ops witness ≡ Clean counted height) ↔ Any (OpensBy spend witness counted height) paths
+-- a listed script is satisfied exactly by whoever meets a listed path, with that path's counted opcodes and height
+abbrev pub SatisfiedExactly : Type 0
+SatisfiedExactly =
+    (ops : List Op) (paths : List Path) (spend : Spend) (witness : List (List ℕ)) (counted height : ℕ) → listing ops ≡ Ok paths → (outcome spend ops witness ≡ Clean counted height) ↔ Any (SatisfiesBy spend witness counted height) paths
 
 -- a script that is listed with no path runs clean on no witness, under no spend
 abbrev pub NoPathNoWitness : Type 0
@@ -29,11 +29,11 @@ pub record MeetsLocks (spend : Spend) (p : Path) : Type 0 where
   pub age : IfSome p.age (λ n. age_passes spend n ≡ true)
 
 -- a witness goes this way in time
-pub record OpensInTime (spend : Spend) (witness : List (List ℕ)) (counted height : ℕ) (p : Path) : Type 0 where
-  pub opens : OpensBy spend witness counted height p
+pub record SatisfiesInTime (spend : Spend) (witness : List (List ℕ)) (counted height : ℕ) (p : Path) : Type 0 where
+  pub opens : SatisfiesBy spend witness counted height p
   pub locks : MeetsLocks spend p
 
--- whatever opens a listed script meets a listed path and that path's locks
-abbrev pub OpenersWait : Type 0
-OpenersWait =
-    (ops : List Op) (paths : List Path) (spend : Spend) (witness : List (List ℕ)) (counted height : ℕ) → listing ops ≡ Ok paths → outcome spend ops witness ≡ Clean counted height → Any (OpensInTime spend witness counted height) paths
+-- whatever satisfies a listed script meets a listed path and that path's locks
+abbrev pub SpendersWait : Type 0
+SpendersWait =
+    (ops : List Op) (paths : List Path) (spend : Spend) (witness : List (List ℕ)) (counted height : ℕ) → listing ops ≡ Ok paths → outcome spend ops witness ≡ Clean counted height → Any (SatisfiesInTime spend witness counted height) paths

@@ -27,7 +27,8 @@ pub fn refusal(at: usize, halt: Halt) -> Result<(), CheckError>
 pub fn end(counted: usize, at: usize, state: State, listed: &mut Listed) -> Result<(), CheckError>
     requires slots { state.slots ≤ MAX_STACK_SIZE }
     requires keys { counted + state.keys ≤ MAX_OPS_PER_SCRIPT }
-    ensures exact { Leaves IfRefused (with_paths listed.old (ended_of [] counted at state)) listed.new result }
+    ensures exact { Leaves IfRefused (with_paths listed.old (ended_of [] counted at state))
+        listed.new result }
     ensures begun { OnOk result (listed.new.begun ≡ listed.old.begun) }
 {
     if let Some(path) = ended(counted, at, state)? {

@@ -1,6 +1,6 @@
-// Laws of the listing: who can open a script, and when.
+// Laws of the listing: who can spend by a script, and when.
 
-ghost use Rattle.paths.specs.Laws.{ListedAreSound, OpensExactly, NoPathNoWitness, OpenersWait};
+ghost use Rattle.paths.specs.Laws.{ListedAreSound, SatisfiedExactly, NoPathNoWitness, SpendersWait};
 
 /// Whatever meets a listed path runs clean, with exactly that path's counted opcodes and height, at most 201 and 1,000; and the path's locks are
 /// those of its facts.
@@ -8,19 +8,19 @@ pub fn listed_paths_are_sound()
     ensures { ListedAreSound }
 {}
 
-/// A listed script opens exactly for whoever meets one of its paths: a run ends clean, with these counted opcodes and this height, exactly
+/// A listed script is satisfied exactly by whoever meets one of its paths: a run ends clean, with these counted opcodes and this height, exactly
 /// where the witness meets a listed path that has them, whatever the witness and the spend.
-pub fn listed_paths_open_exactly()
-    ensures { OpensExactly }
+pub fn scripts_are_satisfied_exactly()
+    ensures { SatisfiedExactly }
 {}
 
-/// A script that is listed with no path opens to nobody: no witness runs clean, under no spend.
-pub fn no_path_opens_to_nobody()
+/// A script that is listed with no path is satisfied by nobody: no witness runs clean, under no spend.
+pub fn no_path_is_nobody()
     ensures { NoPathNoWitness }
 {}
 
-/// Whatever opens a listed script meets a listed path, and the spend meets that path's greatest absolute lock (BIP 65) and its greatest
+/// Whatever satisfies a listed script meets a listed path, and the spend meets that path's greatest absolute lock (BIP 65) and its greatest
 /// relative lock in blocks (BIP 112).
-pub fn openers_wait()
-    ensures { OpenersWait }
+pub fn spenders_wait()
+    ensures { SpendersWait }
 {}

@@ -70,7 +70,7 @@ impl Checked {
         // Whatever meets a path runs clean, as the path says.
         ensures sound { All (IsSound self.now.ops) self.now.paths }
 
-        // Nothing else opens the script.
+        // Nothing else satisfies the script.
         ensures exhaustive { IsExhaustive self.now.ops self.now.paths }
     {
         // Borrowing both fields gives the prover the invariant, which says that these are the script's paths.
@@ -104,7 +104,7 @@ pub fn check(alloc: Global, script: Script) -> Result<Checked, CheckError>
     // Whatever witness meets a listed path runs clean, with exactly its counted opcodes and its height, at most 1,000.
     ensures sound { IfOk result (λ c. All (IsSound c.ops) c.paths) }
 
-    // Nothing else opens the script: whatever witness runs clean, under whatever spend, meets a listed path.
+    // Nothing else satisfies the script: whatever witness runs clean, under whatever spend, meets a listed path.
     ensures exhaustive { IfOk result (λ c. IsExhaustive c.ops c.paths) }
 {
     list(alloc, script)

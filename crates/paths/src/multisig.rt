@@ -105,7 +105,8 @@ fn check_forms(
 ) -> Result<(), Halt>
     requires keys { list_any is_bad_key_of keys ≡ false }
     requires extra { is_bad_extra_of extra.now ≡ false }
-    ensures exact { Leaves IfHalts (check_sigs keys signatures extra.now state.old) state.new result }
+    ensures exact { Leaves IfHalts (check_sigs keys signatures extra.now state.old) state.new
+        result }
     ensures near { OnOk result (IsNear 0 state.old state.new) }
 {
     let slots = slots_of(alloc, signatures)?;
@@ -123,7 +124,8 @@ fn ask_all(
     sources: &[KeySource],
     extra: &Sym,
 ) -> Result<(), Halt>
-    ensures exact { Leaves IfHalts (extra_asked extra.now (keys_asked sources.now (forms_asked slots.now state.old))) state.new result }
+    ensures exact { Leaves IfHalts (extra_asked extra.now
+        (keys_asked sources.now (forms_asked slots.now state.old))) state.new result }
     ensures near { OnOk result (IsNear 0 state.old state.new) }
 {
     ask_forms(state, slots)?;

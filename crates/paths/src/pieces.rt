@@ -188,7 +188,8 @@ pub fn are_opcodes(ops: &[Op]) -> bool
 
 // How many bytes are left after the most that a piece comes to, if so many are left.
 fn left_after(piece: &Piece, left: usize) -> Option<usize>
-    ensures { MatchOption result (left < longest_piece piece.now) (λ n. n + longest_piece piece.now ≡ left) }
+    ensures { MatchOption result (left < longest_piece piece.now)
+        (λ n. n + longest_piece piece.now ≡ left) }
 {
     let len = match piece {
         Piece::Op(op) => op.payload_len(),
@@ -297,7 +298,8 @@ pub fn spelt(alloc: Global, ops: &[Op]) -> Result<Vec<u8>, AllocError>
 // Puts the bytes of an opcode at the end. The only error is that memory ran out.
 fn spell(bytes: &mut Vec<u8>, op: &Op) -> Result<(), AllocError>
     requires { IsOp op.now }
-    ensures { OnOk result (bytes.new.items ≡ bytes.old.items ++ code_of op.now ∷ payload_of op.now) }
+    ensures { OnOk result (bytes.new.items ≡ bytes.old.items ++ code_of op.now
+        ∷ payload_of op.now) }
 {
     bytes.push(op.code() as u8)?;
     if let Op::Push(item) = op {

@@ -59,7 +59,8 @@ fn record_check(state: &mut State, key: KeySource, signature: Sym) -> Result<(),
 
 // Puts the answer for a signature of known bytes on top: false, where there are none.
 fn record_known_check(state: &mut State, key: &KeySource, signature: Constant) -> Result<(), Halt>
-    ensures exact { Leaves IfHalts (signature_rule_of key.now (Const signature) state.old) state.new result }
+    ensures exact { Leaves IfHalts (signature_rule_of key.now (Const signature) state.old) state.new
+        result }
     ensures near { OnOk result (IsNear 0 state.old state.new) }
 {
     if !signature.is_no_signature() {

@@ -49,7 +49,8 @@ pub fn walk_all(
     counted: usize,
 ) -> Result<List<PatternPath>, CheckError>
     requires { counted ≤ MAX_OPS_PER_SCRIPT }
-    ensures { Answers IfRefused (paths_in (walk holes.now counted 0 ops.now beginning (record { begun = 1; paths = [] }))) result }
+    ensures { Answers IfRefused (paths_in
+        (walk holes.now counted 0 ops.now beginning (record { begun = 1; paths = [] }))) result }
 {
     let mut listed = Listed {
         begun: 1,
@@ -93,7 +94,9 @@ fn walk_path(
 ) -> Result<(), CheckError>
     requires path { IsWaiting counted (length ops.now) path }
     requires waiting { All (IsWaiting counted (length ops.now)) waiting.old }
-    ensures exact { IsWalked holes.now counted ops.now (rest_of_walk holes.now counted ops.now path.at path.state waiting.old listed.old) waiting.new listed.new result }
+    ensures exact { IsWalked holes.now counted ops.now
+        (rest_of_walk holes.now counted ops.now path.at path.state waiting.old listed.old)
+        waiting.new listed.new result }
     ensures begun { OnOk result (listed.new.begun ≡ listed.old.begun) }
     ensures kept { OnOk result (All (IsWaiting counted (length ops.now)) waiting.new) }
 {
@@ -119,7 +122,8 @@ fn step(
     requires within { at < length ops.now }
     requires state { IsKept counted state.old }
     requires waiting { All (IsWaiting counted (length ops.now)) waiting.old }
-    ensures exact { IsStep holes.now counted ops.now at state.old waiting.old state.new waiting.new result }
+    ensures exact { IsStep holes.now counted ops.now at state.old waiting.old state.new waiting.new
+        result }
     ensures state { IfOk result (λ goes. goes ≡ true → IsKept counted state.new) }
     ensures waiting { OnOk result (All (IsWaiting counted (length ops.now)) waiting.new) }
 {
@@ -148,7 +152,8 @@ fn next_states(
     state: &mut State,
 ) -> Result<Successors, CheckError>
     requires { IsKept counted state.old }
-    ensures exact { AreStates (states_after holes.now counted at op.now rest.now state.old state.old.ahead) rest.now state.new result }
+    ensures exact { AreStates (states_after holes.now counted at op.now rest.now state.old
+        state.old.ahead) rest.now state.new result }
     ensures kept { IfOk result (AreKept counted state.new) }
 {
     if state.ahead > 0 {
@@ -207,7 +212,8 @@ fn successors_of(
     rest: &[Op],
     state: &mut State,
 ) -> Result<Successors, AllocError>
-    ensures { IfOk result (λ way. states_after_jump turn rest.now state.old ≡ states_of rest.now state.new way) }
+    ensures { IfOk result (λ way. states_after_jump turn rest.now state.old
+        ≡ states_of rest.now state.new way) }
 {
     match turn {
         SymbolicJump::Next => Ok(Successors::Goes),

@@ -30,7 +30,8 @@ fn second_stage_penalty(
     k: usize,
 ) -> Result<Claim, AllocError>
     requires { IsSome (slice_get (htlcs_of commitment.now) k) }
-    ensures { (h : HtlcOutput) → slice_get (htlcs_of commitment.now) k ≡ Some h → IfOk result (IsClaimOn (second_stage_penalty commitment.now h)) }
+    ensures { (h : HtlcOutput) → slice_get (htlcs_of commitment.now) k ≡ Some h
+        → IfOk result (IsClaimOn (second_stage_penalty commitment.now h)) }
 {
     match htlc_tx(alloc, commitment, k)? {
         None => unreachable!(),
@@ -49,9 +50,12 @@ fn push_claims_on(
     claims: &mut Vec<Claim>,
 ) -> Result<(), AllocError>
     requires output { IsOutput commitment.now.delay commitment.now.keys output.now }
-    requires htlc { (h : HtlcOutput) → htlc_at index output.now.kind ≡ Some h → slice_get (htlcs_of commitment.now) k ≡ Some h }
-    ensures { OnOk result ((done : Values Claimable) → AreClaimsOn done claims.old.items →
-        AreClaimsOn (done ++ claims_on commitment.now index (place_in (transaction_of commitment.now) index (tx_output output.now)) output.now.kind) claims.new.items) }
+    requires htlc { (h : HtlcOutput) → htlc_at index output.now.kind ≡ Some h
+        → slice_get (htlcs_of commitment.now) k ≡ Some h }
+    ensures { OnOk result ((done : Values Claimable) → AreClaimsOn done claims.old.items
+        → AreClaimsOn (done ++ claims_on commitment.now index
+        (place_in (transaction_of commitment.now) index (tx_output output.now)) output.now.kind)
+        claims.new.items) }
 {
     let place = place_of(commitment, index, output)?;
     match &output.kind {
@@ -117,7 +121,8 @@ pub fn payable_commitment(
     point: &Key,
 ) -> Result<Commitment, AllocError>
     requires { CanPay terms.now view.now }
-    ensures value { IfOk result (λ c. c ≡ commitment_of terms.now view.now owner number point.now.bytes) }
+    ensures value { IfOk result (λ c. c ≡ commitment_of terms.now view.now owner number
+        point.now.bytes) }
     ensures outputs { IfOk result AreOutputs }
 {
     match build(alloc, terms, view, owner, number, point) {

@@ -34,8 +34,14 @@ pub fn claim_of(
     requires form { Claims kind.now checked (path_taken_by kind.now) place (bare_shell shell) }
     requires way { HasWay checked (path_taken_by kind.now) place (bare_shell shell) }
     requires program { is_program (spelling checked.ops) place.program ≡ true }
-    ensures { IfOk result (IsClaimOn (record { place = place; form = checked; path = path_taken_by
-        kind.now; slots = fillings_of kind.now; shell = bare_shell shell })) }
+    ensures { IfOk result (IsClaimOn (record {
+      place = place;
+      form = checked;
+      path = path_taken_by
+          kind.now;
+      slots = fillings_of kind.now;
+      shell = bare_shell shell;
+    })) }
 {
     let slots = accepted_slots(alloc, kind)?;
     match accept(alloc, checked, kind.path(), slots, place, shell) {
@@ -51,7 +57,8 @@ pub fn to_local_script(
     keys: &CommitmentKeys,
     delay: u16,
 ) -> Result<Checked, AllocError>
-    ensures { IfOk result (λ s. s ≡ to_local_form keys.now.revocation.bytes delay keys.now.delayed.bytes) }
+    ensures { IfOk result (λ s. s ≡ to_local_form keys.now.revocation.bytes delay
+        keys.now.delayed.bytes) }
 {
     to_local(alloc, patterns, &keys.revocation, delay, &keys.delayed)
 }

@@ -18,7 +18,8 @@ pub fn place_of(
     index: u32,
     output: &CommitmentOutput,
 ) -> Result<Place, AllocError>
-    ensures { IfOk result (λ p. p ≡ place_in (transaction_of commitment.now) index (tx_output output.now)) }
+    ensures { IfOk result (λ p. p ≡ place_in (transaction_of commitment.now) index
+        (tx_output output.now)) }
 {
     let outpoint = OutPoint {
         txid: *commitment.id(),
@@ -34,7 +35,8 @@ pub fn place_of(
 /// Where the first output of a transaction stands. The only error is that memory ran out.
 pub fn first_place(tx: &Tx) -> Result<Place, AllocError>
     requires { 0 < length tx.now.outputs }
-    ensures { (o : Output) → slice_get tx.now.outputs 0 ≡ Some o → IfOk result (λ p. p ≡ place_in tx.now 0 o) }
+    ensures { (o : Output) → slice_get tx.now.outputs 0 ≡ Some o
+        → IfOk result (λ p. p ≡ place_in tx.now 0 o) }
 {
     let output = &tx.outputs()[0];
     let outpoint = OutPoint {

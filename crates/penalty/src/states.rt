@@ -104,7 +104,8 @@ impl RevokedState {
         number: u64,
         secret: [u8; 32],
     ) -> Result<RevokedState, StateError>
-        ensures ok { MatchResult result (λ _. refusal_of terms view ≡ None) (λ e. refusal_of terms view ≡ Some e) }
+        ensures ok { MatchResult result (λ _. refusal_of terms view ≡ None)
+            (λ e. refusal_of terms view ≡ Some e) }
         ensures parts { IfOk result (HasParts terms view owner number secret) }
     {
         if let Some(refusal) = refusal(&terms, &view) {

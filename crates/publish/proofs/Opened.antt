@@ -1,4 +1,4 @@
--- What is broadcast opens what it spends.
+-- What is broadcast fulfils the programs of the outputs that it spends.
 use Rattle.std.proofs.Common.{◌≡◌, ℕ, ◌+◌, ◌*◌, ◌/◌, ◌%◌, ◌^◌, ◌<◌, ◌≤◌, Bool, true, false, ltb, leb, List, [], ◌∷◌, ◌++◌, length, Option, Some, None, sym, ap, subst, refl, arith, ◌∙◌}
 use Rattle.std.specs.Prelude.{bit_xor, codes, if◌then◌else◌, slice_get, option_map}
 use Rattle.std.specs.List.{All}
@@ -46,7 +46,7 @@ use Rattle.channel.specs.declared.commitments.CommitmentState.{CommitmentState}
 use Rattle.channel.specs.States.{State}
 use Rattle.channel.specs.Tokens.{contents_of}
 use Rattle.publish.specs.Published.{funding_witness, signed_transaction, preimage_among, branch_item, htlc_witness, signed_second_stage, signed_htlc_tx_of}
-use Rattle.publish.specs.Opening.{funding_output, HasUnspent, IsTaken, CommitmentsOpen, output_of, outpoint_of, HtlcTxsOpen}
+use Rattle.publish.specs.Opening.{funding_output, HasUnspent, IsTaken, CommitmentsSpend, output_of, outpoint_of, HtlcTxsSpend}
 use Rattle.publish.proofs.Clean.{runs_clean, two_of_two-valid, two_of_two-short, offered-valid, offered-short, received-valid, received-short, meets_two, meets_timeout, meets_success}
 
 -- an input whose output stands unspent, whose locks are reached and which runs clean
@@ -115,7 +115,7 @@ commitment_taken terms c blocks height has =
     taken blocks height (signed_transaction terms k) (commitment_input terms k) terms.funding (funding_output terms) 3 7 has refl refl (hidden_final height hidden (signed_transaction terms k).inputs)
     (hidden_old height (hidden / 2 ^ 24) has.coin.height) (commitment_runs terms k)
 
-pub commitments_open : CommitmentsOpen
+pub commitments_open : CommitmentsSpend
 commitments_open s n t blocks height e has = by_state (slice_get s.mine n) e
   where
     by_state : (o : Option CommitmentState) → option_map (λ c. signed_transaction s.held.terms (contents_of s.held.terms c)) o ≡ Some t → IsTaken blocks height t
@@ -221,7 +221,7 @@ htlc_tx_is : (s : State) (n k : ℕ) (preimages : List (List ℕ)) (state : Comm
     → signed_htlc_tx_of s n k preimages ≡ Some (signed_second_stage (contents_of s.held.terms state) h item)
 htlc_tx_is s n k preimages state h item e f g = rw (e, f, g) refl
 
-pub htlc_txs_open : HtlcTxsOpen
+pub htlc_txs_open : HtlcTxsSpend
 htlc_txs_open s n k preimages c h item t blocks height is all low apart here old reached =
     let terms = s.held.terms in
     let kth = subst (λ (y : Contents). slice_get (htlcs_of y) k ≡ Some h) is.contents is.kth in

@@ -8,7 +8,7 @@ use Rattle.tx.specs.declared.input.OutPoint.{OutPoint}
 use Rattle.tx.specs.Parts.{Output}
 use Rattle.tx.specs.Fields.{Transaction}
 use Rattle.chain.specs.Blocks.{Contents as Block, Coin, coin_at}
-use Rattle.chain.specs.Tests.{indexed_refusal}
+use Rattle.chain.specs.Checks.{indexed_refusal}
 use Rattle.terms.specs.declared.agreement.Terms.{Terms}
 use Rattle.commit.specs.declared.outputs.HtlcOutput.{HtlcOutput}
 use Rattle.sighash.specs.Programs.{script_hash_program}
@@ -36,8 +36,8 @@ abbrev pub IsTaken : List Block → ℕ → Transaction → Type 0
 IsTaken blocks height t = indexed_refusal blocks height t (slice_get t.inputs 0) ≡ None
 
 -- a commitment with both signatures opens the funding output, wherever that stands unspent, in a block of any height
-abbrev pub CommitmentsOpen : Type 0
-CommitmentsOpen =
+abbrev pub CommitmentsSpend : Type 0
+CommitmentsSpend =
     (s : State) (n : ℕ) (t : Transaction) (blocks : List Block) (height : ℕ) → signed_commitment_of s n ≡ Some t
     → HasUnspent blocks s.held.terms.funding (funding_output s.held.terms) → IsTaken blocks height t
 
@@ -59,8 +59,8 @@ pub record IsHtlcTx (s : State) (n k : ℕ) (preimages : List (List ℕ)) (c : C
 
 -- An HTLC transaction with both signatures opens the HTLC's output, wherever that stands unspent, in each block above the expiry where it is HTLC-timeout, and else in the next one.
 -- The one exception: what stands above the signatures must not have the hash of the revocation key, for which the script would take it.
-abbrev pub HtlcTxsOpen : Type 0
-HtlcTxsOpen =
+abbrev pub HtlcTxsSpend : Type 0
+HtlcTxsSpend =
     (s : State) (n k : ℕ) (preimages : List (List ℕ)) (c : Contents) (h : HtlcOutput) (item : List ℕ) (t : Transaction) (blocks : List Block) (height : ℕ)
     → IsHtlcTx s n k preimages c h item t → All (λ p. length p ≡ 32) preimages → h.htlc.expiry < locktime_threshold
     → bytes_eq (hash160 item) (hash160 c.keys.revocation) ≡ false

@@ -18,7 +18,9 @@ fn signed(
     state: &CommitmentState,
 ) -> Result<Option<Tx>, AllocError>
     requires { slice_get channel.now.mine number ≡ Some state.now }
-    ensures { IfOk result (λ t. t ≡ Some (signed_transaction channel.now.held.terms (contents_of channel.now.held.terms state.now))) }
+    ensures { IfOk result (λ t. t ≡ Some
+        (signed_transaction channel.now.held.terms
+        (contents_of channel.now.held.terms state.now))) }
 {
     // The proof learns from the list that the commitment is this side's.
     let _numbered = channel.own_commitments();
@@ -58,7 +60,8 @@ fn signed_second_stage(
     preimages: &[[u8; 32]],
 ) -> Result<Option<Tx>, AllocError>
     requires { slice_get channel.now.mine number ≡ Some state.now }
-    ensures { IfOk result (λ t. t ≡ signed_htlc_of (contents_of channel.now.held.terms state.now) k preimages.now) }
+    ensures { IfOk result (λ t. t ≡ signed_htlc_of
+        (contents_of channel.now.held.terms state.now) k preimages.now) }
 {
     // The proof learns from the list that the commitment is this side's.
     let _numbered = channel.own_commitments();

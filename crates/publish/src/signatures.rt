@@ -41,8 +41,10 @@ fn commitment_with(
     of_a: &Token,
     of_b: &Token,
 ) -> Result<Tx, AllocError>
-    requires of_a { of_a.now ≡ token_of terms.now.a.bases.funding.bytes (commitment_digest terms.now commitment.now) }
-    requires of_b { of_b.now ≡ token_of terms.now.b.bases.funding.bytes (commitment_digest terms.now commitment.now) }
+    requires of_a { of_a.now ≡ token_of terms.now.a.bases.funding.bytes
+        (commitment_digest terms.now commitment.now) }
+    requires of_b { of_b.now ≡ token_of terms.now.b.bases.funding.bytes
+        (commitment_digest terms.now commitment.now) }
     ensures { IfOk result (λ t. t ≡ signed_transaction terms.now commitment.now) }
 {
     let tx = commitment.tx().copy()?;
@@ -59,7 +61,8 @@ fn commitment_by_both(
     own: &Token,
     peers: &Token,
 ) -> Result<Tx, AllocError>
-    requires own { own.now ≡ token_of (party owner terms.now).bases.funding.bytes (commitment_digest terms.now commitment.now) }
+    requires own { own.now ≡ token_of (party owner terms.now).bases.funding.bytes
+        (commitment_digest terms.now commitment.now) }
     requires peers { IsCommitmentToken terms.now owner commitment.now peers.now }
     ensures { IfOk result (λ t. t ≡ signed_transaction terms.now commitment.now) }
 {
@@ -123,8 +126,10 @@ fn second_stage_with(
 ) -> Result<Tx, AllocError>
     requires outputs { AreOutputs commitment.now }
     requires kth { slice_get (htlcs_of commitment.now) k ≡ Some htlc.now }
-    requires remote { remote.now ≡ token_of commitment.now.keys.remote_htlc (htlc_digest_of commitment.now htlc.now) }
-    requires local { local.now ≡ token_of commitment.now.keys.local_htlc (htlc_digest_of commitment.now htlc.now) }
+    requires remote { remote.now ≡ token_of commitment.now.keys.remote_htlc
+        (htlc_digest_of commitment.now htlc.now) }
+    requires local { local.now ≡ token_of commitment.now.keys.local_htlc
+        (htlc_digest_of commitment.now htlc.now) }
     requires short { length item ≤ 32 }
     ensures { IfOk result (λ t. t ≡ signed_second_stage commitment.now htlc.now item) }
 {
@@ -163,7 +168,8 @@ fn second_stage_by(
     requires outputs { AreOutputs commitment.now }
     requires kth { slice_get (htlcs_of commitment.now) k ≡ Some htlc.now }
     requires peers { AreHtlcTokens commitment.now peers.now }
-    requires local { local.now ≡ token_of commitment.now.keys.local_htlc (htlc_digest_of commitment.now htlc.now) }
+    requires local { local.now ≡ token_of commitment.now.keys.local_htlc
+        (htlc_digest_of commitment.now htlc.now) }
     ensures { IfOk result (λ t. t ≡ signed_htlc_of commitment.now k preimages.now) }
 {
     let Some(item) = branch_item(alloc, htlc.direction, &htlc.htlc, preimages)? else {

@@ -39,7 +39,9 @@ fn funding_tokens(
     of_a: &Token,
     of_b: &Token,
 ) -> Result<Witness, AllocError>
-    ensures { IfOk result (λ w. w ≡ [] ∷ in_key_order terms.now.a.bases.funding.bytes of_a.now terms.now.b.bases.funding.bytes of_b.now) }
+    ensures { IfOk result (λ w. w ≡ []
+        ∷ in_key_order terms.now.a.bases.funding.bytes of_a.now terms.now.b.bases.funding.bytes
+        of_b.now) }
 {
     let a = terms.a.bases.funding;
     let b = terms.b.bases.funding;
@@ -52,7 +54,8 @@ fn funding_tokens(
 
 // The funding script, checked. The only error is that memory ran out.
 fn checked_funding(alloc: Global, terms: &Terms) -> Result<Checked, AllocError>
-    ensures { IfOk result (λ c. c ≡ funding_form terms.now.a.bases.funding.bytes terms.now.b.bases.funding.bytes) }
+    ensures { IfOk result (λ c. c ≡ funding_form terms.now.a.bases.funding.bytes
+        terms.now.b.bases.funding.bytes) }
 {
     let patterns = patterns(alloc)?;
     funding(
@@ -80,7 +83,9 @@ pub(crate) fn funding_witness(
     of_a: &Token,
     of_b: &Token,
 ) -> Result<Witness, AllocError>
-    ensures { IfOk result (λ w. w ≡ ([] ∷ in_key_order terms.now.a.bases.funding.bytes of_a.now terms.now.b.bases.funding.bytes of_b.now) ++ funding_script terms.now ∷ []) }
+    ensures { IfOk result (λ w. w ≡ ([]
+        ∷ in_key_order terms.now.a.bases.funding.bytes of_a.now terms.now.b.bases.funding.bytes
+        of_b.now) ++ funding_script terms.now ∷ []) }
 {
     let script = funding_item(alloc, terms)?;
     let mut witness = funding_tokens(alloc, terms, of_a, of_b)?;
@@ -95,7 +100,8 @@ fn checked_htlc(
     htlc: &HtlcOutput,
 ) -> Result<Checked, AllocError>
     requires { htlc.now.htlc.expiry < locktime_threshold }
-    ensures { IfOk result (λ c. c ≡ htlc_form (bytes_of keys.now) htlc.now.direction htlc.now.htlc) }
+    ensures { IfOk result (λ c. c ≡ htlc_form
+        (bytes_of keys.now) htlc.now.direction htlc.now.htlc) }
 {
     let patterns = patterns(alloc)?;
     htlc_script(alloc, &patterns, keys, htlc.direction, &htlc.htlc)
@@ -109,7 +115,8 @@ fn htlc_item(
     htlc: &HtlcOutput,
 ) -> Result<ByteString, AllocError>
     requires { htlc.now.htlc.expiry < locktime_threshold }
-    ensures value { IfOk result (λ s. s ≡ htlc_script_of (bytes_of keys.now) htlc.now.direction htlc.now.htlc) }
+    ensures value { IfOk result (λ s. s ≡ htlc_script_of
+        (bytes_of keys.now) htlc.now.direction htlc.now.htlc) }
     ensures short { IfOk result (λ s. length s ≤ max_bytes) }
 {
     let checked = checked_htlc(alloc, keys, htlc)?;
@@ -127,7 +134,8 @@ pub(crate) fn htlc_witness(
 ) -> Result<Witness, AllocError>
     requires height { htlc.now.htlc.expiry < locktime_threshold }
     requires short { length item ≤ 32 }
-    ensures { IfOk result (λ w. w ≡ [] ∷ remote.now ∷ local.now ∷ item ∷ htlc_script_of (bytes_of keys.now) htlc.now.direction htlc.now.htlc ∷ []) }
+    ensures { IfOk result (λ w. w ≡ [] ∷ remote.now ∷ local.now ∷ item ∷ htlc_script_of
+        (bytes_of keys.now) htlc.now.direction htlc.now.htlc ∷ []) }
 {
     let mut witness = two_tokens(alloc, remote, local)?;
     witness.push_within_limit(item)?;

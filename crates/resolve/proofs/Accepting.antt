@@ -36,7 +36,7 @@ use Rattle.penalty.specs.Sets.{IsClaimOn}
 use Rattle.penalty.specs.Outputs.{HasWay}
 use Rattle.penalty.proofs.Programs.{same_htlc}
 use Rattle.penalty.proofs.Accepting.{open_way}
-use Rattle.resolve.specs.Due.{delayed_on, direct_opener_of, direct_on, opener_of, second_stage_on}
+use Rattle.resolve.specs.Due.{delayed_on, item_with_peers_key, direct_on, item_with_both_keys, second_stage_on}
 use Rattle.resolve.specs.Kinds.{direct_kind_of, second_stage_kind_of, IsDirect, IsSecondStage, IsHtlcPlace}
 use Rattle.resolve.proofs.Standing.{second_stage_way, second_stage_digest, second_stage_bare}
 
@@ -73,7 +73,7 @@ direct_path : (k : CommitmentKeys) (direction : Direction) (h : Htlc) → path_t
 direct_path k Offered h = refl
 direct_path k Received h = refl
 
-direct_slots : (k : CommitmentKeys) (direction : Direction) (h : Htlc) → fillings_of (direct_kind_of k direction h) ≡ direct_opener_of direction h ∷ Signature k.remote_htlc.bytes ∷ []
+direct_slots : (k : CommitmentKeys) (direction : Direction) (h : Htlc) → fillings_of (direct_kind_of k direction h) ≡ item_with_peers_key direction h ∷ Signature k.remote_htlc.bytes ∷ []
 direct_slots k Offered h = refl
 direct_slots k Received h = refl
 
@@ -90,7 +90,7 @@ pub as_direct : (c : Contents) (k : CommitmentKeys) (direction : Direction) (h :
     → IsClaimOn (direct_on c direction h place) claim
 as_direct c k direction h checked place claim e f i =
     subst (λ o. IsClaimOn o claim)
-    (same_parts c direction h place Open (λ b. direct_opener_of direction h ∷ Signature b.remote_htlc ∷ []) checked _ 2 _ (bytes_of k) e f (direct_path k direction h) (direct_slots k direction h))
+    (same_parts c direction h place Open (λ b. item_with_peers_key direction h ∷ Signature b.remote_htlc ∷ []) checked _ 2 _ (bytes_of k) e f (direct_path k direction h) (direct_slots k direction h))
     i
 
 -- an HTLC by its HTLC transaction
@@ -107,7 +107,7 @@ second_path k Offered h token = refl
 second_path k Received h token = refl
 
 second_slots : (k : CommitmentKeys) (direction : Direction) (h : Htlc) (token : List ℕ)
-    → fillings_of (second_stage_kind_of k direction h token) ≡ opener_of direction h ∷ Signature k.local_htlc.bytes ∷ Bytes token ∷ Bytes [] ∷ []
+    → fillings_of (second_stage_kind_of k direction h token) ≡ item_with_both_keys direction h ∷ Signature k.local_htlc.bytes ∷ Bytes token ∷ Bytes [] ∷ []
 second_slots k Offered h token = refl
 second_slots k Received h token = refl
 
@@ -149,7 +149,7 @@ as_second c k h checked place token kind shell claim e t n s f i =
     subst (λ o. IsClaimOn o claim)
     (ap (λ x. record { place = place; form = checked; path = path_taken_by kind; slots = fillings_of kind; shell = x }) b
     ∙ same_parts c h.direction h.htlc place (Fixed (second_stage_of c h))
-    (λ y. opener_of h.direction h.htlc ∷ Signature y.local_htlc ∷ Bytes (token_of c.keys.remote_htlc (htlc_digest c h)) ∷ Bytes [] ∷ []) checked (path_taken_by kind) 1 (fillings_of kind) (bytes_of k) e f
+    (λ y. item_with_both_keys h.direction h.htlc ∷ Signature y.local_htlc ∷ Bytes (token_of c.keys.remote_htlc (htlc_digest c h)) ∷ Bytes [] ∷ []) checked (path_taken_by kind) 1 (fillings_of kind) (bytes_of k) e f
     (ap path_taken_by n ∙ second_path k h.direction h.htlc token)
-    (ap fillings_of n ∙ second_slots k h.direction h.htlc token ∙ ap (λ y. opener_of h.direction h.htlc ∷ Signature k.local_htlc.bytes ∷ Bytes y ∷ Bytes [] ∷ []) t))
+    (ap fillings_of n ∙ second_slots k h.direction h.htlc token ∙ ap (λ y. item_with_both_keys h.direction h.htlc ∷ Signature k.local_htlc.bytes ∷ Bytes y ∷ Bytes [] ∷ []) t))
     i

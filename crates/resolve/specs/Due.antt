@@ -57,10 +57,10 @@ delayed_on c place = record {
   shell = Open;
 }
 
--- what opens the HTLC with both keys: the empty item for the timeout, or the preimage
-abbrev pub opener_of : Direction → Htlc → Filling
-opener_of Offered h = Bytes []
-opener_of Received h = PreimageOf h.hash
+-- what spends the HTLC with both keys: the empty item for the timeout, or the preimage
+abbrev pub item_with_both_keys : Direction → Htlc → Filling
+item_with_both_keys Offered h = Bytes []
+item_with_both_keys Received h = PreimageOf h.hash
 
 -- an HTLC's output by the HTLC transaction, with the token that the owner's peer gave for it
 abbrev pub second_stage_on : Contents → HtlcOutput → Place → Claimable
@@ -68,7 +68,7 @@ second_stage_on c h place = record {
   place = place;
   form = htlc_form c.keys h.direction h.htlc;
   path = 1;
-  slots = opener_of h.direction h.htlc ∷ Signature c.keys.local_htlc ∷ Bytes (token_of c.keys.remote_htlc (htlc_digest c h)) ∷ Bytes [] ∷ [];
+  slots = item_with_both_keys h.direction h.htlc ∷ Signature c.keys.local_htlc ∷ Bytes (token_of c.keys.remote_htlc (htlc_digest c h)) ∷ Bytes [] ∷ [];
   shell = Fixed (second_stage_of c h);
 }
 
@@ -76,10 +76,10 @@ second_stage_on c h place = record {
 abbrev pub delayed_second_stage : Contents → HtlcOutput → Claimable
 delayed_second_stage c h = delayed_on c (place_in (second_stage_of c h) 0 (second_stage_output c h))
 
--- what opens the HTLC with the peer's key alone: the preimage, or the empty item for the timeout
-abbrev pub direct_opener_of : Direction → Htlc → Filling
-direct_opener_of Offered h = PreimageOf h.hash
-direct_opener_of Received h = Bytes []
+-- what spends the HTLC with the peer's key alone: the preimage, or the empty item for the timeout
+abbrev pub item_with_peers_key : Direction → Htlc → Filling
+item_with_peers_key Offered h = PreimageOf h.hash
+item_with_peers_key Received h = Bytes []
 
 -- an HTLC's output by the key of the owner's peer
 abbrev pub direct_on : Contents → Direction → Htlc → Place → Claimable
@@ -87,7 +87,7 @@ direct_on c direction h place = record {
   place = place;
   form = htlc_form c.keys direction h;
   path = 2;
-  slots = direct_opener_of direction h ∷ Signature c.keys.remote_htlc ∷ [];
+  slots = item_with_peers_key direction h ∷ Signature c.keys.remote_htlc ∷ [];
   shell = Open;
 }
 

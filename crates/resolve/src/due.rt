@@ -36,8 +36,9 @@ fn push_second_stage(
     requires open { IsSecondStage own.now.commitment.keys htlc.now.direction htlc.now.htlc }
     requires height { htlc.now.htlc.expiry < locktime_threshold }
     requires place { IsHtlcPlace own.now.commitment htlc.now place }
-    ensures { OnOk result ((done : Values Claimable) → AreClaimsOn done claims.old.items →
-        AreClaimsOn (done ++ second_stage_on own.now.commitment htlc.now place ∷ delayed_second_stage own.now.commitment htlc.now ∷ []) claims.new.items) }
+    ensures { OnOk result ((done : Values Claimable) → AreClaimsOn done claims.old.items
+        → AreClaimsOn (done ++ second_stage_on own.now.commitment htlc.now place
+        ∷ delayed_second_stage own.now.commitment htlc.now ∷ []) claims.new.items) }
 {
     let commitment = own.commitment.commitment();
     let token = own.htlc_tokens.values()[k];
@@ -63,9 +64,12 @@ fn push_owners(
 ) -> Result<(), AllocError>
     requires output { IsOutput own.now.commitment.delay own.now.commitment.keys output.now }
     requires value { IsOutputOf own.now.commitment.keys output.now }
-    requires htlc { (h : HtlcParts) → htlc_at index output.now.kind ≡ Some h → slice_get (htlcs_of own.now.commitment) k ≡ Some h }
-    ensures { OnOk result ((done : Values Claimable) → AreClaimsOn done claims.old.items →
-        AreClaimsOn (done ++ owners_on known.now own.now.commitment index (place_in (transaction_of own.now.commitment) index (tx_output output.now)) output.now.kind) claims.new.items) }
+    requires htlc { (h : HtlcParts) → htlc_at index output.now.kind ≡ Some h
+        → slice_get (htlcs_of own.now.commitment) k ≡ Some h }
+    ensures { OnOk result ((done : Values Claimable) → AreClaimsOn done claims.old.items
+        → AreClaimsOn (done ++ owners_on known.now own.now.commitment index
+        (place_in (transaction_of own.now.commitment) index (tx_output output.now)) output.now.kind)
+        claims.new.items) }
 {
     let commitment = own.commitment.commitment();
     let place = place_of(commitment, index, output)?;
@@ -130,8 +134,10 @@ fn push_peers(
     claims: &mut Vec<Claim>,
 ) -> Result<(), AllocError>
     requires { IsOutput theirs.now.delay theirs.now.keys output.now }
-    ensures { OnOk result ((done : Values Claimable) → AreClaimsOn done claims.old.items →
-        AreClaimsOn (done ++ peers_on known.now theirs.now index (place_in (transaction_of theirs.now) index (tx_output output.now)) output.now.kind) claims.new.items) }
+    ensures { OnOk result ((done : Values Claimable) → AreClaimsOn done claims.old.items
+        → AreClaimsOn (done ++ peers_on known.now theirs.now index
+        (place_in (transaction_of theirs.now) index (tx_output output.now)) output.now.kind)
+        claims.new.items) }
 {
     let commitment = theirs.commitment();
     let place = place_of(commitment, index, output)?;

@@ -34,7 +34,8 @@ impl<'a> Model for KnownHashes<'a> {
 
 // The hashes of preimages.
 fn hashes_of(alloc: Global, preimages: &[[u8; 32]]) -> Result<BTreeSet<[u8; 32]>, AllocError>
-    ensures { IfOk result (λ s. (h : List ℕ) → contains (slice_cmp nat_cmp) s h ≡ is_known preimages.now h) }
+    ensures { IfOk result (λ s. (h : List ℕ)
+        → contains (slice_cmp nat_cmp) s h ≡ is_known preimages.now h) }
 {
     let mut hashes = BTreeSet::new(alloc);
     for preimage in preimages {

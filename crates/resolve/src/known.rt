@@ -51,7 +51,8 @@ impl KnownCommitment {
         number: u64,
         point: &Key,
     ) -> Result<KnownCommitment, KnownError>
-        ensures value { IfOk result (λ k. k ≡ commitment_of terms.now view.now owner number point.now.bytes) }
+        ensures value { IfOk result (λ k. k ≡ commitment_of terms.now view.now owner number
+            point.now.bytes) }
         ensures ok { IfOk result (λ _. refusal_of terms.now view.now number ≡ None) }
         ensures err { IfErr result (IsNamed (refusal_of terms.now view.now number)) }
     {
@@ -109,7 +110,9 @@ fn is_signed_by_peer(
     token: &Token,
     htlc_tokens: &[Token],
 ) -> Result<bool, AllocError>
-    ensures { IfOk result (λ is. IsTrue is ↔ (IsCommitmentToken terms.now owner commitment.now token.now × AreHtlcTokens commitment.now htlc_tokens.now)) }
+    ensures { IfOk result (λ is. IsTrue is
+        ↔ (IsCommitmentToken terms.now owner commitment.now token.now
+        × AreHtlcTokens commitment.now htlc_tokens.now)) }
 {
     let digests = signing_digests(alloc, terms, commitment)?;
     let funding = terms.party(owner.other()).bases.funding;
@@ -286,7 +289,11 @@ struct PeersCommitments {
 
 // Equal ones of its own. The only error is that memory ran out.
 fn copied_own(known: &Known) -> Result<OwnCommitments, AllocError>
-    ensures { IfOk result (λ o. o ≡ record { signer = known.now.signer; newest = known.now.own; older = known.now.older }) }
+    ensures { IfOk result (λ o. o ≡ record {
+      signer = known.now.signer;
+      newest = known.now.own;
+      older = known.now.older;
+    }) }
 {
     let older = copied_signed(known.older.allocator(), known.older.values())?;
     let signer = known.signer.copy()?;
@@ -300,7 +307,11 @@ fn copied_own(known: &Known) -> Result<OwnCommitments, AllocError>
 
 // Equal ones of the peer. The only error is that memory ran out.
 fn copied_peers(known: &Known) -> Result<PeersCommitments, AllocError>
-    ensures { IfOk result (λ p. p ≡ record { newest = known.now.theirs; next = known.now.next; revoked = known.now.revoked }) }
+    ensures { IfOk result (λ p. p ≡ record {
+      newest = known.now.theirs;
+      next = known.now.next;
+      revoked = known.now.revoked;
+    }) }
 {
     let revoked = known.revoked.copy()?;
     let newest = known.theirs.copy()?;

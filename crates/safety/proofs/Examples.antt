@@ -28,7 +28,7 @@ use Rattle.keys.specs.declared.compressed.Key.{Key}
 use Rattle.keys.specs.Derivation.{point_of, derived_key, revocation_key}
 use Rattle.chain.specs.Blocks.{Coin}
 use Rattle.chain.specs.Locks.{is_final, is_old_enough}
-use Rattle.chain.specs.Tests.{coin_refusal}
+use Rattle.chain.specs.Checks.{coin_refusal}
 use Rattle.paths.proofs.SoundWalk.{listing-sound}
 use Rattle.claim.specs.Fitting.{output_at}
 use Rattle.claim.proofs.Meeting.{sound-at}

@@ -14,7 +14,7 @@ use Rattle.terms.specs.declared.htlcs.Htlc.{Htlc}
 use Rattle.chain.specs.Blocks.{Coin}
 use Rattle.chain.specs.Indexing.{marked}
 use Rattle.chain.specs.Locks.{is_final}
-use Rattle.chain.specs.Tests.{coin_refusal}
+use Rattle.chain.specs.Checks.{coin_refusal}
 use Rattle.claim.specs.declared.parts.Place.{Place}
 use Rattle.commit.specs.declared.fees.Direction.{Direction}
 use Rattle.commit.specs.declared.fees.Direction.TheVariants.{Offered, Received}

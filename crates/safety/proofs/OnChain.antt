@@ -6,10 +6,10 @@ use Rattle.script.specs.Run.{Outcome, Clean, Stopped}
 use Rattle.tx.specs.declared.input.TxIn.{TxIn}
 use Rattle.tx.specs.Fields.{Transaction}
 use Rattle.sighash.specs.Programs.{run_of}
-use Rattle.chain.specs.declared.refusal.Refusal.{Refusal}
+use Rattle.chain.specs.declared.errors.ChainError.{ChainError}
 use Rattle.chain.specs.Blocks.{Coin}
 use Rattle.chain.specs.Locks.{is_final, is_old_enough}
-use Rattle.chain.specs.Tests.{required, run_refusal, coin_refusal}
+use Rattle.chain.specs.Checks.{required, run_refusal, coin_refusal}
 use Rattle.commit.specs.Commitments.{Contents}
 use Rattle.penalty.specs.Claimable.{Claimable, commitment_in}
 use Rattle.safety.specs.Spending.{Waits, IsLate, CanSpend, by_peer, by_owner, by_twin, WhoSpends}
@@ -19,7 +19,7 @@ some_none : {X : Type 0} (x : X) → Some x ≡ None → ⊥
 some_none x e = cc
 
 -- a test passed, and what comes after it refused nothing
-met : (b : Bool) (refusal : Refusal) (next : Option Refusal) → required b refusal next ≡ None → (b ≡ true) × (next ≡ None)
+met : (b : Bool) (refusal : ChainError) (next : Option ChainError) → required b refusal next ≡ None → (b ≡ true) × (next ≡ None)
 met true refusal next e = (refl, e)
 met false refusal next e = absurd (some_none refusal e)
 

@@ -11,11 +11,11 @@ use Rattle.std.proofs.lemmas.Grind.{reverse_onto}
 use Rattle.tx.specs.declared.input.OutPoint.{OutPoint}
 use Rattle.tx.specs.declared.input.TxIn.{TxIn}
 use Rattle.tx.specs.Fields.{Transaction}
-use Rattle.chain.specs.declared.refusal.Refusal.{Refusal}
+use Rattle.chain.specs.declared.errors.ChainError.{ChainError}
 use Rattle.chain.specs.Blocks.{Contents, Creation, Coin, height_of, same_outpoint, created_by, created_by_all, granted_at, grants_in, created_of, is_named, created_at}
 use Rattle.chain.specs.Indexing.{new_coin}
-use Rattle.chain.specs.Tests.{first_of, coin_refusal, input_refusal, inputs_refusal, transaction_refusal}
-use Rattle.chain.specs.Tested.{have_passed, is_tested}
+use Rattle.chain.specs.Checks.{first_of, coin_refusal, input_refusal, inputs_refusal, transaction_refusal}
+use Rattle.chain.specs.Checked.{have_passed, is_checked}
 use Rattle.chain.proofs.Passing.{passed as transaction_passed, next_passed}
 use Rattle.safety.specs.Standing.{StandsAt, HavePassed}
 use Rattle.safety.proofs.Slots.{contains_cases}
@@ -30,7 +30,7 @@ none_some x e = cc
 some_is : {X : Type 0} (x y : X) → Some x ≡ Some y → x ≡ y
 some_is x y e = cc
 
-both_passed : (a b : Option Refusal) → first_of a b ≡ None → (a ≡ None) × (b ≡ None)
+both_passed : (a b : Option ChainError) → first_of a b ≡ None → (a ≡ None) × (b ≡ None)
 both_passed None b e = (refl, e)
 both_passed (Some r) b e = absurd (some_none r e)
 
@@ -101,10 +101,10 @@ last_cases {X} [] y x (suc k) e = absurd (none_some x (sym (slice_get_past (y �
 last_cases (z ∷ zs) y x zero e = inl e
 last_cases {X} (z ∷ zs) y x (suc k) e = ⊎_elim (λ (f : slice_get zs k ≡ Some x). inl f) (λ (r : (k ≡ length zs) × (y ≡ x)). inr (ap suc r.0, r.1)) (last_cases zs y x k e)
 
-on_chain : (blocks : List Contents) → is_tested blocks ≡ true → (height : ℕ) (t : Transaction) → StandsAt blocks height t → (input : TxIn) → Contains t.inputs input → IsFound (created_of blocks) height t input
+on_chain : (blocks : List Contents) → is_checked blocks ≡ true → (height : ℕ) (t : Transaction) → StandsAt blocks height t → (input : TxIn) → Contains t.inputs input → IsFound (created_of blocks) height t input
 on_chain [] e height t s input i = absurd (none_some s.block (sym (slice_get_past [] height (omega arith)) ∙ s.there))
 on_chain (b ∷ older) e height t s input i =
-    let parts = and_parts (have_passed older b.transactions) (is_tested older) e in
+    let parts = and_parts (have_passed older b.transactions) (is_checked older) e in
     let created = created_by_all (length older) b.transactions in
     let granted = granted_at (length older) (grants_in older) b.granted in
     let there : slice_get (reverse older ++ b ∷ []) height ≡ Some s.block = ap (λ xs. slice_get xs height) (sym (reverse_onto older b [])) ∙ s.there in

@@ -8,7 +8,7 @@ use Rattle.digest.specs.Hash.{hash160}
 use Rattle.script.specs.declared.spending.Spend.{Spend}
 use Rattle.script.specs.Token.{token_of, assigned}
 use Rattle.facts.specs.Meaning.{slot_of}
-use Rattle.paths.specs.Exhaustive.{OpensBy}
+use Rattle.paths.specs.Exhaustive.{SatisfiesBy}
 use Rattle.paths.proofs.ForcedWalk.{listing-exhaustive}
 use Rattle.terms.specs.Scripts.{to_local, key_hash, offered, received}
 use Rattle.forms.specs.Ways.{to_local_ways, key_hash_ways, offered_ways, received_ways}
@@ -22,12 +22,12 @@ to_local_satisfied revocation delay delayed h k l spend witness counted height e
     opened (listing-exhaustive (to_local revocation delay delayed) (to_local_ways revocation delay delayed)
     (to_local-listed revocation delay delayed h k l (key_length revocation k) (key_length delayed l)) spend witness counted height e)
   where
-    opened : Any (OpensBy spend witness counted height) (to_local_ways revocation delay delayed) → SatisfiesToLocal revocation delay delayed spend witness
+    opened : Any (SatisfiesBy spend witness counted height) (to_local_ways revocation delay delayed) → SatisfiesToLocal revocation delay delayed spend witness
     opened (zero, y, i, f, p) =
-        let o = subst (OpensBy spend witness counted height) (sym f) p in
+        let o = subst (SatisfiesBy spend witness counted height) (sym f) p in
         inl (slot_token spend witness 1 revocation (omega (arith, o.meets.exact)) o.meets.holds.1.1.0)
     opened (suc zero, y, i, f, p) =
-        let o = subst (OpensBy spend witness counted height) (sym f) p in
+        let o = subst (SatisfiesBy spend witness counted height) (sym f) p in
         inr (slot_token spend witness 1 delayed (omega (arith, o.meets.exact)) o.meets.holds.1.1.1.0, o.meets.holds.1.0)
     opened (suc (suc n), y, i, f, p) = absurd (omega (arith, i))
 
@@ -53,9 +53,9 @@ preimage_in witness hash n s e = record {
 pub key_hash_satisfied : KeyHashSatisfied
 key_hash_satisfied hash n spend witness counted height e = opened (listing-exhaustive (key_hash hash) (key_hash_ways hash) (key_hash-listed hash n) spend witness counted height e)
   where
-    opened : Any (OpensBy spend witness counted height) (key_hash_ways hash) → HasKeyOf spend witness hash
+    opened : Any (SatisfiesBy spend witness counted height) (key_hash_ways hash) → HasKeyOf spend witness hash
     opened (zero, y, i, f, p) =
-        let o = subst (OpensBy spend witness counted height) (sym f) p in
+        let o = subst (SatisfiesBy spend witness counted height) (sym f) p in
         key_in spend witness hash o.meets.exact o.meets.holds.0 o.meets.holds.1.1.1.0
     opened (suc n, y, i, f, p) = absurd (omega (arith, i))
 
@@ -82,16 +82,16 @@ offered_satisfied revocation_hash remote local payment_hash m n k l spend witnes
     opened (listing-exhaustive (offered revocation_hash remote local payment_hash) (offered_ways revocation_hash remote local payment_hash)
     (offered-listed revocation_hash remote local payment_hash k l (key_length remote k) (key_length local l) m n) spend witness counted height e)
   where
-    opened : Any (OpensBy spend witness counted height) (offered_ways revocation_hash remote local payment_hash) → SatisfiesOffered revocation_hash remote local payment_hash spend witness
+    opened : Any (SatisfiesBy spend witness counted height) (offered_ways revocation_hash remote local payment_hash) → SatisfiesOffered revocation_hash remote local payment_hash spend witness
     opened (zero, y, i, f, p) =
-        let o = subst (OpensBy spend witness counted height) (sym f) p in
+        let o = subst (SatisfiesBy spend witness counted height) (sym f) p in
         inl (key_in spend witness revocation_hash o.meets.exact o.meets.holds.0 o.meets.holds.1.1.1.0)
     opened (suc zero, y, i, f, p) =
-        let o = subst (OpensBy spend witness counted height) (sym f) p in
+        let o = subst (SatisfiesBy spend witness counted height) (sym f) p in
         let b = both_tokens spend witness remote local o.meets.exact o.meets.holds.1.1.1.1.1.0 in
         inr (b.0, inl b.1)
     opened (suc (suc zero), y, i, f, p) =
-        let o = subst (OpensBy spend witness counted height) (sym f) p in
+        let o = subst (SatisfiesBy spend witness counted height) (sym f) p in
         inr (slot_token spend witness 1 remote (omega (arith, o.meets.exact)) o.meets.holds.1.1.1.1.0, inr (preimage_in witness payment_hash (omega (arith, o.meets.exact)) o.meets.holds.1.0 o.meets.holds.1.1.0))
     opened (suc (suc (suc j)), y, i, f, p) = absurd (omega (arith, i))
 
@@ -100,15 +100,15 @@ received_satisfied revocation_hash remote local payment_hash expiry h m n k l sp
     opened (listing-exhaustive (received revocation_hash remote local payment_hash expiry) (received_ways revocation_hash remote local payment_hash expiry)
     (received-listed revocation_hash remote local payment_hash expiry h k l (key_length remote k) (key_length local l) m n) spend witness counted height e)
   where
-    opened : Any (OpensBy spend witness counted height) (received_ways revocation_hash remote local payment_hash expiry) → SatisfiesReceived revocation_hash remote local payment_hash expiry spend witness
+    opened : Any (SatisfiesBy spend witness counted height) (received_ways revocation_hash remote local payment_hash expiry) → SatisfiesReceived revocation_hash remote local payment_hash expiry spend witness
     opened (zero, y, i, f, p) =
-        let o = subst (OpensBy spend witness counted height) (sym f) p in
+        let o = subst (SatisfiesBy spend witness counted height) (sym f) p in
         inl (key_in spend witness revocation_hash o.meets.exact o.meets.holds.0 o.meets.holds.1.1.1.0)
     opened (suc zero, y, i, f, p) =
-        let o = subst (OpensBy spend witness counted height) (sym f) p in
+        let o = subst (SatisfiesBy spend witness counted height) (sym f) p in
         let b = both_tokens spend witness remote local o.meets.exact o.meets.holds.1.1.1.1.1.1.0 in
         inr (b.0, inl (b.1, preimage_in witness payment_hash (omega (arith, o.meets.exact)) o.meets.holds.1.0 o.meets.holds.1.1.0))
     opened (suc (suc zero), y, i, f, p) =
-        let o = subst (OpensBy spend witness counted height) (sym f) p in
+        let o = subst (SatisfiesBy spend witness counted height) (sym f) p in
         inr (slot_token spend witness 1 remote (omega (arith, o.meets.exact)) o.meets.holds.1.1.1.1.0, inr o.meets.holds.1.1.0)
     opened (suc (suc (suc j)), y, i, f, p) = absurd (omega (arith, i))

@@ -5,7 +5,7 @@ use Rattle.tx.specs.declared.input.TxIn.{TxIn}
 use Rattle.tx.specs.Parts.{Output}
 use Rattle.tx.specs.Fields.{Transaction, unsigned_transaction}
 use Rattle.chain.specs.Blocks.{Contents as Block, Coin, coin_at}
-use Rattle.chain.specs.Tested.{is_tested}
+use Rattle.chain.specs.Checked.{is_checked}
 use Rattle.claim.specs.Fitting.{output_at}
 use Rattle.commit.specs.declared.outputs.HtlcOutput.{HtlcOutput}
 use Rattle.commit.specs.Fees.{satoshis_of}
@@ -80,7 +80,7 @@ NothingEscapesAbove blocks height state =
 abbrev pub NothingEscapesOnChains : Type 0
 NothingEscapesOnChains =
     (state : RevokedState) → HasShortDelay state → (o : Claimable) → Contains (claimable_of state) o
-    → (blocks : List Block) → is_tested blocks ≡ true
+    → (blocks : List Block) → is_checked blocks ≡ true
     → (height : ℕ) (t : Transaction) → StandsAt blocks height t → (input : TxIn) → Contains t.inputs input
     → (coin : Coin) → coin_at blocks input.outpoint ≡ Some coin → coin.output ≡ output_at o.place
     → HasFate state o coin.height height t input

@@ -12,7 +12,7 @@ use Rattle.tx.specs.declared.input.TxIn.{TxIn}
 use Rattle.tx.specs.Fields.{Transaction}
 use Rattle.sighash.specs.Programs.{run_of}
 use Rattle.chain.specs.Blocks.{Coin}
-use Rattle.chain.specs.Tests.{coin_refusal}
+use Rattle.chain.specs.Checks.{coin_refusal}
 use Rattle.terms.specs.Agreement.{party}
 use Rattle.claim.specs.Fitting.{output_at}
 use Rattle.commit.specs.Keys.{KeyBytes}

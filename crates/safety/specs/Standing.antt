@@ -4,8 +4,8 @@ use Rattle.std.specs.List.{Contains}
 use Rattle.tx.specs.declared.input.TxIn.{TxIn}
 use Rattle.tx.specs.Fields.{Transaction}
 use Rattle.chain.specs.Blocks.{Contents, Coin, coin_at}
-use Rattle.chain.specs.Tests.{coin_refusal}
-use Rattle.chain.specs.Tested.{is_tested}
+use Rattle.chain.specs.Checks.{coin_refusal}
+use Rattle.chain.specs.Checked.{is_checked}
 use Rattle.chain.specs.Indexing.{marked}
 
 -- the transaction stands in the block of this height
@@ -17,6 +17,6 @@ pub record StandsAt (blocks : List Contents) (height : ℕ) (t : Transaction) : 
 -- each input on the chain names a coin of it, and passed the test of that coin, as it was before it was spent
 abbrev pub HavePassed : Type 0
 HavePassed =
-    (blocks : List Contents) → is_tested blocks ≡ true
+    (blocks : List Contents) → is_checked blocks ≡ true
     → (height : ℕ) (t : Transaction) → StandsAt blocks height t → (input : TxIn) → Contains t.inputs input
     → (coin : Coin) × (coin_at blocks input.outpoint ≡ Some coin) × (coin_refusal height t input (Some (marked false coin)) ≡ None)

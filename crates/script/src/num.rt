@@ -69,7 +69,8 @@ pub fn write(alloc: Global, n: u64) -> Result<ByteString, AllocError>
     ensures item { IfOk result (λ i. i ≡ minimal_bytes_of n) }
 
     // It is read as the same number, where that is one of 32 bits.
-    ensures read { IfOk result (λ i. n < 2 ^ 32 → number_of 5 i ≡ Some (record { negative = false; magnitude = n })) }
+    ensures read { IfOk result (λ i. n < 2 ^ 32
+        → number_of 5 i ≡ Some (record { negative = false; magnitude = n })) }
 {
     let mut bytes = Vec::new(alloc);
     let mut rest = n;

@@ -77,7 +77,9 @@ impl Script {
         ensures fault { IfErr result (IsFault bytes.now) }
 
         // Bytes that are not too many and split into opcodes are refused for running out of memory alone, and split in one way.
-        ensures exact { (ops : List Opcode) → Spells ops bytes.now → length bytes.now ≤ MAX_SCRIPT_SIZE → MatchResult result (λ s. s ≡ ops) (λ e. e ≡ ParseError.NoMemory) }
+        ensures exact { (ops : List Opcode) → Spells ops bytes.now
+            → length bytes.now ≤ MAX_SCRIPT_SIZE
+            → MatchResult result (λ s. s ≡ ops) (λ e. e ≡ ParseError.NoMemory) }
     {
         read(alloc, bytes)
     }

@@ -38,8 +38,9 @@ pub fn call_of(alloc: Global, channel: u64, message: &Message) -> Result<Call, A
 
 /// The message that an accepted reply has for the peer, if there is one: of all that a release gives nothing is left. A refused reply is handed back.
 pub fn message_of(reply: Reply) -> Result<Option<Message>, Reply>
-    ensures { let form = reply_form reply in
-        MatchResult result (λ m. (is_accepted form ≡ true) × (messages_in form ≡ cons_option m [])) (λ r. (is_accepted form ≡ false) × (r ≡ reply)) }
+    ensures { let form = reply_form reply
+        in MatchResult result (λ m. (is_accepted form ≡ true)
+        × (messages_in form ≡ cons_option m [])) (λ r. (is_accepted form ≡ false) × (r ≡ reply)) }
 {
     match reply {
         Reply::Stepped(Ok(message)) => Ok(message),

@@ -70,8 +70,9 @@ fn value_of(due: &[&DueClaim]) -> u128
 
 /// What claims are worth together, in satoshis, where they can be released in one transaction of a channel: MixedChannels, OverValue. It takes no memory.
 pub fn worth_of(channel: u64, due: &[&DueClaim]) -> Result<u64, BatchError>
-    ensures { let all = map (λ d. d.now) due.now in
-        MatchResult result (λ v. (batch_refusal channel all ≡ None) × (v ≡ value_of all)) (λ e. batch_refusal channel all ≡ Some e) }
+    ensures { let all = map (λ d. d.now) due.now
+        in MatchResult result (λ v. (batch_refusal channel all ≡ None) × (v ≡ value_of all))
+        (λ e. batch_refusal channel all ≡ Some e) }
 {
     if !are_of(channel, due) {
         return Err(BatchError::MixedChannels);
@@ -116,7 +117,8 @@ fn push_each_once(preimages: &mut List<[u8; 32]>, wanted: &[[u8; 32]]) -> Result
 
 // The preimages that the claims want, each once. The only error is that memory ran out.
 fn preimages_of(alloc: Global, due: &[&DueClaim]) -> Result<List<[u8; 32]>, AllocError>
-    ensures { IfOk result (λ preimages. preimages ≡ each_once (flat_map (λ d. d.preimages) (map (λ d. d.now) due.now))) }
+    ensures { IfOk result (λ preimages. preimages ≡ each_once
+        (flat_map (λ d. d.preimages) (map (λ d. d.now) due.now))) }
 {
     let mut preimages = List::new(alloc);
     for due_claim in due {
@@ -128,7 +130,11 @@ fn preimages_of(alloc: Global, due: &[&DueClaim]) -> Result<List<[u8; 32]>, Allo
 // The output that pays a value to the hash of a key. The only error is that memory ran out.
 fn payment_of(alloc: Global, payment: &Key, value: u64) -> Result<TxOut, AllocError>
     requires { value ≤ max_value }
-    ensures { IfOk result (λ o. o ≡ record { value = value; script = key_hash_program payment.now.bytes }) }
+    ensures { IfOk result (λ o. o ≡ record {
+      value = value;
+      script = key_hash_program
+          payment.now.bytes;
+    }) }
 {
     let program = key_hash_program(alloc, &payment.bytes)?;
     match TxOut::new(value, program) {
@@ -149,8 +155,9 @@ pub fn batch_of(
     requires inputs { length due.now ≤ max_inputs }
     requires value { value ≡ value_of (map (λ d. d.now) due.now) }
     requires limit { value ≤ max_value }
-    ensures { let all = map (λ d. d.now) due.now in
-        IfOk result (IsBatchOf (claims_in all) (output_for payment.now.bytes all ∷ []) (preimages_for all)) }
+    ensures { let all = map (λ d. d.now) due.now
+        in IfOk result (IsBatchOf (claims_in all) (output_for payment.now.bytes all ∷ [])
+        (preimages_for all)) }
 {
     let mut outputs = List::new(alloc);
     outputs.push(payment_of(alloc, payment, value)?)?;

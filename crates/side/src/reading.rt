@@ -197,7 +197,8 @@ fn read_channel(
 // Puts more at the end of what was found. The only error is that memory ran out.
 fn add(found: &mut Found, more: Found) -> Result<(), AllocError>
     ensures due { OnOk result (found.new.due.items ≡ found.old.due.items ++ more.due.items) }
-    ensures learnt { OnOk result (found.new.learnt.items ≡ found.old.learnt.items ++ more.learnt.items) }
+    ensures learnt { OnOk result (found.new.learnt.items ≡ found.old.learnt.items
+        ++ more.learnt.items) }
 {
     let mut more = more;
     found.due.append(&mut more.due)?;
@@ -238,7 +239,8 @@ fn hold_whole(due: &VecDeque<DueClaim>)
 
 // Puts a number at the end, where a test holds.
 fn push_if(numbers: &mut Vec<u64>, number: u64, holds: bool) -> Result<(), AllocError>
-    ensures { OnOk result (numbers.new.items ≡ numbers.old.items ++ (if holds then number ∷ [] else [])) }
+    ensures { OnOk result (numbers.new.items ≡ numbers.old.items
+        ++ (if holds then number ∷ [] else [])) }
 {
     if holds {
         numbers.push(number)?;
@@ -275,7 +277,8 @@ impl Reader {
     /// The channels, rising, of which it is to be asked what is known before a block is read: nobody answered yet, and a transaction that spends the funding output was read or stands in the
     /// block. The only error is that memory ran out.
     pub fn to_ask(&self, alloc: Global, block: &Block) -> Result<Vec<u64>, AllocError>
-        ensures exact { IfOk result (λ v. v.items ≡ numbers_to_ask 0 self.now.fundings self.now.seen self.now.knowns (reverse block.now.transactions)) }
+        ensures exact { IfOk result (λ v. v.items ≡ numbers_to_ask 0 self.now.fundings self.now.seen
+            self.now.knowns (reverse block.now.transactions)) }
         ensures within { IfOk result (λ v. All (λ c. c < length self.now.seen) v.items) }
         ensures in_step { IsInStep self.now }
     {

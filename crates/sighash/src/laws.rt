@@ -15,5 +15,6 @@ pub fn one_key_and_digest()
 /// input leaves the digests of all as they were.
 pub fn digests_ignore_witnesses()
     ensures { (t u : Transaction) (index : ℕ) (code : List ℕ) (value : ℕ)
-        → unsigned_transaction t ≡ unsigned_transaction u → sighash t index code value ≡ sighash u index code value }
+        → unsigned_transaction t ≡ unsigned_transaction u
+        → sighash t index code value ≡ sighash u index code value }
 {}

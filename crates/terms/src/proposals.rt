@@ -66,8 +66,8 @@ impl ProposedTerms {
     pub fn agreed(&self, funding: OutPoint, a: BaseKeys, b: BaseKeys) -> Option<Terms>
         ensures terms { result ≡ agreed_terms funding a b self.now }
         ensures some { is_some result ≡ can_agree self.now }
-        ensures fields { IfSome result (λ t.
-            HasFields t funding self.now.capacity self.now.opener self.now.feerate (party_of self.now.a a) (party_of self.now.b b)) }
+        ensures fields { IfSome result (λ t. HasFields t funding self.now.capacity self.now.opener
+            self.now.feerate (party_of self.now.a a) (party_of self.now.b b)) }
     {
         let a = party_of(&self.a, a);
         let b = party_of(&self.b, b);

@@ -6,14 +6,17 @@ ghost use Rattle.tx.specs.Spelling.{IsTransaction, IsStripped, transaction_id};
 
 /// A transaction has one spelling, and bytes spell one transaction.
 pub fn one_spelling()
-    ensures of_value { (t : Transaction) (a b : List ℕ) → IsTransaction t a → IsTransaction t b → a ≡ b }
-    ensures of_bytes { (t u : Transaction) (bytes : List ℕ) → IsTransaction t bytes → IsTransaction u bytes → t ≡ u }
+    ensures of_value { (t : Transaction) (a b : List ℕ) → IsTransaction t a → IsTransaction t b
+        → a ≡ b }
+    ensures of_bytes { (t u : Transaction) (bytes : List ℕ) → IsTransaction t bytes
+        → IsTransaction u bytes → t ≡ u }
 {}
 
 /// The same of the form without marker, flag and witnesses.
 pub fn one_stripped_spelling()
     ensures of_value { (t : Transaction) (a b : List ℕ) → IsStripped t a → IsStripped t b → a ≡ b }
-    ensures of_bytes { (t u : Transaction) (bytes : List ℕ) → IsStripped t bytes → IsStripped u bytes → t ≡ u }
+    ensures of_bytes { (t u : Transaction) (bytes : List ℕ) → IsStripped t bytes
+        → IsStripped u bytes → t ≡ u }
 {}
 
 /// The id of a transaction does not look at its witnesses: two that are equal once stripped have one id, and giving an input a
@@ -23,5 +26,6 @@ pub fn ids_ignore_witnesses()
         → transaction_id t ≡ transaction_id u }
     ensures of_signing { (t : Transaction) (index : ℕ) (items : List (List ℕ))
         → unsigned_transaction (transaction_with_witness t index items) ≡ unsigned_transaction t }
-    ensures of_stripping { (t : Transaction) → unsigned_transaction (unsigned_transaction t) ≡ unsigned_transaction t }
+    ensures of_stripping { (t : Transaction)
+        → unsigned_transaction (unsigned_transaction t) ≡ unsigned_transaction t }
 {}

@@ -67,11 +67,12 @@ impl<T: Element> LimitedList<T> {
     /// The list of these elements, without copying them: OverLimit where there are more than `T::LIMIT`, or one of them
     /// does not keep the limits of its kind.
     pub fn from_vec(items: Vec<T>) -> Result<Self, LimitError>
-        ensures value { result ≡ (if list_all T.is_bounded items.items && nat_le (length items.items) T.LIMIT
-            then Ok items.items else Err LimitError.OverLimit) }
+        ensures value { result ≡ (if list_all T.is_bounded items.items && nat_le
+            (length items.items) T.LIMIT then Ok items.items else Err LimitError.OverLimit) }
         // Where the kind has no limits of its own, the number decides.
-        ensures by_number { ((x : T) → T.is_bounded x ≡ true) → result ≡ (if nat_le (length items.items) T.LIMIT
-            then Ok items.items else Err LimitError.OverLimit) }
+        ensures by_number { ((x : T) → T.is_bounded x ≡ true)
+            → result ≡ (if nat_le (length items.items) T.LIMIT then Ok items.items
+            else Err LimitError.OverLimit) }
     {
         if !are_bounded(items.as_slice()) || items.len() > T::LIMIT {
             return Err(LimitError::OverLimit);

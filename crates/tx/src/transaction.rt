@@ -54,7 +54,12 @@ impl Tx {
         lock_time: u32,
     ) -> Result<Self, FieldError>
         ensures { result ≡ (if length inputs == 0 then Err FieldError.NoInputs
-            else Ok (record { version = version; inputs = inputs; outputs = outputs; lock_time = lock_time })) }
+            else Ok (record {
+              version = version;
+              inputs = inputs;
+              outputs = outputs;
+              lock_time = lock_time;
+            })) }
     {
         // The proof learns the limits of both lists where they are read.
         let _ = inputs.as_slice();

@@ -144,7 +144,8 @@ fn put_stripped(out: &mut Vec<u8>, tx: &Tx) -> Result<(), AllocError>
 /// The bytes of a transaction (BIP 144): NoWitness where no witness has an item. The other error is that memory ran out.
 pub fn encode(alloc: Global, tx: &Tx) -> Result<Vec<u8>, EncodeError>
     ensures ok { IfOk result (λ bytes. IsTransaction tx.now bytes.items) }
-    ensures no_witness { IsErrOf result EncodeError.NoWitness ↔ (has_witness tx.now.inputs ≡ false) }
+    ensures no_witness { IsErrOf result EncodeError.NoWitness
+        ↔ (has_witness tx.now.inputs ≡ false) }
 {
     if !tx.has_witness() {
         return Err(EncodeError::NoWitness);

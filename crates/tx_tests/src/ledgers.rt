@@ -7,7 +7,7 @@ use parties::{FUNDING, one_key, party_with, terms_of};
 use std::alloc::{AllocError, Global};
 use std::process::Abort;
 use terms::{Side, View};
-use updates::{Ledger, Refusal, Update};
+use updates::{ChannelError, Ledger, Update};
 
 /// A preimage, and its SHA-256 (Python's hashlib).
 const PREIMAGE: [u8; 32] = [5; 32];
@@ -57,7 +57,7 @@ impl Sides {
     }
 
     /// B makes a removal, and A receives it.
-    fn remove(&mut self, rt: &impl Abort, made: Result<(), Refusal>, update: &Update) {
+    fn remove(&mut self, rt: &impl Abort, made: Result<(), ChannelError>, update: &Update) {
         made.expect(rt, "a removal");
         self.a.receive_update(update).expect(rt, "a removal");
     }
@@ -88,13 +88,13 @@ impl Sides {
 fn amounts_change_sides(rt: HostRuntime) {
     let mut s = open(&rt, rt.alloc());
     s.add(&rt, 3_861_000);
-    assert_eq!(rt; s.b.fulfil(0, PREIMAGE), Err(Refusal::UnknownHtlc));
+    assert_eq!(rt; s.b.fulfil(0, PREIMAGE), Err(ChannelError::UnknownHtlc));
     s.settle_a();
-    assert_eq!(rt; s.b.fulfil(0, HASH), Err(Refusal::WrongPreimage));
+    assert_eq!(rt; s.b.fulfil(0, HASH), Err(ChannelError::WrongPreimage));
     let made = s.b.fulfil(0, PREIMAGE);
     let preimage = PREIMAGE;
     s.remove(&rt, made, &Update::Fulfil { id: 0, preimage });
-    assert_eq!(rt; s.b.fail(0), Err(Refusal::UnknownHtlc));
+    assert_eq!(rt; s.b.fail(0), Err(ChannelError::UnknownHtlc));
     let moved = (76_139_000, 23_861_000, 0, 1000);
     assert_eq!(rt; seen(&rt, s.b.view_to_sign()), moved);
     assert_eq!(rt; seen(&rt, s.a.view_to_receive()), moved);
@@ -138,7 +138,7 @@ fn offer_and_see(
     amount: u64,
     hash: [u8; 32],
     expiry: u32,
-) -> Result<u64, Refusal> {
+) -> Result<u64, ChannelError> {
     ledger.offer(amount, hash, expiry)?;
     Ok(ledger.view_to_sign()?.share(ledger.side()).balance)
 }
@@ -153,20 +153,20 @@ fn an_offer_lowers_the_balance(rt: HostRuntime) {
 #[test]
 fn refusals_print_their_names(rt: HostRuntime) {
     let table = [
-        (Refusal::NoMemory, "NoMemory"),
-        (Refusal::AmountZero, "AmountZero"),
-        (Refusal::BelowMinimum, "BelowMinimum"),
-        (Refusal::ExpiryTooLarge, "ExpiryTooLarge"),
-        (Refusal::WrongId, "WrongId"),
-        (Refusal::TooManyHtlcs, "TooManyHtlcs"),
-        (Refusal::OverBalance, "OverBalance"),
-        (Refusal::UnknownHtlc, "UnknownHtlc"),
-        (Refusal::WrongPreimage, "WrongPreimage"),
-        (Refusal::NoUpdates, "NoUpdates"),
-        (Refusal::BadSignature, "BadSignature"),
-        (Refusal::WrongSecret, "WrongSecret"),
-        (Refusal::NotYourTurn, "NotYourTurn"),
-        (Refusal::NotOpener, "NotOpener"),
+        (ChannelError::NoMemory, "NoMemory"),
+        (ChannelError::AmountZero, "AmountZero"),
+        (ChannelError::BelowMinimum, "BelowMinimum"),
+        (ChannelError::ExpiryTooLarge, "ExpiryTooLarge"),
+        (ChannelError::WrongId, "WrongId"),
+        (ChannelError::TooManyHtlcs, "TooManyHtlcs"),
+        (ChannelError::OverBalance, "OverBalance"),
+        (ChannelError::UnknownHtlc, "UnknownHtlc"),
+        (ChannelError::WrongPreimage, "WrongPreimage"),
+        (ChannelError::NoUpdates, "NoUpdates"),
+        (ChannelError::BadSignature, "BadSignature"),
+        (ChannelError::WrongSecret, "WrongSecret"),
+        (ChannelError::NotYourTurn, "NotYourTurn"),
+        (ChannelError::NotOpener, "NotOpener"),
     ];
     for (refusal, name) in table {
         assert_prints(&rt, rt.alloc(), &refusal, name);

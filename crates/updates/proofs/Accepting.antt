@@ -14,8 +14,8 @@ use Rattle.updates.specs.Views.{start_of}
 use Rattle.sha2.specs.Sha256.{sha256}
 use Rattle.updates.specs.Stages.{Stages}
 use Rattle.updates.specs.Refusals.{Test, if_so, first_refusal, removable, to_remove, is_missing, is_wrong, update_tests, IsRefusal}
-use Rattle.updates.specs.declared.refusals.Refusal.{Refusal}
-use Rattle.updates.specs.declared.refusals.Refusal.TheVariants.{NoMemory}
+use Rattle.updates.specs.declared.errors.ChannelError.{ChannelError}
+use Rattle.updates.specs.declared.errors.ChannelError.TheVariants.{NoMemory}
 use Rattle.updates.proofs.Sums.{offers-append, spent_falls, live_count_falls, gained_of_more}
 use Rattle.updates.proofs.Numbering.{found_on}
 use Rattle.updates.specs.Steady.{KnowsMore, ReceiversAccept}
@@ -78,10 +78,10 @@ pub update_accepted : ReceiversAccept
 update_accepted terms by s o s' o' u k e = none_refuses _ (update_passes terms by s o s' o' u k (all_pass _ e))
 
 -- an answer that names the first refusal
-refused : (first : Option Refusal) (r : Refusal) → first ≡ Some r → IsRefusal first r
+refused : (first : Option ChannelError) (r : ChannelError) → first ≡ Some r → IsRefusal first r
 refused first NoMemory e = tt
 refused first r e = e
 
-pub answered : {A : Type 0} (r : Result A Refusal) (first : Option Refusal) → MatchResult r (λ x. first ≡ None) (λ e. first ≡ Some e) → MatchResult r (λ x. first ≡ None) (IsRefusal first)
+pub answered : {A : Type 0} (r : Result A ChannelError) (first : Option ChannelError) → MatchResult r (λ x. first ≡ None) (λ e. first ≡ Some e) → MatchResult r (λ x. first ≡ None) (IsRefusal first)
 answered (Ok x) first h = h
 answered (Err e) first h = refused first e h

@@ -11,11 +11,11 @@ use Rattle.terms.specs.declared.views.Share.{Share}
 use Rattle.updates.specs.declared.changes.Update.{Update}
 use Rattle.updates.specs.declared.changes.Update.TheVariants.{Add, Fulfil, Fail, Fee}
 use Rattle.updates.specs.declared.fates.Fate.TheVariants.{Live, Fulfilled, Failed}
-use Rattle.updates.specs.declared.refusals.Refusal.{Refusal}
-use Rattle.updates.specs.declared.refusals.Refusal.TheVariants.{NoMemory, AmountZero, BelowMinimum, ExpiryTooLarge, WrongId, TooManyHtlcs, OverBalance, UnknownHtlc, WrongPreimage, NoUpdates, BadSignature, WrongSecret, NotYourTurn, NotOpener}
+use Rattle.updates.specs.declared.errors.ChannelError.{ChannelError}
+use Rattle.updates.specs.declared.errors.ChannelError.TheVariants.{NoMemory, AmountZero, BelowMinimum, ExpiryTooLarge, WrongId, TooManyHtlcs, OverBalance, UnknownHtlc, WrongPreimage, NoUpdates, BadSignature, WrongSecret, NotYourTurn, NotOpener}
 use Rattle.updates.specs.Updates.{fate, offers, offer_of, spent, gained, pending, live_count, last_fee}
 use Rattle.updates.specs.Views.{share_of, feerate_of, expire_at_heights}
-use Rattle.updates.specs.Stages.{Stages, none_yet, made, to_receiver, by_receiver, to_sender, by_sender}
+use Rattle.updates.specs.Stages.{Stages, none_yet, with_update, to_receiver, by_receiver, to_sender, by_sender}
 use Rattle.updates.specs.Refusals.{refusal_number, first_refusal, update_tests, covers_nothing, to_remove}
 
 abbrev htlc : ℕ → ℕ → Htlc
@@ -70,7 +70,7 @@ fees = (refl, refl, refl, refl)
 
 -- an update passes the stages in turn, and a later one behind it
 abbrev two : Stages
-two = made (Fail 1) (by_sender (to_sender (by_receiver (to_receiver (made (Add (htlc 0 5)) none_yet)))))
+two = with_update (Fail 1) (by_sender (to_sender (by_receiver (to_receiver (with_update (Add (htlc 0 5)) none_yet)))))
 
 stages : (two.known ≡ Add (htlc 0 5) ∷ Fail 1 ∷ []) × (two.with_receiver ≡ Add (htlc 0 5) ∷ []) × (two.settled ≡ Add (htlc 0 5) ∷ [])
     × ((to_sender (to_receiver two)).with_sender ≡ Add (htlc 0 5) ∷ [])
@@ -79,17 +79,17 @@ stages = (refl, refl, refl, refl, refl)
 
 -- a signature covers something where its sender made an update, or acknowledged one of the other side
 covered : (covers_nothing none_yet none_yet ≡ true)
-    × (covers_nothing (made (Fee 1) none_yet) none_yet ≡ false)
-    × (covers_nothing none_yet (made (Fee 1) none_yet) ≡ true)
-    × (covers_nothing none_yet (by_receiver (to_receiver (made (Fee 1) none_yet))) ≡ false)
-    × (covers_nothing none_yet (to_sender (by_receiver (to_receiver (made (Fee 1) none_yet)))) ≡ true)
+    × (covers_nothing (with_update (Fee 1) none_yet) none_yet ≡ false)
+    × (covers_nothing none_yet (with_update (Fee 1) none_yet) ≡ true)
+    × (covers_nothing none_yet (by_receiver (to_receiver (with_update (Fee 1) none_yet))) ≡ false)
+    × (covers_nothing none_yet (to_sender (by_receiver (to_receiver (with_update (Fee 1) none_yet)))) ≡ true)
 covered = (refl, refl, refl, refl, refl)
 
 -- only an HTLC that passed all stages is removed, and once
 removals : (to_remove 0 none_yet two ≡ Some (htlc 0 5))
     × (to_remove 1 none_yet two ≡ None)
-    × (to_remove 0 (made (Fail 0) none_yet) two ≡ None)
-    × (to_remove 0 none_yet (to_sender (by_receiver (to_receiver (made (Add (htlc 0 5)) none_yet)))) ≡ None)
+    × (to_remove 0 (with_update (Fail 0) none_yet) two ≡ None)
+    × (to_remove 0 none_yet (to_sender (by_receiver (to_receiver (with_update (Add (htlc 0 5)) none_yet)))) ≡ None)
 removals = (refl, refl, refl, refl)
 
 -- the first test that holds
@@ -113,7 +113,7 @@ module _ (funding : OutPoint) (bases : BaseKeys) where
   abbrev offer : ℕ → ℕ → ℕ → Update
   offer id amount expiry = Add (record { id = id; amount = amount; hash = []; expiry = expiry })
 
-  abbrev refusal : Side → Stages → Update → Option Refusal
+  abbrev refusal : Side → Stages → Update → Option ChannelError
   refusal by own u = first_refusal (update_tests terms by own none_yet u)
 
   -- each offer fails the tests that come after its refusal, where one amount can

@@ -12,7 +12,7 @@ use Rattle.updates.specs.declared.fates.Fate.{Fate}
 use Rattle.updates.specs.declared.fates.Fate.TheVariants.{Live, Fulfilled, Failed}
 use Rattle.updates.specs.declared.limits.TheConstants.{MAX_HTLCS, EXPIRY_END}
 use Rattle.updates.specs.Views.{IsCovered, IsSound, start_of, expire_at_heights}
-use Rattle.updates.specs.Stages.{Stages, made, to_receiver, by_receiver, to_sender, by_sender}
+use Rattle.updates.specs.Stages.{Stages, with_update, to_receiver, by_receiver, to_sender, by_sender}
 use Rattle.updates.specs.Refusals.{update_tests, to_remove, is_missing}
 use Rattle.updates.proofs.Sums.{begins_on, begins_longer, begins, fate-append, offers-append, spent_falls, spent_of_fewer, spent-append, spent_is, gained_rises, gained_of_more, live_count_falls, live_count-append, live_count_of_fewer, live-length}
 use Rattle.updates.proofs.Numbering.{numbered-append, numbered_start, found_below, removes_below-more, removes_below-append, gained_settled}
@@ -34,7 +34,7 @@ settled_past s o = begins_on s.settled s.with_sender s.past_receiver o.settled o
 pub settled_receiver : (s : Stages) → InOrder s → IsBeginning s.settled s.with_receiver
 settled_receiver s o = begins_on s.settled s.past_receiver s.with_receiver (settled_past s o) o.past
 
-pub order_made : (u : Update) (s : Stages) → InOrder s → InOrder (made u s)
+pub order_made : (u : Update) (s : Stages) → InOrder s → InOrder (with_update u s)
 order_made u s o = record { settled = o.settled; sender = o.sender; past = o.past; receiver = begins_longer s.with_receiver s.known (u ∷ []) o.receiver }
 
 pub order_to_receiver : (s : Stages) → InOrder s → InOrder (to_receiver s)
@@ -151,7 +151,7 @@ heights_made terms by s o (Fulfil id preimage) t h = heights_append s.known (Ful
 heights_made terms by s o (Fail id) t h = heights_append s.known (Fail id ∷ []) ∙ and_from _ _ h refl
 heights_made terms by s o (Fee rate) t h = heights_append s.known (Fee rate ∷ []) ∙ and_from _ _ h refl
 
-pub fair_made : (terms : Terms) (by : Side) (s o : Stages) (u : Update) → InOrder o → Numbered 0 (offers o.known) → AllPass (update_tests terms by s o u) → IsFair (start_of by terms) s o → IsFair (start_of by terms) (made u s) o
+pub fair_made : (terms : Terms) (by : Side) (s o : Stages) (u : Update) → InOrder o → Numbered 0 (offers o.known) → AllPass (update_tests terms by s o u) → IsFair (start_of by terms) s o → IsFair (start_of by terms) (with_update u s) o
 fair_made terms by s o u order n t f = record {
   numbered = numbered_made terms by s o u t f.numbered;
   removes = removes_below-append _ s.known (u ∷ []) f.removes (removes_made terms by s o u order n t);

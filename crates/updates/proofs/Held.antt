@@ -15,7 +15,7 @@ use Rattle.updates.specs.declared.pending.Pending.{Pending}
 use Rattle.updates.specs.Updates.{first_of_fates, fate_by, fate, offers, offer_of, total, if_fulfilled, spent, gained, pending}
 use Rattle.updates.specs.Ends.{end_from, end_of}
 use Rattle.updates.specs.Views.{start_of}
-use Rattle.updates.specs.Stages.{Stages, made}
+use Rattle.updates.specs.Stages.{Stages, with_update}
 use Rattle.updates.specs.Refusals.{Test, first_refusal, add_tests, fulfil_tests, fail_tests, update_tests, removable}
 use Rattle.updates.specs.Pending.{pending_htlcs, total_amount, fulfilled_at, found_in, is_left, noted_all, new_pending, IsGrown, IsNoted, IsAlike, IsBounded, IsKept, kept_tests}
 use Rattle.updates.specs.Steady.{InOrder, IsBeginning, IsFair, RemovesBelow}
@@ -82,7 +82,7 @@ next_live start s o id so f e =
 
 -- the side that offers makes an update that passes its tests
 pub kept_grown : (terms : Terms) (by : Side) (start : ℕ) (p q : Pending) (s o : Stages) (u : Update) → InOrder s → InOrder o → IsFair start o s
-    → AllPass (update_tests terms by s o u) → IsKept p s o → IsGrown p q (length s.known) u → IsKept q (made u s) o
+    → AllPass (update_tests terms by s o u) → IsKept p s o → IsGrown p q (length s.known) u → IsKept q (with_update u s) o
 kept_grown terms by start p q s o u so oo f t k g = record {
   offered = g.offered ∙ ap (λ n. n + length (offers (u ∷ []))) k.offered ∙ sym (ap length (offers-append s.known (u ∷ [])) ∙ length-append (offers s.known) (offers (u ∷ [])));
   fulfilled = (let a = g.fulfilled in let b = k.fulfilled in let c = gained-append o.settled s.known (u ∷ []) in let d = none_gained u t in omega (arith, a, b, c, d));
@@ -128,7 +128,7 @@ kept_grown terms by start p q s o u so oo f t k g = record {
         omega (arith, a, b, c, d, e)
 
 -- the side that removes makes an update
-pub kept_noted : (p q : Pending) (s o : Stages) (u : Update) → IsKept p s o → IsNoted p q (length o.known) u → IsKept q s (made u o)
+pub kept_noted : (p q : Pending) (s o : Stages) (u : Update) → IsKept p s o → IsNoted p q (length o.known) u → IsKept q s (with_update u o)
 kept_noted p q s o u k n = record {
   offered = n.offered ∙ k.offered;
   fulfilled = n.fulfilled ∙ k.fulfilled;

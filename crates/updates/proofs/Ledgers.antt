@@ -6,7 +6,7 @@ use Rattle.terms.specs.Sides.{other}
 use Rattle.updates.specs.declared.changes.Update.{Update}
 use Rattle.updates.specs.declared.pending.Pending.{Pending}
 use Rattle.updates.specs.Updates.{offers}
-use Rattle.updates.specs.Stages.{Stages, made, to_receiver, by_receiver, to_sender, by_sender}
+use Rattle.updates.specs.Stages.{Stages, with_update, to_receiver, by_receiver, to_sender, by_sender}
 use Rattle.updates.specs.Refusals.{Test, first_refusal, update_tests}
 use Rattle.updates.specs.Pending.{fulfilled_at, is_left, IsGrown, IsNoted, IsAlike, IsBounded, IsKept, kept_tests}
 use Rattle.updates.specs.Steady.{Held, IsSteady, IsLedger, own_tests, their_tests, holding_none, holding_made, holding_signed, holding_update, holding_signature, holding_revocation}

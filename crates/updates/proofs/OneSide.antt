@@ -8,7 +8,7 @@ use Rattle.terms.specs.Sides.{other}
 use Rattle.updates.specs.declared.limits.TheConstants.{MAX_HTLCS}
 use Rattle.updates.specs.Updates.{live}
 use Rattle.updates.specs.Views.{IsCovered, IsSoundBy, start_of, expire_at_heights}
-use Rattle.updates.specs.Stages.{none_yet, made, to_receiver, by_receiver, to_sender, by_sender}
+use Rattle.updates.specs.Stages.{none_yet, with_update, to_receiver, by_receiver, to_sender, by_sender}
 use Rattle.updates.specs.Refusals.{first_refusal, update_tests}
 use Rattle.updates.proofs.Sums.{begins}
 use Rattle.updates.proofs.Accepting.{all_pass}
@@ -31,7 +31,7 @@ steady_made h u e k = record {
   own_revoked = k.own_revoked;
   theirs_revoked = k.theirs_revoked;
   own_fair = fair_made h.terms h.side h.own h.theirs u k.theirs k.their_fair.numbered (all_pass _ e) k.own_fair;
-  their_fair = fair_on _ h.theirs h.own h.theirs (made u h.own) k.their_fair refl (begins _) (u ∷ [], refl) (begins _);
+  their_fair = fair_on _ h.theirs h.own h.theirs (with_update u h.own) k.their_fair refl (begins _) (u ∷ [], refl) (begins _);
 }
 
 pub steady_signed : (h : Held) → IsSteady h → IsSteady (holding_signed h)
@@ -50,7 +50,7 @@ steady_update h u e k = record {
   theirs = order_made u h.theirs k.theirs;
   own_revoked = k.own_revoked;
   theirs_revoked = k.theirs_revoked;
-  own_fair = fair_on _ h.own h.theirs h.own (made u h.theirs) k.own_fair refl (begins _) (u ∷ [], refl) (begins _);
+  own_fair = fair_on _ h.own h.theirs h.own (with_update u h.theirs) k.own_fair refl (begins _) (u ∷ [], refl) (begins _);
   their_fair = fair_made h.terms (other h.side) h.theirs h.own u k.own k.own_fair.numbered (all_pass _ e) k.their_fair;
 }
 

@@ -12,15 +12,15 @@ use Rattle.updates.specs.declared.changes.Update.{Update}
 use Rattle.updates.specs.declared.changes.Update.TheVariants.{Add, Fulfil, Fail, Fee}
 use Rattle.updates.specs.declared.fates.Fate.{Fate}
 use Rattle.updates.specs.declared.fates.Fate.TheVariants.{Live, Fulfilled, Failed}
-use Rattle.updates.specs.declared.refusals.Refusal.{Refusal}
-use Rattle.updates.specs.declared.refusals.Refusal.TheVariants.{NoMemory, AmountZero, BelowMinimum, ExpiryTooLarge, WrongId, TooManyHtlcs, OverBalance, UnknownHtlc, WrongPreimage, NoUpdates, BadSignature, WrongSecret, NotYourTurn, NotOpener}
+use Rattle.updates.specs.declared.errors.ChannelError.{ChannelError}
+use Rattle.updates.specs.declared.errors.ChannelError.TheVariants.{NoMemory, AmountZero, BelowMinimum, ExpiryTooLarge, WrongId, TooManyHtlcs, OverBalance, UnknownHtlc, WrongPreimage, NoUpdates, BadSignature, WrongSecret, NotYourTurn, NotOpener}
 use Rattle.updates.specs.declared.limits.TheConstants.{MAX_HTLCS, EXPIRY_END}
 use Rattle.updates.specs.Updates.{fate, offers, offer_of, spent, gained, live_count}
 use Rattle.updates.specs.Views.{start_of}
 use Rattle.updates.specs.Stages.{Stages}
 
 -- 0 is that memory ran out
-abbrev pub refusal_number : Refusal → ℕ
+abbrev pub refusal_number : ChannelError → ℕ
 refusal_number NoMemory = 0
 refusal_number AmountZero = 1
 refusal_number BelowMinimum = 2
@@ -38,14 +38,14 @@ refusal_number NotOpener = 13
 
 -- a test that refuses where it holds
 abbrev pub Test : Type 0
-Test = Bool × Refusal
+Test = Bool × ChannelError
 
-abbrev pub if_so : Bool → Refusal → Option Refusal → Option Refusal
+abbrev pub if_so : Bool → ChannelError → Option ChannelError → Option ChannelError
 if_so true r rest = Some r
 if_so false r rest = rest
 
 -- the refusal of the first test that holds
-abbrev pub first_refusal : List Test → Option Refusal
+abbrev pub first_refusal : List Test → Option ChannelError
 first_refusal [] = None
 first_refusal (t ∷ tests) = if_so t.0 t.1 (first_refusal tests)
 
@@ -108,6 +108,6 @@ abbrev pub covers_nothing : Stages → Stages → Bool
 covers_nothing sender others = length sender.known == length sender.with_receiver && length others.past_receiver == length others.with_sender
 
 -- out of memory, or the first refusal
-abbrev pub IsRefusal : Option Refusal → Refusal → Type 0
+abbrev pub IsRefusal : Option ChannelError → ChannelError → Type 0
 IsRefusal first NoMemory = Unit {0}
 IsRefusal first r = first ≡ Some r

@@ -25,8 +25,8 @@ abbrev pub none_yet : Stages
 none_yet = record { known = []; with_receiver = []; past_receiver = []; with_sender = []; settled = [] }
 
 -- the sender makes an update
-abbrev pub made : Update → Stages → Stages
-made u s = record { known = s.known ++ u ∷ []; with_receiver = s.with_receiver; past_receiver = s.past_receiver; with_sender = s.with_sender; settled = s.settled }
+abbrev pub with_update : Update → Stages → Stages
+with_update u s = record { known = s.known ++ u ∷ []; with_receiver = s.with_receiver; past_receiver = s.past_receiver; with_sender = s.with_sender; settled = s.settled }
 
 -- the sender signs the receiver's next commitment
 abbrev pub to_receiver : Stages → Stages

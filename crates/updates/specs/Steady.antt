@@ -12,7 +12,7 @@ use Rattle.updates.specs.declared.pending.Pending.{Pending}
 use Rattle.updates.specs.Views.{start_of, expire_at_heights}
 use Rattle.updates.specs.Refusals.{Test, first_refusal, update_tests}
 use Rattle.updates.specs.Pending.{IsKept}
-use Rattle.updates.specs.Stages.{Stages, none_yet, made, to_receiver, by_receiver, to_sender, by_sender}
+use Rattle.updates.specs.Stages.{Stages, none_yet, with_update, to_receiver, by_receiver, to_sender, by_sender}
 
 -- one list is the beginning of another
 abbrev pub IsBeginning : List Update → List Update → Type 0
@@ -69,13 +69,13 @@ abbrev pub holding_none : Terms → Side → Held
 holding_none terms side = record { terms = terms; side = side; own = none_yet; theirs = none_yet }
 
 abbrev pub holding_made : Update → Held → Held
-holding_made u h = record { terms = h.terms; side = h.side; own = made u h.own; theirs = h.theirs }
+holding_made u h = record { terms = h.terms; side = h.side; own = with_update u h.own; theirs = h.theirs }
 
 abbrev pub holding_signed : Held → Held
 holding_signed h = record { terms = h.terms; side = h.side; own = to_receiver h.own; theirs = to_sender h.theirs }
 
 abbrev pub holding_update : Update → Held → Held
-holding_update u h = record { terms = h.terms; side = h.side; own = h.own; theirs = made u h.theirs }
+holding_update u h = record { terms = h.terms; side = h.side; own = h.own; theirs = with_update u h.theirs }
 
 abbrev pub holding_signature : Held → Held
 holding_signature h = record { terms = h.terms; side = h.side; own = by_sender (to_sender h.own); theirs = by_receiver (to_receiver h.theirs) }

@@ -2,7 +2,7 @@
 
 ghost use Rattle.std.specs.Prelude.{◌≡◌, ◌≤◌, IfOk, OnErr, length};
 ghost use Rattle.updates.specs.declared.changes.Update.TheVariants.{Add};
-ghost use Rattle.updates.specs.Stages.{made};
+ghost use Rattle.updates.specs.Stages.{with_update};
 ghost use Rattle.updates.specs.Pending.{IsGrown, IsNoted, IsAlike};
 
 use crate::changes::Update;
@@ -15,8 +15,9 @@ use terms::Htlc;
 // Adds an HTLC to the updates and to the pending HTLCs of its side. Memory for both is there before either changes.
 fn push_add(list: &mut UpdateList, htlcs: &mut Pending, htlc: Htlc) -> Result<(), AllocError>
     requires { htlcs.old.offered ≤ length list.old.known }
-    ensures list { IfOk result (λ _. list.new ≡ made (Add htlc) list.old) }
-    ensures htlcs { IfOk result (λ _. IsGrown htlcs.old htlcs.new (length list.old.known) (Add htlc)) }
+    ensures list { IfOk result (λ _. list.new ≡ with_update (Add htlc) list.old) }
+    ensures htlcs { IfOk result (λ _. IsGrown htlcs.old htlcs.new (length list.old.known)
+        (Add htlc)) }
     ensures list_err { OnErr result (list.new ≡ list.old) }
     ensures htlcs_err { OnErr result (IsAlike htlcs.old htlcs.new) }
 {
@@ -46,7 +47,7 @@ pub(crate) fn add_update(
     update: Update,
 ) -> Result<(), AllocError>
     requires { htlcs.old.offered ≤ length list.old.known }
-    ensures list { IfOk result (λ _. list.new ≡ made update list.old) }
+    ensures list { IfOk result (λ _. list.new ≡ with_update update list.old) }
     ensures htlcs { IfOk result (λ _. IsGrown htlcs.old htlcs.new (length list.old.known) update) }
     ensures peers { IfOk result (λ _. IsNoted peers.old peers.new (length list.old.known) update) }
     ensures list_err { OnErr result (list.new ≡ list.old) }

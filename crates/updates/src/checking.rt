@@ -6,9 +6,9 @@ ghost use Rattle.updates.specs.Pending.{total_amount, kept_tests, IsBounded};
 ghost use Rattle.updates.specs.Refusals.{first_refusal, add_tests, fulfil_tests, fail_tests};
 
 use crate::changes::Update;
+use crate::errors::ChannelError;
 use crate::limits::{EXPIRY_END, MAX_HTLCS};
 use crate::pending::Pending;
-use crate::refusals::Refusal;
 use digest::sha256;
 use terms::{Htlc, Side, Terms};
 
@@ -19,46 +19,48 @@ fn check_add(
     sender: &Pending,
     others: &Pending,
     htlc: &Htlc,
-) -> Result<(), Refusal>
+) -> Result<(), ChannelError>
     requires sender { IsBounded sender.now }
     requires others { IsBounded others.now }
-    ensures { let first = first_refusal (add_tests terms.now by sender.now.offered (length sender.now.htlcs.items)
-        (start_of by terms.now + others.now.fulfilled) (sender.now.fulfilled + total_amount sender.now.htlcs.items) htlc.now)
+    ensures { let first = first_refusal
+        (add_tests terms.now by sender.now.offered (length sender.now.htlcs.items)
+        (start_of by terms.now + others.now.fulfilled)
+        (sender.now.fulfilled + total_amount sender.now.htlcs.items) htlc.now)
         in MatchResult result (λ _. first ≡ None) (λ r. first ≡ Some r) }
 {
     if htlc.id != sender.offered {
-        return Err(Refusal::WrongId);
+        return Err(ChannelError::WrongId);
     }
     if htlc.amount == 0 {
-        return Err(Refusal::AmountZero);
+        return Err(ChannelError::AmountZero);
     }
     if htlc.amount < terms.party(by.other()).minimum {
-        return Err(Refusal::BelowMinimum);
+        return Err(ChannelError::BelowMinimum);
     }
     if htlc.expiry >= EXPIRY_END {
-        return Err(Refusal::ExpiryTooLarge);
+        return Err(ChannelError::ExpiryTooLarge);
     }
     if sender.htlcs.len() >= MAX_HTLCS {
-        return Err(Refusal::TooManyHtlcs);
+        return Err(ChannelError::TooManyHtlcs);
     }
     let had = u128::from(terms.party(by).start) + others.fulfilled;
     let out = sender.fulfilled + sender.total_amount();
     if had < u128::from(htlc.amount) + out {
-        return Err(Refusal::OverBalance);
+        return Err(ChannelError::OverBalance);
     }
     Ok(())
 }
 
 // Whether the HTLC that may be removed under an id is there and has the preimage's hash.
-fn check_fulfil(found: Option<Htlc>, preimage: &[u8; 32]) -> Result<(), Refusal>
+fn check_fulfil(found: Option<Htlc>, preimage: &[u8; 32]) -> Result<(), ChannelError>
     ensures { let first = first_refusal (fulfil_tests found preimage.now)
         in MatchResult result (λ _. first ≡ None) (λ r. first ≡ Some r) }
 {
     let Some(htlc) = found else {
-        return Err(Refusal::UnknownHtlc);
+        return Err(ChannelError::UnknownHtlc);
     };
     if sha256(preimage) != htlc.hash {
-        return Err(Refusal::WrongPreimage);
+        return Err(ChannelError::WrongPreimage);
     }
     Ok(())
 }
@@ -73,10 +75,11 @@ pub(crate) fn check_update(
     settled: usize,
     known: usize,
     update: &Update,
-) -> Result<(), Refusal>
+) -> Result<(), ChannelError>
     requires sender { IsBounded sender.now }
     requires others { IsBounded others.now }
-    ensures { let first = first_refusal (kept_tests terms.now by sender.now others.now settled known update.now)
+    ensures { let first = first_refusal
+        (kept_tests terms.now by sender.now others.now settled known update.now)
         in MatchResult result (λ _. first ≡ None) (λ r. first ≡ Some r) }
 {
     match update {
@@ -84,13 +87,13 @@ pub(crate) fn check_update(
         Update::Fulfil { id, preimage } => check_fulfil(others.find(*id, settled, known), preimage),
         Update::Fail { id } => match others.find(*id, settled, known) {
             Some(_) => Ok(()),
-            None => Err(Refusal::UnknownHtlc),
+            None => Err(ChannelError::UnknownHtlc),
         },
         Update::Fee { .. } => {
             if by == terms.opener {
                 Ok(())
             } else {
-                Err(Refusal::NotOpener)
+                Err(ChannelError::NotOpener)
             }
         }
     }

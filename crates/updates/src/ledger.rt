@@ -5,8 +5,8 @@ ghost use Rattle.std.specs.Prelude.{◌≡◌};
 use crate::adding::add_update;
 use crate::changes::Update;
 use crate::checking::check_update;
+use crate::errors::ChannelError;
 use crate::pending::Pending;
-use crate::refusals::Refusal;
 use crate::shares::{rate_at, share_at, view_from};
 use crate::stages::{Part, Stage, UpdateList};
 use std::alloc::{AllocError, Global};
@@ -76,7 +76,7 @@ impl Ledger {
     }
 
     // Whether this side may make an update.
-    fn check_own(&self, update: &Update) -> Result<(), Refusal>
+    fn check_own(&self, update: &Update) -> Result<(), ChannelError>
         ensures { let first = first_refusal (own_tests self.now update.now)
             in MatchResult result (λ _. first ≡ None) (IsRefusal first) }
     {
@@ -87,7 +87,7 @@ impl Ledger {
     }
 
     // Whether the peer may make one.
-    fn check_theirs(&self, update: &Update) -> Result<(), Refusal>
+    fn check_theirs(&self, update: &Update) -> Result<(), ChannelError>
         ensures { let first = first_refusal (their_tests self.now update.now)
             in MatchResult result (λ _. first ≡ None) (IsRefusal first) }
     {
@@ -99,7 +99,7 @@ impl Ledger {
     }
 
     // Makes an update of one's own.
-    fn make(&mut self, update: Update) -> Result<(), Refusal>
+    fn make(&mut self, update: Update) -> Result<(), ChannelError>
         ensures ok { IfOk result (λ _. self.new ≡ holding_made update self.old) }
         ensures tested { MatchResult result (λ _. first_refusal (own_tests self.old update) ≡ None)
             (IsRefusal (first_refusal (own_tests self.old update))) }
@@ -117,10 +117,11 @@ impl Ledger {
 
     /// Offers an HTLC of `amount` millisatoshis, and gives it with its id, the next one of this side. It is tested for WrongId, which never
     /// comes here, AmountZero, BelowMinimum, ExpiryTooLarge, TooManyHtlcs and OverBalance, in this order. A refusal leaves the ledger as it was.
-    pub fn offer(&mut self, amount: u64, hash: [u8; 32], expiry: u32) -> Result<Htlc, Refusal>
+    pub fn offer(&mut self, amount: u64, hash: [u8; 32], expiry: u32) -> Result<Htlc, ChannelError>
         ensures htlc { IfOk result (λ h. h ≡ next_htlc self.old.own amount hash expiry) }
         ensures ok { IfOk result (λ h. self.new ≡ holding_made (Add h) self.old) }
-        ensures tested { let first = first_refusal (own_tests self.old (Add (next_htlc self.old.own amount hash expiry)))
+        ensures tested { let first = first_refusal
+            (own_tests self.old (Add (next_htlc self.old.own amount hash expiry)))
             in MatchResult result (λ _. first ≡ None) (IsRefusal first) }
         ensures err { OnErr result (self.new ≡ self.old) }
     {
@@ -143,7 +144,7 @@ impl Ledger {
 
     /// Fulfils an HTLC of the peer: UnknownHtlc where the peer has none of this id that passed all stages and that nobody removed, else
     /// WrongPreimage. A refusal leaves the ledger as it was.
-    pub fn fulfil(&mut self, id: u64, preimage: [u8; 32]) -> Result<(), Refusal>
+    pub fn fulfil(&mut self, id: u64, preimage: [u8; 32]) -> Result<(), ChannelError>
         ensures ok { IfOk result (λ _. self.new ≡ holding_made (Fulfil id preimage) self.old) }
         ensures tested { let first = first_refusal (own_tests self.old (Fulfil id preimage))
             in MatchResult result (λ _. first ≡ None) (IsRefusal first) }
@@ -154,7 +155,7 @@ impl Ledger {
 
     /// Fails an HTLC of the peer: UnknownHtlc where the peer has none of this id that passed all stages and that nobody removed. A refusal
     /// leaves the ledger as it was.
-    pub fn fail(&mut self, id: u64) -> Result<(), Refusal>
+    pub fn fail(&mut self, id: u64) -> Result<(), ChannelError>
         ensures ok { IfOk result (λ _. self.new ≡ holding_made (Fail id) self.old) }
         ensures tested { let first = first_refusal (own_tests self.old (Fail id))
             in MatchResult result (λ _. first ≡ None) (IsRefusal first) }
@@ -165,7 +166,7 @@ impl Ledger {
 
     /// Changes the feerate to `rate` satoshis for 1,000 units of weight: NotOpener where this side did not open the channel. A refusal leaves
     /// the ledger as it was.
-    pub fn set_fee(&mut self, rate: u32) -> Result<(), Refusal>
+    pub fn set_fee(&mut self, rate: u32) -> Result<(), ChannelError>
         ensures ok { IfOk result (λ _. self.new ≡ holding_made (Fee rate) self.old) }
         ensures tested { let first = first_refusal (own_tests self.old (Fee rate))
             in MatchResult result (λ _. first ≡ None) (IsRefusal first) }
@@ -175,7 +176,7 @@ impl Ledger {
     }
 
     /// Receives an update of the peer, with the same tests as one of one's own. A refusal leaves the ledger as it was.
-    pub fn receive_update(&mut self, update: &Update) -> Result<(), Refusal>
+    pub fn receive_update(&mut self, update: &Update) -> Result<(), ChannelError>
         ensures ok { IfOk result (λ _. self.new ≡ holding_update update.now self.old) }
         ensures tested { let first = first_refusal (their_tests self.old update.now)
             in MatchResult result (λ _. first ≡ None) (IsRefusal first) }
@@ -239,7 +240,8 @@ impl Ledger {
     fn view(&self, own: Part, theirs: Part) -> Result<View, AllocError>
         requires own { IsPartAt self.now.own own }
         requires theirs { IsPartAt self.now.theirs theirs }
-        ensures { IfOk result (λ v. v ≡ view_in self.now (take own.count self.now.own.known) (take theirs.count self.now.theirs.known)) }
+        ensures { IfOk result (λ v. v ≡ view_in self.now (take own.count self.now.own.known)
+            (take theirs.count self.now.theirs.known)) }
     {
         let start = self.terms.party(self.side).start;
         let peers_start = self.terms.party(self.side.other()).start;
@@ -253,15 +255,18 @@ impl Ledger {
 
     // The view of what has come to these stages.
     fn view_at(&self, own: Stage, theirs: Stage) -> Result<View, AllocError>
-        ensures value { IfOk result (λ v. v ≡ view_in self.now (part_of own self.now.own) (part_of theirs self.now.theirs)) }
-        ensures sound { IsSoundIn self.now (part_of own self.now.own) (part_of theirs self.now.theirs) }
+        ensures value { IfOk result (λ v. v ≡ view_in self.now (part_of own self.now.own)
+            (part_of theirs self.now.theirs)) }
+        ensures sound { IsSoundIn self.now (part_of own self.now.own)
+            (part_of theirs self.now.theirs) }
     {
         self.view(self.own.part(own), self.theirs.part(theirs))
     }
 
     /// The view of the peer's next commitment, which a signature of this side would be for. The only error is that memory ran out.
     pub fn view_to_sign(&self) -> Result<View, AllocError>
-        ensures value { IfOk result (λ v. v ≡ view_in self.now self.now.own.known self.now.theirs.past_receiver) }
+        ensures value { IfOk result (λ v. v
+            ≡ view_in self.now self.now.own.known self.now.theirs.past_receiver) }
         ensures sound { IsSoundIn self.now self.now.own.known self.now.theirs.past_receiver }
     {
         self.view_at(Stage::Known, Stage::PastReceiver)
@@ -269,7 +274,8 @@ impl Ledger {
 
     /// The view of this side's next commitment, which a signature of the peer has to be for. The only error is that memory ran out.
     pub fn view_to_receive(&self) -> Result<View, AllocError>
-        ensures value { IfOk result (λ v. v ≡ view_in self.now self.now.own.past_receiver self.now.theirs.known) }
+        ensures value { IfOk result (λ v. v ≡ view_in self.now self.now.own.past_receiver
+            self.now.theirs.known) }
         ensures sound { IsSoundIn self.now self.now.own.past_receiver self.now.theirs.known }
     {
         self.view_at(Stage::PastReceiver, Stage::Known)

@@ -25,16 +25,16 @@
 mod adding;
 mod changes;
 mod checking;
+mod errors;
 mod fates;
 pub mod laws;
 mod ledger;
 mod limits;
 mod pending;
-mod refusals;
 mod shares;
 mod stages;
 
 pub use changes::{OwnUpdate, Update};
+pub use errors::ChannelError;
 pub use ledger::Ledger;
 pub use limits::{EXPIRY_END, MAX_HTLCS};
-pub use refusals::Refusal;

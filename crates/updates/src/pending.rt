@@ -86,9 +86,13 @@ impl Pending {
 
     /// Millisatoshis of those that are fulfilled among the first updates of both sides.
     pub(crate) fn fulfilled_at(&self, added: usize, removed: usize) -> u128
-        requires { self.now.fulfilled + 2 ^ 64 * length self.now.htlcs.items ≤ 2 ^ 64 * self.now.offered }
-        ensures value { result ≡ self.now.fulfilled + fulfilled_at added removed self.now.htlcs.items }
-        ensures bound { result + 2 ^ 64 * length (filter (is_left removed) self.now.htlcs.items) ≤ self.now.fulfilled + 2 ^ 64 * length self.now.htlcs.items }
+        requires { self.now.fulfilled + 2 ^ 64 * length self.now.htlcs.items ≤ 2 ^ 64
+            * self.now.offered }
+        ensures value { result ≡ self.now.fulfilled + fulfilled_at added removed
+            self.now.htlcs.items }
+        ensures bound { result + 2 ^ 64 * length
+            (filter (is_left removed) self.now.htlcs.items) ≤ self.now.fulfilled + 2 ^ 64 * length
+            self.now.htlcs.items }
     {
         let mut sum = self.fulfilled;
         for pending in &self.htlcs {
@@ -136,11 +140,14 @@ impl Pending {
 
     /// More of the peer's updates passed all five stages: the first `removed`.
     pub(crate) fn settle(&mut self, added: usize, removed: usize)
-        requires { self.old.fulfilled + 2 ^ 64 * length self.old.htlcs.items ≤ 2 ^ 64 * self.old.offered }
+        requires { self.old.fulfilled + 2 ^ 64 * length self.old.htlcs.items ≤ 2 ^ 64
+            * self.old.offered }
         ensures htlcs { self.new.htlcs.items ≡ filter (is_left removed) self.old.htlcs.items }
         ensures offered { self.new.offered ≡ self.old.offered }
-        ensures fulfilled { self.new.fulfilled ≡ self.old.fulfilled + fulfilled_at added removed self.old.htlcs.items }
-        ensures bound { self.new.fulfilled + 2 ^ 64 * length self.new.htlcs.items ≤ 2 ^ 64 * self.new.offered }
+        ensures fulfilled { self.new.fulfilled ≡ self.old.fulfilled + fulfilled_at added removed
+            self.old.htlcs.items }
+        ensures bound { self.new.fulfilled + 2 ^ 64 * length self.new.htlcs.items ≤ 2 ^ 64
+            * self.new.offered }
     {
         self.fulfilled = self.fulfilled_at(added, removed);
         self.htlcs.retain(|pending| pending.is_left(removed));

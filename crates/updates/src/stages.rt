@@ -69,7 +69,7 @@ const NONE_YET: Part = Part {
 
 impl UpdateList {
     ghost use Rattle.std.specs.Prelude.{◌≡◌, IfOk, OnErr, length, List};
-    ghost use Rattle.updates.specs.Stages.{none_yet, made, to_receiver, by_receiver, to_sender, by_sender, part_of, Counts};
+    ghost use Rattle.updates.specs.Stages.{none_yet, with_update, to_receiver, by_receiver, to_sender, by_sender, part_of, Counts};
 
     /// No updates yet.
     pub(crate) fn new(alloc: Global) -> UpdateList
@@ -137,7 +137,7 @@ impl UpdateList {
 
     /// The sender makes an update. The only error is that memory ran out, which leaves the list as it was.
     pub(crate) fn push(&mut self, update: Update) -> Result<(), AllocError>
-        ensures ok { IfOk result (λ _. self.new ≡ made update self.old) }
+        ensures ok { IfOk result (λ _. self.new ≡ with_update update self.old) }
         ensures err { OnErr result (self.new ≡ self.old) }
     {
         let fee = fee_after(self.fee, &update);

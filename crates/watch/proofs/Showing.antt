@@ -18,8 +18,8 @@ use Rattle.script.specs.Run.{Clean, outcome}
 use Rattle.facts.specs.Meaning.{Meets, slot_of}
 use Rattle.paths.specs.declared.state.Path.{Path}
 use Rattle.paths.specs.Listing.{CheckedScript}
-use Rattle.paths.specs.Exhaustive.{OpensBy}
-use Rattle.paths.specs.Laws.{OpensExactly}
+use Rattle.paths.specs.Exhaustive.{SatisfiesBy}
+use Rattle.paths.specs.Laws.{SatisfiedExactly}
 use Rattle.tx.specs.declared.input.OutPoint.{OutPoint}
 use Rattle.tx.specs.declared.input.TxIn.{TxIn}
 use Rattle.tx.specs.Fields.{Transaction}
@@ -36,7 +36,7 @@ use Rattle.penalty.specs.Claimable.{htlc_form}
 use Rattle.resolve.specs.Preimages.{shown_by, if_32, shown_by_input}
 use Rattle.watch.specs.declared.learning.CommitmentHtlcs.{CommitmentHtlcs}
 use Rattle.watch.specs.Learning.{htlcs_in, is_paid_by, learnt_if, learnt_by, learnt_from}
-use Rattle.watch.specs.Showing.{SpendsHtlc, Goes, KeysAreKeys, ScriptCollides, OpenersGo, preimage_way, IsLearnt, HashCollides, PreimagesAreLearnt}
+use Rattle.watch.specs.Showing.{SpendsHtlc, Goes, KeysAreKeys, ScriptCollides, SpendersGo, preimage_way, IsLearnt, HashCollides, PreimagesAreLearnt}
 use Rattle.watch.proofs.HtlcScripts.{IsRead, form_read}
 
 -- ---- what a witness shows
@@ -146,7 +146,7 @@ run_is : (t : Transaction) (i : TxIn) (value : ℕ) (script : List ℕ)
 unfolding run_of
 run_is t i value script = ap (option_and_then (run_of_given t i value)) (given_script script i.witness)
 
-module _ (exact : OpensExactly) (c : Contents) (h : HtlcOutput) (t : Transaction) (i : TxIn) (counted height : ℕ) (read : IsRead (htlc_form c.keys h.direction h.htlc) (htlc_script c.keys h.direction h.htlc)) where
+module _ (exact : SatisfiedExactly) (c : Contents) (h : HtlcOutput) (t : Transaction) (i : TxIn) (counted height : ℕ) (read : IsRead (htlc_form c.keys h.direction h.htlc) (htlc_script c.keys h.direction h.htlc)) where
   abbrev script : List ℕ
   script = htlc_script c.keys h.direction h.htlc
 
@@ -157,7 +157,7 @@ module _ (exact : OpensExactly) (c : Contents) (h : HtlcOutput) (t : Transaction
   form = htlc_form c.keys h.direction h.htlc
 
   -- one of the paths that are listed
-  one_of : (items : List (List ℕ)) → i.witness ≡ items ++ script ∷ [] → Any (OpensBy (spend_of t i script value) items counted height) form.paths → (index : ℕ) × Goes c h t i index
+  one_of : (items : List (List ℕ)) → i.witness ≡ items ++ script ∷ [] → Any (SatisfiesBy (spend_of t i script value) items counted height) form.paths → (index : ℕ) × Goes c h t i index
   one_of items w (k, p, l, e, o) =
       (k, record { path = p; there = slice_get_read form.paths (length form.paths) k p refl l (sym e); items = items; witness = w; meets = o.meets })
 
@@ -184,7 +184,7 @@ module _ (exact : OpensExactly) (c : Contents) (h : HtlcOutput) (t : Transaction
   by_witness [] r run = absurd (cc)
   by_witness (found ∷ below) r run = by_hash found below (bytes_eq (sha256 found) (sha256 script)) r refl run
 
-pub openers_go : OpensExactly → OpenersGo
+pub openers_go : SatisfiedExactly → SpendersGo
 openers_go exact c h t i counted height keys low run =
     by_witness exact c h t i counted height (form_read c.keys h.direction h.htlc keys low) (reverse i.witness) refl
     (sym (run_is t i (satoshis_of h.htlc.amount) (htlc_script c.keys h.direction h.htlc)) ∙ run)

@@ -57,8 +57,8 @@ abbrev pub ScriptCollides : Contents → HtlcOutput → Type 0
 ScriptCollides c h = (script : List ℕ) × Collide sha256 script (htlc_script c.keys h.direction h.htlc)
 
 -- where the output runs clean (BIP 141), the witness goes one of the ways, or its script is another one with the same SHA-256
-abbrev pub OpenersGo : Type 0
-OpenersGo =
+abbrev pub SpendersGo : Type 0
+SpendersGo =
     (c : Contents) (h : HtlcOutput) (t : Transaction) (i : TxIn) (counted height : ℕ) → AreKeys c.keys → h.htlc.expiry < locktime_threshold
     → run_of t i (tx_output (htlc_output c.keys h.direction h.htlc)) ≡ Some (Clean counted height) → ((index : ℕ) × Goes c h t i index) ⊎ ScriptCollides c h
 

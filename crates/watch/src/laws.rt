@@ -1,10 +1,10 @@
 //! Laws over the definitions alone.
 
 ghost use Rattle.watch.specs.Finding.{RevokedAreFound, OnlyRevokedAreFound};
-ghost use Rattle.watch.specs.Showing.{KeysAreKeys, OpenersGo, PreimagesAreLearnt};
+ghost use Rattle.watch.specs.Showing.{KeysAreKeys, SpendersGo, PreimagesAreLearnt};
 ghost use Rattle.watch.specs.Standing.{SeesWhatStands};
 
-use paths::laws::listed_paths_open_exactly;
+use paths::laws::scripts_are_satisfied_exactly;
 
 /// After blocks were read, each at a height above those of the blocks that stand, and others were taken off, in any order of such calls, a watch has seen
 /// exactly what the blocks that stand show it, each with what was known when it was read.
@@ -23,9 +23,9 @@ pub fn revoked_are_found()
 /// the way with the preimage shows the watch a preimage of the payment hash, or an item whose SHA-256 is another value with the same RIPEMD-160.
 pub fn preimages_are_learnt()
     ensures keys { KeysAreKeys }
-    ensures go { OpenersGo }
+    ensures go { SpendersGo }
     ensures learnt { PreimagesAreLearnt }
 {
     // The proof takes from it that whatever runs clean meets a listed path.
-    listed_paths_open_exactly();
+    scripts_are_satisfied_exactly();
 }

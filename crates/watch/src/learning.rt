@@ -85,7 +85,8 @@ fn push_htlcs(
     spend: &Spend,
     commitments: &mut Vec<CommitmentHtlcs>,
 ) -> Result<(), AllocError>
-    ensures { OnOk result (commitments.new.items ≡ commitments.old.items ++ htlcs_by known.now (spend.now ∷ [])) }
+    ensures { OnOk result (commitments.new.items ≡ commitments.old.items ++ htlcs_by known.now
+        (spend.now ∷ [])) }
 {
     let verdict = verdict(known, &spend.tx);
     if let Some(htlcs) = htlcs_of_verdict(alloc, known, verdict)? {
@@ -111,14 +112,16 @@ pub(crate) fn htlcs_by(
 
 // Whether an HTLC stands at an index with this preimage's hash.
 fn is_preimage_of(preimage: &[u8; 32], index: u32, htlc: &HtlcOutput) -> bool
-    ensures { result ≡ (htlc.now.index == index && bytes_eq (sha256 preimage.now) htlc.now.htlc.hash) }
+    ensures { result ≡ (htlc.now.index == index && bytes_eq
+        (sha256 preimage.now) htlc.now.htlc.hash) }
 {
     htlc.index == index && sha256(preimage) == htlc.htlc.hash
 }
 
 // Whether one of the HTLCs is such a one.
 fn some_is_preimage_of(preimage: &[u8; 32], index: u32, htlcs: &[HtlcOutput]) -> bool
-    ensures { result ≡ list_any (λ h. h.index == index && bytes_eq (sha256 preimage.now) h.htlc.hash) htlcs.now }
+    ensures { result ≡ list_any (λ h. h.index == index && bytes_eq
+        (sha256 preimage.now) h.htlc.hash) htlcs.now }
 {
     htlcs
         .iter()
@@ -173,7 +176,8 @@ fn push_learnt(
     learnt: &mut Vec<[u8; 32]>,
 ) -> Result<(), AllocError>
     requires { slice_get tx.now.inputs index ≡ Some input.now }
-    ensures { OnOk result (learnt.new.items ≡ learnt.old.items ++ learnt_from commitments.now (input.now ∷ [])) }
+    ensures { OnOk result (learnt.new.items ≡ learnt.old.items ++ learnt_from commitments.now
+        (input.now ∷ [])) }
 {
     if let Some(preimage) = learnt_by(commitments, tx, index, input) {
         learnt.push(preimage)?;
@@ -187,7 +191,8 @@ fn learn_from(
     tx: &Tx,
     learnt: &mut Vec<[u8; 32]>,
 ) -> Result<(), AllocError>
-    ensures { OnOk result (learnt.new.items ≡ learnt.old.items ++ learnt_from commitments.now tx.now.inputs) }
+    ensures { OnOk result (learnt.new.items ≡ learnt.old.items
+        ++ learnt_from commitments.now tx.now.inputs) }
 {
     for (index, input) in tx.inputs().iter().enumerate() {
         push_learnt(commitments, tx, index, input, learnt)?;

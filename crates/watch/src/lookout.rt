@@ -164,8 +164,13 @@ impl Lookout {
 
     // Reads a block as the watch does, after which all that is due was given.
     fn look_anew(&mut self, alloc: Global, height: u64, block: &Block) -> Result<Sight, AllocError>
-        ensures sight { IfOk result (λ s. IsSight self.old.seen height (reverse block.now.transactions) self.old.known s.claims.items s.learnt.items) }
-        ensures ok { OnOk result (self.new ≡ record self.old { seen = seen_after self.old.seen height (reverse block.now.transactions) self.old.known }) }
+        ensures sight { IfOk result (λ s. IsSight self.old.seen height
+            (reverse block.now.transactions) self.old.known s.claims.items s.learnt.items) }
+        ensures ok { OnOk result (self.new
+            ≡ record self.old {
+              seen = seen_after self.old.seen height
+                  (reverse block.now.transactions) self.old.known;
+            }) }
         ensures err { OnErr result (self.new ≡ self.old) }
     {
         let sight = self.watch.look(alloc, height, block, &self.known)?;
@@ -179,8 +184,13 @@ impl Lookout {
     ///
     /// The only error is that memory ran out, which leaves the lookout as it was.
     pub fn look(&mut self, alloc: Global, height: u64, block: &Block) -> Result<Sight, AllocError>
-        ensures sight { IfOk result (λ s. IsSight self.old.seen height (reverse block.now.transactions) self.old.known s.claims.items s.learnt.items) }
-        ensures ok { OnOk result (self.new ≡ record self.old { seen = seen_after self.old.seen height (reverse block.now.transactions) self.old.known }) }
+        ensures sight { IfOk result (λ s. IsSight self.old.seen height
+            (reverse block.now.transactions) self.old.known s.claims.items s.learnt.items) }
+        ensures ok { OnOk result (self.new
+            ≡ record self.old {
+              seen = seen_after self.old.seen height
+                  (reverse block.now.transactions) self.old.known;
+            }) }
         ensures err { OnErr result (self.new ≡ self.old) }
     {
         let txs = block.transactions();
@@ -197,7 +207,8 @@ impl Lookout {
 
     /// These preimages are known too, for the blocks that it reads from now on. The only error is that memory ran out, which leaves the lookout as it was.
     pub fn learn(&mut self, preimages: &[[u8; 32]]) -> Result<(), AllocError>
-        ensures ok { OnOk result (self.new ≡ record self.old { known = with_learnt preimages.now self.old.known }) }
+        ensures ok { OnOk result (self.new
+            ≡ record self.old { known = with_learnt preimages.now self.old.known }) }
         ensures err { OnErr result (self.new ≡ self.old) }
     {
         if preimages.is_empty() {

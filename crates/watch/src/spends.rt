@@ -62,7 +62,8 @@ fn push_spend(
     tx: &Tx,
     spends: &mut Vec<Spend>,
 ) -> Result<(), AllocError>
-    ensures ok { OnOk result (spends.new.items ≡ spends.old.items ++ spends_in funding.now height (tx.now ∷ [])) }
+    ensures ok { OnOk result (spends.new.items ≡ spends.old.items ++ spends_in funding.now height
+        (tx.now ∷ [])) }
     ensures err { OnErr result (spends.new.items ≡ spends.old.items) }
 {
     if some_input_names(tx.inputs(), funding) {
@@ -79,7 +80,8 @@ pub(crate) fn push_spends(
     txs: &[Confirmed],
     spends: &mut Vec<Spend>,
 ) -> Result<(), AllocError>
-    ensures ok { OnOk result (spends.new.items ≡ spends.old.items ++ spends_in funding.now height txs.now) }
+    ensures ok { OnOk result (spends.new.items ≡ spends.old.items
+        ++ spends_in funding.now height txs.now) }
     ensures err { OnErr result (Extends spends.old.items spends.new.items) }
 {
     for confirmed in txs {

@@ -40,8 +40,11 @@ fn push_if_unclaimed(
     given: &mut Vec<Given>,
     claims: &mut Vec<Claim>,
 ) -> Result<(), AllocError>
-    ensures claims { OnOk result (claims.new.items ≡ claims.old.items ++ (if is_given given.old.items (claimed_by claim) then [] else claim ∷ [])) }
-    ensures given { OnOk result (given.new.items ≡ given.old.items ++ (if is_given given.old.items (claimed_by claim) then [] else given_at height (claimed_by claim) ∷ [])) }
+    ensures claims { OnOk result (claims.new.items ≡ claims.old.items
+        ++ (if is_given given.old.items (claimed_by claim) then [] else claim ∷ [])) }
+    ensures given { OnOk result (given.new.items ≡ given.old.items
+        ++ (if is_given given.old.items (claimed_by claim) then []
+        else given_at height (claimed_by claim) ∷ [])) }
     ensures err { OnErr result (Extends given.old.items given.new.items) }
 {
     if is_given(given.as_slice(), &claim) {
@@ -67,9 +70,12 @@ pub(crate) fn push_unclaimed(
     claims: &mut Vec<Claim>,
 ) -> Result<(), AllocError>
     requires { AllByRecursion IsAccepted due.items }
-    ensures claims { OnOk result (map claimed_by claims.new.items ≡ map claimed_by claims.old.items ++ unclaimed height given.old.items (map claimed_by due.items)) }
-    ensures accepted { OnOk result (AllByRecursion IsAccepted claims.old.items → AllByRecursion IsAccepted claims.new.items) }
-    ensures given { OnOk result (given.new.items ≡ given.old.items ++ map (given_at height) (unclaimed height given.old.items (map claimed_by due.items))) }
+    ensures claims { OnOk result (map claimed_by claims.new.items ≡ map claimed_by claims.old.items
+        ++ unclaimed height given.old.items (map claimed_by due.items)) }
+    ensures accepted { OnOk result (AllByRecursion IsAccepted claims.old.items
+        → AllByRecursion IsAccepted claims.new.items) }
+    ensures given { OnOk result (given.new.items ≡ given.old.items ++ map (given_at height)
+        (unclaimed height given.old.items (map claimed_by due.items))) }
     ensures err { OnErr result (Extends given.old.items given.new.items) }
 {
     for claim in due {

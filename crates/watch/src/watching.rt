@@ -48,9 +48,14 @@ fn read(
     spends: &mut Vec<Spend>,
     given: &mut Vec<Given>,
 ) -> Result<Sight, AllocError>
-    ensures sight { IfOk result (λ s. IsSight (record { spends = spends.old.items; given = given.old.items }) height txs.now known.now s.claims.items s.learnt.items) }
-    ensures spends { OnOk result (spends.new.items ≡ spends.old.items ++ spends_in known.now.terms.funding height txs.now) }
-    ensures given { OnOk result (given.new.items ≡ given.old.items ++ map (given_at height) (claims_after (record { spends = spends.old.items; given = given.old.items }) height txs.now known.now)) }
+    ensures sight { IfOk result (λ s. IsSight
+        (record { spends = spends.old.items; given = given.old.items }) height txs.now known.now
+        s.claims.items s.learnt.items) }
+    ensures spends { OnOk result (spends.new.items ≡ spends.old.items
+        ++ spends_in known.now.terms.funding height txs.now) }
+    ensures given { OnOk result (given.new.items ≡ given.old.items ++ map (given_at height)
+        (claims_after (record { spends = spends.old.items; given = given.old.items }) height txs.now
+        known.now)) }
     ensures spends_err { OnErr result (Extends spends.old.items spends.new.items) }
     ensures given_err { OnErr result (Extends given.old.items given.new.items) }
 {
@@ -125,8 +130,10 @@ impl Watch {
         block: &Block,
         known: &Known,
     ) -> Result<Sight, AllocError>
-        ensures sight { IfOk result (λ s. IsSight self.old height (reverse block.now.transactions) known.now s.claims.items s.learnt.items) }
-        ensures ok { OnOk result (self.new ≡ seen_after self.old height (reverse block.now.transactions) known.now) }
+        ensures sight { IfOk result (λ s. IsSight self.old height
+            (reverse block.now.transactions) known.now s.claims.items s.learnt.items) }
+        ensures ok { OnOk result (self.new ≡ seen_after self.old height
+            (reverse block.now.transactions) known.now) }
         ensures err { OnErr result (self.new ≡ self.old) }
     {
         let spends = self.spends.len();

@@ -166,7 +166,7 @@ pub is_node : (n : Node) (history : List Entry) (call : Call) (no_memory reply :
     → AllByRecursion IsWhole (claims_by call) → IsNode (record n { history = history })
 is_node n history call no_memory reply is called none whole = record {
   lines = is.lines ∙ sym (same_channels n.history history call no_memory reply called none);
-  called = still_called n.history history call no_memory reply called whole is.called;
+  claims_are_whole = still_called n.history history call no_memory reply called whole is.claims_are_whole;
   jobs = is.jobs;
   taken = is.taken;
 }

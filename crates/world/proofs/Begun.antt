@@ -21,12 +21,12 @@ use Rattle.terms.specs.Proposals.{can_agree}
 use Rattle.scenario.specs.declared.seeds.Seeds.{Seeds}
 use Rattle.book.specs.declared.calls.Opening.{Opening}
 use Rattle.book.specs.declared.calls.Call.TheVariants.{Open}
-use Rattle.book.specs.Accepted.{begins as no_call, called}
+use Rattle.book.specs.Accepted.{begins as no_call, adds_call}
 use Rattle.book.specs.Books.{opened_by, replay, fundings_of}
 use Rattle.book.specs.Replies.{is_accepted}
-use Rattle.openings.specs.declared.sides.Both.{Both}
-use Rattle.openings.specs.Opening.{funding_output, funding_if_within, AreTermsOf, IsOpeningOf, AreOpeningsOf}
-use Rattle.openings.specs.Agreeing.{OpeningsArePaired, OpeningsAreTaken, first_grants}
+use Rattle.world.specs.declared.openings.sides.Both.{Both}
+use Rattle.world.specs.Opening.{funding_output, funding_if_within, AreTermsOf, IsOpeningOf, AreOpeningsOf}
+use Rattle.world.specs.Agreeing.{OpeningsArePaired, OpeningsAreTaken, first_grants}
 use Rattle.world.specs.declared.limits.TheConstants.{SEAT}
 use Rattle.world.specs.Worlds.{World, Node, Line, inboxes, answer_to, after_call, with_line}
 use Rattle.world.specs.Pairing.{ArePaired}
@@ -91,8 +91,8 @@ after paired taken seeds c plain w both few begun are =
       b_stands = b.stands;
       grants = more_grants w.chain.blocks (funding_output seeds c plain) begun.some_block ∙ ap (λ n. n + 1) begun.grants ∙ sym (next c);
       some_block = subst (λ n. 1 ≤ n) (sym (as_many w.chain.blocks (funding_output seeds c plain))) begun.some_block;
-      a_called = called SEAT (Open both.a) begun.a_called;
-      b_called = called SEAT (Open both.b) begun.b_called;
+      a_called = adds_call SEAT (Open both.a) begun.a_called;
+      b_called = adds_call SEAT (Open both.b) begun.b_called;
       agree = agree_on w both.a both.b c a b begun.agree
           (opened_more A (opened_by both.a) (opened_by both.b) (replay w.a.history) (replay w.b.history) (inboxes w.a) (inboxes w.b)
           (paired seeds c are.terms A both.a both.b are.by_a are.by_b) begun.agree);

@@ -5,7 +5,7 @@ use Rattle.std.proofs.lemmas.List.{reverse-append}
 use Rattle.std.proofs.lemmas.Option.{none-some, same_Some}
 use Rattle.terms.specs.declared.sides.Side.{Side}
 use Rattle.updates.specs.declared.changes.OwnUpdate.{OwnUpdate}
-use Rattle.updates.specs.declared.refusals.Refusal.{Refusal}
+use Rattle.updates.specs.declared.errors.ChannelError.{ChannelError}
 use Rattle.channel.specs.declared.messages.Message.{Message}
 use Rattle.channel.specs.declared.messages.Message.TheVariants.{Updated, CommitmentSigned, RevokeAndAck}
 use Rattle.channel.specs.Tokens.{peer_tokens}
@@ -19,7 +19,7 @@ use Rattle.book.specs.Books.{ChannelBook, Channels, at_index, with_state, with_k
 use Rattle.book.specs.Replies.{stepped, signed, is_accepted, answer_of, reply_of, extended, history_after, unless, asked, sign_refusal}
 use Rattle.std.specs.Prelude.{nat_le}
 use Rattle.updates.specs.Refusals.{first_refusal, covers_nothing}
-use Rattle.updates.specs.declared.refusals.Refusal.TheVariants.{NotYourTurn, NoUpdates as NothingCovered}
+use Rattle.updates.specs.declared.errors.ChannelError.TheVariants.{NotYourTurn, NoUpdates as NothingCovered}
 use Rattle.channel.specs.declared.limits.TheConstants.{LAST_NUMBER}
 use Rattle.channel.specs.States.{sign_refusal as channel_refusal}
 use Rattle.book.specs.declared.errors.StepError.{StepError}
@@ -65,7 +65,7 @@ pub made_of : (found : Option ChannelBook) (u : OwnUpdate) (chs : Channels) (c :
 made_of None u chs c ms there e = absurd cc
 made_of (Some ch) u chs c ms there e = by (update_refusal ch.state (update_of ch.state u)) refl e
   where
-    by : (r : Option Refusal) → update_refusal ch.state (update_of ch.state u) ≡ r → unless Refused r (Updated (update_of ch.state u) ∷ []) ≡ Ok ms → IsMade chs c u ms
+    by : (r : Option ChannelError) → update_refusal ch.state (update_of ch.state u) ≡ r → unless Refused r (Updated (update_of ch.state u) ∷ []) ≡ Ok ms → IsMade chs c u ms
     by None none e = record { channel = ch; there = there; taken = none; sent = cc }
     by (Some r) some e = absurd cc
 
@@ -177,13 +177,13 @@ taken_is (Updated u) c chs x here none = rw (here, none) refl
 taken_is (CommitmentSigned tokens) c chs x here none = rw (here, none) refl
 taken_is (RevokeAndAck secret point) c chs x here none = rw (here, none) refl
 
-not_taken : (m : Message) (c : ℕ) (chs : Channels) (x : ChannelBook) (r : Refusal) → slice_get chs c ≡ Some x → receive_refusal peer_tokens x.state m ≡ Some r
+not_taken : (m : Message) (c : ℕ) (chs : Channels) (x : ChannelBook) (r : ChannelError) → slice_get chs c ≡ Some x → receive_refusal peer_tokens x.state m ≡ Some r
     → is_accepted (answer_of peer_tokens chs (call_of c m)) ≡ false
 not_taken (Updated u) c chs x r here some = rw (here, some) refl
 not_taken (CommitmentSigned tokens) c chs x r here some = rw (here, some) refl
 not_taken (RevokeAndAck secret point) c chs x r here some = rw (here, some) refl
 
-channel_takes : (m : Message) (c : ℕ) (chs : Channels) (x : ChannelBook) (r : Option Refusal) → receive_refusal peer_tokens x.state m ≡ r → slice_get chs c ≡ Some x
+channel_takes : (m : Message) (c : ℕ) (chs : Channels) (x : ChannelBook) (r : Option ChannelError) → receive_refusal peer_tokens x.state m ≡ r → slice_get chs c ≡ Some x
     → is_accepted (answer_of peer_tokens chs (call_of c m)) ≡ true → receive_refusal peer_tokens x.state m ≡ None
 channel_takes m c chs x None is here ok = is
 channel_takes m c chs x (Some r) is here ok = absurd (true-false (sym ok ∙ not_taken m c chs x r here is))

@@ -13,11 +13,11 @@ use Rattle.sighash.specs.Programs.{run_of}
 use Rattle.claim.specs.declared.parts.Place.{Place}
 use Rattle.claim.specs.Fitting.{output_at}
 use Rattle.claim.specs.Claims.{ClaimParts, IsWhole, FitsClaim, sequence_of}
-use Rattle.claim.specs.Laws.{AcceptedOpen, FittingRunsClean, IsTimed, FittingIsTimed}
+use Rattle.claim.specs.Laws.{AcceptedSpend, FittingRunsClean, IsTimed, FittingIsTimed}
 use Rattle.chain.specs.Blocks.{Contents, Coin}
 use Rattle.chain.specs.Locks.{is_final, is_old_enough, IsReached}
-use Rattle.chain.specs.Tests.{input_refusal, indexed_refusal}
-use Rattle.world.specs.Enforcement.{IsDue, Passes, ClaimsOpen, LocksAreHeights}
+use Rattle.chain.specs.Checks.{input_refusal, indexed_refusal}
+use Rattle.world.specs.Enforcement.{IsDue, Passes, ClaimsSpend, LocksAreHeights}
 
 -- the output is the one of the place
 same_output : (o : Output) (place : Place) → o.value ≡ place.value → o.script ≡ place.program → o ≡ output_at place
@@ -28,7 +28,7 @@ reached_passes : (blocks : List Contents) (height : ℕ) (t : Transaction) (inpu
     → input_refusal blocks height t input ≡ None
 reached_passes blocks height t input coin n h r run = rw (r.found, r.unspent, r.final, r.old_enough, run) refl
 
-due_passes : (opening : AcceptedOpen) (clean : FittingRunsClean) (blocks : List Contents) (height : ℕ) (x : ClaimParts) (t : Transaction) (input : TxIn) → IsWhole x → (due : IsDue blocks height x t input)
+due_passes : (opening : AcceptedSpend) (clean : FittingRunsClean) (blocks : List Contents) (height : ℕ) (x : ClaimParts) (t : Transaction) (input : TxIn) → IsWhole x → (due : IsDue blocks height x t input)
     → Passes blocks height x t input due
 due_passes opening clean blocks height x t input w due =
     let opens = opening x w due.fits.path due.fits.taken in
@@ -37,7 +37,7 @@ due_passes opening clean blocks height x t input w due =
     let passes = reached_passes blocks height t input due.coin due.fits.path.ops due.fits.path.height due.reached run in
     record { passes = passes; at_index = λ i at. ap (indexed_refusal blocks height t) at ∙ passes; run = run; clean = clean x t input w due.fits; few = opens.few; low = opens.low }
 
-pub claims_open : AcceptedOpen → FittingRunsClean → ClaimsOpen
+pub claims_open : AcceptedSpend → FittingRunsClean → ClaimsSpend
 claims_open opening clean = due_passes opening clean
 
 -- ---- locks as heights

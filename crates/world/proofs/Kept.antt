@@ -15,7 +15,7 @@ use Rattle.book.specs.declared.calls.Call.TheVariants as calls
 use Rattle.book.specs.declared.calls.Entry.{Entry}
 use Rattle.book.specs.declared.errors.StepError.{StepError}
 use Rattle.book.specs.Books.{at_index}
-use Rattle.book.specs.Accepted.{called}
+use Rattle.book.specs.Accepted.{adds_call}
 use Rattle.book.specs.Replies.{stepped, revoked, reply_of, history_after, is_accepted, if_so}
 use Rattle.chain.specs.Blocks.{Contents, height_of}
 use Rattle.world.specs.declared.errors.EventError.{EventError}
@@ -29,7 +29,7 @@ use Rattle.world.specs.Keeping.{IsKept}
 use Rattle.world.specs.Releasing.{with_taken, without_taken, IsReleased}
 use Rattle.world.specs.Pairing.{AgreeBy}
 use Rattle.world.specs.Looking.{Looks, back_to}
-use Rattle.world.specs.Steps.{own_call, call_refusal, called as after_calling, receipt_refusal, received as after_receipt, refusal_of, Happens, updates, signs, receives, keeps, broadcasts, broadcasts_htlc, mines, looks, takes, releases, reorganises, WorldSteps, happens, refuses, runs_out}
+use Rattle.world.specs.Steps.{own_call, call_refusal, world_after_call as after_calling, receipt_refusal, world_after_delivery as after_receipt, refusal_of, Happens, updates, signs, receives, keeps, broadcasts, broadcasts_htlc, mines, looks, takes, releases, reorganises, WorldSteps, happens, refuses, runs_out}
 use Rattle.world.specs.Theorem.{StepsKeep}
 use Rattle.world.proofs.Inboxes.{inboxes_sent, inboxes_received, got_of_map, inboxes_read, inboxes_back}
 use Rattle.world.proofs.Calls.{received, filed, released_by}
@@ -63,7 +63,7 @@ calling s c call w sends fit none =
     let me = node_of s w in
     let peer = node_of (other s) w in
     let call_left = none_if (nat_le _ c) NoSuchChannel (refusal_in (answer_to me call)) none in
-    both_fit s (after_call call me) (sent_by c call me peer) w (called SEAT call (history_of s w fit)) (history_of (other s) w fit)
+    both_fit s (after_call call me) (sent_by c call me peer) w (adds_call SEAT call (history_of s w fit)) (history_of (other s) w fit)
     (subst (AgreeBy s (history_after peer_tokens me.history SEAT call) peer.history (inboxes me)) (sym (inboxes_sent c (messages_in (answer_to me call)) peer))
     (sends s me.history peer.history (inboxes me) (inboxes peer) (agree_from s w fit) call_left))
 
@@ -81,7 +81,7 @@ taking s c w m rest fit queue none =
     let peer = node_of (other s) w in
     let call = call_of c m in
     let mine = history_after peer_tokens me.history SEAT call in
-    both_fit s (received_by c (after_call call me)) (sent_by c call me peer) w (called SEAT call (history_of s w fit)) (history_of (other s) w fit)
+    both_fit s (received_by c (after_call call me)) (sent_by c call me peer) w (adds_call SEAT call (history_of s w fit)) (history_of (other s) w fit)
     (subst (λ qs. AgreeBy s mine peer.history qs (inboxes (sent_by c call me peer))) (sym (inboxes_received c (after_call call me)))
     (subst (AgreeBy s mine peer.history (at_index (drop 1) c (inboxes me))) (sym (inboxes_sent c (messages_in (answer_to me call)) peer))
     (received s me.history peer.history (inboxes me) (inboxes peer) SEAT c m rest (agree_from s w fit) queue (is_taken m c me.history none))))
@@ -107,7 +107,7 @@ keeping s c n after w fit kept =
     let peer = node_of (other s) w in
     let call : Call = calls.Keep c n kept.claims in
     subst (λ (m : Node). AreFitting (with_node s m w).a (with_node s m w).b) (sym kept.after)
-    (one_fits s (after_call call me) w fit (called SEAT call (history_of s w fit))
+    (one_fits s (after_call call me) w fit (adds_call SEAT call (history_of s w fit))
     (filed s me.history peer.history (inboxes me) (inboxes peer) SEAT c n kept.claims (agree_from s w fit) (ap is_accepted kept.answer)))
 
 releasing : (s : Side) (k : ℕ) (after : Node) (t : Transaction) (w : World) → AreFitting w.a w.b → IsReleased k (node_of s w) after t → AreFitting (with_node s after w).a (with_node s after w).b
@@ -116,7 +116,7 @@ releasing s k after t w fit done =
     let peer = node_of (other s) w in
     let call : Call = calls.Release done.channel done.batch in
     subst (λ (m : Node). AreFitting (with_node s m w).a (with_node s m w).b) (sym done.after)
-    (one_fits s (without_taken k (after_call call me)) w fit (called SEAT call (history_of s w fit))
+    (one_fits s (without_taken k (after_call call me)) w fit (adds_call SEAT call (history_of s w fit))
     (released_by s me.history peer.history (inboxes me) (inboxes peer) SEAT done.channel done.batch (agree_from s w fit) (ap is_accepted done.answer)))
 
 -- ---- blocks that are read and forgotten

@@ -16,3 +16,7 @@ pub mod Releases
 pub mod Keeps
 pub mod Played
 pub mod Readings
+pub mod Grants
+pub mod Opened
+pub mod Keyed
+mod OpeningExamples

@@ -16,7 +16,7 @@ use Rattle.world.specs.Worlds.{World, Line, Node, IsNode, node_of, inboxes, answ
 use Rattle.side.specs.Acts.{call_of}
 use Rattle.world.specs.Refusing.{refusal_in, oldest_of, oldest_in, delivery_refusal}
 use Rattle.world.specs.Pairing.{DeliveriesAreTaken}
-use Rattle.world.specs.Enforcement.{ClaimsOpen}
+use Rattle.world.specs.Enforcement.{ClaimsSpend}
 use Rattle.world.specs.Theorem.{IsWorld, WorldsHold}
 use Rattle.world.proofs.Whole.{are_whole}
 use Rattle.world.proofs.Inboxes.{got_of_map}
@@ -61,10 +61,10 @@ nodes_of : (w : World) → IsWorld w → (s : Side) → IsNode (node_of s w)
 nodes_of w is A = is.a
 nodes_of w is B = is.b
 
-pub worlds_hold : AcceptedMeans → AcceptedIsGuarded → ClaimsOpen → DeliveriesAreTaken → WorldsHold
+pub worlds_hold : AcceptedMeans → AcceptedIsGuarded → ClaimsSpend → DeliveriesAreTaken → WorldsHold
 worlds_hold means gate opening deliveries w is =
     let fit = fitting_world w is in
-    let accepted : (s : Side) → all_accepted peer_tokens (node_of s w).history ≡ true = λ s. (means.called peer_tokens (node_of s w).history).0 (history_of s w fit) in
+    let accepted : (s : Side) → all_accepted peer_tokens (node_of s w).history ≡ true = λ s. (means.accepted_exactly peer_tokens (node_of s w).history).0 (history_of s w fit) in
     let takes : (s : Side) (c : ℕ) (m : Message) (rest : List Message) → slice_get (inboxes (node_of s w)) c ≡ Some (m ∷ rest) → is_accepted (answer_to (node_of s w) (call_of c m)) ≡ true
     = λ s c m rest queue. deliveries s (node_of s w).history (node_of (other s) w).history (inboxes (node_of s w)) (inboxes (node_of (other s) w)) c m rest (agree_from s w fit) queue in
     record {

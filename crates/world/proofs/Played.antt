@@ -31,9 +31,9 @@ use Rattle.world.specs.Looking.{Looks}
 use Rattle.world.specs.Steps.{
   own_call,
   call_refusal,
-  called,
+  world_after_call,
   receipt_refusal,
-  received,
+  world_after_delivery,
   with_waiting,
   with_mined,
   blocks_outcome,
@@ -92,9 +92,9 @@ acted w done new e r o is it event = subst (λ (x : Result Outcome EventError). 
 is_called : (w : World) (s : Side) (c : ℕ) (call : Call) (r : Result (Unit {0}) EventError) (me peer : Node)
     → IsEvent (call_refusal s c call w) r (node_of s w) (after_call call (node_of s w)) me
     → IsEvent (call_refusal s c call w) r (node_of (other s) w) (sent_by c call (node_of s w) (node_of (other s) w)) peer
-    → IsEvent (call_refusal s c call w) r w (called s c call w) (with_nodes s me peer w)
+    → IsEvent (call_refusal s c call w) r w (world_after_call s c call w) (with_nodes s me peer w)
 is_called w s c call r me peer is peers =
-    subst (λ (v : World). IsEvent (call_refusal s c call w) r v (called s c call w) (with_nodes s me peer w)) (same_sides s w)
+    subst (λ (v : World). IsEvent (call_refusal s c call w) r v (world_after_call s c call w) (with_nodes s me peer w)) (same_sides s w)
     (of_both (λ m p. with_nodes s m p w) (call_refusal s c call w) r (node_of s w) (after_call call (node_of s w)) me (node_of (other s) w) (sent_by c call (node_of s w) (node_of (other s) w)) peer is peers)
 
 pub is_updated : (w : World) (s : Side) (c : ℕ) (u : OwnUpdate) (r : Result (Unit {0}) EventError) (o : Result Outcome EventError) (me peer : Node) → o ≡ done_by r
@@ -102,14 +102,14 @@ pub is_updated : (w : World) (s : Side) (c : ℕ) (u : OwnUpdate) (r : Result (U
     → IsEvent (call_refusal s c (own_call c u) w) r (node_of (other s) w) (sent_by c (own_call c u) (node_of s w) (node_of (other s) w)) peer
     → IsPlayed w (events.Own s c u) o (with_nodes s me peer w)
 is_updated w s c u r o me peer by is peers =
-    acted w (called s c (own_call c u) w) (with_nodes s me peer w) (events.Own s c u) r o by updates (is_called w s c (own_call c u) r me peer is peers)
+    acted w (world_after_call s c (own_call c u) w) (with_nodes s me peer w) (events.Own s c u) r o by updates (is_called w s c (own_call c u) r me peer is peers)
 
 pub is_signed : (w : World) (s : Side) (c : ℕ) (r : Result (Unit {0}) EventError) (o : Result Outcome EventError) (me peer : Node) → o ≡ done_by r
     → IsEvent (call_refusal s c (calls.Sign c) w) r (node_of s w) (after_call (calls.Sign c) (node_of s w)) me
     → IsEvent (call_refusal s c (calls.Sign c) w) r (node_of (other s) w) (sent_by c (calls.Sign c) (node_of s w) (node_of (other s) w)) peer
     → IsPlayed w (events.Sign s c) o (with_nodes s me peer w)
 is_signed w s c r o me peer by is peers =
-    acted w (called s c (calls.Sign c) w) (with_nodes s me peer w) (events.Sign s c) r o by signs (is_called w s c (calls.Sign c) r me peer is peers)
+    acted w (world_after_call s c (calls.Sign c) w) (with_nodes s me peer w) (events.Sign s c) r o by signs (is_called w s c (calls.Sign c) r me peer is peers)
 
 -- a message that comes
 pub is_received : (w : World) (s : Side) (c : ℕ) (r : Result (Unit {0}) EventError) (o : Result Outcome EventError) (me peer : Node) → o ≡ done_by r
@@ -121,8 +121,8 @@ is_received w s c r o me peer by is peers =
     let event =
     of_both (λ m p. with_nodes s m p w) (receipt_refusal s c w) r (node_of s w) (delivered c message (node_of s w)) me (node_of (other s) w) (answered c message (node_of s w) (node_of (other s) w)) peer is peers
     in
-    acted w (received s c w) (with_nodes s me peer w) (events.Deliver s c) r o by receives
-    (subst (λ (v : World). IsEvent (receipt_refusal s c w) r v (received s c w) (with_nodes s me peer w)) (same_sides s w) event)
+    acted w (world_after_delivery s c w) (with_nodes s me peer w) (events.Deliver s c) r o by receives
+    (subst (λ (v : World). IsEvent (receipt_refusal s c w) r v (world_after_delivery s c w) (with_nodes s me peer w)) (same_sides s w) event)
 
 -- ---- one side
 

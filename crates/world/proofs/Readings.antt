@@ -295,7 +295,7 @@ is_node_after n more jobs new items seen len read learnt is w j same long l =
     = ap (λ k. take k (new ++ drop (length new) n.lines)) (sym (as_long ∙ long)) ∙ take_front new (drop (length new) n.lines) in
     record {
       lines = ap length back ∙ as_long ∙ ap length same ∙ is.lines;
-      called = is.called;
+      claims_are_whole = is.claims_are_whole;
       jobs = subst AreWhole (sym j) (all_append (λ x. IsWhole x.claim) n.jobs more is.jobs w);
       taken = is.taken;
     }

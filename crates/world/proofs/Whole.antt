@@ -48,5 +48,5 @@ called_after true history call whole called =
 pub are_whole : (n : Node) → IsNode n → AllByRecursion IsWhole (claims_of n)
 are_whole n is =
     all_append IsWhole (flat_map (λ e. claims_by e.call) n.history) (map (λ j. j.claim) (n.jobs ++ n.taken))
-    (all_flat_map IsWhole (λ e. claims_by e.call) n.history is.called)
+    (all_flat_map IsWhole (λ e. claims_by e.call) n.history is.claims_are_whole)
     (all_map IsWhole (λ j. j.claim) (n.jobs ++ n.taken) (all_append (λ j. IsWhole j.claim) n.jobs n.taken is.jobs is.taken))

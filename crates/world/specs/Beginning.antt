@@ -16,9 +16,9 @@ use Rattle.book.specs.declared.errors.OpenError.TheVariants.{NoMemory}
 use Rattle.book.specs.Accepted.{IsHistory}
 use Rattle.book.specs.Books.{replay, fundings_of}
 use Rattle.book.specs.Replies.{opened, is_accepted}
-use Rattle.openings.specs.declared.sides.Both.{Both}
-use Rattle.openings.specs.Opening.{funding_output, AreOpeningsOf}
-use Rattle.openings.specs.Agreeing.{first_grants}
+use Rattle.world.specs.declared.openings.sides.Both.{Both}
+use Rattle.world.specs.Opening.{funding_output, AreOpeningsOf}
+use Rattle.world.specs.Agreeing.{first_grants}
 use Rattle.world.specs.declared.errors.WorldError.{WorldError}
 use Rattle.world.specs.declared.errors.WorldError.TheVariants.{NoMemory as no_memory, OverLimit, BadTerms}
 use Rattle.world.specs.Worlds.{World, Node, inboxes, answer_to, after_call, with_line}

@@ -18,7 +18,7 @@ use Rattle.sighash.specs.Programs.{spend_of, run_of}
 use Rattle.claim.specs.Claims.{ClaimParts, IsWhole, FitsClaim, sequence_of}
 use Rattle.chain.specs.Blocks.{Contents, Coin, coin_at}
 use Rattle.chain.specs.Locks.{IsReached}
-use Rattle.chain.specs.Tests.{input_refusal, indexed_refusal}
+use Rattle.chain.specs.Checks.{input_refusal, indexed_refusal}
 
 -- The blocks have the newest first; `height` is that of the block that is to take the transaction. `check_input` tests for the next block, whose height is the number of blocks, and
 -- `connect` for the new block, behind the transactions that it has so far.
@@ -46,8 +46,8 @@ pub record Passes (blocks : List Contents) (height : ℕ) (x : ClaimParts) (t : 
   pub low : due.fits.path.height ≤ max_stack_size
 
 -- at any moment of any chain, for each accepted claim and whatever fits it
-abbrev pub ClaimsOpen : Type 0
-ClaimsOpen =
+abbrev pub ClaimsSpend : Type 0
+ClaimsSpend =
     (blocks : List Contents) (height : ℕ) (x : ClaimParts) (t : Transaction) (input : TxIn) → IsWhole x → (due : IsDue blocks height x t input) → Passes blocks height x t input due
 
 -- the block is above the transaction's lock time, and above the output's by the claim's age in blocks

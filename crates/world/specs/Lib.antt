@@ -5,6 +5,8 @@ pub mod Worlds
 pub mod Refusing
 pub mod Releasing
 pub mod Acts
+pub mod Opening
+pub mod Agreeing
 pub mod Beginning
 pub mod Keeping
 pub mod Looking

@@ -2,7 +2,7 @@
 use Rattle.std.specs.Prelude.{◌≡◌, ℕ, nat_le, List, [], ◌∷◌, length, Option, Some, None, Result, Ok, Err}
 use Rattle.std.specs.List.{cons_option}
 use Rattle.channel.specs.declared.messages.Message.{Message}
-use Rattle.updates.specs.declared.refusals.Refusal.TheVariants.{NoMemory as refusal_memory}
+use Rattle.updates.specs.declared.errors.ChannelError.TheVariants.{NoMemory as refusal_memory}
 use Rattle.filling.specs.declared.errors.FillError.TheVariants.{NoMemory as fill_memory}
 use Rattle.mempool.specs.declared.errors.ReorgError.{ReorgError}
 use Rattle.mempool.specs.declared.errors.ReorgError.TheVariants.{NoMemory as reorg_memory, TooDeep as reorg_depth, NoSuchTx as reorg_txs}

@@ -32,15 +32,15 @@ own_call c u = calls.Step c (Own u)
 abbrev pub call_refusal : Side → ℕ → Call → World → Option EventError
 call_refusal s c call w = sending_refusal c call (node_of s w) (node_of (other s) w)
 
-abbrev pub called : Side → ℕ → Call → World → World
-called s c call w = with_nodes s (after_call call (node_of s w)) (sent_by c call (node_of s w) (node_of (other s) w)) w
+abbrev pub world_after_call : Side → ℕ → Call → World → World
+world_after_call s c call w = with_nodes s (after_call call (node_of s w)) (sent_by c call (node_of s w) (node_of (other s) w)) w
 
 -- why a side does not receive its oldest message in a channel, and the world once it did: the answer is on its way to the peer
 abbrev pub receipt_refusal : Side → ℕ → World → Option EventError
 receipt_refusal s c w = delivery_refusal c (oldest_in (slice_get (node_of s w).lines c)) (node_of s w) (node_of (other s) w)
 
-abbrev pub received : Side → ℕ → World → World
-received s c w =
+abbrev pub world_after_delivery : Side → ℕ → World → World
+world_after_delivery s c w =
     let message = oldest_in (slice_get (node_of s w).lines c) in
     with_nodes s (delivered c message (node_of s w)) (answered c message (node_of s w) (node_of (other s) w)) w
 
@@ -68,7 +68,7 @@ both_back height w = record w { a = back_to height w.a; b = back_to height w.b }
 
 -- ---- one event
 
--- why an event is refused, memory aside
+-- why an event is refused, barring out-of-memory
 abbrev pub refusal_of : World → Event → Option EventError
 refusal_of w (events.Own s c update) = call_refusal s c (own_call c update) w
 refusal_of w (events.Sign s c) = call_refusal s c (calls.Sign c) w
@@ -84,9 +84,9 @@ refusal_of w (events.Reorg depth forgotten) = option_map by_reorg (reorg_refusal
 
 -- what happens where nothing refuses the event
 pub data Happens (w : World) : Event → World → Outcome → Type 0 where
-  updates : {s : Side} {c : ℕ} {update : OwnUpdate} → Happens w (events.Own s c update) (called s c (own_call c update) w) Done
-  signs : {s : Side} {c : ℕ} → Happens w (events.Sign s c) (called s c (calls.Sign c) w) Done
-  receives : {s : Side} {c : ℕ} → Happens w (events.Deliver s c) (received s c w) Done
+  updates : {s : Side} {c : ℕ} {update : OwnUpdate} → Happens w (events.Own s c update) (world_after_call s c (own_call c update) w) Done
+  signs : {s : Side} {c : ℕ} → Happens w (events.Sign s c) (world_after_call s c (calls.Sign c) w) Done
+  receives : {s : Side} {c : ℕ} → Happens w (events.Deliver s c) (world_after_delivery s c w) Done
   keeps : {s : Side} {c n : ℕ} {after : Node} → IsKept (node_of s w) c n after → Happens w (events.Keep s c n) (with_node s after w) Done
   broadcasts : {s : Side} {c n : ℕ} {t : Transaction} → commitment_in n (channel_of (node_of s w) c) ≡ Ok t → Happens w (events.Broadcast s c n) (with_waiting t w) Done
   broadcasts_htlc : {s : Side} {c n k : ℕ} {t : Transaction} → htlc_tx_in n k (preimages_known c (node_of s w)) (channel_of (node_of s w) c) ≡ Ok t
@@ -113,7 +113,7 @@ abbrev pub looked_by : Result ℕ EventError → Result Outcome EventError
 looked_by (Ok k) = Ok (Looked k)
 looked_by (Err r) = Err r
 
--- one event: it happens where nothing refuses it; a refused one leaves the world as it was and, memory aside, names the first condition that holds
+-- one event: it happens where nothing refuses it; a refused one leaves the world as it was and, barring out-of-memory, names the first condition that holds
 pub data WorldSteps (w : World) (e : Event) : World → Outcome → Type 0 where
   happens : {after : World} {o : Outcome} → refusal_of w e ≡ None → Happens w e after o → WorldSteps w e after o
   refuses : {r : EventError} → refusal_of w e ≡ Some r → WorldSteps w e w (Refused r)

@@ -42,7 +42,7 @@ pub record HoldsAt (w : World) : Type 0 where
   -- whatever fits an accepted claim passes the chain's test for the next block and runs clean, once it is due
   pub opens : (x : ClaimParts) (t : Transaction) (input : TxIn) → IsWhole x → (due : IsDue w.chain.blocks (length w.chain.blocks) x t input)
       → Passes w.chain.blocks (length w.chain.blocks) x t input due
-  -- the oldest message on its way to a side is taken by its book, so memory aside a delivery is refused only where there is no channel or no message
+  -- the oldest message on its way to a side is taken by its book, so barring out-of-memory a delivery is refused only where there is no channel or no message
   pub takes : (s : Side) (c : ℕ) (m : Message) (rest : List Message) → slice_get (inboxes (node_of s w)) c ≡ Some (m ∷ rest) → is_accepted (answer_to (node_of s w) (call_of c m)) ≡ true
   pub delivers : (s : Side) (c : ℕ) (r : EventError) → refusal_of w (Deliver s c) ≡ Some r → (r ≡ NoSuchChannel) ⊎ (r ≡ NoMessage)
 

@@ -46,7 +46,7 @@ opens_none call = true
 -- what holds of each side: it has a line for each channel of its book, and its claims were accepted
 pub record IsNode (n : Node) : Type 0 where
   pub lines : length n.lines ≡ length (replay n.history)
-  pub called : AllByRecursion (λ e. AllByRecursion IsWhole (claims_by e.call)) n.history
+  pub claims_are_whole : AllByRecursion (λ e. AllByRecursion IsWhole (claims_by e.call)) n.history
   pub jobs : AllByRecursion (λ j. IsWhole j.claim) n.jobs
   pub taken : AllByRecursion (λ j. IsWhole j.claim) n.taken
 

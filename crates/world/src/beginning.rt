@@ -6,20 +6,20 @@ ghost use Rattle.terms.specs.declared.proposals.ProposedTerms.{ProposedTerms as 
 ghost use Rattle.chain.specs.Blocks.{grants_in, grant_outpoint};
 ghost use Rattle.book.specs.declared.calls.Call.TheVariants.{Open};
 ghost use Rattle.book.specs.Replies.{is_accepted};
-ghost use Rattle.openings.specs.Opening.{funding_output as funding_output_of, AreOpeningsOf};
+ghost use Rattle.world.specs.Opening.{funding_output as funding_output_of, AreOpeningsOf};
 ghost use Rattle.scenario.specs.Limits.{max_channels};
 ghost use Rattle.scenario.specs.Testing.{first_bad_terms};
 ghost use Rattle.world.specs.Worlds.{answer_to};
 ghost use Rattle.world.specs.Beginning.{empty_world, with_opened, granted, Begins, AllBegin, HasBegun, IsBeginning};
 ghost use Rattle.world.specs.Theorem.{IsWorld};
 
+use crate::laws::openings_agree;
 use crate::nodes::Node;
+use crate::openings::{Both, funding_output, open_both};
 use crate::parts::Parts;
 use book::Opening;
 use book::errors::OpenError;
-use chain::{Coins, Index, Refusal};
-use openings::laws::openings_agree;
-use openings::{Both, funding_output, open_both};
+use chain::{ChainError, Coins, Index};
 use scenario::Seeds;
 use std::alloc::{AllocError, Global};
 use terms::ProposedTerms;
@@ -65,7 +65,7 @@ fn grant_funding(
     match chain.grant(output) {
         Ok(outpoint) => Ok(outpoint),
         Err(error) => match error {
-            Refusal::NoMemory => Err(AllocError),
+            ChainError::NoMemory => Err(AllocError),
             _ => unreachable!(),
         },
     }

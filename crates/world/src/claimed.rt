@@ -2,13 +2,13 @@
 
 ghost use Rattle.std.specs.Prelude.{◌≡◌, length, slice_get, Some, MatchResult, ⊤};
 ghost use Rattle.tx.specs.declared.input.TxIn.{TxIn};
-ghost use Rattle.chain.specs.declared.refusal.Refusal.TheVariants.{NoMemory};
+ghost use Rattle.chain.specs.declared.errors.ChainError.TheVariants.{NoMemory};
 ghost use Rattle.chain.specs.Refusals.{Answers};
-ghost use Rattle.chain.specs.Tests.{indexed_refusal};
+ghost use Rattle.chain.specs.Checks.{indexed_refusal};
 ghost use Rattle.world.specs.Enforcement.{IsDue};
 
-use crate::laws::claims_open;
-use chain::{Coins, Refusal};
+use crate::laws::claims_spend;
+use chain::{ChainError, Coins};
 use claim::Claim;
 use tx::Tx;
 
@@ -18,12 +18,16 @@ pub fn check_claimed<C: Coins>(
     claim: &Claim,
     tx: &Tx,
     index: usize,
-) -> Result<(), Refusal>
-    ensures exact { Answers (indexed_refusal (C.standing chain.now).blocks (length (C.standing chain.now).blocks) tx.now (slice_get tx.now.inputs index)) result }
-    ensures due { (input : TxIn) → slice_get tx.now.inputs index ≡ Some input → IsDue (C.standing chain.now).blocks (length (C.standing chain.now).blocks) claim.now tx.now input → MatchResult result (λ _. ⊤) (λ e. e ≡ NoMemory) }
+) -> Result<(), ChainError>
+    ensures exact { Answers (indexed_refusal (C.standing chain.now).blocks
+        (length (C.standing chain.now).blocks) tx.now (slice_get tx.now.inputs index)) result }
+    ensures due { (input : TxIn) → slice_get tx.now.inputs index ≡ Some input
+        → IsDue (C.standing chain.now).blocks
+        (length (C.standing chain.now).blocks) claim.now tx.now input
+        → MatchResult result (λ _. ⊤) (λ e. e ≡ NoMemory) }
 {
     // The proof takes from these that the claim is an accepted one, and what is so of such claims.
-    claims_open();
+    claims_spend();
     let _ = claim.path();
     chain.check_input(tx, index)
 }

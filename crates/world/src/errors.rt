@@ -11,7 +11,7 @@ use mempool::ReorgError;
 use side::BatchError;
 use std::alloc::{AllocError, AllocFailed};
 use thiserror::Error;
-use updates::Refusal;
+use updates::ChannelError;
 
 /// Why an event is refused.
 #[derive(Debug, Drop, Error)]
@@ -42,7 +42,7 @@ pub enum EventError {
     TooDeep,
     /// The channel refuses the update or the message.
     #[error("{0}")]
-    Channel(Refusal),
+    Channel(ChannelError),
     /// The book refuses to sign.
     #[error("{0}")]
     Sign(SignError),
@@ -65,7 +65,7 @@ impl EventError {
     {
         match error {
             StepError::Refused(refusal) => match refusal {
-                Refusal::NoMemory => EventError::NoMemory,
+                ChannelError::NoMemory => EventError::NoMemory,
                 _ => EventError::Channel(refusal),
             },
             StepError::NoSuchChannel => EventError::NoSuchChannel,

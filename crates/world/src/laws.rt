@@ -1,22 +1,23 @@
 //! The Enforcement theorem, as laws over the definitions alone.
 
-ghost use Rattle.world.specs.Enforcement.{ClaimsOpen, LocksAreHeights};
+ghost use Rattle.world.specs.Enforcement.{ClaimsSpend, LocksAreHeights};
+ghost use Rattle.world.specs.Agreeing.{FundingsAreSpent, OpeningsArePaired, OpeningsAreTaken};
 ghost use Rattle.world.specs.Pairing.{DeliveriesAreTaken};
 ghost use Rattle.world.specs.Theorem.{StepsKeep, WorldsHold};
 
 use book::laws::{accepted_is_called, signing_is_guarded};
 use channel::laws::peers_agree;
-use claim::laws::accepted_claims_open;
+use claim::laws::accepted_claims_spend;
 
 /// The first half of the Enforcement theorem: at any moment of any chain, whatever fits an accepted claim passes the chain's test of that input and runs clean, once the
 /// output that it spends is unspent, with the value and program of the claim's place, and its lock time and age are reached. They are reached exactly where the
 /// block is above the transaction's lock time, and above the output's block by the claim's age.
-pub fn claims_open()
-    ensures opens { ClaimsOpen }
+pub fn claims_spend()
+    ensures spends { ClaimsSpend }
     ensures locks { LocksAreHeights }
 {
     // The proof takes from it what is so of each claim, without a chain.
-    accepted_claims_open();
+    accepted_claims_spend();
 }
 
 /// The books of the two sides agree: where each channel of the one and the same channel of the other are what steps of two honest peers leave of a new channel, with the
@@ -40,6 +41,14 @@ pub fn worlds_hold()
     // The proof takes from these what is so of histories, of claims and of books that agree.
     accepted_is_called();
     signing_is_guarded();
-    claims_open();
+    claims_spend();
     deliveries_are_taken();
 }
+
+/// What both sides open is one channel: its commitments spend its funding output, the two books' channels are the two ends of it with nothing on its way, and neither book refuses its
+/// opening where the channels before it stand on the first grants of a chain.
+pub fn openings_agree()
+    ensures spent { FundingsAreSpent }
+    ensures paired { OpeningsArePaired }
+    ensures taken { OpeningsAreTaken }
+{}

@@ -31,6 +31,7 @@ pub mod laws;
 mod limits;
 mod looking;
 mod nodes;
+pub mod openings;
 mod outcomes;
 mod parts;
 mod publishing;

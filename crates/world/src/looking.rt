@@ -41,7 +41,8 @@ fn answer_all(
 ) -> Result<(), AllocError>
     requires fundings { reader.old.fundings ≡ fundings_of (replay book.now) }
     requires known { AreKnown book.now reader.old.learnt reader.old.knowns }
-    ensures ready { OnOk result (AreReady book.now reader.old.learnt 0 reader.new.knowns reader.old.seen (reverse block.now.transactions)) }
+    ensures ready { OnOk result (AreReady book.now reader.old.learnt 0 reader.new.knowns
+        reader.old.seen (reverse block.now.transactions)) }
     ensures known { OnOk result (AreKnown book.now reader.old.learnt reader.new.knowns) }
     ensures same { OnOk result (reader.new ≡ record reader.old { knowns = reader.new.knowns }) }
 {
@@ -63,7 +64,8 @@ fn read_block(
 ) -> Result<Reader, AllocError>
     requires fundings { reader.fundings ≡ fundings_of (replay book.now) }
     requires known { AreKnown book.now reader.learnt reader.knowns }
-    ensures after { IfOk result (λ r. IsAfter book.now height (reverse block.now.transactions) (reading_in reader) (reading_in r)) }
+    ensures after { IfOk result (λ r. IsAfter book.now height (reverse block.now.transactions)
+        (reading_in reader) (reading_in r)) }
     ensures known { IfOk result (λ r. AreKnown book.now r.learnt r.knowns) }
     ensures fundings { IfOk result (λ r. r.fundings ≡ reader.fundings) }
 {
@@ -85,7 +87,8 @@ fn copied_watches(alloc: Global, lines: &[Line]) -> Result<Vec<Watch>, AllocErro
 
 // What a side has read before it looks, of which nobody asked yet what is known. The only error is that memory ran out.
 fn reader_of(alloc: Global, me: &Node) -> Result<Reader, AllocError>
-    ensures { IfOk result (λ r. r ≡ begun (fundings_of (replay me.now.history)) (map (λ line. line.seen) me.now.lines) me.now.learnt) }
+    ensures { IfOk result (λ r. r ≡ begun (fundings_of (replay me.now.history))
+        (map (λ line. line.seen) me.now.lines) me.now.learnt) }
 {
     let fundings = me.book.fundings(alloc)?;
     let learnt = Vec::from_slice(alloc, &me.learnt)?;
@@ -95,7 +98,8 @@ fn reader_of(alloc: Global, me: &Node) -> Result<Reader, AllocError>
 
 // A side reads all blocks that it has not read. The only error is that memory ran out.
 fn read_blocks(alloc: Global, me: &Node, chain: &Index) -> Result<Reader, AllocError>
-    ensures { IfOk result (λ r. Reads me.now.history (me.now.read + 1) (drop (me.now.read + 1) (reverse chain.now.blocks)) (reading_of me.now) (reading_in r)) }
+    ensures { IfOk result (λ r. Reads me.now.history (me.now.read + 1)
+        (drop (me.now.read + 1) (reverse chain.now.blocks)) (reading_of me.now) (reading_in r)) }
 {
     let mut reader = reader_of(alloc, me)?;
     for read in me.read..chain.height() {

@@ -46,7 +46,8 @@ pub(crate) fn htlc_tx(
     number: u64,
     htlc: u64,
 ) -> Result<Tx, EventError>
-    ensures { IsAnswer (htlc_tx_in number htlc (preimages_known channel me.now) (channel_of me.now channel)) result }
+    ensures { IsAnswer (htlc_tx_in number htlc (preimages_known channel me.now)
+        (channel_of me.now channel)) result }
 {
     let Some(state) = me.book.channel(channel) else {
         return Err(EventError::NoSuchChannel);

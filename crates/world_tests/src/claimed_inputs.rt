@@ -1,6 +1,6 @@
 // The chain's test of what a claim of one key is filled with.
 
-use chain::{Coins, Index, Refusal, Scan};
+use chain::{ChainError, Coins, Index, Scan};
 use claim::{Claim, Key, Place, Shell, Slot, accept};
 use filling::fill;
 use keys::{Base, Signer};
@@ -62,7 +62,7 @@ fn connect<C: Coins>(rt: &impl Abort, alloc: Global, chain: &mut C, claim: &Clai
         .push(tx.copy().expect(rt, "memory"))
         .expect(rt, "memory");
     assert!(rt; chain.connect(block).is_ok());
-    assert_eq!(rt; check_claimed(chain, claim, tx, 0), Err(Refusal::Spent));
+    assert_eq!(rt; check_claimed(chain, claim, tx, 0), Err(ChainError::Spent));
 }
 
 // A claim's filling passes, an input that is not there does not.
@@ -71,7 +71,10 @@ fn claims<C: Coins>(rt: &impl Abort, alloc: Global, chain: &mut C) {
     let claim = claim_on(rt, alloc, chain, &signer.base(Base::Payment));
     let tx = filled(rt, alloc, &claim, &signer);
     assert_eq!(rt; check_claimed(chain, &claim, &tx, 0), Ok(()));
-    assert_eq!(rt; check_claimed(chain, &claim, &tx, 1), Err(Refusal::Unknown));
+    assert_eq!(rt;
+        check_claimed(chain, &claim, &tx, 1),
+        Err(ChainError::Unknown)
+    );
     connect(rt, alloc, chain, &claim, &tx);
 }
 

@@ -8,6 +8,8 @@ mod beginnings;
 #[cfg(test)]
 mod claimed_inputs;
 #[cfg(test)]
+mod opened_sides;
+#[cfg(test)]
 mod plays;
 #[cfg(test)]
 mod refused_batches;

@@ -21,18 +21,18 @@ fn party(start: u64) -> ProposedParty {
     }
 }
 
-// The terms of 100,000 satoshis, of which B has so many millisatoshis at first: 20,000,000 are what is left to it.
-fn terms(start: u64) -> ProposedTerms {
+// The terms of 100,000 satoshis, with the millisatoshis that the two sides begin with.
+pub(crate) fn terms(a: u64, b: u64) -> ProposedTerms {
     ProposedTerms {
         capacity: 100_000,
         opener: Side::A,
         feerate: 1000,
-        a: party(80_000_000),
-        b: party(start),
+        a: party(a),
+        b: party(b),
     }
 }
 
-// A world of so many equal channels.
+// A world of so many equal channels, of which B has so many millisatoshis at first: 20,000,000 are what is left to it.
 pub(crate) fn begin(
     rt: &impl Abort,
     alloc: Global,
@@ -41,7 +41,7 @@ pub(crate) fn begin(
 ) -> Result<World, WorldError> {
     let mut all = Vec::new(alloc);
     for _channel in 0..channels {
-        all.push(terms(start)).expect(rt, "memory");
+        all.push(terms(80_000_000, start)).expect(rt, "memory");
     }
     World::new(alloc, &SEEDS, &all)
 }

@@ -2,7 +2,7 @@ use Rattle.std.proofs.Common.{ℕ, List, ap, sym, ◌∙◌}
 use Rattle.keys.specs.Rights.{Rights}
 use Rattle.terms.specs.declared.sides.Side.TheVariants.{A, B}
 use Rattle.channel.specs.Points.{point_at}
-use Rattle.channel.specs.States.{opened}
+use Rattle.channel.specs.States.{state_at_opening}
 use Rattle.channel_sides.proofs.open_sides.Goals as goal
 
 pub returns : goal.returns
@@ -16,6 +16,6 @@ returns c =
       terms = terms;
       seed_a = seed_a;
       seed_b = seed_b;
-      a_is = c.in_ok-open_side.ensures ∙ ap (λ (d : List ℕ). opened terms A d (point_at seed_b 0) (point_at seed_b 1)) same_a;
-      b_is = c.in_ok-open_side-2.ensures ∙ ap (λ (d : List ℕ). opened terms B d (point_at seed_a 0) (point_at seed_a 1)) same_b;
+      a_is = c.in_ok-open_side.ensures ∙ ap (λ (d : List ℕ). state_at_opening terms A d (point_at seed_b 0) (point_at seed_b 1)) same_a;
+      b_is = c.in_ok-open_side-2.ensures ∙ ap (λ (d : List ℕ). state_at_opening terms B d (point_at seed_a 0) (point_at seed_a 1)) same_b;
     }

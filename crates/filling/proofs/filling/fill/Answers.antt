@@ -14,7 +14,7 @@ returns-in-Err c =
 pub finished-requires-clause-clean : goal.finished-requires-clause-clean
 finished-requires-clause-clean c =
     let claims = map (λ x. x.now) c.args.claims.now in
-    clean claims c.args.signer.now c.in_ok-preimages.preimages c.in_ok-unsigned.unsigned c.in-Ok.inputs c.in_ok-places.places.items c.in_ok-unsigned.ensures.unsigned c.in-Ok.ensures.open c.in-Ok.ensures.value.0 c.in-Ok.ensures.value.1 c.in_ok-places.ensures
+    clean claims c.args.signer.now c.in_ok-preimages.preimages c.in_ok-unsigned.unsigned c.in-Ok.inputs c.in_ok-places.places.items c.in_ok-unsigned.ensures.unsigned c.in-Ok.ensures.can_spend c.in-Ok.ensures.value.0 c.in-Ok.ensures.value.1 c.in_ok-places.ensures
 
 pub returns : goal.returns
 returns c =
@@ -22,7 +22,7 @@ returns c =
     let t = c.in_ok-unsigned.unsigned in
     filling claims c.args.outputs.items c.args.signer.now c.args.preimages.now t c.in-Ok.inputs c.in_ok-places.places.items c.finished.result
     (record { unmixed = sym c.are_mixed.ensures ∙ c.if-are_mixed.false; apart = sym c.in_ok-share_outpoint.ensures ∙ c.if-branch.false; within = ap (do_exceed claims) (sym c.deref.ensures.value) ∙ sym c.do_exceed.ensures ∙ c.if-do_exceed.false })
-    c.in_ok-unsigned.ensures.value c.in_ok-unsigned.ensures.unsigned c.in-Ok.ensures.open
+    c.in_ok-unsigned.ensures.value c.in_ok-unsigned.ensures.unsigned c.in-Ok.ensures.can_spend
     (c.in-Ok.ensures.value.0 ∙ ap (λ ps. map (filled_input t ps) claims) c.in_ok-preimages.ensures)
     (subst (λ ps. AreFillable c.args.signer.now ps (all_slots claims)) c.in_ok-preimages.ensures c.in-Ok.ensures.value.1)
     c.in_ok-places.ensures c.finished.ensures

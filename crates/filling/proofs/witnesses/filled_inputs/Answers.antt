@@ -26,7 +26,7 @@ loop-i-preserved c = record {
       (c.in-Ok.ensures.value.0 ∙ ap (λ t. filled_input t c.args.preimages.now c.index-claims-i.result.now) c.new-cache.ensures) c.in_ok-push_within_limit-in-Ok.ensures.ok;
   fillable = fillable-next c.args.signer.now c.args.preimages.now c.args.claims.now c.loop-i.i _ c.index-claims-i.result (omega arith) c.index-claims-i.is c.in-Ok.ensures.value.1 c.loop-i.invariant.fillable;
   lacks = lacks-next c.args.signer.now c.args.preimages.now c.args.claims.now c.loop-i.i _ c.index-claims-i.result (omega arith) c.index-claims-i.is c.in-Ok.ensures.value.1 c.loop-i.invariant.lacks;
-  opening = opening-next c.args.claims.now c.loop-i.i _ c.index-claims-i.result (omega arith) c.index-claims-i.is c.in-Ok.ensures.open c.loop-i.invariant.opening;
+  opening = opening-next c.args.claims.now c.loop-i.i _ c.index-claims-i.result (omega arith) c.index-claims-i.is c.in-Ok.ensures.can_spend c.loop-i.invariant.opening;
 }
 
 pub returns-in-Err-clause-value : goal.returns-in-Err-clause-value

@@ -5,7 +5,7 @@ pub returns-clause-keys : goal.returns-clause-keys
 returns-clause-keys c = keys_are_keys
 
 pub returns-clause-go : goal.returns-clause-go
-returns-clause-go c = openers_go c.listed_paths_open_exactly.ensures
+returns-clause-go c = openers_go c.scripts_are_satisfied_exactly.ensures
 
 pub returns-clause-learnt : goal.returns-clause-learnt
 returns-clause-learnt c = preimages_are_learnt

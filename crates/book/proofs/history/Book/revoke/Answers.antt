@@ -1,5 +1,5 @@
 use Rattle.std.proofs.Common.{List, subst, Err, Ok, refl}
-use Rattle.updates.specs.declared.refusals.Refusal.TheVariants.{NoMemory}
+use Rattle.updates.specs.declared.errors.ChannelError.TheVariants.{NoMemory}
 use Rattle.book.specs.declared.calls.Call.TheVariants.{Revoke}
 use Rattle.book.specs.declared.calls.Entry.{Entry}
 use Rattle.book.specs.declared.errors.StepError.TheVariants.{Refused}

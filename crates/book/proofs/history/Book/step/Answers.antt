@@ -1,6 +1,6 @@
 use Rattle.std.proofs.Common.{List, ap, subst, Err, Ok, []}
 use Rattle.std.specs.List.{cons_option}
-use Rattle.updates.specs.declared.refusals.Refusal.TheVariants.{NoMemory}
+use Rattle.updates.specs.declared.errors.ChannelError.TheVariants.{NoMemory}
 use Rattle.book.specs.declared.calls.Step.{Step}
 use Rattle.book.specs.declared.calls.Call.TheVariants.{Step as Stepping}
 use Rattle.book.specs.declared.calls.Entry.{Entry}

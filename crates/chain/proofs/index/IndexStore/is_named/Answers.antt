@@ -11,5 +11,5 @@ returns-in-Some c =
 
 pub returns-in-None : goal.returns-in-None
 returns-in-None c =
-    none_spent c.self.inside.blocks c.args.outpoint.now c.self.invariant.1.tested (ap (option_map indexed_coin) c.in-None.ensures.value ∙ c.self.invariant.1.coins_are c.args.outpoint.now)
+    none_spent c.self.inside.blocks c.args.outpoint.now c.self.invariant.1.checked (ap (option_map indexed_coin) c.in-None.ensures.value ∙ c.self.invariant.1.coins_are c.args.outpoint.now)
     ∙ ap (λ (s : Standing). is_named s.blocks c.args.outpoint.now) c.self.view_is

@@ -1,7 +1,7 @@
 use Rattle.std.proofs.Common.{◌≡◌, true, Some, subst}
 use Rattle.script.specs.Spelling.{Spells}
 use Rattle.paths.specs.Sound.{IsSound}
-use Rattle.claim.specs.Claims.{TakesPath, path_of, IsOpening, IsWhole}
+use Rattle.claim.specs.Claims.{TakesPath, path_of, IsSpending, IsWhole}
 use Rattle.claim.specs.Judgement.{is_shell}
 use Rattle.claim.proofs.Judged.{path-within, path-here, accepted-sound, accepted-opens, taken-at, taken-shell, whole-spelt}
 use Rattle.claim.proofs.claims.Claim.path.Goals as goal
@@ -35,10 +35,10 @@ returns-clause-sound c =
     (accepted-sound i.checked i.index i.slots i.place i.shell c.path_at.result.now c.paths.ensures.sound
     (path-here i.checked i.index i.slots i.place i.shell c.paths.result.now c.path_at.result.now c.paths.ensures.value c.path_at.ensures c.self.invariant.0))
 
-pub returns-clause-opens : goal.returns-clause-opens
-returns-clause-opens c =
+pub returns-clause-spends : goal.returns-clause-spends
+returns-clause-spends c =
     let i = c.self.inside in
-    subst IsOpening c.self.view_is
+    subst IsSpending c.self.view_is
     (accepted-opens i.checked i.index i.slots i.place i.shell c.bytes.result.now (subst (λ o. Spells o c.bytes.result.now) c.script.ensures c.bytes.ensures.spelt) c.bytes.ensures.short c.paths.ensures.sound)
 
 pub returns-clause-whole : goal.returns-clause-whole

@@ -1,4 +1,0 @@
-pub mod Grants
-pub mod Opened
-pub mod Keyed
-mod OpeningExamples

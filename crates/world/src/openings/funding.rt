@@ -1,0 +1,43 @@
+//! The funding outputs of the channels.
+
+ghost use Rattle.std.specs.Prelude.{◌≡◌, IfOk};
+ghost use Rattle.script.specs.Spelling.{spelling};
+ghost use Rattle.terms.specs.Scripts.{funding as funding_of};
+ghost use Rattle.sighash.specs.Programs.{script_hash_program as script_hash_program_of};
+ghost use Rattle.world.specs.Opening.{funding_if_within};
+
+use super::signers::bases_in;
+use forms::{funding, patterns};
+use keys::Key;
+use lists::ByteString;
+use scenario::Seeds;
+use sighash::programs::script_hash_program;
+use std::alloc::{AllocError, Global};
+use terms::ProposedTerms;
+use tx::TxOut;
+
+// The program of the output that two base keys fund.
+fn funding_program(alloc: Global, key: &Key, other: &Key) -> Result<ByteString, AllocError>
+    ensures { IfOk result (λ s. s ≡ script_hash_program_of
+        (spelling (funding_of key.now.bytes other.now.bytes))) }
+{
+    let patterns = patterns(alloc)?;
+    let checked = funding(alloc, &patterns, key, other)?;
+    script_hash_program(alloc, checked.script().bytes())
+}
+
+/// The funding output of the channel of this index (BOLT 3, "Funding Transaction Output"): the capacity in satoshis, for the funding keys of both sides in that channel; `None` where the
+/// capacity is above 21,000,000 bitcoins. The only error is that memory ran out.
+pub fn funding_output(
+    alloc: Global,
+    seeds: &Seeds,
+    channel: u32,
+    plain: &ProposedTerms,
+) -> Result<Option<TxOut>, AllocError>
+    ensures { IfOk result (λ output. output ≡ funding_if_within seeds.now channel plain.now) }
+{
+    let a = bases_in(alloc, &seeds.a, channel);
+    let b = bases_in(alloc, &seeds.b, channel);
+    let program = funding_program(alloc, &a.funding, &b.funding)?;
+    Ok(TxOut::new(plain.capacity, program).ok())
+}
