@@ -1,5 +1,5 @@
 -- The channels that a reader follows, by what was seen of each and what is known of it.
-use Rattle.std.proofs.Common.{◌≡◌, ℕ, ◌+◌, ◌<◌, ◌≤◌, List, [], ◌∷◌, ◌++◌, length, map, set, get_or, replicate, Bool, if◌then◌else◌, Option, Some, None, refl, sym, ap, subst, ◌∙◌, arith}
+use Rattle.std.proofs.Common.{◌≡◌, ℕ, ◌+◌, ◌<◌, ◌≤◌, List, [], ◌∷◌, ◌++◌, length, map, set, get_or, replicate, Bool, if◌then◌else◌, Option, Some, None, refl, sym, ap, ◌∙◌, arith}
 use Rattle.std.proofs.Math.Seq.{map-set_same}
 use Rattle.std.proofs.lemmas.List.{get_or-map, map-set, length-map}
 use Rattle.tx.specs.declared.input.OutPoint.{OutPoint}
@@ -10,7 +10,7 @@ use Rattle.side.specs.declared.due.DueClaim.{DueClaim}
 use Rattle.side.specs.declared.following.Followed.{Followed}
 use Rattle.side.specs.declared.following.Followed.TheVariants.{Alone, Known as Told}
 use Rattle.side.specs.Due.{FindsIf, taught}
-use Rattle.side.specs.Reading.{Reader, begun, is_to_ask, numbers_to_ask, with_answer}
+use Rattle.side.specs.Reading.{begun, is_to_ask, numbers_to_ask, with_answer}
 use Rattle.side.specs.Following.{seen_in, known_in, unanswered, told, taught_in, reader_of}
 use Rattle.side.specs.Reading.{FindsBlock}
 use Rattle.side.proofs.Readings.{asked_from, asked_step, Onward, onward_step, onward_end}

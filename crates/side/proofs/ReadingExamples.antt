@@ -9,9 +9,7 @@ use Rattle.keys.specs.declared.compressed.Key.{Key}
 use Rattle.claim.specs.declared.parts.Slot.TheVariants.{Sig, Preimage}
 use Rattle.claim.specs.Claims.{ClaimParts}
 use Rattle.resolve.specs.declared.known.Known.{Known}
-use Rattle.watch.specs.declared.spends.Spend.{Spend}
 use Rattle.watch.specs.Watching.{Seen, nothing_seen}
-use Rattle.side.specs.declared.due.DueClaim.{DueClaim}
 use Rattle.side.specs.Due.{wanted_by, due_claims_of, FindsIf, taught}
 use Rattle.side.specs.Reading.{Reader, begun, is_to_ask, numbers_to_ask, with_answer, FindsBlock, no_more, channel}
 

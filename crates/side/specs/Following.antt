@@ -3,7 +3,6 @@ use Rattle.std.specs.Prelude.{ℕ, List, map, Option, Some, None}
 use Rattle.tx.specs.declared.input.OutPoint.{OutPoint}
 use Rattle.resolve.specs.declared.known.Known.{Known}
 use Rattle.watch.specs.Watching.{Seen}
-use Rattle.watch.specs.Lookouts.{LookoutParts}
 use Rattle.side.specs.declared.due.DueClaim.{DueClaim}
 use Rattle.side.specs.declared.following.Followed.{Followed}
 use Rattle.side.specs.declared.following.Followed.TheVariants.{Alone, Known as Told}

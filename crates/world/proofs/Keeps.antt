@@ -16,7 +16,7 @@ use Rattle.book.specs.Calling.{IsKeepRefusal}
 use Rattle.book.specs.Revoked.{early_keep_refusal, IsRevokedIn}
 use Rattle.world.specs.declared.errors.EventError.{EventError}
 use Rattle.world.specs.declared.errors.EventError.TheVariants.{Keep}
-use Rattle.world.specs.Worlds.{Node, channel_of, answer_to, after_call}
+use Rattle.world.specs.Worlds.{Node, channel_of}
 use Rattle.world.specs.Refusing.{by_keep, refusal_in, IsRefusal, IsAnswered}
 use Rattle.world.specs.Keeping.{keep_refusal, IsSetFor, IsKept}
 use Rattle.world.proofs.Answering.{refused}

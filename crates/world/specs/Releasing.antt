@@ -1,14 +1,10 @@
 -- Jobs that are taken, and claims that are released.
-use Rattle.std.specs.Prelude.{◌≡◌, ℕ, ◌+◌, ◌==◌, Bool, true, ◌&&◌, ◌||◌, not, nat_lt, List, [], ◌∷◌, ◌++◌, length, take, drop, map, fold, Option, Some, None, Ok, if◌then◌else◌}
-use Rattle.std.specs.List.{list_any, flat_map}
-use Rattle.std.specs.Str.{bytes_eq}
-use Rattle.digest.specs.Hash.{hash160}
+use Rattle.std.specs.Prelude.{◌≡◌, ℕ, ◌==◌, Bool, true, ◌||◌, not, nat_lt, List, [], ◌∷◌, ◌++◌, length, take, drop, Option, Some, None, Ok}
 use Rattle.tx.specs.Parts.{Output}
 use Rattle.tx.specs.Limits.{max_inputs, max_value}
 use Rattle.tx.specs.Fields.{Transaction}
 use Rattle.keys.specs.declared.bases.Base.TheVariants.{Payment}
 use Rattle.keys.specs.Derivation.{base_key}
-use Rattle.claim.specs.Claims.{ClaimParts}
 use Rattle.filling.specs.Filled.{Filling}
 use Rattle.channel.specs.States.{State}
 use Rattle.book.specs.declared.calls.Batch.{Batch}

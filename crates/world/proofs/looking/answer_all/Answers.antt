@@ -1,10 +1,10 @@
-use Rattle.std.proofs.Common.{◌≡◌, ℕ, ◌+◌, ◌<◌, List, [], ◌∷◌, length, map, drop, reverse, refl, sym, ap, subst, ◌∙◌, arith, add-one, drop-cons}
+use Rattle.std.proofs.Common.{◌≡◌, ℕ, ◌+◌, ◌<◌, List, [], ◌∷◌, length, drop, reverse, refl, sym, ap, subst, ◌∙◌, arith, add-one, drop-cons}
 use Rattle.std.specs.Prelude.{slice_index_or}
 use Rattle.std.specs.List.{All}
 use Rattle.std.proofs.lemmas.List.{drop_all, length-map}
-use Rattle.book.specs.Books.{ChannelBook, replay}
+use Rattle.book.specs.Books.{replay}
 use Rattle.side.specs.Reading.{Reader, numbers_to_ask}
-use Rattle.world.specs.Asking.{AreKnown, AreReady}
+use Rattle.world.specs.Asking.{AreKnown}
 use Rattle.world.proofs.Readings.{answered, answered_same, answered_known, all_ready}
 use Rattle.world.proofs.looking.answer_all.Goals as goal
 

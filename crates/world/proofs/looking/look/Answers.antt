@@ -1,4 +1,4 @@
-use Rattle.std.proofs.Common.{rules, ◌≡◌, ◌+◌, length, ap, ◌∙◌}
+use Rattle.std.proofs.Common.{rules, ◌+◌, length, ap, ◌∙◌}
 use Rattle.chain.specs.Blocks.{height_of}
 use Rattle.world.specs.Looking.{Reading, reading_in, parts_read, with_reading}
 use Rattle.world.proofs.Readings.{each_line, parts_are}

@@ -1,8 +1,8 @@
-use Rattle.std.proofs.Common.{◌≡◌, ℕ, ◌+◌, ◌<◌, ◌≤◌, ◌++◌, List, length, map, reverse, sym, ap, subst, arith}
+use Rattle.std.proofs.Common.{◌≡◌, ℕ, ◌+◌, ◌<◌, ◌≤◌, ◌++◌, List, length, reverse, sym, ap, subst, arith}
 use Rattle.std.specs.List.{All}
 use Rattle.std.proofs.lemmas.List.{length-map}
 use Rattle.side.specs.Reading.{Reader, numbers_to_ask}
-use Rattle.side.specs.Following.{seen_in, known_in, reader_of}
+use Rattle.side.specs.Following.{seen_in}
 use Rattle.side.proofs.Readings.{asked_from, asked_end, all_asked}
 use Rattle.side.proofs.Followed.{asked_of_followed}
 use Rattle.side.proofs.reading.Reader.to_ask.Goals as goal
