@@ -91,8 +91,9 @@ impl World {
     /// Plays events in turn, and gives what became of each. A refused event leaves the world as it was, and the next one is played. The only error is that no memory was
     /// there for the outcomes: then no event was played.
     pub fn play(&mut self, events: &[Event]) -> Result<Vec<Outcome>, AllocError>
-        ensures { MatchResult result (λ outcomes. IsPlay self.old events.now outcomes.items
-            self.new) (λ _. self.new ≡ self.old) }
+        ensures { MatchResult result
+            (λ outcomes. IsPlay self.old events.now outcomes.items self.new)
+            (λ _. self.new ≡ self.old) }
     {
         let mut outcomes = Vec::with_capacity(self.parts.alloc, events.len())?;
         self.holds();
