@@ -12,7 +12,7 @@
 //!
 //! ```rust
 //! /// Offers an HTLC of `amount` millisatoshis, and signs the peer's commitment with it. Both messages are to be sent, the offer first.
-//! fn offer_and_sign(channel: &mut Channel, amount: u64, hash: [u8; 32], expiry: u32) -> Result<(Message, Message), Refusal> {
+//! fn offer_and_sign(channel: &mut Channel, amount: u64, hash: [u8; 32], expiry: u32) -> Result<(Message, Message), ChannelError> {
 //!     let offer = channel.offer(amount, hash, expiry)?;
 //!     let signature = channel.signed()?;
 //!     Ok((offer, signature))

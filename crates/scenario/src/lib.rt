@@ -5,8 +5,8 @@
 //! order, invalid JSON, a value of another shape, more of something than the limits allow, and the first channel on
 //! whose terms the two sides can't agree. What it tests a [`Scenario`] keeps by its type.
 //!
-//! `texts` reads the shapes that it stands on. `openings` opens its channels, `world` plays its events, and
-//! `enforce_words` reads it from standard input.
+//! `texts` reads the shapes that it stands on. `world` opens its channels and plays its events, and `enforce_words`
+//! reads it from standard input.
 //!
 //! ```rust
 //! let scenario = Scenario::read(alloc, text)?;

@@ -13,7 +13,7 @@
 //!
 //! ```rust
 //! /// Offers an HTLC, and says what this side has in the commitment that it signs next.
-//! fn offer_and_see(ledger: &mut Ledger, amount: u64, hash: [u8; 32], expiry: u32) -> Result<u64, Refusal> {
+//! fn offer_and_see(ledger: &mut Ledger, amount: u64, hash: [u8; 32], expiry: u32) -> Result<u64, ChannelError> {
 //!     ledger.offer(amount, hash, expiry)?;
 //!     Ok(ledger.view_to_sign()?.share(ledger.side()).balance)
 //! }
