@@ -75,9 +75,9 @@ impl fmt::Display for Bytes<'_> {
     }
 }
 
-// Slots with a comma between them.
+/// Slots, printed with a comma between them.
 #[derive(Drop)]
-struct Slots<'a>(&'a [usize]);
+pub struct Slots<'a>(pub &'a [usize]);
 
 impl fmt::Display for Slots<'_> {
     ghost output = { λ s. Some (comma_separated decimal s.0.now) };
@@ -94,9 +94,9 @@ impl fmt::Display for Slots<'_> {
     }
 }
 
-// Keys with a comma between them.
+/// Keys, printed with a comma between them.
 #[derive(Drop)]
-struct Keys<'a>(&'a [KeySource]);
+pub struct Keys<'a>(pub &'a [KeySource]);
 
 impl fmt::Display for Keys<'_> {
     ghost output = { λ k. Some (comma_separated key_text k.0.now) };

@@ -6,14 +6,14 @@ use Rattle.script.specs.declared.parse.ParseError.TheVariants.{NoMemory, BadOpco
 use Rattle.script.specs.declared.opcode.Op.TheVariants.{Push, Number, If, NotIf, Else, EndIf, Drop, Dup, Swap, Size, Equal, EqualVerify, Hash160, CheckSig, CheckMultiSig, CheckLockTimeVerify, CheckSequenceVerify}
 use Rattle.script.specs.Limits.{max_script_size}
 
--- the byte of an opcode: a push has its length
+-- the byte of an opcode, those of branches first: a push has its length
 abbrev pub code_of : Op → ℕ
-code_of (Push item) = length item
-code_of (Number n) = 0x50 + n
 code_of If = 0x63
 code_of NotIf = 0x64
 code_of Else = 0x67
 code_of EndIf = 0x68
+code_of (Push item) = length item
+code_of (Number n) = 0x50 + n
 code_of Drop = 0x75
 code_of Dup = 0x76
 code_of Swap = 0x7c

@@ -1,0 +1,4 @@
+pub mod Names
+pub mod Looks
+pub mod Weights
+pub mod Sentences

@@ -1,0 +1,86 @@
+//! The words of the program `trace`, from which come a status and text.
+//!
+//! `trace script HEX` tells the opcodes of a version 0 witness script and the ways through it, and `trace script` those
+//! of each script on standard input, one a line. Each script gives one JSON object on a line, or, after the word
+//! `--text`, lines for people. [`run_words`] does what the words say, over any reader and writers, and answers a status
+//! of at most 2. What an opcode is called, what a push looks like, each fact's sentence ([`Sentence`]) and each
+//! witness's weight ([`witness_weight`]) are proved; how they are laid out is tested.
+//!
+//! `paths` lists the ways, and `facts` has what they ask for. The program `trace` hands it the words.
+//!
+//! ```rust
+//! let status = run_words(alloc, words, &mut input, &mut out, &mut err);
+//! ```
+//!
+//! Tested in `trace_tests`, and by the rows of the program.
+#![tactic(auto)]
+
+ghost use Rattle.std.specs.Prelude.{◌≡◌, ◌≤◌, ◌⊎◌};
+
+mod errors;
+mod json;
+mod lines;
+mod looks;
+mod names;
+mod pages;
+mod places;
+mod reading;
+mod sentences;
+mod weights;
+mod words;
+
+use crate::lines::{tell_input, told};
+use crate::words::Command;
+pub use looks::Look;
+pub use sentences::{Role, Sentence};
+use std::alloc::Global;
+use std::io::{Read, Write};
+pub use weights::{SIGNATURE_SIZE, TOKEN_SIZE, witness_weight};
+
+/// The line that wrong words get.
+pub const USAGE: &str = "usage: trace script [--text] [HEX]\n";
+
+/// Runs the program on its words (without its name) and answers its status: 0 when all scripts are listed, 1 for a refused script, refused input or a failed
+/// write, 2 for wrong words, which are found before any input is read. All that is told of a script is made before its first byte is written.
+pub fn run_words<R: Read, W: Write, E: Write>(
+    alloc: Global,
+    words: &[String],
+    input: &mut R,
+    out: &mut W,
+    err: &mut E,
+) -> u8
+    ensures { result ≤ 2 }
+{
+    match Command::read(words) {
+        Some(Command::Script(form, text)) => told(alloc, text, form, out),
+        Some(Command::Scripts(form)) => tell_input(alloc, form, input, out),
+        None => refuse_words(err),
+    }
+}
+
+/// Answers wrong words.
+pub fn refuse_words<E: Write>(err: &mut E) -> u8
+    ensures { result ≤ 2 }
+{
+    written(err, USAGE, 2)
+}
+
+/// Answers that memory ran out.
+pub fn refuse_memory<W: Write>(out: &mut W) -> u8
+    ensures { result ≡ 1 }
+{
+    written(out, "refused NoMemory\n", 1)
+}
+
+// Writes a text, and answers the status, or 1 where the write fails.
+fn written<W: Write>(out: &mut W, text: &str, status: u8) -> u8
+    ensures { (result ≡ status) ⊎ (result ≡ 1) }
+{
+    match out.write_all(text.as_bytes()) {
+        Ok(()) => match out.flush() {
+            Ok(()) => status,
+            Err(_) => 1,
+        },
+        Err(_) => 1,
+    }
+}

@@ -1,0 +1,58 @@
+// The byte at which a script is refused.
+
+use lists::Stack;
+use paths::CheckError;
+use script::Op;
+use script::branches::pass_branch;
+use script::limits::MAX_OPS_PER_SCRIPT;
+use std::alloc::{AllocError, Global};
+
+// The byte at which an opcode begins; past the last one, the end.
+fn byte_of(ops: &[Op], index: usize) -> u64 {
+    let mut byte = 0u64;
+    for (at, op) in ops.iter().enumerate() {
+        if at >= index {
+            return byte;
+        }
+        byte = byte
+            .saturating_add(op.payload_len() as u64)
+            .saturating_add(1);
+    }
+    byte
+}
+
+// The first opcode that has no IF, or the end.
+fn open_at(alloc: Global, ops: &[Op]) -> Result<usize, AllocError> {
+    let mut ifs = Stack::new(alloc);
+    for (at, op) in ops.iter().enumerate() {
+        if !pass_branch(op, &mut ifs)? {
+            return Ok(at);
+        }
+    }
+    Ok(ops.len())
+}
+
+// The opcode with which more than 201 are counted, if there is one.
+fn excess_at(ops: &[Op]) -> Option<usize> {
+    let mut counted = 0;
+    for (at, op) in ops.iter().enumerate() {
+        counted += op.weight();
+        if counted > MAX_OPS_PER_SCRIPT {
+            return Some(at);
+        }
+    }
+    None
+}
+
+/// The byte at which a script is refused, where it is refused for one of its opcodes or for its end.
+pub fn place(alloc: Global, ops: &[Op], error: &CheckError) -> Result<Option<u64>, AllocError> {
+    match error {
+        CheckError::Undecided(at) => Ok(Some(byte_of(ops, *at))),
+        CheckError::OpenBranch => Ok(Some(byte_of(ops, open_at(alloc, ops)?))),
+        CheckError::TooManyOps => match excess_at(ops) {
+            Some(at) => Ok(Some(byte_of(ops, at))),
+            None => Ok(None),
+        },
+        _ => Ok(None),
+    }
+}

@@ -1,0 +1,227 @@
+// Facts in plain words.
+
+ghost use Rattle.std.specs.Prelude.{Some, ◌≡◌, ◌++◌, codes};
+ghost use Rattle.std.specs.Fmt.{WritesOnOk};
+ghost use Rattle.facts.specs.Texts.{hex_text, key_text, comma_separated};
+ghost use Rattle.trace_words.specs.Sentences.{is_words, are_words, truth_words, key_words, item_words, lock_words, age_words, slot_words, assigned_words, sentence_of};
+
+use facts::texts::{Hex, Keys, Slots};
+use facts::{Fact, KeySource, Stated};
+use script::limits::LOCKTIME_THRESHOLD;
+use std::fmt;
+
+/// What a fact tells of a path.
+#[derive(Clone, Copy, PartialEq, Eq, Drop)]
+pub enum Role {
+    /// Whose signature it takes.
+    Who,
+    /// What else the witness has.
+    With,
+    /// When it can be spent.
+    When,
+}
+
+impl Role {
+    ghost use Rattle.std.specs.Prelude.{◌≡◌};
+    ghost use Rattle.trace_words.specs.Sentences.{role_of, role_text};
+
+    /// What a fact tells of its path.
+    pub fn of(stated: &Stated) -> Role
+        ensures { result ≡ role_of stated.now }
+    {
+        match &stated.fact {
+            Fact::Lock(_) | Fact::Age(_) => Role::When,
+            Fact::Token(_, _) | Fact::Assigned(_, _) if stated.holds => Role::Who,
+            _ => Role::With,
+        }
+    }
+
+    /// The word for it.
+    pub fn text(self) -> &'static str
+        ensures { result.now ≡ role_text self }
+    {
+        match self {
+            Role::Who => "who",
+            Role::With => "with",
+            Role::When => "when",
+        }
+    }
+}
+
+// The verb of one slot.
+fn is(holds: bool) -> &'static str
+    ensures { result.now ≡ is_words holds }
+{
+    if holds { "is" } else { "is not" }
+}
+
+// The verb of several slots.
+fn are(holds: bool) -> &'static str
+    ensures { result.now ≡ are_words holds }
+{
+    if holds { "are" } else { "are not" }
+}
+
+// What a slot is that counts as true, or not.
+fn truth(holds: bool) -> &'static str
+    ensures { result.now ≡ truth_words holds }
+{
+    if holds {
+        "true"
+    } else {
+        "false, as the empty item is"
+    }
+}
+
+// A key: its bytes, or the slot that has it.
+#[derive(Drop)]
+struct Key<'a>(&'a KeySource);
+
+impl fmt::Display for Key<'_> {
+    ghost output = { λ k. Some (key_words k.0.now) };
+
+    fn fmt<W: fmt::Write>(&self, f: &mut fmt::Formatter<W>) -> fmt::Result {
+        match self.0 {
+            KeySource::Const(key) => write!(f, "the key {}", Hex(key.bytes())),
+            KeySource::Slot(slot) => write!(f, "the key in slot {slot}"),
+        }
+    }
+}
+
+// An item.
+#[derive(Drop)]
+struct Item<'a>(&'a [u8]);
+
+impl fmt::Display for Item<'_> {
+    ghost output = { λ i. Some (item_words i.0.now) };
+
+    fn fmt<W: fmt::Write>(&self, f: &mut fmt::Formatter<W>) -> fmt::Result {
+        if self.0.is_empty() {
+            return write!(f, "the empty item");
+        }
+        write!(f, "the bytes {}", Hex(self.0))
+    }
+}
+
+// An absolute lock that holds (BIP 65).
+#[derive(Drop)]
+struct Lock(u64);
+
+impl fmt::Display for Lock {
+    ghost output = { λ l. Some (lock_words l.0) };
+
+    fn fmt<W: fmt::Write>(&self, f: &mut fmt::Formatter<W>) -> fmt::Result {
+        let lock = self.0;
+        if lock < LOCKTIME_THRESHOLD {
+            let block = lock + 1;
+            return write!(f, "in block {block} at the earliest");
+        }
+        write!(
+            f,
+            "at the time {lock} in seconds since 1970, which this profile never reaches"
+        )
+    }
+}
+
+// A relative lock that holds (BIP 112).
+#[derive(Drop)]
+struct Age(u32);
+
+impl fmt::Display for Age {
+    ghost output = { λ a. Some (age_words a.0) };
+
+    fn fmt<W: fmt::Write>(&self, f: &mut fmt::Formatter<W>) -> fmt::Result {
+        let units = self.0 % 0x1_0000;
+        if self.0 / 0x40_0000 % 2 == 0 {
+            return write!(f, "after {units} blocks");
+        }
+        write!(
+            f,
+            "after {units} units of 512 seconds, which this profile never reaches"
+        )
+    }
+}
+
+// Keys whose signatures are wanted in their order.
+#[derive(Drop)]
+struct KeysInOrder<'a>(&'a [KeySource]);
+
+impl fmt::Display for KeysInOrder<'_> {
+    ghost output = { λ k. Some (codes " signatures by keys of " ++ (comma_separated key_text k.0.now ++ codes " in their order")) };
+
+    fn fmt<W: fmt::Write>(&self, f: &mut fmt::Formatter<W>) -> fmt::Result {
+        write!(f, " signatures by keys of {} in their order", Keys(self.0))
+    }
+}
+
+// What a slot is or is not.
+fn write_slot<W: fmt::Write>(
+    f: &mut fmt::Formatter<W>,
+    slot: usize,
+    verb: &str,
+    rest: &str,
+) -> fmt::Result
+    ensures { WritesOnOk W.write_str_gives f.old result (slot_words slot verb.now rest.now) f.new }
+{
+    write!(f, "slot {slot} {verb}{rest}")
+}
+
+// That a slot is a preimage, or is not.
+fn write_hash<W: fmt::Write>(
+    f: &mut fmt::Formatter<W>,
+    slot: usize,
+    verb: &str,
+    hash: &[u8],
+) -> fmt::Result
+    ensures { WritesOnOk W.write_str_gives f.old result
+        (slot_words slot verb.now (codes " a preimage of the HASH160 " ++ hex_text hash.now))
+        f.new }
+{
+    write!(
+        f,
+        "slot {slot} {verb} a preimage of the HASH160 {}",
+        Hex(hash)
+    )
+}
+
+// That slots are signatures, or are not.
+fn write_assigned<W: fmt::Write>(
+    f: &mut fmt::Formatter<W>,
+    slots: &[usize],
+    verb: &str,
+    keys: &[KeySource],
+) -> fmt::Result
+    ensures { WritesOnOk W.write_str_gives f.old result
+        (assigned_words slots.now verb.now keys.now) f.new }
+{
+    write!(f, "slots {} {verb}{}", Slots(slots), KeysInOrder(keys))
+}
+
+/// A fact in a sentence.
+#[derive(Drop)]
+pub struct Sentence<'a>(pub &'a Stated);
+
+impl fmt::Display for Sentence<'_> {
+    ghost output = { λ s. Some (sentence_of s.0.now) };
+
+    fn fmt<W: fmt::Write>(&self, f: &mut fmt::Formatter<W>) -> fmt::Result {
+        let holds = self.0.holds;
+        let is = is(holds);
+        match &self.0.fact {
+            Fact::Hash(slot, hash) => write_hash(f, *slot, is, hash.bytes()),
+            Fact::Size(slot, size) => write!(f, "slot {slot} {is} {size} bytes long"),
+            Fact::Truth(slot) => write!(f, "slot {slot} is {}", truth(holds)),
+            Fact::Is(slot, item) => write!(f, "slot {slot} {is} {}", Item(item.bytes())),
+            Fact::KeyForm(slot) => write_slot(f, *slot, is, " a public key of 33 bytes"),
+            Fact::Form(slot) => write_slot(f, *slot, is, " a signature or the empty item"),
+            Fact::Token(slot, key) => write!(f, "slot {slot} {is} a signature by {}", Key(key)),
+            Fact::Assigned(slots, keys) => {
+                write_assigned(f, slots.values(), are(holds), keys.values())
+            }
+            Fact::Lock(lock) if holds => write!(f, "{}", Lock(*lock)),
+            Fact::Lock(lock) => write!(f, "while the check of the lock time {lock} fails"),
+            Fact::Age(age) if holds => write!(f, "{}", Age(*age)),
+            Fact::Age(age) => write!(f, "while the check of the relative lock {age} fails"),
+        }
+    }
+}

@@ -1,0 +1,31 @@
+// The words of the program.
+
+use crate::reading::Form;
+
+/// What is asked for.
+#[derive(Drop)]
+pub enum Command<'a> {
+    /// What a script is, in hexadecimal.
+    Script(Form, &'a str),
+    /// What each script on standard input is, one a line.
+    Scripts(Form),
+}
+
+impl<'a> Command<'a> {
+    /// The command that the words name; `None` for wrong words.
+    pub fn read(words: &'a [String]) -> Option<Command<'a>> {
+        let (name, rest) = words.split_first()?;
+        if name.as_str() != "script" {
+            return None;
+        }
+        match rest {
+            [] => Some(Command::Scripts(Form::Json)),
+            [text] if text.as_str() == "--text" => Some(Command::Scripts(Form::Text)),
+            [text] => Some(Command::Script(Form::Json, text.as_str())),
+            [word, text] if word.as_str() == "--text" => {
+                Some(Command::Script(Form::Text, text.as_str()))
+            }
+            _ => None,
+        }
+    }
+}
