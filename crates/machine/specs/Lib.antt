@@ -5,3 +5,4 @@ pub mod Doings
 pub mod Passing
 pub mod Stopping
 pub mod MultiSig
+pub mod Elements

@@ -11,6 +11,7 @@
 #![tactic(auto)]
 
 mod acts;
+mod elements;
 mod ends;
 mod halts;
 mod locks;
@@ -19,6 +20,9 @@ mod progress;
 mod runner;
 mod skips;
 
+pub use elements::elements_at;
 pub use ends::{Run, Stop};
+pub use locks::{is_age_reached, is_lock_reached};
+pub use multisig::is_assigned;
 pub use runner::run;
 pub use script::Spend;

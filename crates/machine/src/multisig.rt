@@ -114,9 +114,9 @@ fn are_keys(items: &[ByteString]) -> bool
     items.iter().all(|item| has_key_form(item.bytes()))
 }
 
-// Whether the signatures are, in their order, the tokens of some of the keys in theirs. A key that fits the first signature that is left is
-// taken for it: where there is a choice of keys at all, there is one that begins so.
-fn is_assigned(mut sigs: Stack<ByteString>, mut keys: Stack<ByteString>, digest: &[u8]) -> bool
+/// Whether the signatures are, in their order, the tokens of some of the keys in theirs. A key that fits the first signature that is left is
+/// taken for it: where there is a choice of keys at all, there is one that begins so.
+pub fn is_assigned(mut sigs: Stack<ByteString>, mut keys: Stack<ByteString>, digest: &[u8]) -> bool
     ensures { result ≡ assigned sigs keys digest.now }
 {
     while let Some(key) = keys.pop() {

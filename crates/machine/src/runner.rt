@@ -71,8 +71,8 @@ fn is_too_long(item: &ByteString) -> bool
     item.len() > MAX_SCRIPT_ELEMENT_SIZE
 }
 
-// The stack that a witness starts with.
-fn load(alloc: Global, witness: &[ByteString]) -> Result<Stack<ByteString>, AllocError>
+/// The stack that a witness starts with.
+pub fn load(alloc: Global, witness: &[ByteString]) -> Result<Stack<ByteString>, AllocError>
     ensures { IfOk result (λ s. s ≡ reverse witness.now) }
 {
     let mut stack = Stack::new(alloc);
