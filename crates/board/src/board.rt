@@ -79,7 +79,7 @@ impl Board {
         list
     }
 
-    // so many seats from the first one; the list has room for them
+    // this number of seats from the first one; the list has room for them
     fn seats(
         &self,
         mut dealer: atomic_table::Seat<(), SeatView>,
@@ -98,7 +98,7 @@ impl Board {
         self.seat(list, dealer)
     }
 
-    /// A board on which nothing was raised or drawn, and so many seats at it, one at least. The only error is that memory ran out.
+    /// A board on which nothing was raised or drawn, with this number of seats at it, one at least. The only error is that memory ran out.
     pub fn new(alloc: Global, seats: u16) -> Result<(Board, Vec<Seat>), AllocError>
         requires { 0 < seats }
         ensures { IfOk result (λ r. AreSeats r.0 seats r.1.items) }

@@ -226,7 +226,7 @@ pub enum LoadError {
     /// Memory ran out.
     #[error("NoMemory")]
     NoMemory,
-    /// The text is no JSON.
+    /// Invalid JSON.
     #[error("NotJson")]
     NotJson,
     /// The value is no dump.

@@ -64,8 +64,8 @@ impl Book {
         }
     }
 
-    /// The history, the oldest entry first. Each entry is of a call that was accepted after those before it, and each signature stands where every revocation that came
-    /// in its channel has its penalties kept between the two.
+    /// The history, the oldest entry first. Each entry is of a call that was accepted after those before it. Between each revocation that came in a channel and the
+    /// next signature in it, the penalties for the revoked commitment were kept.
     pub fn entries(&self) -> &[Entry]
         ensures value { result.now ≡ self.now }
         ensures accepted { all_accepted peer_tokens self.now ≡ true }

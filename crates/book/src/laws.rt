@@ -14,8 +14,8 @@ pub fn accepted_is_called()
     ensures { AcceptedMeans }
 {}
 
-/// The signing gate: whatever calls a book gets, and whatever its peers' messages say, each signature in its history stands where every revocation that came in its
-/// channel has the penalties of the revoked commitment kept between the two, by accepted claims on exactly what that commitment lets the side claim.
+/// The signing gate, whatever calls a book gets, and whatever its peers' messages say. Between each revocation that came in a channel and the next signature in it, the
+/// penalties for the revoked commitment were kept. They are accepted claims on exactly what that commitment lets the side claim.
 pub fn signing_is_guarded()
     ensures guarded { AcceptedIsGuarded }
     ensures between { GuardedMeans }

@@ -231,7 +231,7 @@ impl Book {
         dump(alloc, self.entries())
     }
 
-    /// The book of a dump, of version 1 or 2: its calls are made again, and each claim is accepted anew. Refused are, in this order, a text that is no JSON
+    /// The book of a dump, of version 1 or 2: its calls are made again, and each claim is accepted anew. Refused are, in this order, invalid JSON
     /// (`NotJson`), a value that is no dump (`BadShape`), and the first entry that is not taken: an entry's claims come first (`BadClaim`), then its call
     /// (`BadHistory`).
     #[tactic(auto, unfolding(crate::specs::Loaded::loaded))]

@@ -134,7 +134,7 @@ impl Peers {
         self.b.open(open_side(alloc, number, Side::B)?)
     }
 
-    /// Opens so many channels of 100,000 satoshis, of each of which A opened it and has 80,000.
+    /// Opens `channels` channels of 100,000 satoshis. A opens each of them, and has 80,000.
     pub fn open(&mut self, alloc: Global, channels: u32) -> Result<()> {
         for number in 0..channels {
             self.open_one(alloc, number)?;

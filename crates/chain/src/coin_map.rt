@@ -78,7 +78,7 @@ pub(crate) fn forget_output(
     }
 }
 
-/// Forgets so many outputs of a transaction that were created at this height.
+/// Forgets this number of outputs of a transaction, from the first on, which were created at this height.
 pub(crate) fn forget_outputs(
     coins: &mut BTreeMap<OutPoint, IndexedCoin>,
     id: &[u8; 32],

@@ -17,7 +17,7 @@ use std::alloc::{AllocError, Global};
 use tx::hashing::absorb_u64;
 use tx::{OutPoint, Tx, TxOut};
 
-/// The outpoint of the grant that so many came before.
+/// The outpoint of the grant before which this number of grants came.
 #[tactic(auto, unfolding(crate::specs::Blocks::grant_id))]
 pub(crate) fn grant_outpoint(before: u64) -> OutPoint
     ensures { (g : ℕ) → before ≡ g % 2 ^ 64 → result ≡ grant_outpoint g }
@@ -107,7 +107,7 @@ fn offer<S: Store>(store: &mut S, tx: Tx) -> Result<Option<ChainError>, AllocErr
     }
 }
 
-/// Adds those of the transactions to the newest block that pass their tests behind those before them, and gives each one's refusal.
+/// Adds those of the transactions to the newest block that pass their tests after those before them, and gives each one's refusal.
 fn add_passing<S: Store>(store: &mut S, txs: Vec<Tx>) -> Result<Vec<Option<ChainError>>, AllocError>
     requires { MayTakeOff (S.standing store.old).blocks }
     ensures newest { ChangesNewest (S.standing store.old) (S.standing store.new) }
@@ -121,7 +121,7 @@ fn add_passing<S: Store>(store: &mut S, txs: Vec<Tx>) -> Result<Vec<Option<Chain
     Ok(refusals)
 }
 
-/// Adds the next block, of those of the transactions that pass their tests behind those before them, and gives each one's refusal; `None`
+/// Adds the next block, of those of the transactions that pass their tests after those before them, and gives each one's refusal; `None`
 /// where it stands in the block. The only error is that memory ran out, which changes nothing.
 #[tactic(auto, using(crate::proofs::Growing::more_than_one))]
 pub(crate) fn connect_some<S: Store>(
@@ -148,7 +148,7 @@ pub(crate) fn connect_some<S: Store>(
 /// How far the height may fall below the greatest that the chain ever had.
 const MAX_DEPTH: u64 = 6;
 
-/// Whether so many blocks can't be taken off.
+/// Whether this number of blocks can't be taken off.
 #[tactic(auto, using(crate::proofs::Growing::grants_among_newest))]
 fn is_too_deep<S: Store>(store: &S, k: u64) -> bool
     ensures { result ≡ is_too_deep (S.standing store.now) k }
@@ -161,7 +161,7 @@ fn is_too_deep<S: Store>(store: &S, k: u64) -> bool
     have_grant(newest(blocks, k))
 }
 
-/// So many of the newest blocks.
+/// The newest `k` blocks.
 fn newest(blocks: &[Block], k: u64) -> &[Block]
     requires { k ≤ length blocks.now }
     ensures { result.now ≡ drop (length blocks.now - k) blocks.now }
@@ -195,7 +195,7 @@ fn copied(alloc: Global, blocks: &[Block]) -> Result<Vec<Tx>, AllocError>
     Ok(txs)
 }
 
-/// Copies transactions behind others.
+/// Appends copies of transactions to others.
 fn copy_onto(transactions: &[Confirmed], txs: &mut Vec<Tx>) -> Result<(), AllocError>
     ensures { OnOk result (txs.new.items ≡ txs.old.items ++ transactions.now) }
 {
@@ -205,7 +205,7 @@ fn copy_onto(transactions: &[Confirmed], txs: &mut Vec<Tx>) -> Result<(), AllocE
     Ok(())
 }
 
-/// Takes so many of the newest blocks off, in which nothing was granted. It takes no memory.
+/// Takes this number of the newest blocks off, in which nothing was granted. It takes no memory.
 #[tactic(auto, using(crate::proofs::Growing::more_left, crate::proofs::Growing::none_granted_left, crate::proofs::Growing::one_fewer))]
 pub(crate) fn take_off_all<S: Store>(store: &mut S, k: u64)
     requires above_first { k ≤ height_of (S.standing store.old).blocks }
@@ -220,7 +220,7 @@ pub(crate) fn take_off_all<S: Store>(store: &mut S, k: u64)
     }
 }
 
-/// Takes so many of the newest blocks off, and gives their transactions in their order.
+/// Takes this number of the newest blocks off, and gives their transactions in their order.
 #[tactic(auto, using(crate::proofs::Growing::not_too_deep, crate::proofs::Growing::transactions_of_newest))]
 pub(crate) fn disconnect<S: Store>(store: &mut S, k: u64) -> Result<Vec<Tx>, ChainError>
     ensures { MatchResult result (λ txs. Disconnects (S.standing store.old) k (Ok txs.items)

@@ -152,7 +152,7 @@ impl Index {
     ghost use Rattle.chain.specs.Connecting.{ConnectsSome};
     ghost use Rattle.chain.specs.Marking.{IsMark, IsGrown};
 
-    /// Adds the next block, of those of the transactions that pass the tests of `connect` behind those before them, in their order, and gives
+    /// Adds the next block, of those of the transactions that pass the tests of `connect` after those before them, in their order, and gives
     /// each one's refusal; `None` where it stands in the block. The only error is that memory ran out, which changes nothing.
     #[tactic(auto, using(crate::proofs::Undoing::grown_by_some, crate::proofs::Undoing::grown_itself))]
     pub fn connect_some(&mut self, txs: Vec<Tx>) -> Result<Vec<Option<ChainError>>, AllocError>
@@ -212,8 +212,8 @@ impl Index {
         Store::has_id(self, id)
     }
 
-    /// Conservation, by whatever calls the chain came about: what its unspent outputs are worth and its fees together are the satoshis that
-    /// were granted, as long as the ids of its grants differ among themselves and from those of its transactions.
+    /// Conservation, whatever calls the chain got: what its unspent outputs are worth and its fees together are the satoshis that were
+    /// granted. The premise is that the ids of its grants differ among themselves and from those of its transactions.
     pub fn conserves_values(&self)
         ensures { GrantsAreApart self.now.blocks
             → sum_by (λ c. c.output.value) (unspent_of self.now.blocks) + fees_of self.now.blocks

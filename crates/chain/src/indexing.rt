@@ -17,7 +17,7 @@ use std::alloc::AllocError;
 use std::collections::{BTreeMap, BTreeSet};
 use tx::OutPoint;
 
-/// Adds a transaction that passes its tests behind these blocks, whose height this is. Where memory runs out, the index is as it was.
+/// Adds a transaction that passes its tests after these blocks, whose height this is. Where memory runs out, the index is as it was.
 pub(crate) fn index_transaction(
     coins: &mut BTreeMap<OutPoint, IndexedCoin>,
     ids: &mut BTreeSet<[u8; 32]>,

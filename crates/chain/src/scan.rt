@@ -123,7 +123,7 @@ fn find_in_transactions<'a>(transactions: &'a [Confirmed], outpoint: &OutPoint) 
     None
 }
 
-/// The first output that was granted at an outpoint, where so many grants came before.
+/// The first output that was granted at an outpoint, where this number of grants came before.
 fn find_in_grants<'a>(granted: &'a [TxOut], before: u64, outpoint: &OutPoint) -> Option<&'a TxOut>
     ensures { (height g : ℕ) → before ≡ g % 2 ^ 64 → at_height height result ≡ found_in outpoint.now
         (granted_at height g (reverse granted.now)) }

@@ -140,7 +140,7 @@ fn push_transactions<S: Store>(
     Ok(())
 }
 
-/// Adds the values of granted outputs that no input names, where so many grants came before.
+/// Adds the values of granted outputs that no input names, where this number of grants came before.
 fn push_grants<S: Store>(
     store: &S,
     granted: &[TxOut],

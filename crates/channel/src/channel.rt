@@ -224,8 +224,8 @@ impl Channel {
         self.secrets.get(FIRST_INDEX - number)
     }
 
-    /// The side's signer, whose funding and HTLC base keys stand in the terms. It knows its own points up to that of its newest commitment's next, and each point
-    /// and each secret of the peer that came, so that it may sign for what the peer's revoked commitments pay.
+    /// The side's signer, whose funding and HTLC base keys stand in the terms. It knows its own points up to that of its newest commitment's next. It knows each
+    /// point and each secret of the peer that came, so that it may sign for what the peer's revoked commitments pay.
     pub fn signer(&self) -> &Signer
         ensures seed { result.now.seed ≡ self.now.seed }
         ensures bases { HasBases self.now.held.terms self.now.held.side self.now.seed }
@@ -543,7 +543,7 @@ impl Channel {
     /// own, a `commitment_signed` for NotYourTurn, NoUpdates and BadSignature, a `revoke_and_ack` for NotYourTurn and WrongSecret, in these orders. A refusal
     /// leaves the channel as it was.
     ///
-    /// The channel has moved on by the time this returns: a caller has to store what it received, where a restart finds it, before it sends the answer, since a
+    /// The channel has moved on by the time this returns. Before a caller sends the answer, it has to store what it received, where a restart finds it: a
     /// `revoke_and_ack` gives up the commitment before and can't be taken back (BOLT 2, "Message Retransmission"). What the tests leave open is for the caller to
     /// screen beforehand: whether a received feerate is one that it would pay or that still confirms, and whether the sender keeps a reserve.
     pub fn receive(&mut self, message: &Message) -> Result<Option<Message>, ChannelError>

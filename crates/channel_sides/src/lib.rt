@@ -73,8 +73,8 @@ fn open_side(
     Ok(opened)
 }
 
-/// The sides of a new channel of so many satoshis, of which A and B have so many millisatoshis at the start, in this order. A opened it, and its terms are else
-/// those of a channel of Bitcoin: dust limits of 546 satoshis, delays of 144 blocks, HTLCs of at least 1,000 millisatoshis and 1,000 satoshis for 1,000 units
+/// The sides of a new channel that A opened, by its capacity in satoshis and the millisatoshis that A and B have at the start. Its other terms are those of a
+/// channel of Bitcoin: dust limits of 546 satoshis, delays of 144 blocks, HTLCs of at least 1,000 millisatoshis and 1,000 satoshis for 1,000 units
 /// of weight.
 pub fn open_sides(alloc: Global, capacity: u64, starts: [u64; 2]) -> Result<Sides>
     ensures { IfOk result (λ s. AreOpened s.a s.b) }

@@ -36,7 +36,7 @@ pub fn satoshis(amount: u64) -> u64
     amount / MSAT_PER_SAT
 }
 
-/// What a commitment with so many untrimmed HTLCs costs at a feerate in satoshis for 1,000 units of weight: satoshis, rounded down (BOLT 3, "Fee
+/// What a commitment with this number of untrimmed HTLCs costs at a feerate in satoshis for 1,000 units of weight: satoshis, rounded down (BOLT 3, "Fee
 /// Calculation for Commitment Transactions").
 pub fn commitment_fee(htlcs: usize, feerate: u32) -> u128
     ensures { result ≡ fee_of (commitment_weight htlcs) feerate }

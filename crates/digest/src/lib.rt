@@ -50,7 +50,7 @@ pub fn ripemd160(message: &[u8]) -> [u8; 20]
     hasher.finalize()
 }
 
-/// RIPEMD-160 of the message whose pieces, one behind the other, these are (Dobbertin, Bosselaers
+/// RIPEMD-160 of the message whose pieces, one after the other, these are (Dobbertin, Bosselaers
 /// and Preneel). It does not matter where the message is cut.
 pub fn ripemd160_of_pieces(pieces: &[&[u8]]) -> [u8; 20]
     ensures { result ≡ ripemd160_of (concat (map (λ piece. piece.now) pieces.now)) }

@@ -12,7 +12,7 @@ use world::World;
 const MAX_INPUT: usize = 4_194_304;
 
 /// Plays the scenario that the input is, and gives the lines of its events and of the world in which they end. Refused are, in this order, input that can't be read
-/// (`ReadFailed`), input that is too long (`TooLong`), what is no scenario, and what the limits or the two sides don't allow.
+/// (`ReadFailed`), input that is too long (`TooLong`), and what [`Scenario::read`] refuses.
 pub fn play<R: Read>(alloc: Global, input: &mut R) -> Result<String, CommandError> {
     let text = read_all(alloc, input)?;
     let scenario = Scenario::read(alloc, text.as_slice()).map_err(CommandError::Scenario)?;

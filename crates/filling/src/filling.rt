@@ -39,8 +39,8 @@ fn finished(unsigned: Tx, inputs: Inputs, places: Vec<Place>) -> Filled
     Filled::new(tx, List::from_vec(places))
 }
 
-/// Fills 1 to 4,000 claims in one transaction. Of open claims it has version 2, the claims' inputs in their order with their sequences, the
-/// given outputs, at most 4,000, and the greatest height that a claim needs as its lock time. A claim with a fixed transaction stands alone, and its
+/// Fills 1 to 4,000 claims in one transaction. Of open claims it has version 2, the claims' inputs in their order with their sequences, and the
+/// given outputs, at most 4,000. Its lock time is the greatest height that a claim needs. A claim with a fixed transaction stands alone, and its
 /// filling is that transaction with its witness; the outputs are not read then.
 ///
 /// The signer signs for the slots of keys, and the slots of hashes are filled from the preimages. Each input fits its claim, and so runs clean.

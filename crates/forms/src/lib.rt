@@ -1,7 +1,7 @@
 //! The scripts of BOLT 3, checked for all parameters, and the slots with which claims on them are accepted.
 //!
 //! [`patterns`] lists the ways through each script once. With these [`funding`], [`to_local`], [`key_hash`] (the
-//! script behind to_remote), [`offered`] and [`received`] give the script of an output with exactly its ways, in the
+//! script of to_remote), [`offered`] and [`received`] give the script of an output with exactly its ways, in the
 //! text order of their branches. [`accepted_slots`] fills the slots of a [`ClaimKind`], with which `claim::accept`
 //! takes a claim on any output of that kind's form. The only error of these calls is that memory ran out.
 //!

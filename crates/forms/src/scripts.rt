@@ -61,7 +61,7 @@ pub fn to_local(
     instance_of(alloc, &patterns.to_local, &fills)
 }
 
-/// The script behind a program of version 0 and the key's HASH160 (BIP 141), which a commitment's to_remote output has (BOLT 3): the key
+/// The script that a program of version 0 and the key's HASH160 stands for (BIP 141). A commitment's to_remote output has it (BOLT 3): the key
 /// and its signature. It has one path. The only error is that memory ran out.
 pub fn key_hash(alloc: Global, patterns: &Patterns, key: &Key) -> Result<Checked, AllocError>
     ensures { IfOk result (λ c. c ≡ key_hash_form (hash160_of key.now.bytes)) }

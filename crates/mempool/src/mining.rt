@@ -81,7 +81,7 @@ fn mine_one(alloc: Global, chain: &mut Index, waiting: Vec<Tx>) -> Result<Mined,
     })
 }
 
-// So many more blocks. Where memory ran out, the chain has some of them.
+// `count` more blocks. Where memory ran out, the chain has some of them.
 #[tactic(auto, using(crate::proofs::Blocks::not_grown, crate::proofs::Blocks::grown_on))]
 fn mine_all(alloc: Global, chain: &mut Index, pool: &[Tx], count: u64) -> Result<Mined, AllocError>
     ensures ok { IfOk result (λ m. AreNewBlocks count chain.old pool.now chain.new m.waiting.items
@@ -98,7 +98,7 @@ fn mine_all(alloc: Global, chain: &mut Index, pool: &[Tx], count: u64) -> Result
     Ok(Mined { waiting, txs })
 }
 
-/// Makes so many blocks. Each takes, in the order of the pool, what the chain allows; what is NotFinal, TooYoung or Unknown waits for the next one, and the rest is
+/// Makes `count` blocks. Each takes, in the order of the pool, what the chain allows; what is NotFinal, TooYoung or Unknown waits for the next one, and the rest is
 /// dropped. The only error is that memory ran out, which leaves the chain as it was.
 pub fn mine(alloc: Global, chain: &mut Index, pool: &[Tx], count: u64) -> Result<Mined, AllocError>
     ensures ok { IfOk result (λ m. AreNewBlocks count chain.old pool.now chain.new m.waiting.items

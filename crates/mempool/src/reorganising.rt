@@ -130,8 +130,8 @@ fn one_more(depth: u64, blocks: &[Block]) -> u64
     depth + 1
 }
 
-/// So many of the newest blocks of a copy of the chain give way to one more: the last of their transactions are forgotten, the others wait before those of the pool, and
-/// each filling that was ever released and is on neither waits behind them. The new blocks then take what the chain allows, as those of [`mine`](crate::mine()) do. TooDeep
+/// The newest blocks of a copy of the chain give way to one more. The last of their transactions are forgotten, the others wait before those of the pool, and each filling
+/// that was ever released and is on neither waits after them. The new blocks then take what the chain allows, as those of [`mine`](crate::mine()) do. TooDeep
 /// where there are no blocks to take off or they can't be, NoSuchTx where fewer transactions stand in them than are to be forgotten.
 pub fn reorganise(
     alloc: Global,

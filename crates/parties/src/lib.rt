@@ -60,7 +60,7 @@ pub fn one_key(key: Key) -> BaseKeys
     }
 }
 
-/// A side with these base keys, which begins with so many millisatoshis: a dust limit of 546 satoshis, a delay of 144 blocks, HTLCs of at least 1,000
+/// A side with these base keys, and the millisatoshis that it begins with. It has a dust limit of 546 satoshis, a delay of 144 blocks, and HTLCs of at least 1,000
 /// millisatoshis.
 pub fn party_with(bases: BaseKeys, start: u64) -> Party
     ensures { result ≡ record {
@@ -80,14 +80,14 @@ pub fn party_with(bases: BaseKeys, start: u64) -> Party
     }
 }
 
-/// A side with its signer's base keys, which begins with so many millisatoshis.
+/// A side with its signer's base keys, and the millisatoshis that it begins with.
 pub fn party(signer: &Signer, start: u64) -> Party
     ensures { IsSeedOf signer.now.seed result.bases }
 {
     party_with(BaseKeys::of(signer), start)
 }
 
-/// The terms of a channel of so many satoshis that A opened, at 1,000 satoshis for 1,000 units of weight.
+/// The terms of a channel that A opened, by its capacity in satoshis, at 1,000 satoshis for 1,000 units of weight.
 pub fn terms_of(funding: OutPoint, capacity: u64, a: Party, b: Party) -> Result<Terms, TermsError>
     ensures a { IfOk result (λ t. t.a ≡ a) }
     ensures b { IfOk result (λ t. t.b ≡ b) }

@@ -160,9 +160,9 @@ fn revoked_claims(alloc: Global, state: &RevokedState) -> Result<List<Claim>, Al
     claims_of(alloc, &commitment)
 }
 
-/// All that a revoked state lets the owner's peer claim (BOLT 5, "Revoked Transaction Close Handling"): accepted claims on to_local and to_remote where they are
-/// outputs, on each HTLC that isn't trimmed, and on the output of the HTLC transaction that the peer signed for it, HTLC-timeout where the owner offered the
-/// HTLC and HTLC-success where it was offered to the owner. They stand by output, each HTLC's followed by that of its HTLC transaction. The only
+/// All that a revoked state lets the owner's peer claim (BOLT 5, "Revoked Transaction Close Handling"). These are accepted claims on to_local and to_remote where they
+/// are outputs, on each HTLC that isn't trimmed, and on the output of the HTLC transaction that the peer signed for it. That is HTLC-timeout where the owner offered
+/// the HTLC, and HTLC-success where it was offered to the owner. They stand by output, each HTLC's followed by that of its HTLC transaction. The only
 /// error is that memory ran out.
 pub fn penalties(alloc: Global, state: &RevokedState) -> Result<PenaltySet, AllocError>
     ensures state { IfOk result (λ p. p.state ≡ state.now) }

@@ -16,8 +16,8 @@ pub fn peer_can_fill()
     ensures { PeerCanFill }
 {}
 
-/// What a revoked commitment lets the owner's peer claim is worth the capacity, the peer's own to_remote among it. Of the outputs of the commitment it is
-/// with the fee that the opener paid, at most its balance, with what was left out as dust, and with what was rounded off. Where HTLC transactions stand, their
+/// What a revoked commitment lets the owner's peer claim is worth the capacity, the peer's own to_remote among it. To the outputs of the commitment are added the fee
+/// that the opener paid, at most its balance, what was left out as dust, and what was rounded off. Where HTLC transactions stand, their
 /// outputs take the place of the HTLCs' outputs, and the fees of these transactions are added.
 pub fn claims_are_worth_the_capacity()
     ensures first { FirstStageIsWorthTheCapacity }

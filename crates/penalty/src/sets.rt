@@ -58,7 +58,7 @@ impl PenaltySet {
         &self.state
     }
 
-    /// The claims: by output of the commitment, and behind each HTLC's the one on the output of its HTLC transaction.
+    /// The claims: by output of the commitment, and after each HTLC's the one on the output of its HTLC transaction.
     pub fn claims(&self) -> &[Claim]
         ensures value { result.now ≡ self.now.claims }
         ensures full { AreClaimsOn (claimable_of self.now.state) self.now.claims }

@@ -45,8 +45,8 @@ pub fn signed_commitment_in(
 
 /// The HTLC transaction of the `k`-th HTLC that isn't trimmed, in the order of outputs, from 0, of one's own commitment of a number, with both signatures (BOLT 3,
 /// "HTLC-Timeout and HTLC-Success Transactions"), by what is known of the channel. It is HTLC-timeout where the commitment's owner offered the HTLC, and else HTLC-success with the
-/// first of these preimages that has its hash. `None` exactly where no own commitment of that number is known, or it has no such HTLC, or none of the preimages is that of an
-/// HTLC that was offered to its owner, or the signer may not sign for the owner's HTLC key. The only error is that memory ran out.
+/// first of these preimages that has its hash. `None` exactly where no own commitment of that number is known, it has no such HTLC, the HTLC was offered to its owner and none of
+/// the preimages is its own, or the signer may not sign for the owner's HTLC key. The only error is that memory ran out.
 pub fn signed_htlc_tx_in(
     alloc: Global,
     known: &Known,

@@ -229,7 +229,7 @@ fn due_by(
 /// on its output. `Theirs` and `TheirsNext`: the key hash claim on to_remote, the direct timeout of each HTLC that one offered oneself, and the direct preimage
 /// claim of each other one whose preimage is known. `Revoked(n)`: the penalty set of n. `Unknown`: none.
 ///
-/// The two claims that `accept` refuses are not due, nor is the delayed claim behind one: a timeout where the revocation key's HASH160 is that of the empty
+/// The two claims that `accept` refuses are not due, nor is the delayed claim after one: a timeout where the revocation key's HASH160 is that of the empty
 /// item, and a preimage where it is the RIPEMD-160 of the payment hash. The only error is that memory ran out.
 pub fn due_claims(alloc: Global, known: &Known, verdict: Verdict) -> Result<Vec<Claim>, AllocError>
     ensures { IfOk result (λ v. AreClaimsOn (due_of known.now verdict) v.items) }

@@ -67,7 +67,7 @@ impl From<AllocError> for KnownError {
     }
 }
 
-/// Why a revoked commitment isn't put behind those before it. It is tested for its number first.
+/// Why a revoked commitment isn't appended to those before it. Its number is checked first.
 #[derive(Clone, Copy, Debug, PartialEq, Eq, Drop, Error)]
 pub enum RevokedError {
     /// Memory ran out.

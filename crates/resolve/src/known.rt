@@ -127,8 +127,8 @@ impl SignedCommitment {
     ghost use Rattle.std.specs.Prelude.{◌≡◌, IfOk, IfErr};
     ghost use Rattle.resolve.specs.Known.{HasTokens, IsTokenRefusal};
 
-    /// The owner's commitment with tokens: BadSignature where the token on it is not that of the funding key of the owner's peer over the commitment's digest,
-    /// or those on the HTLC transactions are not the tokens of the commitment's `remote_htlcpubkey`, in the order of outputs; NoMemory where that can't be told.
+    /// The owner's commitment with tokens. BadSignature where the token on it is not that of the funding key of the owner's peer over the commitment's digest.
+    /// BadSignature too where those on the HTLC transactions are not the tokens of the commitment's `remote_htlcpubkey`, in the order of outputs. NoMemory where that can't be told.
     pub fn new(
         alloc: Global,
         terms: &Terms,

@@ -20,8 +20,8 @@ fn shown_by(items: &[ByteString]) -> Option<&[u8]>
     }
 }
 
-/// The preimage that an input of a transaction shows where it spends an HTLC: the item before the last of a witness of three items, as a direct claim on
-/// the peer's commitment has, or of five, as an HTLC-success transaction has, where it has 32 bytes (BOLT 5, "HTLC Output Handling"). `None` where there is no
+/// The preimage that an input of a transaction shows where it spends an HTLC (BOLT 5, "HTLC Output Handling"). It is the item before the last, where it has 32
+/// bytes, of a witness of three items, as a direct claim on the peer's commitment has, or of five, as an HTLC-success transaction has. `None` where there is no
 /// such item, and where the transaction has no input at the index. It takes no memory.
 pub fn preimage_in(tx: &Tx, index: usize) -> Option<[u8; 32]>
     ensures { result ≡ preimage_shown tx.now index }

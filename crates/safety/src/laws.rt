@@ -31,9 +31,9 @@ pub fn who_satisfies_an_htlc()
     ensures received { ReceivedSatisfied }
 {}
 
-/// Whatever input runs clean on an output that a revoked state lets the owner's peer claim has a token of one of the peer's keys over its own digest, a key that
-/// the output's script names; or, on the form of to_local alone, a token of the delayed key and a relative lock of at least the delay; or it shows other bytes with
-/// the hash of the script, or with that of one of the peer's keys. The delay is below 2^16.
+/// Whatever input runs clean on an output that a revoked state lets the owner's peer claim is of one of three kinds. It has a token of one of the peer's keys over
+/// its own digest, a key that the output's script names. Or, on the form of to_local alone, it has a token of the delayed key and a relative lock of at least the
+/// delay. Or it shows other bytes with the hash of the script, or with that of one of the peer's keys. The delay is below 2^16.
 pub fn who_can_spend()
     ensures { WhoCanSpend }
 {}
@@ -71,7 +71,7 @@ pub fn only_the_peer_signs()
     ensures { OnlyPeerSigns }
 {}
 
-/// Each input on a chain that passed its tests names a coin of that chain, and passed the test of it, in a block of that height and before the coin was spent.
+/// Each input on a chain that passed its tests names a coin of that chain. It passed the test of that coin, in a block of that height and before the coin was spent.
 pub fn inputs_have_passed()
     ensures { HavePassed }
 {}

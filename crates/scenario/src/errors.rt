@@ -11,7 +11,7 @@ pub enum ScenarioError {
     /// Memory ran out.
     #[error("NoMemory")]
     NoMemory,
-    /// The bytes are no JSON text.
+    /// Invalid JSON.
     #[error("NotJson")]
     NotJson,
     /// The value is no scenario.

@@ -87,8 +87,8 @@ impl Scenario {
         })
     }
 
-    /// The scenario that bytes are. Refused are, in this order, bytes that are no JSON text (`NotJson`), a value that is no scenario (`BadShape`), more channels,
-    /// events, or blocks in one event than the limits allow (`OverLimit`), and the first channel on whose terms the two sides can't agree (`BadTerms`).
+    /// Reads a scenario. Refused are, in this order, invalid JSON (`NotJson`), a value that is no scenario (`BadShape`), more channels, events, or blocks
+    /// in one event than the limits allow (`OverLimit`), and the first channel on whose terms the two sides can't agree (`BadTerms`).
     #[tactic(auto, unfolding(crate::specs::Reading::scenario_in))]
     pub fn read(alloc: Global, bytes: &[u8]) -> Result<Scenario, ScenarioError>
         ensures { Reads plain_of result (scenario_in bytes.now) }

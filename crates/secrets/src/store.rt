@@ -62,9 +62,9 @@ impl Store {
 
     /// Inserts the secret of index `i`.
     ///
-    /// It is refused, and the store stays as it was: `OutOfTurn` where `i` is not the next index (they are counted
-    /// down from 2^48 - 1, and 0 is the last one), else `NotOfThisSeed` where a stored secret whose index begins with
-    /// the bits of `i` above its trailing zeros is not derived from this one.
+    /// A refusal leaves the store as it was. `OutOfTurn` where `i` is not the next index: they are counted down from
+    /// 2^48 - 1, and 0 is the last one. Else `NotOfThisSeed` where a stored secret whose index begins with the bits of
+    /// `i` above its trailing zeros is not derived from this one.
     pub fn insert(&mut self, i: u64, secret: &[u8; 32]) -> Result<(), StoreError>
         ensures ok { IsOk result ↔ (IsNext self.old i × LeadsTo secret.now i self.old) }
         ensures out_of_turn { IsErrOf result StoreError.OutOfTurn ↔ (¬ IsNext self.old i) }

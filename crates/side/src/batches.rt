@@ -143,8 +143,8 @@ fn payment_of(alloc: Global, payment: &Key, value: u64) -> Result<TxOut, AllocEr
     }
 }
 
-/// The batch of claims that are worth this value: it pays the whole of it to the hash of the payment key (a claim with a fixed transaction keeps that one's output), and has the preimages that the claims
-/// want, each once. The only error is that memory ran out.
+/// The batch of claims that are worth this value. It pays the whole of it to the hash of the payment key; a claim with a fixed transaction keeps that one's output. It has the preimages that the
+/// claims want, each once. The only error is that memory ran out.
 pub fn batch_of(
     alloc: Global,
     payment: &Key,

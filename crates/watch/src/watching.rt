@@ -118,8 +118,8 @@ impl Watch {
         !self.spends.is_empty() || some_spends(funding, block.transactions())
     }
 
-    /// Reads the block at a height, above the blocks that it read before. It gives, for each transaction read so far that spends the funding output, in
-    /// order, the claims that are due by its verdict and that it hasn't given yet, told apart by outpoint and path; and the preimages that inputs of this
+    /// Reads the block at a height, above the blocks that it read before. For each transaction read so far that spends the funding output, in order, it gives
+    /// the claims that are due by its verdict and that it hasn't given yet, told apart by outpoint and path. It also gives the preimages that inputs of this
     /// block show where they spend HTLCs of the known commitments among those transactions. What is known may be another value at each call.
     ///
     /// The only error is that memory ran out, which leaves the watch as it was.

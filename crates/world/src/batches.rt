@@ -74,7 +74,7 @@ fn release_by(alloc: Global, me: &Node, jobs: &[&DueClaim]) -> Result<Release, E
     }
 }
 
-/// The call by which a side releases so many of the oldest claims that it took: NoJob, MixedChannels, OverValue.
+/// The call by which a side releases the oldest claims that it took, `count` of them: NoJob, MixedChannels, OverValue.
 pub(crate) fn release_of(alloc: Global, me: &Node, count: u64) -> Result<Release, EventError>
     ensures ready { IfOk result (λ r. IsReady (take count me.now.taken) me.now r.channel r.batch) }
     ensures filled { IfOk result (λ r. r.tx ≡ (filling_by r.batch).tx) }

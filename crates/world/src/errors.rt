@@ -28,7 +28,7 @@ pub enum EventError {
     /// The side has no such transaction, or fewer transactions stand in the blocks that are taken off than are to be forgotten.
     #[error("NoSuchTx")]
     NoSuchTx,
-    /// The side has no so many jobs, or took no so many claims; or a release is of none, or of more than 4,000.
+    /// The side has fewer jobs than requested, or took fewer claims; or a release is of none, or of more than 4,000.
     #[error("NoJob")]
     NoJob,
     /// The claims of a release are not all of one channel.

@@ -9,9 +9,9 @@ use book::laws::{accepted_is_called, signing_is_guarded};
 use channel::laws::peers_agree;
 use claim::laws::accepted_claims_spend;
 
-/// The first half of the Enforcement theorem: at any moment of any chain, whatever fits an accepted claim passes the chain's test of that input and runs clean, once the
-/// output that it spends is unspent, with the value and program of the claim's place, and its lock time and age are reached. They are reached exactly where the
-/// block is above the transaction's lock time, and above the output's block by the claim's age.
+/// The first half of the Enforcement theorem, at any moment of any chain: whatever fits an accepted claim passes the chain's test of that input and runs clean. The
+/// premises are that the output that it spends is unspent, with the value and program of the claim's place, and that its lock time and age are reached. They are reached
+/// exactly where the block is above the transaction's lock time, and above the output's block by the claim's age.
 pub fn claims_spend()
     ensures spends { ClaimsSpend }
     ensures locks { LocksAreHeights }
@@ -20,8 +20,8 @@ pub fn claims_spend()
     accepted_claims_spend();
 }
 
-/// The books of the two sides agree: where each channel of the one and the same channel of the other are what steps of two honest peers leave of a new channel, with the
-/// messages on their way, the oldest message on its way to either is taken. So no delivery is refused for its signature.
+/// The books of the two sides agree. Let each channel of the one and the same channel of the other be what steps of two honest peers leave of a new channel, with the
+/// messages on their way. Then the oldest message on its way to either is taken. So no delivery is refused for its signature.
 pub fn deliveries_are_taken()
     ensures { DeliveriesAreTaken }
 {
@@ -33,8 +33,8 @@ pub fn steps_keep()
     ensures { StepsKeep }
 {}
 
-/// The Enforcement theorem at a moment: in any world that events lead to, each call in both books was accepted, no signature stands after a revocation without the penalties kept
-/// between them, every claim that a side has is an accepted one, whatever fits an accepted claim passes and runs clean once it is due, and no delivery is refused for its message.
+/// The Enforcement theorem at a moment, in any world that events lead to. Each call in both books was accepted. No signature stands after a revocation without the penalties kept
+/// between them. Every claim that a side has is an accepted one. Whatever fits an accepted claim passes and runs clean once it is due. No delivery is refused for its message.
 pub fn worlds_hold()
     ensures { WorldsHold }
 {
@@ -45,7 +45,7 @@ pub fn worlds_hold()
     deliveries_are_taken();
 }
 
-/// What both sides open is one channel: its commitments spend its funding output, the two books' channels are the two ends of it with nothing on its way, and neither book refuses its
+/// What both sides open is one channel. Its commitments spend its funding output, and the two books' channels are the two ends of it with nothing on its way. Neither book refuses its
 /// opening where the channels before it stand on the first grants of a chain.
 pub fn openings_agree()
     ensures spent { FundingsAreSpent }

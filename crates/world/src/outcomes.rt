@@ -10,7 +10,7 @@ pub enum Outcome {
     Done,
     /// So many claims became jobs.
     Looked { claims: u64 },
-    /// The chain stands at this height, and the new blocks have so many transactions.
+    /// The chain stands at this height, and this is the number of transactions in the new blocks.
     Mined { height: u64, txs: u64 },
     /// Nothing changed.
     Refused(EventError),

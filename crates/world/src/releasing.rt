@@ -33,7 +33,7 @@ fn move_oldest(from: &mut VecDeque<DueClaim>, to: &mut VecDeque<DueClaim>, count
     }
 }
 
-/// A side takes so many jobs, the oldest first: NoJob where there are fewer. A refusal leaves the side as it was.
+/// A side takes `count` jobs, the oldest first: NoJob where there are fewer. A refusal leaves the side as it was.
 pub(crate) fn take(me: &mut Node, count: u64) -> Result<(), EventError>
     ensures { IsEvent (take_refusal count me.old) result me.old (with_taken count me.old) me.new }
 {
@@ -108,8 +108,8 @@ pub(crate) struct Released {
     pub(crate) copy: Tx,
 }
 
-/// A side fills so many of the oldest claims that it took, in one transaction that pays their whole value to the hash of its payment key in their channel (an HTLC transaction, which stands alone, keeps
-/// its own output): NoJob, MixedChannels, OverValue, else the refusal of the book. A refusal leaves the side as it was.
+/// A side fills the oldest claims that it took, `count` of them, in one transaction that pays their whole value to the hash of its payment key in their channel. An HTLC transaction, which stands
+/// alone, keeps its own output. Refused are NoJob, MixedChannels, OverValue, else what the book refuses. A refusal leaves the side as it was.
 pub(crate) fn release(alloc: Global, me: &mut Node, count: u64) -> Result<Released, EventError>
     ensures { let first = release_refusal count me.old in
         MatchResult result

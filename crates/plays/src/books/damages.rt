@@ -3,7 +3,7 @@
 use anyhow::{Context, Result};
 use std::alloc::Global;
 
-/// Where a value stands in a dump: behind the first call of this name, behind these words, up to this end.
+/// Where a value stands in a dump: after the first call of this name, after these words, up to this end.
 #[derive(Clone, Copy, Debug, Drop)]
 pub struct Spot {
     pub call: &'static str,

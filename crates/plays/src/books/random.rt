@@ -29,7 +29,7 @@ pub struct Tally {
 }
 
 impl Tally {
-    /// Whether there are at least so many of each kind that is played.
+    /// Whether there are at least this number of each kind that is played.
     pub fn has(&self, least: u64) -> bool {
         let fewest = self
             .openings
@@ -153,7 +153,7 @@ fn play_game(
     tally_both(alloc, tally, peers)
 }
 
-/// Plays so many games, each of two empty books, of one or two channels in turn.
+/// Plays this number of games, each of two empty books, of one or two channels in turn.
 pub fn play_games(alloc: Global, peers: &mut Peers, games: u32) -> Result<Tally> {
     let mut tally = Tally::default();
     let mut state = 1;

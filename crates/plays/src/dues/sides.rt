@@ -64,7 +64,7 @@ fn learn_secrets(
     Ok(())
 }
 
-/// A side's signer, which learnt the points of both sides, and the secrets of so many commitments that the peer revoked.
+/// A side's signer, which learnt the points of both sides, and the secrets of this number of commitments that the peer revoked.
 pub fn informed_signer(alloc: Global, side: Side, revoked: u64) -> Result<Signer, AllocError> {
     let mut signer = signer_of(alloc, side)?;
     learn_points(alloc, Side::A, &mut signer)?;

@@ -58,8 +58,8 @@ fn opening_of(
 }
 
 /// How both sides open the channel of this index, whose funding output stands at `outpoint`: on the scenario's terms with the base keys of both sides' signers, each with its peer's points for
-/// commitments 0 and 1 and its peer's token on its own commitment 0. `None`, which takes no memory, where the two sides can't agree on the terms: the capacity is above 21,000,000 bitcoins, or is
-/// not what they begin with. The only error is that memory ran out.
+/// commitments 0 and 1 and its peer's token on its own commitment 0. `None` takes no memory. It is given where the two sides can't agree on the terms: the capacity is above 21,000,000 bitcoins, or
+/// is not what they begin with. The only error is that memory ran out.
 pub fn open_both(
     alloc: Global,
     seeds: &Seeds,
