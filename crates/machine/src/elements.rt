@@ -10,8 +10,8 @@ use lists::{ByteString, Stack};
 use script::{Script, Spend};
 use std::alloc::{AllocError, Global};
 
-/// The elements that stand before the opcode at an index, or at the end, the top first for a contract; `None` where the run stops before. The only error is that
-/// memory ran out.
+/// The elements that stand before the opcode at an index, or at the end; `None` where the run stops before, and for an index above the number of opcodes.
+/// The only error is that memory ran out.
 pub fn elements_at(
     alloc: Global,
     script: &Script,
@@ -30,7 +30,8 @@ pub fn elements_at(
         counted: 0,
         height,
     };
-    for (at, op) in script.ops().iter().enumerate() {
+    let ops = script.ops();
+    for (at, op) in ops.iter().enumerate() {
         if at == index {
             return Ok(Some(machine.stack));
         }
@@ -40,7 +41,7 @@ pub fn elements_at(
             Err(Halt::Stop(_)) => return Ok(None),
         }
     }
-    Ok(if index == script.ops().len() {
+    Ok(if ops.len() == index {
         Some(machine.stack)
     } else {
         None
