@@ -415,7 +415,7 @@ def clauses_of(file, name, kind):
     start, ghost = next((at, ghost) for it, fn, at, ghost in functions(file) if (it, fn) == (kind, name))
     clause = re.compile(r"\s*(?://[^\n]*\s*)*(?:requires|ensures)(?: \w+)? (?=\{)")
     at = closing(text, text.index("(", start))
-    more = re.compile(r"[^{;]*?(?=\n\s*(?:requires|ensures)\b|\s*\{|;)", re.S).match(text, at)
+    more = re.compile(r"(?:\[[^\]]*\]|[^{;])*?(?=\n\s*(?:requires|ensures)\b|\s*\{|;)", re.S).match(text, at)
     signature, at = text[start : more.end()], more.end()
     clauses = []
     while it := clause.match(text, at):
