@@ -14,7 +14,7 @@ the ground up. The names of a line stand as in their file. Equal sources give eq
 
 Lines. A definition is the comment lines directly above it, its signature and its equations; a record or a type is
 all its fields or constructors, with the comments between them. Empty lines, imports, attributes and the comment at
-the head of a file count nothing.
+the head of a file count nothing. A line of more than 100 columns counts as the lines of 100 columns that it fills.
 
 What counts:
 - A word counts where the text of a needed definition has it, outside comments, and no variable or field has the
@@ -36,6 +36,7 @@ import signal
 import sys
 
 TOP = os.path.dirname(os.path.dirname(os.path.abspath(__file__)))
+COLUMNS = 100
 WORD = re.compile(r"[A-Za-z_][A-Za-z0-9_'?]*")
 CHAIN = re.compile(r"(?<![A-Za-z0-9_'?.])[A-Za-z_][A-Za-z0-9_'?]*(?:\.[A-Za-z_][A-Za-z0-9_'?]*)*")
 HEAD = re.compile(r"(?:abbrev|unfoldable|record|data|pub)\b(?!\s+mod\b)")
@@ -63,7 +64,8 @@ def imports_of(text):
 
 
 def lines_in(lines):
-    return sum(1 for line in lines if line.strip() and not line.lstrip().startswith("#["))
+    """How many lines there are, none of them longer than 100 columns."""
+    return sum(-(-len(line.rstrip()) // COLUMNS) for line in lines if line.strip() and not line.lstrip().startswith("#["))
 
 
 def bare(text):
@@ -415,7 +417,7 @@ def clauses_of(file, name, kind):
     start, ghost = next((at, ghost) for it, fn, at, ghost in functions(file) if (it, fn) == (kind, name))
     clause = re.compile(r"\s*(?://[^\n]*\s*)*(?:requires|ensures)(?: \w+)? (?=\{)")
     at = closing(text, text.index("(", start))
-    more = re.compile(r"[^{;]*?(?=\n\s*(?:requires|ensures)\b|\s*\{|;)", re.S).match(text, at)
+    more = re.compile(r"(?:\[[^\]]*\]|[^{;])*?(?=\n\s*(?:requires|ensures)\b|\s*\{|;)", re.S).match(text, at)
     signature, at = text[start : more.end()], more.end()
     clauses = []
     while it := clause.match(text, at):

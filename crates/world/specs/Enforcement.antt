@@ -1,5 +1,5 @@
--- The first half of the Enforcement theorem: claims on a chain. A stranger reads this file first. (The other half, that a book signs nothing after a revocation before its penalties are
--- kept, is `GuardedMeans` of `book/specs/Guarding.antt`.)
+-- Claims on a chain, which `Theorem.antt` says at each moment of every run: what 'due' and 'passes' mean. (That a book signs nothing after a revocation before its penalties are kept is
+-- `GuardedMeans` of `book/specs/Guarding.antt`.)
 --
 -- Every filling of an accepted claim, once its output is unspent and its height and age are reached, runs to one true value with no missing operand, failed check or open
 -- branch, within 201 counted opcodes and 1,000 entries; and the chain's test of that input finds nothing against it.

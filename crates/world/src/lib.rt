@@ -2,10 +2,10 @@
 //!
 //! [`World::new`] grants the funding outputs of channels and opens them in both sides' books, and [`World::play`]
 //! plays events: offers, fulfils, fails, fees, signatures, deliveries, kept penalties, broadcasts, blocks, looks,
-//! takes, releases and reorganisations. What `play` ensures is the theorem (`specs/Theorem.antt`, which a stranger
-//! reads first): it is a run of the relation `WorldSteps`, one case for each event, and at each moment of it both
-//! books are guarded, each claim that a side has is an accepted one, whatever fits an accepted claim passes and runs
-//! clean once it is due, and the oldest message on its way to a side is taken.
+//! takes, releases and reorganisations. What `play` ensures is the theorem of `specs/Theorem.antt`. It is a run of the
+//! relation `WorldSteps`, one case for each event. At each moment of it both books are guarded, each claim that a side
+//! has is an accepted one, whatever fits an accepted claim passes and runs clean once it is due, and the oldest message
+//! on its way to a side is taken.
 //!
 //! The walks of a message and of a block meet here. `side` reads blocks, makes batches and penalty sets, and turns
 //! messages into calls of each side's `book`; `scenario` has the events, `publish` the broadcasts, and `mempool`
