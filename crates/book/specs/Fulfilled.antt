@@ -43,7 +43,7 @@ preimages_replayed [] = []
 preimages_replayed (e ∷ es) = preimages_after e.call (preimages_replayed es)
 
 -- those after a history, which has the oldest entry first
-unfoldable pub preimages_of : List Entry → Preimages
+abbrev pub preimages_of : List Entry → Preimages
 preimages_of history = preimages_replayed (reverse history)
 
 -- beside a history stand the channels that it leaves, and the preimages of each channel's fulfils

@@ -46,7 +46,7 @@ impl Fulfils {
     }
 
     /// One channel more, of which nothing came.
-    pub(crate) fn open(&mut self, alloc: Global)
+    pub(crate) fn add_channel(&mut self, alloc: Global)
         requires { HasRoom self.old }
         ensures { kept_by self.new ≡ kept_by self.old ++ [] ∷ [] }
     {
@@ -54,7 +54,7 @@ impl Fulfils {
     }
 
     /// Makes room for one preimage more of a channel. The only error is that memory ran out.
-    pub(crate) fn reserve(&mut self, channel: usize) -> Result<(), AllocError>
+    pub(crate) fn reserve_preimage(&mut self, channel: usize) -> Result<(), AllocError>
         requires { channel < length (kept_by self.old) }
         ensures same { kept_by self.new ≡ kept_by self.old }
         ensures room { OnOk result (HasRoomAt channel self.new) }
@@ -63,7 +63,7 @@ impl Fulfils {
     }
 
     /// Keeps the preimage of a step that a channel took, if it is a fulfil.
-    pub(crate) fn take(&mut self, channel: usize, step: &Step)
+    pub(crate) fn add_preimage(&mut self, channel: usize, step: &Step)
         requires within { channel < length (kept_by self.old) }
         requires room { HasRoomAt channel self.old }
         ensures { kept_by self.new ≡ at_index

@@ -144,7 +144,7 @@ impl Book {
                 return Err(OpenError::NoMemory);
             }
         }
-        self.fulfils.open(self.alloc);
+        self.fulfils.add_channel(self.alloc);
         let call = Call::Open(opening);
         self.entries.push(Entry { seat, call }).unwrap();
         Ok(index)
@@ -169,7 +169,7 @@ impl Book {
             Ok(()) => {}
             Err(_) => return Err(StepError::Refused(ChannelError::NoMemory)),
         }
-        match self.fulfils.reserve(index) {
+        match self.fulfils.reserve_preimage(index) {
             Ok(()) => {}
             Err(_) => return Err(StepError::Refused(ChannelError::NoMemory)),
         }
@@ -179,7 +179,7 @@ impl Book {
             Err(refusal) => return Err(StepError::Refused(refusal)),
         };
         let Taken { step, message } = taken;
-        self.fulfils.take(index, &step);
+        self.fulfils.add_preimage(index, &step);
         let call = Call::Step { channel, step };
         self.entries.push(Entry { seat, call }).unwrap();
         Ok(message)
