@@ -125,7 +125,7 @@ many (e ∷ es) = many_after e.call (preimages_replayed es) (replayed es) (many 
 taken_within : (tokens_of : Signing) (chs : Channels) (d : ℕ) (step : Step) → is_accepted (answer_of tokens_of chs (Stepping d step)) ≡ true → d < length chs
 taken_within tokens_of chs d step ok =
     let there = asked_ok NoChannelToStep (slice_get chs d) (λ ch. unless Refused (step_refusal tokens_of ch.state step) (messages_of ch.state step)) ok in
-    slice_get_within chs d there.0 there.1.0
+    slice_get_within chs d there.0 there.1
 
 chosen : (b : Bool) (o : Option (List ℕ)) → (if b then cons_option o [] else []) ≡ cons_option (if b then o else None) []
 chosen true o = refl

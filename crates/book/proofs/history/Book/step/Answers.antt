@@ -1,4 +1,4 @@
-use Rattle.std.proofs.Common.{List, ◌++◌, ap, ◌∙◌, subst, Err, Ok, []}
+use Rattle.std.proofs.Common.{◌<◌, List, ◌++◌, length, ap, sym, ◌∙◌, subst, Err, Ok, [], rules}
 use Rattle.std.specs.List.{cons_option}
 use Rattle.updates.specs.declared.errors.ChannelError.TheVariants.{NoMemory}
 use Rattle.book.specs.declared.calls.Step.{Step}
@@ -49,4 +49,7 @@ returns-in-Err-step c =
     subst (λ (h : List Entry). IsCall (stepped (Err (Refused NoMemory))) (stepped (Err (Refused c.in-Err-step.refusal))) h c.reserve.new.self.items c.args.seat (Stepping c.args.channel c.args.step)) c.self.view_is refused
 
 pub reserve_preimage-requires : goal.reserve_preimage-requires
-reserve_preimage-requires c = ?
+reserve_preimage-requires c =
+    let i = c.self.inside in
+    let within : c.args.channel < length i.channels.entries = search rules in
+    subst (λ n. c.args.channel < n) (sym (for_each i.entries.items i.channels.entries _ c.self.invariant)) within
