@@ -53,3 +53,9 @@ reserve_preimage-requires c =
     let i = c.self.inside in
     let within : c.args.channel < length i.channels.entries = search rules in
     subst (λ n. c.args.channel < n) (sym (for_each i.entries.items i.channels.entries _ c.self.invariant)) within
+
+pub add_preimage-requires-clause-within : goal.add_preimage-requires-clause-within
+add_preimage-requires-clause-within c =
+    let i = c.self.inside in
+    let within : c.args.channel < length i.channels.entries = search rules in
+    subst (λ (ps : Preimages). c.args.channel < length ps) (sym c.reserve_preimage.ensures.same) (subst (λ n. c.args.channel < n) (sym (for_each i.entries.items i.channels.entries _ c.self.invariant)) within)
