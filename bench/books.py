@@ -1,5 +1,6 @@
 #!/usr/bin/env python3
-"""Times a signature and the keeping of penalties behind 100 and behind 10,000 entries of a history, and the load of dumps of several lengths; and loads hostile texts of 4 MiB.
+"""Times a signature and the keeping of penalties behind 100 and behind 10,000 entries of a history, a revoked state behind 20 and behind 2,000 others, what is known of a channel beside the entries of another and by its own
+commitments, and the load of dumps of several lengths; and loads hostile texts of 4 MiB.
 
 Wants the toolchain's `rt`: `.ci/program` proves and builds bench/programs/book_costs in a copy of the repository.
 """
@@ -71,6 +72,22 @@ def time_calls(program):
         print(f"{name}: {of_few / 1e3:.1f} us behind 100 entries, {of_many / 1e3:.1f} us behind 10,000, ratio {of_many / of_few:.2f} (at most 1.2)")
 
 
+def time_revoked(program):
+    (few,), (many,) = fastest(program, "revoked 20\n"), fastest(program, "revoked 2000\n")
+    print(f"revoked: {few / 1e3:.1f} us behind 20 revoked commitments, {many / 1e3:.1f} us behind 2,000, ratio {many / few:.2f} (at most 1.2)")
+
+
+def time_known(program):
+    alone, beside = fastest(program, "known 100 0\n")[0], fastest(program, "known 100 10000\n")[0]
+    print(f"known: {alone / 1e3:.0f} us alone, {beside / 1e3:.0f} us beside 10,000 entries of another channel, ratio {beside / alone:.2f} (at most 1.2)")
+    costs = []
+    for commitments in (20, 200, 2000):
+        known, tokens = fastest(program, f"known {commitments} 0\n")
+        costs.append(known / commitments)
+        print(f"known of {commitments} commitments of each side: {known / 1e6:.2f} ms, {costs[-1] / 1e3:.1f} us for one of each, of which the peer's tokens take {tokens / commitments / 1e3:.1f} us")
+    print(f"one of each of the longest channel to one of the shortest: {costs[-1] / costs[0]:.2f} (at most 1.2)")
+
+
 def load_cost(program, entries):
     """The bytes of the dump of n entries, and the processor seconds of its load: those of the line that loads it five times, less those of the one that loads it once."""
     five = [run(program, f"loads {entries}\n") for _ in range(TURNS)]
@@ -99,6 +116,8 @@ def main():
     built = subprocess.run([os.path.join(TOP, ".ci", "program"), "book_costs"], stdout=subprocess.PIPE, text=True, check=True)
     program = built.stdout.strip()
     time_calls(program)
+    time_revoked(program)
+    time_known(program)
     time_loads(program)
     load_hostile(program)
 
