@@ -2,7 +2,7 @@
 
 use crate::calls::{Batch, Call, Entry, Opening, Step};
 use crate::errors::{KeepError, KnowError, OpenError, ReleaseError, SignError, StepError};
-use crate::knowing::preimages_in;
+use crate::fulfils::Fulfils;
 use crate::limits::MAX_CHANNELS;
 use crate::open_channel::{OpenChannel, Taken};
 use channel::{Channel, Message};
@@ -25,18 +25,19 @@ pub struct Book {
     entries: Vec<Entry>,
     // what the calls of the history leave, each channel by its funding output
     channels: IndexMap<OutPoint, OpenChannel>,
+    fulfils: Fulfils,
 }
 
 impl Model for Book {
     ghost use Rattle.std.specs.Prelude.{List as Values};
     ghost use Rattle.book.specs.declared.calls.Entry.{Entry as HistoryEntry};
-    ghost use Rattle.book.specs.Kept.{AreLeft};
+    ghost use Rattle.book.specs.Fulfilled.{kept_by, AreBeside};
 
     ghost Value = { Values HistoryEntry };
 
     ghost view = { λ b. b.entries.items };
 
-    ghost invariant = { λ b. AreLeft b.entries.items b.channels.entries };
+    ghost invariant = { λ b. AreBeside b.entries.items b.channels.entries (kept_by b.fulfils) };
 }
 
 impl Book {
@@ -50,7 +51,7 @@ impl Book {
     ghost use Rattle.book.specs.Replies.{opened, stepped, signed, revoked, kept, released};
     ghost use Rattle.book.specs.Calling.{IsCall, IsKeepRefusal, step_reply};
     ghost use Rattle.book.specs.Books.{replay, kept_at, fundings_of};
-    ghost use Rattle.book.specs.Knowing.{IsKnownIn, IsKnowRefusal};
+    ghost use Rattle.book.specs.Knowing.{preimages_in, IsKnownIn, IsKnowRefusal};
     ghost use Rattle.book.specs.Revoked.{IsRevokedIn, early_keep_refusal};
 
     /// An empty book, which takes no memory.
@@ -61,6 +62,7 @@ impl Book {
             alloc,
             entries: Vec::new(alloc),
             channels: IndexMap::new(alloc),
+            fulfils: Fulfils::new(alloc),
         }
     }
 
@@ -126,6 +128,10 @@ impl Book {
             Ok(()) => {}
             Err(_) => return Err(OpenError::NoMemory),
         }
+        match self.fulfils.reserve_channel() {
+            Ok(()) => {}
+            Err(_) => return Err(OpenError::NoMemory),
+        }
         let open = match OpenChannel::open(self.alloc, &opening) {
             Ok(open) => open,
             Err(error) => return Err(error),
@@ -138,6 +144,7 @@ impl Book {
                 return Err(OpenError::NoMemory);
             }
         }
+        self.fulfils.add_channel(self.alloc);
         let call = Call::Open(opening);
         self.entries.push(Entry { seat, call }).unwrap();
         Ok(index)
@@ -162,12 +169,17 @@ impl Book {
             Ok(()) => {}
             Err(_) => return Err(StepError::Refused(ChannelError::NoMemory)),
         }
+        match self.fulfils.reserve_preimage(index) {
+            Ok(()) => {}
+            Err(_) => return Err(StepError::Refused(ChannelError::NoMemory)),
+        }
         let open = &mut self.channels[index];
         let taken = match open.step(step) {
             Ok(taken) => taken,
             Err(refusal) => return Err(StepError::Refused(refusal)),
         };
         let Taken { step, message } = taken;
+        self.fulfils.add_preimage(index, &step);
         let call = Call::Step { channel, step };
         self.entries.push(Entry { seat, call }).unwrap();
         Ok(message)
@@ -336,7 +348,15 @@ impl Book {
         self.channels[index].revoked(number)
     }
 
-    /// What the book knows of a channel, with the preimages of its fulfils in the order of the history: NoSuchChannel. It goes over the whole history.
+    /// The preimages of a channel's fulfils, made or received, in the order of the history, each as often as it came; none where there is no such channel.
+    pub fn preimages(&self, channel: u64) -> &[[u8; 32]]
+        ensures { result.now ≡ preimages_in channel self.now }
+    {
+        self.fulfils.of(channel)
+    }
+
+    /// What the book knows of a channel, with the preimages of its fulfils in the order of the history: NoSuchChannel. It takes the time that the channel's own
+    /// commitments and preimages take.
     pub fn known(&self, channel: u64) -> Result<Known, KnowError>
         ensures known { IfOk result (IsKnownIn self.now channel
             (slice_get (replay self.now) channel)) }
@@ -347,7 +367,7 @@ impl Book {
             return Err(KnowError::NoSuchChannel);
         }
         let open = &self.channels[index];
-        let preimages = match preimages_in(self.alloc, channel, &self.entries) {
+        let preimages = match Vec::from_slice(self.alloc, self.fulfils.of(channel)) {
             Ok(preimages) => preimages,
             Err(_) => return Err(KnowError::NoMemory),
         };

@@ -1,16 +1,14 @@
 // What a side knows of its channel.
 
 ghost use Rattle.std.specs.Prelude.{◌≡◌, ◌↔◌, ◌≤◌, ◌<◌, ◌+◌, ◌∷◌, ◌++◌, [], ℕ, List as Values, None, Some, true, false, map, length, slice_get, unwrap_or, IfOk, IfSome, IsSome, OnOk};
-ghost use Rattle.std.specs.List.{cons_option};
 ghost use Rattle.keys.specs.Rights.{MaySign};
 ghost use Rattle.channel.specs.Rights.{rights_of};
 ghost use Rattle.channel.specs.Tokens.{contents_of, peer_tokens};
 ghost use Rattle.penalty.specs.Paying.{refusal_of as view_refusal_of};
 ghost use Rattle.resolve.specs.Known.{refusal_of};
 ghost use Rattle.resolve.specs.Numbered.{is_next};
-ghost use Rattle.book.specs.Knowing.{below, signed_parts, signed_by_peer, own_at, theirs_at, revoked_parts, revoked_by, revoked_at, preimage_in, preimage_of, preimages_in, flag_at, IsKnownOf};
+ghost use Rattle.book.specs.Knowing.{below, signed_parts, signed_by_peer, own_at, theirs_at, revoked_parts, revoked_by, revoked_at, flag_at, IsKnownOf};
 
-use crate::calls::{Call, Entry, Step};
 use channel::{Channel, CommitmentState, Tokens};
 use keys::Signer;
 use lists::List;
@@ -21,7 +19,6 @@ use resolve::{
 };
 use std::alloc::{AllocError, Global};
 use terms::Terms;
-use updates::{OwnUpdate, Update};
 
 // A commitment that a channel recorded.
 fn known_commitment(
@@ -220,61 +217,6 @@ fn revoked_commitments(
         }
     }
     Ok(revoked)
-}
-
-// The preimage of a fulfil, made or received.
-fn preimage_in(step: &Step) -> Option<[u8; 32]>
-    ensures { result ≡ preimage_in step.now }
-{
-    match step {
-        Step::Own(OwnUpdate::Fulfil { preimage, .. }) => Some(*preimage),
-        Step::Updated(Update::Fulfil { preimage, .. }) => Some(*preimage),
-        _ => None,
-    }
-}
-
-// The preimage of a fulfil of this channel.
-fn preimage_of(channel: u64, call: &Call) -> Option<[u8; 32]>
-    ensures { result ≡ preimage_of channel call.now }
-{
-    match call {
-        Call::Step {
-            channel: stepped,
-            step,
-        } => {
-            if *stepped == channel {
-                preimage_in(step)
-            } else {
-                None
-            }
-        }
-        _ => None,
-    }
-}
-
-// Puts one at the end, where there is one.
-fn push_some(preimages: &mut Vec<[u8; 32]>, preimage: Option<[u8; 32]>) -> Result<(), AllocError>
-    ensures { OnOk result (preimages.new.items ≡ preimages.old.items ++ cons_option preimage []) }
-{
-    if let Some(preimage) = preimage {
-        preimages.push(preimage)?;
-    }
-    Ok(())
-}
-
-/// The preimages of a channel's fulfils in these entries, in their order, each as often as it came. The only error is that memory ran out.
-pub fn preimages_in(
-    alloc: Global,
-    channel: u64,
-    entries: &[Entry],
-) -> Result<Vec<[u8; 32]>, AllocError>
-    ensures { IfOk result (λ v. v.items ≡ preimages_in channel entries.now) }
-{
-    let mut preimages = Vec::new(alloc);
-    for entry in entries {
-        push_some(&mut preimages, preimage_of(channel, &entry.call))?;
-    }
-    Ok(preimages)
 }
 
 // What the side knows of its own commitments, with what it may sign with.

@@ -157,6 +157,8 @@ fn knows_preimages(rt: HostRuntime) {
         preimage: Some(PREIMAGE),
     };
     assert!(rt; known_to(&rt, &b) == known);
+    assert_eq!(rt; b.preimages(0).len(), 1);
+    assert!(rt; b.preimages(1).is_empty());
     let not_told = Summary {
         preimages: 0,
         preimage: None,

@@ -6,7 +6,6 @@ ghost use Rattle.world.specs.Publishing.{preimages_known, commitment_in, htlc_tx
 
 use crate::errors::EventError;
 use crate::nodes::Node;
-use book::preimages_in;
 use publish::{signed_commitment, signed_htlc_tx};
 use std::alloc::{AllocError, Global};
 use tx::Tx;
@@ -33,7 +32,7 @@ pub(crate) fn commitment(
 fn preimages_known(alloc: Global, me: &Node, channel: u64) -> Result<Vec<[u8; 32]>, AllocError>
     ensures { IfOk result (λ preimages. preimages.items ≡ preimages_known channel me.now) }
 {
-    let mut preimages = preimages_in(alloc, channel, me.book.entries())?;
+    let mut preimages = Vec::from_slice(alloc, me.book.preimages(channel))?;
     preimages.extend_from_slice(&me.learnt)?;
     Ok(preimages)
 }

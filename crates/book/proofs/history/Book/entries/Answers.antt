@@ -6,4 +6,4 @@ use Rattle.book.proofs.Guarded.{accepted_is_guarded}
 use Rattle.book.proofs.history.Book.entries.Goals as goal
 
 pub returns-clause-guarded : goal.returns-clause-guarded
-returns-clause-guarded c = subst (λ (h : List Entry). is_guarded h ≡ true) c.self.view_is (accepted_is_guarded peer_tokens c.self.inside.entries.items c.self.invariant.accepted)
+returns-clause-guarded c = subst (λ (h : List Entry). is_guarded h ≡ true) c.self.view_is (accepted_is_guarded peer_tokens c.self.inside.entries.items c.self.invariant.left.accepted)

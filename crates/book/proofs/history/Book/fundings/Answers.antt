@@ -9,6 +9,6 @@ use Rattle.book.proofs.history.Book.fundings.Goals as goal
 pub returns : goal.returns
 returns c =
     let i = c.self.inside in
-    let keys = fundings_are i.entries.items i.channels.entries c.self.invariant c.as_slice.result.now (c.as_slice.ensures ∙ c.keys.ensures.rest) in
+    let keys = fundings_are i.entries.items i.channels.entries c.self.invariant.left c.as_slice.result.now (c.as_slice.ensures ∙ c.keys.ensures.rest) in
     let given = subst (λ (os : List OutPoint). IfOk c.from_slice.result (λ v. v.items ≡ os)) keys c.from_slice.ensures.items in
     subst (λ (h : List Entry). IfOk c.from_slice.result (λ v. v.items ≡ fundings_of (replay h))) c.self.view_is given

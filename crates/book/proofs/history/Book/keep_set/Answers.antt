@@ -1,4 +1,4 @@
-use Rattle.std.proofs.Common.{◌≡◌, List, None, Bor, subst, Err, Ok, sym, ap, ◌∙◌}
+use Rattle.std.proofs.Common.{◌≡◌, List, None, Bor, subst, Err, Ok, sym, ap, ◌∙◌, refl}
 use Rattle.std.proofs.lemmas.Option.{same_Some}
 use Rattle.claim.specs.Claims.{ClaimParts}
 use Rattle.penalty.specs.declared.states.RevokedState.{RevokedState}
@@ -10,6 +10,7 @@ use Rattle.book.specs.declared.errors.KeepError.TheVariants.{NoMemory}
 use Rattle.book.specs.Replies.{kept, keep_refusal}
 use Rattle.book.specs.Calling.{IsCall, IsKeepRefusal}
 use Rattle.book.proofs.Fundings.{left_alone}
+use Rattle.book.proofs.Fulfilled.{called, uncalled}
 use Rattle.book.proofs.Refused.{keep_refused}
 use Rattle.book.proofs.Called.{entry, grown, keep_done}
 use Rattle.book.proofs.history.Book.keep_set.Goals as goal
@@ -27,7 +28,8 @@ invariant_of-self-2 c =
     let named = ap (λ (cs : List ClaimParts). entry c.args.seat (Keep c.args.channel c.args.number cs)) (c.from_vec.ensures ∙ c.into_claims.ensures.value) in
     let is = grown c.push.result c.unwrap.result c.push.new.self.items c.reserve.new.self.items i.entries.items _ _ c.unwrap.ensures c.push.ensures.items c.in-Ok.ensures.items named in
     let tested = subst (λ (cs : List ClaimParts). keep_refusal c.index_mut-open.result.now c.args.number cs ≡ None) c.claims.ensures.value c.in-Ok-keep.ensures.tested in
-    (keep_done i.entries.items c.push.new.self.items i.channels.entries c.args.seat c.args.channel c.args.number c.index_mut-open.result.now c.keep.new.self claims (kept (Err NoMemory)) c.self.invariant c.index_mut-open.ensures.value tested c.in-Ok-keep.ensures.ok is).keeps
+    called i.entries.items i.channels.entries _ c.self.invariant _ _ _ _ is refl
+    (keep_done i.entries.items c.push.new.self.items i.channels.entries c.args.seat c.args.channel c.args.number c.index_mut-open.result.now c.keep.new.self claims (kept (Err NoMemory)) c.self.invariant.left c.index_mut-open.ensures.value tested c.in-Ok-keep.ensures.ok is).keeps
 
 pub returns : goal.returns
 returns c =
@@ -36,18 +38,19 @@ returns c =
     let named = ap (λ (cs : List ClaimParts). entry c.args.seat (Keep c.args.channel c.args.number cs)) (c.from_vec.ensures ∙ c.into_claims.ensures.value) in
     let is = grown c.push.result c.unwrap.result c.push.new.self.items c.reserve.new.self.items i.entries.items _ _ c.unwrap.ensures c.push.ensures.items c.in-Ok.ensures.items named in
     let tested = subst (λ (cs : List ClaimParts). keep_refusal c.index_mut-open.result.now c.args.number cs ≡ None) c.claims.ensures.value c.in-Ok-keep.ensures.tested in
-    let done = keep_done i.entries.items c.push.new.self.items i.channels.entries c.args.seat c.args.channel c.args.number c.index_mut-open.result.now c.keep.new.self claims (kept (Err NoMemory)) c.self.invariant c.index_mut-open.ensures.value tested c.in-Ok-keep.ensures.ok is in
+    let done = keep_done i.entries.items c.push.new.self.items i.channels.entries c.args.seat c.args.channel c.args.number c.index_mut-open.result.now c.keep.new.self claims (kept (Err NoMemory)) c.self.invariant.left c.index_mut-open.ensures.value tested c.in-Ok-keep.ensures.ok is in
     subst (λ (h : List Entry). IsCall (kept (Err NoMemory)) (kept (Ok tt)) h c.push.new.self.items c.args.seat (Keep c.args.channel c.args.number claims)) c.self.view_is done.called
 
 pub invariant_of-self-in-Err-keep : goal.invariant_of-self-in-Err-keep
 invariant_of-self-in-Err-keep c =
     let i = c.self.inside in
-    left_alone i.entries.items i.channels.entries c.self.invariant c.reserve.new.self.items c.in-Ok.ensures.items c.args.channel c.index_mut-open.result.now c.keep.new.self c.index_mut-open.ensures.value c.in-Err-keep.ensures.err
+    uncalled i.entries.items i.channels.entries _ c.self.invariant _ _ _ c.in-Ok.ensures.items refl
+    (left_alone i.entries.items i.channels.entries c.self.invariant.left c.reserve.new.self.items c.in-Ok.ensures.items c.args.channel c.index_mut-open.result.now c.keep.new.self c.index_mut-open.ensures.value c.in-Err-keep.ensures.err)
 
 pub returns-in-Err-keep : goal.returns-in-Err-keep
 returns-in-Err-keep c =
     let i = c.self.inside in
     let claims = c.args.set.claims in
     let tested = subst (λ (cs : List ClaimParts). IsKeepRefusal (keep_refusal c.index_mut-open.result.now c.args.number cs) c.in-Err-keep.error) c.claims.ensures.value c.in-Err-keep.ensures.tested in
-    let refused = keep_refused i.entries.items c.reserve.new.self.items i.channels.entries c.self.invariant c.in-Ok.ensures.items c.args.seat c.args.channel c.index_mut-open.result.now c.index_mut-open.ensures.value c.args.number claims c.in-Err-keep.error tested in
+    let refused = keep_refused i.entries.items c.reserve.new.self.items i.channels.entries c.self.invariant.left c.in-Ok.ensures.items c.args.seat c.args.channel c.index_mut-open.result.now c.index_mut-open.ensures.value c.args.number claims c.in-Err-keep.error tested in
     subst (λ (h : List Entry). IsCall (kept (Err NoMemory)) (kept (Err c.in-Err-keep.error)) h c.reserve.new.self.items c.args.seat (Keep c.args.channel c.args.number claims)) c.self.view_is refused

@@ -1,18 +1,19 @@
-use Rattle.std.proofs.Common.{List, Option, refl, sym, ap, ◌∙◌, subst}
+use Rattle.std.proofs.Common.{List, Option, refl, sym, ◌∙◌, subst}
 use Rattle.std.specs.Prelude.{slice_get}
 use Rattle.book.specs.declared.calls.Entry.{Entry}
 use Rattle.book.specs.declared.errors.KnowError.TheVariants.{NoMemory}
 use Rattle.book.specs.Books.{ChannelBook, is_kept, replay}
-use Rattle.book.specs.Knowing.{preimages_in, IsKnownOf, IsKnownIn, IsKnowRefusal}
+use Rattle.book.specs.Knowing.{IsKnownOf, IsKnownIn, IsKnowRefusal}
 use Rattle.book.proofs.Fundings.{stands}
+use Rattle.book.proofs.Fulfilled.{of_channel}
 use Rattle.book.proofs.history.Book.known.Goals as goal
 
 pub returns-in-Ok-known-clause-known : goal.returns-in-Ok-known-clause-known
 returns-in-Ok-known-clause-known c =
     let i = c.self.inside in
     let ch = c.index-open.result.now in
-    let found = stands i.entries.items i.channels.entries c.self.invariant c.args.channel ch c.index-open.ensures in
-    let preimages = c.in-Ok.ensures ∙ ap (preimages_in c.args.channel) c.deref.ensures.value in
+    let found = stands i.entries.items i.channels.entries c.self.invariant.left c.args.channel ch c.index-open.ensures in
+    let preimages = c.in-Ok.ensures.items ∙ c.of.ensures ∙ of_channel i.entries.items i.channels.entries _ c.self.invariant c.args.channel in
     let known = subst (λ ps. IsKnownOf ch.state (is_kept ch.kept) ps c.in-Ok-known.known) preimages c.in-Ok-known.ensures in
     let known_in = subst (λ (o : Option ChannelBook). IsKnownIn i.entries.items c.args.channel o c.in-Ok-known.known) (sym found) known in
     subst (λ (h : List Entry). IsKnownIn h c.args.channel (slice_get (replay h) c.args.channel) c.in-Ok-known.known) c.self.view_is known_in
@@ -20,6 +21,6 @@ returns-in-Ok-known-clause-known c =
 pub returns-in-Err-known-clause-err : goal.returns-in-Err-known-clause-err
 returns-in-Err-known-clause-err c =
     let i = c.self.inside in
-    let found = stands i.entries.items i.channels.entries c.self.invariant c.args.channel c.index-open.result.now c.index-open.ensures in
+    let found = stands i.entries.items i.channels.entries c.self.invariant.left c.args.channel c.index-open.result.now c.index-open.ensures in
     let refused : IsKnowRefusal (slice_get (replay i.entries.items) c.args.channel) NoMemory = subst (λ (o : Option ChannelBook). IsKnowRefusal o NoMemory) (sym found) refl in
     subst (λ (h : List Entry). IsKnowRefusal (slice_get (replay h) c.args.channel) NoMemory) c.self.view_is refused

@@ -7,8 +7,10 @@ use Rattle.book.specs.declared.calls.Entry.{Entry}
 use Rattle.book.specs.declared.errors.OpenError.TheVariants.{NoMemory, SameFunding}
 use Rattle.book.specs.Penalties.{same_outpoint}
 use Rattle.book.specs.Books.{ChannelBook}
+use Rattle.book.specs.Fulfilled.{Preimages}
 use Rattle.book.specs.Replies.{opened}
 use Rattle.book.specs.Calling.{IsCall}
+use Rattle.book.proofs.Fulfilled.{called}
 use Rattle.book.proofs.Called.{grown, no_room, same_funding, no_token, open_done}
 use Rattle.book.proofs.history.Book.open.Goals as goal
 
@@ -17,13 +19,13 @@ returns-then-contains_key c =
     let i = c.self.inside in
     let few : length i.channels.entries < MAX_CHANNELS = search rules in
     subst (λ (h : List Entry). IsCall (opened (Err NoMemory)) (opened (Err SameFunding)) h h c.args.seat (Open c.args.opening)) c.self.view_is
-    (same_funding i.entries.items i.channels.entries c.args.seat c.args.opening (opened (Err NoMemory)) c.self.invariant (no_room MAX_CHANNELS (length i.channels.entries) few) (sym c.contains_key.ensures ∙ c.if-contains_key.true))
+    (same_funding i.entries.items i.channels.entries c.args.seat c.args.opening (opened (Err NoMemory)) c.self.invariant.left (no_room MAX_CHANNELS (length i.channels.entries) few) (sym c.contains_key.ensures ∙ c.if-contains_key.true))
 
 pub returns-in-Err-open : goal.returns-in-Err-open
 returns-in-Err-open c =
     let i = c.self.inside in
     let few : length i.channels.entries < MAX_CHANNELS = search rules in
-    let refused = no_token i.entries.items i.channels.entries c.args.seat c.args.opening c.in-Err-open.error c.self.invariant (no_room MAX_CHANNELS (length i.channels.entries) few) (sym c.contains_key.ensures ∙ c.if-contains_key.false) c.in-Err-open.ensures.tested in
+    let refused = no_token i.entries.items i.channels.entries c.args.seat c.args.opening c.in-Err-open.error c.self.invariant.left (no_room MAX_CHANNELS (length i.channels.entries) few) (sym c.contains_key.ensures ∙ c.if-contains_key.false) c.in-Err-open.ensures.tested in
     subst (λ (h : List Entry). IsCall (opened (Err NoMemory)) (opened (Err c.in-Err-open.error)) h c.reserve.new.self.items c.args.seat (Open c.args.opening)) c.self.view_is
     (subst (λ (h : List Entry). IsCall (opened (Err NoMemory)) (opened (Err c.in-Err-open.error)) i.entries.items h c.args.seat (Open c.args.opening)) (sym c.in-Ok.ensures.items) refused)
 
@@ -38,7 +40,8 @@ invariant_of-self-2 c =
     let none : get same_outpoint i.channels f ≡ None = search rules in
     let more = c.in-Ok-insert.ensures.entries ∙ insert_entry-new same_outpoint i.channels f c.in-Ok-open.open none ∙ ap (λ (x : ChannelBook). i.channels.entries ++ (f, x) ∷ []) c.in-Ok-open.ensures.ok in
     let is = grown c.push.result c.unwrap.result c.push.new.self.items c.reserve.new.self.items i.entries.items _ _ c.unwrap.ensures c.push.ensures.items c.in-Ok.ensures.items refl in
-    (open_done i.entries.items c.push.new.self.items i.channels.entries c.insert.new.self.entries c.args.seat c.len-index.result o (opened (Err NoMemory)) c.self.invariant (no_room MAX_CHANNELS (length i.channels.entries) few) absent c.in-Ok-open.ensures.tested index more is).keeps
+    called i.entries.items i.channels.entries _ c.self.invariant _ _ _ _ is (c.add_channel.ensures ∙ ap (λ (ps : Preimages). ps ++ [] ∷ []) c.reserve_channel.ensures.same)
+    (open_done i.entries.items c.push.new.self.items i.channels.entries c.insert.new.self.entries c.args.seat c.len-index.result o (opened (Err NoMemory)) c.self.invariant.left (no_room MAX_CHANNELS (length i.channels.entries) few) absent c.in-Ok-open.ensures.tested index more is).keeps
 
 pub returns : goal.returns
 returns c =
@@ -51,5 +54,5 @@ returns c =
     let none : get same_outpoint i.channels f ≡ None = search rules in
     let more = c.in-Ok-insert.ensures.entries ∙ insert_entry-new same_outpoint i.channels f c.in-Ok-open.open none ∙ ap (λ (x : ChannelBook). i.channels.entries ++ (f, x) ∷ []) c.in-Ok-open.ensures.ok in
     let is = grown c.push.result c.unwrap.result c.push.new.self.items c.reserve.new.self.items i.entries.items _ _ c.unwrap.ensures c.push.ensures.items c.in-Ok.ensures.items refl in
-    let done = open_done i.entries.items c.push.new.self.items i.channels.entries c.insert.new.self.entries c.args.seat c.len-index.result o (opened (Err NoMemory)) c.self.invariant (no_room MAX_CHANNELS (length i.channels.entries) few) absent c.in-Ok-open.ensures.tested index more is in
+    let done = open_done i.entries.items c.push.new.self.items i.channels.entries c.insert.new.self.entries c.args.seat c.len-index.result o (opened (Err NoMemory)) c.self.invariant.left (no_room MAX_CHANNELS (length i.channels.entries) few) absent c.in-Ok-open.ensures.tested index more is in
     subst (λ (h : List Entry). IsCall (opened (Err NoMemory)) (opened (Ok c.len-index.result)) h c.push.new.self.items c.args.seat (Open c.args.opening)) c.self.view_is done.called

@@ -5,6 +5,7 @@ use Rattle.book.specs.declared.calls.Entry.{Entry}
 use Rattle.book.specs.declared.errors.ReleaseError.TheVariants.{Unfilled}
 use Rattle.book.specs.Replies.{released}
 use Rattle.book.specs.Calling.{IsCall}
+use Rattle.book.proofs.Fulfilled.{called}
 use Rattle.book.proofs.Refused.{release_refused}
 use Rattle.book.proofs.Called.{grown, release_done}
 use Rattle.book.proofs.history.Book.release.Goals as goal
@@ -13,17 +14,18 @@ pub invariant_of-self-2 : goal.invariant_of-self-2
 invariant_of-self-2 c =
     let i = c.self.inside in
     let is = grown c.push.result c.unwrap.result c.push.new.self.items c.reserve.new.self.items i.entries.items _ _ c.unwrap.ensures c.push.ensures.items c.in-Ok.ensures.items refl in
-    (release_done i.entries.items c.push.new.self.items i.channels.entries c.args.seat c.args.channel c.index-open.result.now c.args.batch c.in-Ok-release.filled (released (Err (Unfilled NoMemory))) c.self.invariant c.index-open.ensures c.in-Ok-release.ensures.tested c.in-Ok-release.ensures.ok is).keeps
+    called i.entries.items i.channels.entries _ c.self.invariant _ _ _ _ is refl
+    (release_done i.entries.items c.push.new.self.items i.channels.entries c.args.seat c.args.channel c.index-open.result.now c.args.batch c.in-Ok-release.filled (released (Err (Unfilled NoMemory))) c.self.invariant.left c.index-open.ensures c.in-Ok-release.ensures.tested c.in-Ok-release.ensures.ok is).keeps
 
 pub returns : goal.returns
 returns c =
     let i = c.self.inside in
     let is = grown c.push.result c.unwrap.result c.push.new.self.items c.reserve.new.self.items i.entries.items _ _ c.unwrap.ensures c.push.ensures.items c.in-Ok.ensures.items refl in
-    let done = release_done i.entries.items c.push.new.self.items i.channels.entries c.args.seat c.args.channel c.index-open.result.now c.args.batch c.in-Ok-release.filled (released (Err (Unfilled NoMemory))) c.self.invariant c.index-open.ensures c.in-Ok-release.ensures.tested c.in-Ok-release.ensures.ok is in
+    let done = release_done i.entries.items c.push.new.self.items i.channels.entries c.args.seat c.args.channel c.index-open.result.now c.args.batch c.in-Ok-release.filled (released (Err (Unfilled NoMemory))) c.self.invariant.left c.index-open.ensures c.in-Ok-release.ensures.tested c.in-Ok-release.ensures.ok is in
     subst (λ (h : List Entry). IsCall (released (Err (Unfilled NoMemory))) (released (Ok c.in-Ok-release.filled)) h c.push.new.self.items c.args.seat (Release c.args.channel c.args.batch)) c.self.view_is done.called
 
 pub returns-in-Err-release : goal.returns-in-Err-release
 returns-in-Err-release c =
     let i = c.self.inside in
-    let refused = release_refused i.entries.items c.reserve.new.self.items i.channels.entries c.self.invariant c.in-Ok.ensures.items c.args.seat c.args.channel c.index-open.result.now c.index-open.ensures c.args.batch c.in-Err-release.error c.in-Err-release.ensures.tested in
+    let refused = release_refused i.entries.items c.reserve.new.self.items i.channels.entries c.self.invariant.left c.in-Ok.ensures.items c.args.seat c.args.channel c.index-open.result.now c.index-open.ensures c.args.batch c.in-Err-release.error c.in-Err-release.ensures.tested in
     subst (λ (h : List Entry). IsCall (released (Err (Unfilled NoMemory))) (released (Err (Unfilled c.in-Err-release.error))) h c.reserve.new.self.items c.args.seat (Release c.args.channel c.args.batch)) c.self.view_is refused

@@ -12,6 +12,6 @@ returns c =
     let i = c.self.inside in
     let n = c.args.number in
     let one = c.index in
-    let found = stands i.entries.items i.channels.entries c.self.invariant c.args.channel one.result.now one.ensures in
+    let found = stands i.entries.items i.channels.entries c.self.invariant.left c.args.channel one.result.now one.ensures in
     let there = subst (λ (o : Option ChannelBook). MatchResult c.revoked.result (IsRevokedIn n o) (IsKeepRefusal (early_keep_refusal n o))) (sym found) c.revoked.ensures in
     subst (λ (h : List Entry). let o = slice_get (replay h) c.args.channel in MatchResult c.revoked.result (IsRevokedIn n o) (IsKeepRefusal (early_keep_refusal n o))) c.self.view_is there

@@ -5,6 +5,7 @@ use Rattle.book.specs.declared.errors.SignError.TheVariants.{NoMemory}
 use Rattle.book.specs.Replies.{signed}
 use Rattle.book.specs.Calling.{IsCall}
 use Rattle.book.proofs.Fundings.{left_alone}
+use Rattle.book.proofs.Fulfilled.{called, uncalled}
 use Rattle.book.proofs.Refused.{sign_refused}
 use Rattle.book.proofs.Called.{grown, sign_done}
 use Rattle.book.proofs.history.Book.sign.Goals as goal
@@ -13,22 +14,24 @@ pub invariant_of-self-2 : goal.invariant_of-self-2
 invariant_of-self-2 c =
     let i = c.self.inside in
     let is = grown c.push.result c.unwrap.result c.push.new.self.items c.reserve.new.self.items i.entries.items _ _ c.unwrap.ensures c.push.ensures.items c.in-Ok.ensures.items refl in
-    (sign_done i.entries.items c.push.new.self.items i.channels.entries c.args.seat c.args.channel c.index_mut-open.result.now c.sign.new.self c.in-Ok-sign.message (signed (Err NoMemory)) c.self.invariant c.index_mut-open.ensures.value c.in-Ok-sign.ensures.tested c.in-Ok-sign.ensures.message c.in-Ok-sign.ensures.ok is).keeps
+    called i.entries.items i.channels.entries _ c.self.invariant _ _ _ _ is refl
+    (sign_done i.entries.items c.push.new.self.items i.channels.entries c.args.seat c.args.channel c.index_mut-open.result.now c.sign.new.self c.in-Ok-sign.message (signed (Err NoMemory)) c.self.invariant.left c.index_mut-open.ensures.value c.in-Ok-sign.ensures.tested c.in-Ok-sign.ensures.message c.in-Ok-sign.ensures.ok is).keeps
 
 pub returns : goal.returns
 returns c =
     let i = c.self.inside in
     let is = grown c.push.result c.unwrap.result c.push.new.self.items c.reserve.new.self.items i.entries.items _ _ c.unwrap.ensures c.push.ensures.items c.in-Ok.ensures.items refl in
-    let done = sign_done i.entries.items c.push.new.self.items i.channels.entries c.args.seat c.args.channel c.index_mut-open.result.now c.sign.new.self c.in-Ok-sign.message (signed (Err NoMemory)) c.self.invariant c.index_mut-open.ensures.value c.in-Ok-sign.ensures.tested c.in-Ok-sign.ensures.message c.in-Ok-sign.ensures.ok is in
+    let done = sign_done i.entries.items c.push.new.self.items i.channels.entries c.args.seat c.args.channel c.index_mut-open.result.now c.sign.new.self c.in-Ok-sign.message (signed (Err NoMemory)) c.self.invariant.left c.index_mut-open.ensures.value c.in-Ok-sign.ensures.tested c.in-Ok-sign.ensures.message c.in-Ok-sign.ensures.ok is in
     subst (λ (h : List Entry). IsCall (signed (Err NoMemory)) (signed (Ok c.in-Ok-sign.message)) h c.push.new.self.items c.args.seat (Sign c.args.channel)) c.self.view_is done.called
 
 pub invariant_of-self-in-Err-sign : goal.invariant_of-self-in-Err-sign
 invariant_of-self-in-Err-sign c =
     let i = c.self.inside in
-    left_alone i.entries.items i.channels.entries c.self.invariant c.reserve.new.self.items c.in-Ok.ensures.items c.args.channel c.index_mut-open.result.now c.sign.new.self c.index_mut-open.ensures.value c.in-Err-sign.ensures.err
+    uncalled i.entries.items i.channels.entries _ c.self.invariant _ _ _ c.in-Ok.ensures.items refl
+    (left_alone i.entries.items i.channels.entries c.self.invariant.left c.reserve.new.self.items c.in-Ok.ensures.items c.args.channel c.index_mut-open.result.now c.sign.new.self c.index_mut-open.ensures.value c.in-Err-sign.ensures.err)
 
 pub returns-in-Err-sign : goal.returns-in-Err-sign
 returns-in-Err-sign c =
     let i = c.self.inside in
-    let refused = sign_refused i.entries.items c.reserve.new.self.items i.channels.entries c.self.invariant c.in-Ok.ensures.items c.args.seat c.args.channel c.index_mut-open.result.now c.index_mut-open.ensures.value c.in-Err-sign.error c.in-Err-sign.ensures.tested in
+    let refused = sign_refused i.entries.items c.reserve.new.self.items i.channels.entries c.self.invariant.left c.in-Ok.ensures.items c.args.seat c.args.channel c.index_mut-open.result.now c.index_mut-open.ensures.value c.in-Err-sign.error c.in-Err-sign.ensures.tested in
     subst (λ (h : List Entry). IsCall (signed (Err NoMemory)) (signed (Err c.in-Err-sign.error)) h c.reserve.new.self.items c.args.seat (Sign c.args.channel)) c.self.view_is refused

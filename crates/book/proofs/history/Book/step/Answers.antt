@@ -1,13 +1,17 @@
-use Rattle.std.proofs.Common.{List, ap, subst, Err, Ok, []}
+use Rattle.std.proofs.Common.{◌<◌, List, ◌++◌, length, ap, sym, ◌∙◌, subst, Err, Ok, [], rules}
 use Rattle.std.specs.List.{cons_option}
 use Rattle.updates.specs.declared.errors.ChannelError.TheVariants.{NoMemory}
 use Rattle.book.specs.declared.calls.Step.{Step}
 use Rattle.book.specs.declared.calls.Call.TheVariants.{Step as Stepping}
 use Rattle.book.specs.declared.calls.Entry.{Entry}
 use Rattle.book.specs.declared.errors.StepError.TheVariants.{Refused}
+use Rattle.book.specs.Books.{at_index}
+use Rattle.book.specs.Knowing.{preimage_in}
+use Rattle.book.specs.Fulfilled.{Preimages, kept_by}
 use Rattle.book.specs.Replies.{stepped}
 use Rattle.book.specs.Calling.{IsCall}
 use Rattle.book.proofs.Fundings.{left_alone}
+use Rattle.book.proofs.Fulfilled.{for_each, called, uncalled}
 use Rattle.book.proofs.Refused.{step_refused}
 use Rattle.book.proofs.Called.{entry, grown, step_done}
 use Rattle.book.proofs.history.Book.step.Goals as goal
@@ -18,7 +22,10 @@ invariant_of-self-2 c =
     let t = c.in-Ok-step.taken in
     let named = ap (λ (s : Step). entry c.args.seat (Stepping c.args.channel s)) c.in-Ok-step.ensures.step in
     let is = grown c.push.result c.unwrap.result c.push.new.self.items c.reserve.new.self.items i.entries.items _ _ c.unwrap.ensures c.push.ensures.items c.in-Ok.ensures.items named in
-    (step_done i.entries.items c.push.new.self.items i.channels.entries c.args.seat c.args.channel c.index_mut-open.result.now c.step.new.self c.args.step t.message (stepped (Err (Refused NoMemory))) c.self.invariant c.index_mut-open.ensures.value c.in-Ok-step.ensures.tested c.in-Ok-step.ensures.message c.in-Ok-step.ensures.ok is).keeps
+    let after = c.add_preimage.ensures ∙ ap (λ (x : Step). at_index (λ own. own ++ cons_option (preimage_in x) []) c.args.channel (kept_by c.reserve_preimage.new.self)) c.in-Ok-step.ensures.step
+    ∙ ap (λ (ps : Preimages). at_index (λ own. own ++ cons_option (preimage_in c.args.step) []) c.args.channel ps) c.reserve_preimage.ensures.same in
+    called i.entries.items i.channels.entries _ c.self.invariant _ _ _ _ is after
+    (step_done i.entries.items c.push.new.self.items i.channels.entries c.args.seat c.args.channel c.index_mut-open.result.now c.step.new.self c.args.step t.message (stepped (Err (Refused NoMemory))) c.self.invariant.left c.index_mut-open.ensures.value c.in-Ok-step.ensures.tested c.in-Ok-step.ensures.message c.in-Ok-step.ensures.ok is).keeps
 
 pub returns : goal.returns
 returns c =
@@ -26,16 +33,23 @@ returns c =
     let t = c.in-Ok-step.taken in
     let named = ap (λ (s : Step). entry c.args.seat (Stepping c.args.channel s)) c.in-Ok-step.ensures.step in
     let is = grown c.push.result c.unwrap.result c.push.new.self.items c.reserve.new.self.items i.entries.items _ _ c.unwrap.ensures c.push.ensures.items c.in-Ok.ensures.items named in
-    let done = step_done i.entries.items c.push.new.self.items i.channels.entries c.args.seat c.args.channel c.index_mut-open.result.now c.step.new.self c.args.step t.message (stepped (Err (Refused NoMemory))) c.self.invariant c.index_mut-open.ensures.value c.in-Ok-step.ensures.tested c.in-Ok-step.ensures.message c.in-Ok-step.ensures.ok is in
+    let done = step_done i.entries.items c.push.new.self.items i.channels.entries c.args.seat c.args.channel c.index_mut-open.result.now c.step.new.self c.args.step t.message (stepped (Err (Refused NoMemory))) c.self.invariant.left c.index_mut-open.ensures.value c.in-Ok-step.ensures.tested c.in-Ok-step.ensures.message c.in-Ok-step.ensures.ok is in
     subst (λ (h : List Entry). IsCall (stepped (Err (Refused NoMemory))) (stepped (Ok (cons_option t.message []))) h c.push.new.self.items c.args.seat (Stepping c.args.channel c.args.step)) c.self.view_is done.called
 
 pub invariant_of-self-in-Err-step : goal.invariant_of-self-in-Err-step
 invariant_of-self-in-Err-step c =
     let i = c.self.inside in
-    left_alone i.entries.items i.channels.entries c.self.invariant c.reserve.new.self.items c.in-Ok.ensures.items c.args.channel c.index_mut-open.result.now c.step.new.self c.index_mut-open.ensures.value c.in-Err-step.ensures.err
+    uncalled i.entries.items i.channels.entries _ c.self.invariant _ _ _ c.in-Ok.ensures.items c.reserve_preimage.ensures.same
+    (left_alone i.entries.items i.channels.entries c.self.invariant.left c.reserve.new.self.items c.in-Ok.ensures.items c.args.channel c.index_mut-open.result.now c.step.new.self c.index_mut-open.ensures.value c.in-Err-step.ensures.err)
 
 pub returns-in-Err-step : goal.returns-in-Err-step
 returns-in-Err-step c =
     let i = c.self.inside in
-    let refused = step_refused i.entries.items c.reserve.new.self.items i.channels.entries c.self.invariant c.in-Ok.ensures.items c.args.seat c.args.channel c.index_mut-open.result.now c.index_mut-open.ensures.value c.args.step c.in-Err-step.refusal c.in-Err-step.ensures.tested in
+    let refused = step_refused i.entries.items c.reserve.new.self.items i.channels.entries c.self.invariant.left c.in-Ok.ensures.items c.args.seat c.args.channel c.index_mut-open.result.now c.index_mut-open.ensures.value c.args.step c.in-Err-step.refusal c.in-Err-step.ensures.tested in
     subst (λ (h : List Entry). IsCall (stepped (Err (Refused NoMemory))) (stepped (Err (Refused c.in-Err-step.refusal))) h c.reserve.new.self.items c.args.seat (Stepping c.args.channel c.args.step)) c.self.view_is refused
+
+pub reserve_preimage-requires : goal.reserve_preimage-requires
+reserve_preimage-requires c =
+    let i = c.self.inside in
+    let within : c.args.channel < length i.channels.entries = search rules in
+    subst (λ n. c.args.channel < n) (sym (for_each i.entries.items i.channels.entries _ c.self.invariant)) within
