@@ -1,6 +1,6 @@
 -- A list of seats that is one longer.
-use Rattle.std.proofs.Common.{◌≡◌, ℕ, ◌+◌, List, [], ◌∷◌, ◌++◌, sym, ap, ◌∙◌, arith, length-append, add-one}
-use Rattle.std.specs.List.{range_with_len}
+use Rattle.std.proofs.Common.{◌≡◌, ℕ, ◌+◌, List, [], ◌∷◌, ◌++◌, Option, Some, IfSome, refl, sym, subst, ap, ◌∙◌, arith, length-append, add-one}
+use Rattle.std.specs.List.{range_with_len, last_or}
 use Rattle.std.proofs.lemmas.List.{map-append}
 use Rattle.std.proofs.lemmas.List.Elements.{All-push}
 use Rattle.desk.specs.declared.desk.Seat.{Seat}
@@ -15,3 +15,10 @@ longer desk opening first k list s old new number = record {
   numbers = map-append (λ (x : Seat). x.number) list (s ∷ []) ∙ ap (λ l. l ++ s.number ∷ []) old.numbers ∙ ap (λ n. range_with_len first k ++ n ∷ []) number ∙ numbers_longer first k ∙ ap (range_with_len first) (sym (add-one k));
   many = omega (arith, length-append list (s ∷ []), old.many);
 }
+
+last_pushed : (o : Option Seat) (list : List Seat) (s : Seat) → last_or o (list ++ s ∷ []) ≡ Some s
+last_pushed o [] s = refl
+last_pushed o (x ∷ list) s = last_pushed (Some x) list s
+
+pub ends : (P : Seat → Type 0) (o : Option Seat) (list : List Seat) (s : Seat) → P s → IfSome (last_or o (list ++ s ∷ [])) P
+ends P o list s p = subst (λ l. IfSome l P) (sym (last_pushed o list s)) p

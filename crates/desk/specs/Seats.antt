@@ -1,6 +1,6 @@
 -- Which seats belong to a desk, and what they know.
-use Rattle.std.specs.Prelude.{◌≡◌, ℕ, false, List, [], Option, None, All, map, length}
-use Rattle.std.specs.List.{range_with_len}
+use Rattle.std.specs.Prelude.{◌≡◌, ℕ, true, false, List, [], Option, None, All, map, length, IfSome}
+use Rattle.std.specs.List.{range_with_len, last_or}
 use Rattle.crossbeam_channel.specs.Claims.{Pass, view, IsSeatAt}
 use Rattle.crossbeam_channel.specs.Ends.{sends_on, receives_on, ruled_capacity}
 use Rattle.book.specs.declared.calls.Entry.{Entry}
@@ -60,6 +60,10 @@ pub record AreSeats (desk : Desk) (opening : History) (first count : ℕ) (seats
   pub each : All (IsNewSeatOf desk opening) seats
   pub numbers : map (λ (s : Seat). s.number) seats ≡ range_with_len first count
   pub many : length seats ≡ count
+
+-- the last of these seats is the desk's last, so that no seat of the desk has a greater number
+abbrev pub EndsWithLast : List Seat → Type 0
+EndsWithLast seats = IfSome (last_or None seats) (λ s. (view s.pass).is_last ≡ true)
 
 -- the seat belongs to the desk as before, with its number and its calls
 pub record Keeps (desk : Desk) (before after : Seat) : Type 0 where

@@ -1,6 +1,7 @@
 // The desk and its seats.
 
-ghost use Rattle.std.specs.Prelude.{◌≡◌, ◌+◌, ◌<◌, ◌≤◌, ◌^◌, ◌↔◌, List, [], true, None, Some, Err, slice_get, IfOk, OnOk, IfErr, MatchResult};
+ghost use Rattle.std.specs.Prelude.{◌≡◌, ◌+◌, ◌<◌, ◌≤◌, ◌^◌, ◌↔◌, List, [], true, None, Some, Err, slice_get, IfSome, IfOk, OnOk, IfErr, MatchResult};
+ghost use Rattle.std.specs.List.{last_or};
 ghost use Rattle.std.specs.Vec.{vec_capacity};
 ghost use Rattle.crossbeam_channel.specs.Claims.{view};
 ghost use Rattle.book.specs.declared.calls.Entry.{Entry as HistoryEntry};
@@ -14,7 +15,7 @@ ghost use Rattle.book.specs.Revoked.{IsRevokedIn, early_keep_refusal};
 ghost use Rattle.desk.specs.declared.desk.DeskError.TheVariants.{SeatsExhausted};
 ghost use Rattle.desk.specs.Histories.{first_seat};
 ghost use Rattle.desk.specs.Rule.{fresh, opened, last_view, returned, IsTaken, Follows};
-ghost use Rattle.desk.specs.Seats.{IsPassOf, IsSeatOf, IsIdle, AreSeats, Keeps, number_in, calls_in, last_in, out_with};
+ghost use Rattle.desk.specs.Seats.{IsPassOf, IsSeatOf, IsIdle, AreSeats, EndsWithLast, Keeps, number_in, calls_in, last_in, out_with};
 ghost use Rattle.desk.specs.Answers.{IsHistoryFor, IsAnswered};
 
 use crate::rule::{Next, OneBook, PutBack, PutFirst, SeatView, Take};
@@ -123,6 +124,7 @@ impl Desk {
         requires list { AreSeats self.now (view pass).opening first k list.items
             × (k < vec_capacity list) }
         ensures list { AreSeats self.now (view pass).opening first (k + 1) result.items }
+        ensures last { IfSome (last_or None result.items) (λ s. s.pass ≡ pass) }
         ensures room { vec_capacity result ≡ vec_capacity list }
     {
         list.push_reserved(Seat {
@@ -144,7 +146,8 @@ impl Desk {
             × (view pass ≡ last_view first (view pass).opening) }
         requires count { (0 < count) × (first + count ≤ 2 ^ 32) }
         requires list { (list.items ≡ []) × (count ≤ vec_capacity list) }
-        ensures { AreSeats self.now (view pass).opening first count result.items }
+        ensures seats { AreSeats self.now (view pass).opening first count result.items }
+        ensures last { EndsWithLast result.items }
     {
         for k in 0..count - 1 {
             let next = self.sender.another::<Next>(&mut pass);
@@ -163,6 +166,7 @@ impl Desk {
     ) -> Result<(Desk, Vec<Seat>), (DeskError, Book)>
         requires { 0 < seats }
         ensures seats { IfOk result (λ r. AreSeats r.0 book (first_seat book) seats r.1.items) }
+        ensures no_others { IfOk result (λ r. EndsWithLast r.1.items) }
         ensures room { OnOk result (first_seat book + seats ≤ 2 ^ 32) }
         ensures err { IfErr result (λ e. (e.0 ≡ SeatsExhausted) ↔ (2 ^ 32 < first_seat book + seats)) }
         ensures book { IfErr result (λ e. e.1 ≡ book) }
