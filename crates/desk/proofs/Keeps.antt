@@ -244,8 +244,8 @@ nexts p v old last idle items views h at =
     let below : (j : ℕ) (u : SeatView) → At views j u → u.number ≤ v.number = λ j u e. s.greatest p j v u at last e in
     let not_last : (j : ℕ) (u : SeatView) → j ≢ p → At views j u → u.is_last ≢ true = λ j u no e is. let le = s.greatest j p u v e is at in let ge = below j u e in beside j u no e (omega arith) in
     let unused : calls_of (v.number + 1) s.history ≡ [] =
-        let from = s.later p v at in
-        s.others (v.number + 1) (λ j u e is. let le = below j u e in omega arith) ∙ none_from (v.number + 1) s.opening (omega arith) in
+    let from = s.later p v at in
+    s.others (v.number + 1) (λ j u e is. let le = below j u e in omega arith) ∙ none_from (v.number + 1) s.opening (omega arith) in
     inr (record {
       opening = s.opening;
       history = s.history;

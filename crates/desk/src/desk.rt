@@ -111,13 +111,7 @@ impl Desk {
     }
 
     // One seat more in the list, which has room for it.
-    fn seat(
-        &self,
-        mut list: Vec<Seat>,
-        first: u32,
-        k: u16,
-        pass: Pass<Book, SeatView>,
-    ) -> Vec<Seat>
+    fn seat(&self, mut list: Vec<Seat>, first: u32, k: u16, pass: Pass<Book, SeatView>) -> Vec<Seat>
         requires pass { IsPassOf self.now pass
             × IsIdle (view pass) (first + k) (view pass).opening }
         requires number { first + k < 2 ^ 32 }
@@ -255,12 +249,7 @@ impl Desk {
     }
 
     /// What the book knows of a channel: NoSuchChannel. Waits while the book is out with another seat.
-    pub fn known<R: Wait>(
-        &self,
-        rt: &R,
-        seat: &mut Seat,
-        channel: u64,
-    ) -> Result<Known, KnowError>
+    pub fn known<R: Wait>(&self, rt: &R, seat: &mut Seat, channel: u64) -> Result<Known, KnowError>
         requires { IsSeatOf self.now seat.old }
         ensures seat { Keeps self.now seat.old seat.new }
         ensures history { IsHistoryFor (number_in seat.old) (calls_in seat.old)
