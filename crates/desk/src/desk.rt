@@ -53,9 +53,9 @@ impl DeskError {
     }
 }
 
-/// A thread's place at one desk, with the number that stands in the entries of its calls.
+/// A thread's place at one desk. Its number stands in the entries of its calls.
 ///
-/// A seat is to be kept as long as the desk is used. What a dropped seat called still counts, but nobody knows it any more.
+/// Contracts see in it the calls that it made, and the book's history as it last saw it. At least one seat has to be kept to close the desk.
 #[derive(Drop)]
 pub struct Seat {
     number: u32,
@@ -71,7 +71,7 @@ impl Seat {
     }
 }
 
-/// A book that threads share by reference, each by a seat of its own.
+/// A book behind a lock. Threads share it by reference, each with a seat of its own.
 #[derive(Drop)]
 pub struct Desk {
     sender: RuledSender<Book, SeatView, OneBook>,
@@ -110,7 +110,7 @@ impl Desk {
         unreachable!()
     }
 
-    // One seat more in the list, which has room for it.
+    // Adds a seat to the list, which has room for it.
     fn seat(&self, mut list: Vec<Seat>, first: u32, k: u16, pass: Pass<Book, SeatView>) -> Vec<Seat>
         requires pass { IsPassOf self.now pass
             × IsIdle (view pass) (first + k) (view pass).opening }
@@ -128,7 +128,7 @@ impl Desk {
         list
     }
 
-    // So many seats from the pass of the last one, numbered from `first` on. The list has room for them.
+    // Makes `count` seats from the pass of the last one, numbered from `first` on. The list has room for them.
     fn seats(
         &self,
         mut pass: Pass<Book, SeatView>,
@@ -150,8 +150,8 @@ impl Desk {
         self.seat(list, first, count - 1, pass)
     }
 
-    /// A desk over a book, and so many seats at it, one at least: SeatsExhausted where a number would pass 2^32 - 1. They are numbered
-    /// from the number after the greatest in the history, or from 0. A refusal gives the book back.
+    /// A desk over a book, and the number of seats asked for, at least one: SeatsExhausted if a number would pass 2^32 - 1. The numbers go on
+    /// from the greatest in the history, or begin at 0. A refusal gives the book back.
     pub fn new<R: Wait>(
         rt: &R,
         alloc: Global,
@@ -162,7 +162,8 @@ impl Desk {
         ensures seats { IfOk result (λ r. AreSeats r.0 book (first_seat book) seats r.1.items) }
         ensures no_others { IfOk result (λ r. EndsWithLast r.1.items) }
         ensures room { OnOk result (first_seat book + seats ≤ 2 ^ 32) }
-        ensures err { IfErr result (λ e. (e.0 ≡ SeatsExhausted) ↔ (2 ^ 32 < first_seat book + seats)) }
+        ensures err { IfErr result (λ e. (e.0 ≡ SeatsExhausted)
+            ↔ (2 ^ 32 < first_seat book + seats)) }
         ensures book { IfErr result (λ e. e.1 ≡ book) }
     {
         let first = first_number(book.entries());
@@ -181,7 +182,7 @@ impl Desk {
         Ok((desk, list))
     }
 
-    // Takes the book out. Waits while it is out with another seat.
+    // Takes the book out. Waits while another seat has it.
     fn take<R: Wait>(&self, rt: &R, pass: &mut Pass<Book, SeatView>) -> Book
         requires { IsPassOf self.now pass.old }
         ensures pass { IsPassOf self.now pass.new }
@@ -195,7 +196,7 @@ impl Desk {
         unreachable!()
     }
 
-    // Puts the book back, with at most one entry more, of this seat.
+    // Puts the book back, with at most one new entry, this seat's.
     fn put_back<R: Wait>(&self, rt: &R, pass: &mut Pass<Book, SeatView>, mut book: Book)
         requires pass { IsPassOf self.now pass.old }
         requires follows { (history : List HistoryEntry)
@@ -214,7 +215,7 @@ impl Desk {
         unreachable!()
     }
 
-    /// Makes a call on the book, in one step of this seat. Waits while the book is out with another seat.
+    /// Makes a call on the book. Waits while another seat has the book.
     pub fn call<R: Wait>(&self, rt: &R, seat: &mut Seat, call: Call) -> Reply
         requires { IsSeatOf self.now seat.old }
         ensures seat { IsSeatOf self.now seat.new × (number_in seat.new ≡ number_in seat.old) }
@@ -227,8 +228,8 @@ impl Desk {
         reply
     }
 
-    /// Keeps a penalty set that was built outside the book, in one step of this seat: as `call` keeps its claims, but where the set is of the book's own state of that number it isn't built again.
-    /// Waits while the book is out with another seat.
+    /// Keeps a penalty set that was built outside the book. It does what `call` does for a `Call::Keep` of the set's claims, but a set of the book's own
+    /// revoked state of that number is not built again. Waits while another seat has the book.
     pub fn keep_set<R: Wait>(
         &self,
         rt: &R,
@@ -248,7 +249,7 @@ impl Desk {
         reply
     }
 
-    /// What the book knows of a channel: NoSuchChannel. Waits while the book is out with another seat.
+    /// What the book knows of a channel: NoSuchChannel. Waits while another seat has the book.
     pub fn known<R: Wait>(&self, rt: &R, seat: &mut Seat, channel: u64) -> Result<Known, KnowError>
         requires { IsSeatOf self.now seat.old }
         ensures seat { Keeps self.now seat.old seat.new }
@@ -265,8 +266,8 @@ impl Desk {
         known
     }
 
-    /// The state of the peer's revoked commitment of a number whose penalties are not kept, for its penalties to be built: NoSuchChannel, NotRevoked, AlreadyKept.
-    /// Waits while the book is out with another seat.
+    /// The state of the peer's revoked commitment of a number, for its penalties to be built: NoSuchChannel, NotRevoked, AlreadyKept.
+    /// Waits while another seat has the book.
     pub fn revoked<R: Wait>(
         &self,
         rt: &R,
@@ -288,7 +289,7 @@ impl Desk {
         state
     }
 
-    /// Takes the book out for good. Waits while the book is out with another seat.
+    /// Takes the book out for good. Waits while another seat has the book.
     pub fn close<R: Wait>(self, rt: &R, seat: &mut Seat) -> Book
         requires { IsSeatOf self seat.old }
         ensures history { IsHistoryFor (number_in seat.old) (calls_in seat.old)
