@@ -48,7 +48,7 @@ push_each F views w new others j u e = ⊎_elim
     (λ (is : (j ≡ length views) × (w ≡ u)). subst (λ (y : ℕ × SeatView). F y.0 y.1) (λ i. (sym is.0 i, is.1 i)) new)
     (push_cases views w u j e)
 
-at_one : (p : ℕ) (v w : SeatView) → At (w ∷ []) p v → w ≡ v
+pub at_one : (p : ℕ) (v w : SeatView) → At (w ∷ []) p v → w ≡ v
 at_one p v w e = ⊎_elim (λ none_there. absurd (some-ne-none v (sym none_there))) (λ (is : (p ≡ 0) × (w ≡ v)). is.1) (push_cases [] w v p e)
 
 first_pass : (p : ℕ) (v w : SeatView) → At (w ∷ []) p v → p ≡ 0

@@ -66,7 +66,7 @@ abbrev pub EndsWithLast : List Seat → Type 0
 EndsWithLast seats = IfSome (last_or None seats) (λ s. (view s.pass).is_last ≡ true)
 
 -- the seat belongs to the desk as before, with its number and its calls
-pub record Keeps (desk : Desk) (before after : Seat) : Type 0 where
+pub record HasSameCalls (desk : Desk) (before after : Seat) : Type 0 where
   pub seat_of : IsSeatOf desk after
   pub number : number_in after ≡ number_in before
   pub calls : calls_in after ≡ calls_in before

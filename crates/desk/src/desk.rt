@@ -15,7 +15,7 @@ ghost use Rattle.book.specs.Revoked.{IsRevokedIn, early_keep_refusal};
 ghost use Rattle.desk.specs.declared.desk.DeskError.TheVariants.{SeatsExhausted};
 ghost use Rattle.desk.specs.Histories.{first_seat};
 ghost use Rattle.desk.specs.Rule.{fresh, opened, last_view, returned, IsTaken, Follows};
-ghost use Rattle.desk.specs.Seats.{IsPassOf, IsSeatOf, IsIdle, AreSeats, EndsWithLast, Keeps, number_in, calls_in, last_in, out_with};
+ghost use Rattle.desk.specs.Seats.{IsPassOf, IsSeatOf, IsIdle, AreSeats, EndsWithLast, HasSameCalls, number_in, calls_in, last_in, out_with};
 ghost use Rattle.desk.specs.Answers.{IsHistoryFor, IsAnswered};
 
 use crate::rule::{Next, OneBook, PutBack, PutFirst, SeatView, Take};
@@ -252,7 +252,7 @@ impl Desk {
     /// What the book knows of a channel: NoSuchChannel. Waits while another seat has the book.
     pub fn known<R: Wait>(&self, rt: &R, seat: &mut Seat, channel: u64) -> Result<Known, KnowError>
         requires { IsSeatOf self.now seat.old }
-        ensures seat { Keeps self.now seat.old seat.new }
+        ensures seat { HasSameCalls self.now seat.old seat.new }
         ensures history { IsHistoryFor (number_in seat.old) (calls_in seat.old)
             (last_in seat.old) (last_in seat.new) }
         ensures known { IfOk result (IsKnownIn (last_in seat.new) channel
@@ -276,7 +276,7 @@ impl Desk {
         number: u64,
     ) -> Result<RevokedState, KeepError>
         requires { IsSeatOf self.now seat.old }
-        ensures seat { Keeps self.now seat.old seat.new }
+        ensures seat { HasSameCalls self.now seat.old seat.new }
         ensures history { IsHistoryFor (number_in seat.old) (calls_in seat.old)
             (last_in seat.old) (last_in seat.new) }
         ensures revoked { let there = slice_get (replay (last_in seat.new)) channel
