@@ -215,7 +215,7 @@ impl Desk {
         unreachable!()
     }
 
-    /// Makes a call on the book. Waits while another seat has the book.
+    /// Makes a call on the book. Waits while another seat has the book. After a refusal the claims or the batch of the call are gone.
     pub fn call<R: Wait>(&self, rt: &R, seat: &mut Seat, call: Call) -> Reply
         requires { IsSeatOf self.now seat.old }
         ensures seat { IsSeatOf self.now seat.new × (number_in seat.new ≡ number_in seat.old) }
@@ -229,7 +229,7 @@ impl Desk {
     }
 
     /// Keeps a penalty set that was built outside the book. It does what `call` does for a `Call::Keep` of the set's claims, but a set of the book's own
-    /// revoked state of that number is not built again. Waits while another seat has the book.
+    /// revoked state of that number is not built again. Waits while another seat has the book. A refused set is dropped.
     pub fn keep_set<R: Wait>(
         &self,
         rt: &R,

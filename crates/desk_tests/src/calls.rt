@@ -3,11 +3,10 @@
 ghost use Rattle.desk.specs.Seats.{IsSeatOf};
 
 use crate::channels::{
-    book_of_b, desk_over, next_seat, offered, open, opening, revoke, sign, step,
+    book_of_b, desk_over, next_seat, offer, offered, open, opening, revoke, sign, step,
 };
 use book::errors::{KeepError, KnowError, OpenError, ReleaseError, SignError, StepError};
-use book::{Batch, Book, Call, Reply, Step};
-use book_peers::offer;
+use book::{Batch, Book, Call, Reply};
 use claim::Claim;
 use desk::{Desk, Seat};
 use lists::List;
@@ -54,8 +53,7 @@ fn offers_again<R: Wait + Abort>(rt: &R, desk: &Desk, seat: &mut Seat)
     requires { IsSeatOf desk.now seat.old }
     ensures { IsSeatOf desk.now seat.new }
 {
-    let own = Step::Own(offer(1_000_000, 501));
-    assert!(rt; step(rt, desk, seat, 0, own).is_ok());
+    assert!(rt; step(rt, desk, seat, 0, offer(501)).is_ok());
 }
 
 // The example of the page of `desk`: a worker's seat keeps the penalties for which a channel's seat waits.
@@ -172,8 +170,7 @@ fn finds_no_other<R: Wait + Abort>(rt: &R, desk: &Desk, seat: &mut Seat, claims:
     requires { IsSeatOf desk.now seat.old }
     ensures { IsSeatOf desk.now seat.new }
 {
-    let own = Step::Own(offer(1_000_000, 500));
-    assert!(rt; step(rt, desk, seat, 1, own).err() == Some(StepError::NoSuchChannel));
+    assert!(rt; step(rt, desk, seat, 1, offer(500)).err() == Some(StepError::NoSuchChannel));
     assert!(rt; sign(rt, desk, seat, 1).err() == Some(SignError::NoSuchChannel));
     assert!(rt; keep(rt, desk, seat, 1, 0, claims) == Err(KeepError::NoSuchChannel));
     assert!(rt; matches!(desk.known(rt, seat, 1), Err(KnowError::NoSuchChannel)));
@@ -211,7 +208,7 @@ fn has_these_entries(rt: &impl Abort, alloc: Global, book: &Book) {
     let mut plain = Book::new(alloc);
     assert!(rt; plain.open(0, opening(rt, alloc, 0, Side::A)) == Ok(0));
     assert!(rt; plain.open(1, opening(rt, alloc, 1, Side::A)) == Ok(1));
-    assert!(rt; plain.step(0, 1, Step::Own(offer(1_000_000, 500))).is_ok());
+    assert!(rt; plain.step(0, 1, offer(500)).is_ok());
     let (there, wanted) = (dumped(rt, alloc, book), dumped(rt, alloc, &plain));
     assert!(rt; there.as_str() == wanted.as_str());
 }
@@ -225,7 +222,7 @@ fn closes_with_the_book_that_was_called(rt: HostRuntime) {
     let mut first = next_seat(&rt, &desk, &mut seats);
     assert_eq!(rt; open(&rt, alloc, &desk, &mut first, 0), 0);
     assert_eq!(rt; open(&rt, alloc, &desk, &mut second, 1), 1);
-    assert!(rt; step(&rt, &desk, &mut first, 1, Step::Own(offer(1_000_000, 500))).is_ok());
+    assert!(rt; step(&rt, &desk, &mut first, 1, offer(500)).is_ok());
     let book = desk.close(&rt, &mut second);
     has_these_entries(&rt, alloc, &book);
 }

@@ -1,26 +1,73 @@
 // A channel of A, whose book stands behind a desk, and of B, whose book is its own.
 
-ghost use Rattle.std.specs.Prelude.{◌<◌, All};
+ghost use Rattle.std.specs.Prelude.{◌≡◌, ◌<◌, All};
+ghost use Rattle.keys.specs.declared.bases.Base.TheVariants.{Funding};
+ghost use Rattle.keys.specs.Derivation.{base_key};
+ghost use Rattle.terms.specs.Agreement.{party};
+ghost use Rattle.terms.specs.Sides.{other};
 ghost use Rattle.desk.specs.Seats.{IsSeatOf};
 
 use book::errors::{SignError, StepError};
 use book::{Book, Call, Opening, Reply, Step};
-use book_peers::{offer, open_side};
-use channel::Message;
+use channel::{Message, opening_points, opening_token};
 use desk::{Desk, Seat};
-use keys::Key;
+use keys::{Key, Signer};
+use parties::{FUNDING, party};
 use std::alloc::Global;
 use std::process::Abort;
 use std::sync::Wait;
-use terms::Side;
-use updates::Update;
+use terms::{Side, Terms};
+use tx::OutPoint;
+use updates::{OwnUpdate, Update};
 
-/// How a side opens the channel of a number.
+// The channel of a number, of two signers.
+fn terms_of(rt: &impl Abort, number: u32, a: &Signer, b: &Signer) -> Terms
+    ensures a { result.a.bases.funding.bytes ≡ base_key a.now.seed Funding }
+    ensures b { result.b.bases.funding.bytes ≡ base_key b.now.seed Funding }
+{
+    let (of_a, of_b) = (party(a, 80_000_000), party(b, 20_000_000));
+    let funding = OutPoint {
+        index: number,
+        ..FUNDING
+    };
+    parties::terms_of(funding, 100_000, of_a, of_b).expect(rt, "terms")
+}
+
+// What a side opens the channel with.
+fn opening_of(
+    rt: &impl Abort,
+    alloc: Global,
+    terms: &Terms,
+    side: Side,
+    seed: [u8; 32],
+    peer: &Signer,
+) -> Opening
+    requires { (party (other side) terms.now).bases.funding.bytes ≡ base_key peer.now.seed Funding }
+{
+    let point = opening_points(&Signer::new(alloc, &seed)).first;
+    let token = opening_token(alloc, terms, side.other(), peer, &point).expect(rt, "a token");
+    let points = opening_points(peer);
+    let (first, next) = (points.first, points.second);
+    Opening::new(alloc, *terms, side, seed, first, next, token).expect(rt, "an opening")
+}
+
+/// How a side opens the channel of a number. The sides have the seeds 01..01 and 02..02.
 pub(crate) fn opening(rt: &impl Abort, alloc: Global, number: u32, side: Side) -> Opening {
-    match open_side(alloc, number, side) {
-        Ok(opened) => opened.opening,
-        Err(_) => panic!(rt; "no opening"),
+    let (a, b) = (Signer::new(alloc, &[1; 32]), Signer::new(alloc, &[2; 32]));
+    let terms = terms_of(rt, number, &a, &b);
+    match side {
+        Side::A => opening_of(rt, alloc, &terms, Side::A, [1; 32], &b),
+        Side::B => opening_of(rt, alloc, &terms, Side::B, [2; 32], &a),
     }
+}
+
+/// An offer of an HTLC, until a height.
+pub(crate) fn offer(expiry: u32) -> Step {
+    Step::Own(OwnUpdate::Offer {
+        amount: 1_000_000,
+        hash: [9; 32],
+        expiry,
+    })
 }
 
 /// A book of B's with the channel of a number.
@@ -145,8 +192,7 @@ fn offers<R: Wait + Abort>(
     requires { IsSeatOf desk.now seat.old }
     ensures { IsSeatOf desk.now seat.new }
 {
-    let own = Step::Own(offer(1_000_000, expiry));
-    let sent = step(rt, desk, seat, channel, own).expect(rt, "an offer");
+    let sent = step(rt, desk, seat, channel, offer(expiry)).expect(rt, "an offer");
     let update = update_in(sent).expect(rt, "an update");
     let answer = b.step(0, 0, Step::Updated(update)).expect(rt, "taken");
     assert!(rt; answer.is_none());

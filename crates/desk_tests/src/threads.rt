@@ -3,9 +3,8 @@
 ghost use Rattle.std.specs.Prelude.{All};
 ghost use Rattle.desk.specs.Seats.{IsSeatOf};
 
-use crate::channels::{desk_over, next_seat, open, sign, step};
-use book::{Book, Step};
-use book_peers::offer;
+use crate::channels::{desk_over, next_seat, offer, open, sign, step};
+use book::Book;
 use desk::{Desk, Seat};
 use std::alloc::Global;
 use std::process::Abort;
@@ -21,8 +20,7 @@ fn offer_many<R: Wait + Abort>(rt: &R, desk: &Desk, seat: &mut Seat, channel: u6
     ensures { IsSeatOf desk.now seat.new }
 {
     for k in 0..OFFERS {
-        let own = Step::Own(offer(1_000_000, 500 + k));
-        assert!(rt; step(rt, desk, seat, channel, own).is_ok());
+        assert!(rt; step(rt, desk, seat, channel, offer(500 + k)).is_ok());
     }
 }
 
