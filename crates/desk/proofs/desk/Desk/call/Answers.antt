@@ -13,7 +13,7 @@ pub put_back-requires-clause-follows : goal.put_back-requires-clause-follows
 put_back-requires-clause-follows g c =
     let taken = c.take-book.ensures.taken in
     let h = c.take-book.result in
-    let x = c.call-reply.new.book in
+    let x = c.call-reply.new.self in
     let n = c.args.seat.now.number in
     let number : (view c.take-book.new.pass).number ≡ n = ap (λ (v : SeatView). v.number) taken.out ∙ c.requires.number in
     let follows : Follows n h x = followed n h x c.args.call (no_memory_of c.args.call) (reply_form c.call-reply.result) c.call-reply.ensures in
@@ -23,7 +23,7 @@ pub returns-clause-reply : goal.returns-clause-reply
 returns-clause-reply g c =
     let taken = c.take-book.ensures.taken in
     let h = c.take-book.result in
-    let x = c.call-reply.new.book in
+    let x = c.call-reply.new.self in
     let n = c.args.seat.now.number in
     let number = c.requires.number in
     let back = c.put_back.ensures.back in

@@ -16,7 +16,7 @@ pub put_back-requires-clause-follows : goal.put_back-requires-clause-follows
 put_back-requires-clause-follows g c =
     let taken = c.take-book.ensures.taken in
     let h = c.take-book.result in
-    let x = c.keep_set-reply.new.book in
+    let x = c.keep_set-reply.new.self in
     let n = c.args.seat.now.number in
     let call : Call = Keep c.args.channel c.args.number c.args.set.claims in
     let number : (view c.take-book.new.pass).number ≡ n = ap (λ (v : SeatView). v.number) taken.out ∙ c.requires.number in
@@ -27,7 +27,7 @@ pub returns-clause-reply : goal.returns-clause-reply
 returns-clause-reply g c =
     let taken = c.take-book.ensures.taken in
     let h = c.take-book.result in
-    let x = c.keep_set-reply.new.book in
+    let x = c.keep_set-reply.new.self in
     let n = c.args.seat.now.number in
     let call : Call = Keep c.args.channel c.args.number c.args.set.claims in
     let number = c.requires.number in
