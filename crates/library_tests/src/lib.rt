@@ -1,7 +1,7 @@
-//! The worked calls of the page `docs/LIBRARY.md`, as tests: a script is listed, a claim accepted and filled, a channel
+//! Worked calls of the crates that a node calls, as tests: a script is listed, a claim accepted and filled, a channel
 //! and a book go a few steps, and a watch reads a block.
 //!
-//! Each block of that page stands here word for word.
+//! Each block of code of `docs/LIBRARY.md` stands here word for word.
 #![tactic(auto)]
 
 #[cfg(test)]
