@@ -2,12 +2,22 @@
 //! a script, and `enforce run` plays the scenario on standard input.
 //!
 //! `enforce_words::run_words` does what the words say, and answers a status of at most 2. Here stand the streams and
-//! the arguments alone.
+//! the arguments alone. After it, `enforce_notes` has notes for standard error, on refusals and on rules that are
+//! stricter than consensus: they change no status.
 #![tactic(auto)]
 
+use enforce_notes::{Kept, notes_of};
 use enforce_words::{refuse_memory, refuse_words, run_words};
+use std::io::Write;
 use std::process::ExitCode;
 use std::{env, io};
+
+// Writes the notes on a call. One that can't be made or written is left out.
+fn write_notes(rt: &HostRuntime, words: &[String], status: u8, input: Option<&[u8]>) {
+    if let Ok(notes) = notes_of(rt.alloc(), words, status, input) {
+        let _ = rt.stderr().write_all(notes.as_bytes());
+    }
+}
 
 /// Runs the words that the program was called with. Words that are no text are wrong words.
 fn main(rt: HostRuntime) -> ExitCode {
@@ -24,12 +34,14 @@ fn main(rt: HostRuntime) -> ExitCode {
             return ExitCode::from(refuse_memory(&mut rt.stdout()));
         }
     }
+    let mut input = Kept::new(rt.alloc(), rt.stdin());
     let status = run_words(
         rt.alloc(),
         words.as_slice(),
-        &mut rt.stdin(),
+        &mut input,
         &mut rt.stdout(),
         &mut rt.stderr(),
     );
+    write_notes(&rt, words.as_slice(), status, input.all_bytes());
     ExitCode::from(status)
 }

@@ -4,44 +4,37 @@ use paths::CheckError;
 use scenario::ScenarioError;
 use script::ParseError;
 use std::alloc::{AllocError, Global};
-use std::fmt;
 use std::fmt::Write;
+use thiserror::Error;
 use world::errors::WorldError;
 
 /// Why input is refused.
-#[derive(Debug, Drop)]
+#[derive(Debug, Drop, Error)]
 pub enum CommandError {
     /// Memory ran out.
+    #[error("NoMemory")]
     NoMemory,
     /// A text is not hexadecimal.
+    #[error("BadHex")]
     BadHex,
     /// The bytes are no script.
+    #[error("{0}")]
     Parse(ParseError),
     /// The script is not listed.
+    #[error("{0}")]
     Check(CheckError),
     /// The input has more than 4,194,304 bytes.
+    #[error("TooLong")]
     TooLong,
     /// The input can't be read.
+    #[error("ReadFailed")]
     ReadFailed,
     /// The input is no scenario.
+    #[error("{0}")]
     Scenario(ScenarioError),
     /// The world of the scenario does not begin.
+    #[error("{0}")]
     World(WorldError),
-}
-
-impl fmt::Display for CommandError {
-    fn fmt<W: fmt::Write>(&self, f: &mut fmt::Formatter<W>) -> fmt::Result {
-        match self {
-            CommandError::NoMemory => write!(f, "NoMemory"),
-            CommandError::BadHex => write!(f, "BadHex"),
-            CommandError::Parse(error) => write!(f, "{error}"),
-            CommandError::Check(error) => write!(f, "{error}"),
-            CommandError::TooLong => write!(f, "TooLong"),
-            CommandError::ReadFailed => write!(f, "ReadFailed"),
-            CommandError::Scenario(error) => write!(f, "{error}"),
-            CommandError::World(error) => write!(f, "{error}"),
-        }
-    }
 }
 
 impl CommandError {

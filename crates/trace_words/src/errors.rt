@@ -3,36 +3,29 @@
 use paths::CheckError;
 use script::ParseError;
 use std::alloc::AllocError;
-use std::fmt;
+use thiserror::Error;
 
 /// Why input is refused: what `enforce` prints after its word `refused`.
-#[derive(Drop)]
+#[derive(Debug, Drop, Error)]
 pub enum TraceError {
     /// Memory ran out.
+    #[error("NoMemory")]
     NoMemory,
     /// A text is not hexadecimal.
+    #[error("BadHex")]
     BadHex,
     /// The bytes are not a script.
+    #[error("{0}")]
     Parse(ParseError),
     /// The script is not listed.
+    #[error("{0}")]
     Check(CheckError),
     /// The input has more than 4,194,304 bytes.
+    #[error("TooLong")]
     TooLong,
     /// The input can't be read.
+    #[error("ReadFailed")]
     ReadFailed,
-}
-
-impl fmt::Display for TraceError {
-    fn fmt<W: fmt::Write>(&self, f: &mut fmt::Formatter<W>) -> fmt::Result {
-        match self {
-            TraceError::NoMemory => write!(f, "NoMemory"),
-            TraceError::BadHex => write!(f, "BadHex"),
-            TraceError::Parse(error) => write!(f, "{error}"),
-            TraceError::Check(error) => write!(f, "{error}"),
-            TraceError::TooLong => write!(f, "TooLong"),
-            TraceError::ReadFailed => write!(f, "ReadFailed"),
-        }
-    }
 }
 
 impl From<AllocError> for TraceError {

@@ -1,0 +1,147 @@
+// What the parts of a scenario are to be.
+
+use serde_json::Value;
+use terms::Side;
+use texts::FromValue;
+
+/// What a part of a scenario is to be.
+#[derive(Clone, Copy)]
+pub enum Kind {
+    Side,
+    /// Of 64 bits.
+    Number,
+    /// Of 32 bits.
+    Short,
+    /// 32 bytes.
+    Hash,
+    /// Two numbers of 64 bits.
+    Numbers,
+    /// Two numbers of 16 bits.
+    Delays,
+    /// Two seeds of 32 bytes.
+    Seeds,
+    Array,
+}
+
+impl Kind {
+    /// Whether a value is of this kind.
+    pub fn fits(self, value: &Value) -> bool {
+        match self {
+            Kind::Side => Side::from_value(value).is_some(),
+            Kind::Number => u64::from_value(value).is_some(),
+            Kind::Short => u32::from_value(value).is_some(),
+            Kind::Hash => <[u8; 32]>::from_value(value).is_some(),
+            Kind::Numbers => <(u64, u64)>::from_value(value).is_some(),
+            Kind::Delays => <(u16, u16)>::from_value(value).is_some(),
+            Kind::Seeds => <([u8; 32], [u8; 32])>::from_value(value).is_some(),
+            Kind::Array => value.as_array().is_some(),
+        }
+    }
+
+    /// What it is, in words.
+    pub fn text(self) -> &'static str {
+        match self {
+            Kind::Side => "\"A\" or \"B\"",
+            Kind::Number => "a whole number of at most 64 bits",
+            Kind::Short => "a whole number of at most 32 bits",
+            Kind::Hash => "32 bytes in hexadecimal",
+            Kind::Numbers => "an array of two whole numbers of at most 64 bits",
+            Kind::Delays => "an array of two whole numbers of at most 16 bits",
+            Kind::Seeds => "an array of two seeds of 32 bytes in hexadecimal",
+            Kind::Array => "an array",
+        }
+    }
+}
+
+/// A part of a scenario: its name on the page of scenarios, and what it is to be.
+#[derive(Clone, Copy)]
+pub struct Part(pub &'static str, pub Kind);
+
+/// The members of a scenario.
+pub static MEMBERS: [Part; 3] = [
+    Part("seeds", Kind::Seeds),
+    Part("channels", Kind::Array),
+    Part("events", Kind::Array),
+];
+
+/// The members of a channel's terms.
+pub static TERMS: [Part; 7] = [
+    Part("capacity", Kind::Number),
+    Part("opener", Kind::Side),
+    Part("feerate", Kind::Short),
+    Part("dust", Kind::Numbers),
+    Part("delay", Kind::Delays),
+    Part("minimum", Kind::Numbers),
+    Part("start", Kind::Numbers),
+];
+
+// What stands behind the name of an event.
+static OFFER: [Part; 5] = [
+    Part("side", Kind::Side),
+    Part("channel", Kind::Number),
+    Part("amount", Kind::Number),
+    Part("hash", Kind::Hash),
+    Part("expiry", Kind::Short),
+];
+
+static FULFIL: [Part; 4] = [
+    Part("side", Kind::Side),
+    Part("channel", Kind::Number),
+    Part("id", Kind::Number),
+    Part("preimage", Kind::Hash),
+];
+
+static FAIL: [Part; 3] = [
+    Part("side", Kind::Side),
+    Part("channel", Kind::Number),
+    Part("id", Kind::Number),
+];
+
+static FEE: [Part; 3] = [
+    Part("side", Kind::Side),
+    Part("channel", Kind::Number),
+    Part("rate", Kind::Short),
+];
+
+static CHANNEL: [Part; 2] = [Part("side", Kind::Side), Part("channel", Kind::Number)];
+
+static COMMITMENT: [Part; 3] = [
+    Part("side", Kind::Side),
+    Part("channel", Kind::Number),
+    Part("number", Kind::Number),
+];
+
+static HTLC: [Part; 4] = [
+    Part("side", Kind::Side),
+    Part("channel", Kind::Number),
+    Part("number", Kind::Number),
+    Part("htlc", Kind::Number),
+];
+
+static BLOCKS: [Part; 1] = [Part("count", Kind::Number)];
+
+static LOOK: [Part; 1] = [Part("side", Kind::Side)];
+
+static COUNT: [Part; 2] = [Part("side", Kind::Side), Part("count", Kind::Number)];
+
+static REORG: [Part; 2] = [Part("depth", Kind::Number), Part("forgotten", Kind::Number)];
+
+/// What stands behind the name of an event of `count` items, its name included; `None` where there is no event of this name.
+pub fn event_parts(name: &str, count: usize) -> Option<&'static [Part]> {
+    let parts: &'static [Part] = match name.as_bytes() {
+        b"offer" => &OFFER,
+        b"fulfil" => &FULFIL,
+        b"fail" => &FAIL,
+        b"fee" => &FEE,
+        b"sign" | b"deliver" => &CHANNEL,
+        b"keep" => &COMMITMENT,
+        b"broadcast" if count == 5 => &HTLC,
+        b"broadcast" => &COMMITMENT,
+        b"blocks" => &BLOCKS,
+        b"look" => &LOOK,
+        b"take" | b"release" => &COUNT,
+        b"reorg" => &REORG,
+        _ => return None,
+    };
+    Some(parts)
+}

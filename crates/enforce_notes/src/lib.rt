@@ -1,0 +1,49 @@
+//! Notes on what the program `enforce` answered, for a person at a prompt.
+//!
+//! [`notes_of`] makes a text from the words of a call, its status and the input that was read: where a script or a
+//! scenario is at fault, which branches ended by a rule that is stricter than consensus, and which paths no witness
+//! meets. It is a pure function, and proved not to panic; what it says is tested. [`Kept`] is a reader that keeps what
+//! passes through it.
+//!
+//! `enforce` writes the notes on standard error, after all that `enforce_words` printed. They change no status.
+//!
+//! ```rust
+//! let notes = notes_of(alloc, words, 1, Some(&[]))?; // of `paths 51b3`
+//! assert_eq!(rt; notes.as_str(), "note: byte 1 is b3, OP_NOP4 in Bitcoin, which is not in the table\nnote: pushed before it: the number 1 at byte 0\n");
+//! ```
+//!
+//! The test `names_opcodes_outside_the_table` of `notes_tests` has these lines.
+#![tactic(auto)]
+
+mod branches;
+mod conflicts;
+mod entries;
+mod forms;
+mod names;
+mod pushes;
+mod readers;
+mod scenarios;
+mod scripts;
+mod signatures;
+mod sizes;
+
+pub use readers::Kept;
+use std::alloc::{AllocError, Global};
+
+/// The notes on a call, a line each; none is an empty text. `words` are those of the call (without the program's name), `status` is what it ended with, and `input` is all
+/// that it read, `None` where a read failed. The only error is that memory ran out.
+pub fn notes_of(
+    alloc: Global,
+    words: &[String],
+    status: u8,
+    input: Option<&[u8]>,
+) -> Result<String, AllocError> {
+    match words {
+        [name, text] if name.as_str() == "paths" => scripts::notes(alloc, text.as_str()),
+        [name] if name.as_str() == "run" && status == 1 => match input {
+            Some(input) => scenarios::notes(alloc, input),
+            None => Ok(String::new(alloc)),
+        },
+        _ => Ok(String::new(alloc)),
+    }
+}

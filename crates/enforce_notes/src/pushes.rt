@@ -1,0 +1,47 @@
+// The pushes of a script that was read in part.
+
+use crate::sizes::Counted;
+use script::{Op, Script};
+use std::alloc::{AllocError, Global};
+use std::fmt::Write;
+
+/// Notes what is pushed by the opcodes that these bytes spell, and at which bytes.
+pub fn note_pushes(notes: &mut String, alloc: Global, bytes: &[u8]) -> Result<(), AllocError> {
+    // what was read before a fault splits into opcodes
+    let Ok(script) = Script::parse(alloc, bytes) else {
+        return Ok(());
+    };
+    write_pushes(notes, script.ops())
+}
+
+fn write_pushes(notes: &mut String, ops: &[Op]) -> Result<(), AllocError> {
+    let mut byte = 0u64;
+    let mut mark = "note: pushed before it:";
+    for op in ops {
+        if write_push(notes, mark, op, byte)? {
+            mark = ",";
+        }
+        byte = byte
+            .saturating_add(op.payload_len() as u64)
+            .saturating_add(1);
+    }
+    if mark == "," {
+        writeln!(notes, "")
+    } else {
+        writeln!(notes, "note: nothing is pushed before it")
+    }
+}
+
+// Whether the opcode is a push, which is written.
+fn write_push(notes: &mut String, mark: &str, op: &Op, byte: u64) -> Result<bool, AllocError> {
+    match op {
+        Op::Push(item) if item.is_empty() => write!(notes, "{mark} the empty item at byte {byte}")?,
+        Op::Push(item) => {
+            let item = Counted(item.bytes());
+            write!(notes, "{mark} {item} at byte {byte}")?;
+        }
+        Op::Number(n) => write!(notes, "{mark} the number {n} at byte {byte}")?,
+        _ => return Ok(false),
+    }
+    Ok(true)
+}

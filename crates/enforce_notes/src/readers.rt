@@ -1,0 +1,52 @@
+// A reader that keeps what passes through it.
+
+use std::alloc::Global;
+use std::io;
+use std::io::Read;
+
+/// A reader that keeps what passes through it.
+#[derive(Drop)]
+pub struct Kept<R> {
+    reader: R,
+    bytes: Vec<u8>,
+    is_whole: bool,
+}
+
+impl<R: Read> Kept<R> {
+    /// A reader that gives what this one does. It takes no memory.
+    pub fn new(alloc: Global, reader: R) -> Self {
+        Kept {
+            reader,
+            bytes: Vec::new(alloc),
+            is_whole: true,
+        }
+    }
+
+    /// What was read so far; `None` after a read that failed, or where memory ran out for it.
+    pub fn all_bytes(&self) -> Option<&[u8]> {
+        if self.is_whole {
+            Some(self.bytes.as_slice())
+        } else {
+            None
+        }
+    }
+}
+
+impl<R: Read> Read for Kept<R> {
+    fn read(&mut self, bytes: &mut [u8]) -> io::Result<usize> {
+        match self.reader.read(bytes) {
+            Ok(count) => {
+                if self.bytes.extend_from_slice(&bytes[..count]).is_err() {
+                    self.is_whole = false;
+                }
+                Ok(count)
+            }
+            Err(error) => {
+                if error.kind() != io::ErrorKind::Interrupted {
+                    self.is_whole = false;
+                }
+                Err(error)
+            }
+        }
+    }
+}

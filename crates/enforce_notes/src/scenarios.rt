@@ -1,0 +1,171 @@
+// Notes on a text that is no scenario.
+
+use crate::forms::{MEMBERS, Part, TERMS, event_parts};
+use serde_json::{Error, Value};
+use std::alloc::{AllocError, Global};
+use std::fmt::Write;
+use texts::tag_of;
+
+// The most bytes that are read as a scenario.
+const MAX_INPUT: usize = 4_194_304;
+
+/// Notes on a text that is read as a scenario: where it is no JSON text, or which of its parts has not the form.
+pub fn notes(alloc: Global, input: &[u8]) -> Result<String, AllocError> {
+    let mut notes = String::new(alloc);
+    if input.len() <= MAX_INPUT {
+        note_text(&mut notes, alloc, input)?;
+    }
+    Ok(notes)
+}
+
+fn note_text(notes: &mut String, alloc: Global, input: &[u8]) -> Result<(), AllocError> {
+    match Value::from_slice(alloc, input) {
+        Ok(value) => note_fault(notes, &value),
+        Err(error) if error.is_memory() => Ok(()),
+        Err(error) => note_place(notes, input, &error),
+    }
+}
+
+// Notes where a text is no JSON text.
+fn note_place(notes: &mut String, input: &[u8], error: &Error) -> Result<(), AllocError> {
+    let (line, column) = (error.line(), error.column());
+    let byte = byte_of(input, line, column);
+    if error.is_eof() || byte >= input.len() {
+        let len = input.len();
+        return writeln!(
+            notes,
+            "note: the text ends too early, after byte {len}: line {line}, column {column}"
+        );
+    }
+    writeln!(
+        notes,
+        "note: no JSON text from byte {byte} on: line {line}, column {column}"
+    )
+}
+
+// The byte at a line and a column, both counted from 1.
+fn byte_of(input: &[u8], line: usize, column: usize) -> usize {
+    let mut left = line.saturating_sub(1);
+    let mut start = 0usize;
+    for (at, byte) in input.iter().enumerate() {
+        if left == 0 {
+            break;
+        }
+        if *byte == b'\n' {
+            left -= 1;
+            start = at.saturating_add(1);
+        }
+    }
+    start.saturating_add(column.saturating_sub(1))
+}
+
+// What has not the form that it is to have.
+#[derive(Clone, Copy)]
+enum Fault {
+    // It is no object.
+    NoObject,
+    // It lacks this member.
+    Lacks(&'static str),
+    // It has a member that does not belong to it.
+    Unknown,
+    // It is no array with a name at its front.
+    NoEvent,
+    // There is no event of this name.
+    NoName,
+    // It has the first number of items, and is to have the second.
+    Count(usize, usize),
+    // This part is of another kind.
+    Part(Part),
+}
+
+// Notes the first part of a value that has not the form.
+fn note_fault(notes: &mut String, value: &Value) -> Result<(), AllocError> {
+    if let Some(fault) = object_fault(value, &MEMBERS) {
+        write!(notes, "note: the scenario")?;
+        return write_fault(notes, &fault);
+    }
+    if let Some((channel, fault)) = terms_fault(value) {
+        write!(notes, "note: channel {channel}")?;
+        return write_fault(notes, &fault);
+    }
+    if let Some((event, fault)) = events_fault(value) {
+        write!(notes, "note: event {event}")?;
+        return write_fault(notes, &fault);
+    }
+    Ok(())
+}
+
+fn write_fault(notes: &mut String, fault: &Fault) -> Result<(), AllocError> {
+    match fault {
+        Fault::NoObject => writeln!(notes, " is no object"),
+        Fault::Lacks(name) => writeln!(notes, " has no member {name}"),
+        Fault::Unknown => writeln!(notes, " has a member that does not belong to it"),
+        Fault::NoEvent => writeln!(notes, " is no array with a name at its front"),
+        Fault::NoName => writeln!(notes, " has the name of no event"),
+        Fault::Count(count, wanted) => writeln!(notes, " has {count} items, and not {wanted}"),
+        Fault::Part(Part(name, kind)) => {
+            let kind = kind.text();
+            writeln!(notes, ": its {name} is not {kind}")
+        }
+    }
+}
+
+// What an object lacks to have these members, and no others.
+fn object_fault(value: &Value, parts: &[Part]) -> Option<Fault> {
+    let Some(object) = value.as_object() else {
+        return Some(Fault::NoObject);
+    };
+    for part in parts {
+        let Part(name, kind) = *part;
+        match value.get(name) {
+            None => return Some(Fault::Lacks(name)),
+            Some(member) if !kind.fits(member) => return Some(Fault::Part(*part)),
+            Some(_) => {}
+        }
+    }
+    if object.len() == parts.len() {
+        None
+    } else {
+        Some(Fault::Unknown)
+    }
+}
+
+// The first channel whose terms have not the form.
+fn terms_fault(value: &Value) -> Option<(usize, Fault)> {
+    for (channel, terms) in value.get("channels")?.as_array()?.iter().enumerate() {
+        if let Some(fault) = object_fault(terms, &TERMS) {
+            return Some((channel, fault));
+        }
+    }
+    None
+}
+
+// The first event that has not the form.
+fn events_fault(value: &Value) -> Option<(usize, Fault)> {
+    for (index, event) in value.get("events")?.as_array()?.iter().enumerate() {
+        if let Some(fault) = event_fault(event) {
+            return Some((index, fault));
+        }
+    }
+    None
+}
+
+// What an array lacks to be an event.
+fn event_fault(event: &Value) -> Option<Fault> {
+    let Some(name) = tag_of(event) else {
+        return Some(Fault::NoEvent);
+    };
+    let count = event.as_array()?.len();
+    let Some(parts) = event_parts(name, count) else {
+        return Some(Fault::NoName);
+    };
+    if count != parts.len().saturating_add(1) {
+        return Some(Fault::Count(count, parts.len().saturating_add(1)));
+    }
+    for (index, part) in parts.iter().enumerate() {
+        if !part.1.fits(event.get(index.saturating_add(1))?) {
+            return Some(Fault::Part(*part));
+        }
+    }
+    None
+}

@@ -1,0 +1,16 @@
+// Bytes with their number.
+
+use facts::texts::Hex;
+use std::fmt;
+
+/// Bytes in hexadecimal, with their number.
+#[derive(Drop)]
+pub struct Counted<'a>(pub &'a [u8]);
+
+impl fmt::Display for Counted<'_> {
+    fn fmt<W: fmt::Write>(&self, f: &mut fmt::Formatter<W>) -> fmt::Result {
+        let (hex, len) = (Hex(self.0), self.0.len());
+        let end = if len == 1 { "" } else { "s" };
+        write!(f, "{hex} ({len} byte{end})")
+    }
+}

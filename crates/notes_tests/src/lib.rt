@@ -1,0 +1,13 @@
+//! Tests of the notes of the program `enforce`: what `enforce_notes::notes_of` says of scripts and of scenarios.
+//!
+//! They stand apart so that the library is proved without them.
+#![tactic(auto)]
+
+#[cfg(test)]
+mod fixtures;
+#[cfg(test)]
+mod places;
+#[cfg(test)]
+mod readers;
+#[cfg(test)]
+mod scripts;

@@ -1,0 +1,38 @@
+//! The reader that keeps what it gives.
+
+use enforce_notes::Kept;
+use std::io;
+use std::io::Read;
+use std::test::Fail;
+
+// A reader that gives a byte so many times, and fails from then on.
+#[derive(Drop)]
+struct Failing {
+    left: u8,
+}
+
+impl io::Read for Failing {
+    fn read(&mut self, bytes: &mut [u8]) -> io::Result<usize> {
+        if self.left == 0 || bytes.is_empty() {
+            return Err(io::Error::from(io::ErrorKind::BrokenPipe));
+        }
+        self.left -= 1;
+        bytes[0] = b'{';
+        Ok(1)
+    }
+}
+
+#[test]
+fn keeps_what_it_gives(rt: HostRuntime) -> Result<(), Fail> {
+    let alloc = rt.alloc();
+    let text: &[u8] = b"what is read";
+    let mut kept = Kept::new(alloc, text);
+    let mut read: Vec<u8> = Vec::new(alloc);
+    kept.read_to_end(&mut read)?;
+    assert_eq!(rt; read.as_slice(), text);
+    assert!(rt; kept.all_bytes() == Some(text));
+    let mut failing = Kept::new(alloc, Failing { left: 2 });
+    assert!(rt; failing.read_to_end(&mut read).is_err());
+    assert!(rt; failing.all_bytes().is_none());
+    Ok(())
+}
