@@ -1,0 +1,16 @@
+//! Worked calls of the crates that a node calls, as tests: a script is listed, a claim accepted and filled, a channel
+//! and a book go a few steps, and a watch reads a block.
+//!
+//! Each block of code of `docs/LIBRARY.md` stands here word for word.
+#![tactic(auto)]
+
+#[cfg(test)]
+mod books;
+#[cfg(test)]
+mod channels;
+#[cfg(test)]
+mod claims;
+#[cfg(test)]
+mod listings;
+#[cfg(test)]
+mod watches;
