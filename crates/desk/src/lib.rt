@@ -1,0 +1,34 @@
+//! The desk: a node's book behind a lock, for the threads that share it.
+//!
+//! [`Desk::new`] puts a book into a queue of one place, which is the lock: whoever takes the book out has it alone,
+//! until he puts it back. Each thread has a [`Seat`] of its own, whose number stands in the entries of its calls.
+//! `call` makes any of the book's six calls, `keep_set` keeps a set that was built outside the lock, `known` and
+//! `revoked` ask, and `close` gives the book back.
+//!
+//! Whenever the lock is free, the queue holds one book. Its history is accepted and guarded. It begins with the history
+//! that the desk was made with, and then has just the calls of the seats, each once and each seat's in order
+//! (`IsOneBook` of `specs/Rule.antt`). Each reply is the book's own at the end of such a history, which goes on from
+//! the one that the seat last put back, barring out-of-memory (`IsAnswered` of `specs/Answers.antt`). So no reply is
+//! made up, and no entry of another seat is lost. That a call returns is not proved: it may wait for another thread.
+//!
+//! It stands on `book`, and on the library `crossbeam_channel`. It is for a node's threads: channels, watchers and
+//! workers call one book.
+//!
+//! ```text
+//! let (desk, mut seats) = Desk::new(&rt, alloc, Book::new(alloc), 2)?;
+//! assert!(rt; sign(&rt, &desk, &mut seat, 0).err() == Some(SignError::PenaltiesMissing(0)));
+//! let state = desk.revoked(&rt, &mut worker, 0, 0)?;
+//! let set = penalties(alloc, &state)?;
+//! assert!(rt; desk.keep_set(&rt, &mut worker, 0, 0, set) == Ok(()));
+//! assert!(rt; sign(&rt, &desk, &mut seat, 0).is_ok());
+//! let book = desk.close(&rt, &mut seat);
+//! ```
+//!
+//! The test `keeps_penalties_by_another_seat` of `desk_tests` makes these calls.
+#![tactic(auto)]
+
+mod desk;
+mod rule;
+
+pub use desk::{Desk, DeskError, Seat};
+pub use rule::SeatView;
