@@ -33,6 +33,6 @@ returns-clause-reply g c =
     let number = c.requires.number in
     let back = c.put_back.ensures.back in
     let of : IsHistoryFor n (calls_in c.args.seat.now) (last_in c.args.seat.now) h =
-        record { accepted = taken.accepted; guarded = taken.guarded; mine = ap (λ m. calls_of m h) (sym number) ∙ taken.mine; since = taken.since } in
+    record { accepted = taken.accepted; guarded = taken.guarded; mine = ap (λ m. calls_of m h) (sym number) ∙ taken.mine; since = taken.since } in
     let out : (view c.put_back.new.pass).calls ≡ calls_of n x = ap (λ (v : SeatView). v.calls) back ∙ ap (λ (v : SeatView). calls_of v.number x) taken.out ∙ ap (λ m. calls_of m x) number in
     answers n (calls_in c.args.seat.now) _ (last_in c.args.seat.now) _ h x call (kept c.keep_set-reply.result) of out (ap (λ (v : SeatView). v.last) back) c.keep_set-reply.ensures
