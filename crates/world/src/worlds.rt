@@ -7,10 +7,14 @@ use crate::outcomes::Outcome;
 use crate::parts::Parts;
 use book::Book;
 use chain::Index;
+use channel::Message;
 use scenario::{Event, MAX_CHANNELS, Seeds};
+use side::DueClaim;
 use std::alloc::{AllocError, Global};
+use std::collections::VecDeque;
 use std::marker::Model;
 use terms::{ProposedTerms, Side};
+use tx::Tx;
 
 /// The world of two sides: their books and watches, the messages on their way, and the chain with its pool.
 #[derive(Drop)]
@@ -30,7 +34,7 @@ impl Model for World {
 }
 
 impl World {
-    ghost use Rattle.std.specs.Prelude.{◌≡◌, None, MatchResult};
+    ghost use Rattle.std.specs.Prelude.{◌≡◌, None, MatchResult, option_map, slice_get};
     ghost use Rattle.world.specs.Worlds.{node_of};
     ghost use Rattle.world.specs.Beginning.{beginning_refusal, IsBeginning, IsBeginningRefusal};
     ghost use Rattle.world.specs.Steps.{WorldSteps};
@@ -66,6 +70,38 @@ impl World {
         ensures { result.now ≡ self.now.chain }
     {
         &self.parts.chain
+    }
+
+    /// The transactions that wait for a block, in order.
+    pub fn pool(&self) -> &[Tx]
+        ensures { result.now ≡ self.now.pool }
+    {
+        &self.parts.pool
+    }
+
+    /// The messages on their way to a side in a channel, the oldest first; `None` where there is no such channel.
+    pub fn inbox(&self, side: Side, channel: u64) -> Option<&VecDeque<Message>>
+        ensures { option_map (λ inbox. inbox.now.items) result
+            ≡ option_map (λ line. line.inbox) (slice_get (node_of side self.now).lines channel) }
+    {
+        match self.parts.node(side).lines.get(channel as usize) {
+            Some(line) => Some(&line.inbox),
+            None => None,
+        }
+    }
+
+    /// The jobs of a side: the claims that nobody took yet, the oldest first.
+    pub fn jobs(&self, side: Side) -> &VecDeque<DueClaim>
+        ensures { result.now.items ≡ (node_of side self.now).jobs }
+    {
+        &self.parts.node(side).jobs
+    }
+
+    /// The claims that a side took and did not release yet, the oldest first.
+    pub fn taken(&self, side: Side) -> &VecDeque<DueClaim>
+        ensures { result.now.items ≡ (node_of side self.now).taken }
+    {
+        &self.parts.node(side).taken
     }
 
     // The Enforcement theorem at this moment, for proofs.
