@@ -18,9 +18,20 @@ fn words<R: Env + Alloc>(rt: &R) -> io::Result<Vec<String<R::A>, R::A>> {
     Ok(words)
 }
 
+/// Whether the words are those of a scenario on standard input.
+fn is_scenario(words: &[String]) -> bool {
+    match words {
+        [word] => word.as_str() == "scenario",
+        _ => false,
+    }
+}
+
 /// Runs the words that the program was called with. Words that are no text are wrong words.
 fn main(rt: HostRuntime) -> ExitCode {
     let status = match words(&rt) {
+        Ok(words) if is_scenario(words.as_slice()) => {
+            trace_scenario::run(rt.alloc(), &mut rt.stdin(), &mut rt.stdout())
+        }
         Ok(words) => run_words(
             rt.alloc(),
             words.as_slice(),

@@ -1,40 +1,11 @@
 //! What is printed for people, wrong words, and readers and writers that fail.
 
+use crate::fixtures::{Broken, Endless};
 use std::alloc::Global;
 use std::io;
 use std::process::Abort;
 use std::test::Fail;
 use trace_words::{USAGE, run_words};
-
-// A reader that gives zero bytes without an end, or fails.
-#[derive(Drop)]
-struct Endless {
-    fails: bool,
-}
-
-impl io::Read for Endless {
-    fn read(&mut self, bytes: &mut [u8]) -> io::Result<usize> {
-        if self.fails {
-            return Err(io::Error::from(io::ErrorKind::BrokenPipe));
-        }
-        bytes.fill(0);
-        Ok(bytes.len())
-    }
-}
-
-// A writer whose every write fails.
-#[derive(Drop)]
-struct Broken;
-
-impl io::Write for Broken {
-    fn write(&mut self, _bytes: &[u8]) -> io::Result<usize> {
-        Err(io::Error::from(io::ErrorKind::BrokenPipe))
-    }
-
-    fn flush(&mut self) -> io::Result<()> {
-        Ok(())
-    }
-}
 
 // The words of a call.
 fn words_of(alloc: Global, words: &[&str]) -> Result<Vec<String>, Fail> {

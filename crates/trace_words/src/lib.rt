@@ -38,7 +38,7 @@ use std::io::{Read, Write};
 pub use weights::{SIGNATURE_SIZE, TOKEN_SIZE, witness_weight};
 
 /// The line that wrong words get.
-pub const USAGE: &str = "usage: trace script [--text] [HEX]\n";
+pub const USAGE: &str = "usage: trace scenario | script [--text] [HEX]\n";
 
 /// Runs the program on its words (without its name) and answers its status: 0 when all scripts are listed, 1 for a refused script, refused input or a failed
 /// write, 2 for wrong words, which are found before any input is read. All that is told of a script is made before its first byte is written.

@@ -1,0 +1,139 @@
+//! Events that are played and told one after another.
+
+ghost use Rattle.std.specs.Prelude.{IfOk, ◌∷◌, []};
+ghost use Rattle.world.specs.Theorem.{IsPlay};
+
+use crate::claims::{tell_claims, tell_jobs};
+use crate::coins::Coins;
+use crate::messages::{tell_delivered, tell_kept, tell_own, tell_signed};
+use crate::mining::tell_mined;
+use crate::pool::Pool;
+use crate::writer::Line;
+use chain::Coins as _;
+use scenario::Event;
+use serde_json::Value;
+use std::alloc::{AllocError, Global};
+use std::slice;
+use terms::Side;
+use world::{Outcome, World};
+
+/// What has been told, as far as later lines depend on it.
+#[derive(Drop)]
+pub struct Told {
+    pub coins: Coins,
+    pub pool: Pool,
+}
+
+impl Told {
+    /// Nothing yet. It takes no memory.
+    pub fn new(alloc: Global) -> Told {
+        Told {
+            coins: Coins::new(alloc),
+            pool: Pool::new(alloc),
+        }
+    }
+
+    // New blocks came.
+    fn tell_blocks(&mut self, alloc: Global, line: &mut Line, world: &World, above: u64) {
+        self.pool.tell_left(line, world.pool());
+        tell_mined(alloc, world, &mut self.coins, line, above);
+    }
+
+    // The blocks above a height gave way to others.
+    fn tell_reorganised(&mut self, alloc: Global, line: &mut Line, world: &World, above: u64) {
+        self.pool.tell_all_left(line);
+        self.pool.tell_joined(line, world.pool());
+        line.name("undone");
+        line.open("[");
+        self.coins.back_to(line, above);
+        line.close("]");
+        tell_mined(alloc, world, &mut self.coins, line, above);
+    }
+
+    // A side looked.
+    fn tell_look(&self, line: &mut Line, world: &World, side: Side, outcome: &Outcome) {
+        if let Outcome::Looked { claims } = outcome {
+            tell_claims(line, &self.coins, world, side, *claims);
+        }
+        tell_jobs(line, world, side);
+    }
+
+    // A side released claims.
+    fn tell_release(&mut self, line: &mut Line, world: &World, side: Side) {
+        tell_jobs(line, world, side);
+        self.pool.tell_joined(line, world.pool());
+    }
+
+    // What an event changed that was not refused. The chain stood at this height before it.
+    fn tell_changes(
+        &mut self,
+        alloc: Global,
+        line: &mut Line,
+        world: &World,
+        before: u64,
+        event: &Event,
+        outcome: &Outcome,
+    ) {
+        match *event {
+            Event::Own { side, channel, .. } => tell_own(line, world, side, channel),
+            Event::Sign { side, channel } => tell_signed(line, world, side, channel),
+            Event::Deliver { side, channel } => tell_delivered(line, world, side, channel),
+            Event::Keep {
+                side,
+                channel,
+                number,
+            } => tell_kept(line, side, channel, number),
+            Event::Broadcast { .. } | Event::BroadcastHtlc { .. } => {
+                self.pool.tell_joined(line, world.pool())
+            }
+            Event::Blocks { .. } => self.tell_blocks(alloc, line, world, before),
+            Event::Look { side } => self.tell_look(line, world, side, outcome),
+            Event::Take { side, .. } => tell_jobs(line, world, side),
+            Event::Release { side, .. } => self.tell_release(line, world, side),
+            Event::Reorg { depth, .. } => {
+                self.tell_reorganised(alloc, line, world, before.saturating_sub(depth))
+            }
+        }
+    }
+
+    /// What became of an event, and what it changed. The chain stood at this height before it.
+    pub fn tell_event(
+        &mut self,
+        alloc: Global,
+        line: &mut Line,
+        world: &World,
+        before: u64,
+        event: &Event,
+        outcome: &Outcome,
+    ) {
+        line.count("height", world.chain().height());
+        if !matches!(outcome, Outcome::Refused(_)) {
+            self.tell_changes(alloc, line, world, before, event, outcome);
+        }
+        line.end();
+    }
+}
+
+/// An event is played: what became of it, alone in a list. The only error is that no memory was there for it: then the event was not played.
+pub fn played(world: &mut World, event: &Event) -> Result<Vec<Outcome>, AllocError>
+    ensures { IfOk result
+        (λ outcomes. IsPlay world.old (event.now ∷ []) outcomes.items world.new) }
+{
+    world.play(slice::from_ref(event))
+}
+
+/// The number of an event, its words and what became of it.
+pub fn tell_answer(alloc: Global, line: &mut Line, index: usize, words: &Value, outcome: &Outcome) {
+    line.open("{");
+    line.count("event", index as u64);
+    line.name("words");
+    match words.to_string(alloc) {
+        Ok(words) => line.json(words.as_str()),
+        Err(_) => line.fail(),
+    }
+    line.name("answer");
+    match outcome.to_string(alloc) {
+        Ok(answer) => line.word(answer.as_str()),
+        Err(_) => line.fail(),
+    }
+}
