@@ -1,0 +1,98 @@
+"""The tree of a channel's outputs: funding, the commitment that spends it, HTLC transactions and claims, each output coloured by who can spend it."""
+from drawing import element, escaped, figure, lines, told, words
+from story import kind_of, satoshis
+
+STEP = 13
+WIDE = 328
+MOST = 800
+BY = {"delay": "after the delay", "key": "with its key", "timeout": "by timeout", "preimage": "with the preimage", "revocation": "by revocation"}
+
+
+class Tree:
+    """What is drawn so far of a tree, from top to bottom."""
+
+    def __init__(self, story, now):
+        self.story, self.now = story, now
+        self.parts, self.y, self.left_out = [], 0, 0
+
+    def cell(self, states, told_of):
+        """A cell of what is said of a thing in each of its states, and what it is at this moment."""
+        cell = self.story.cells.new(None)
+        for event, state in states:
+            self.story.cells.set(cell, event, told_of(state))
+        return cell, self.story.cells.at(cell, self.now) or "absent|"
+
+    def output(self, output, depth, rail=None):
+        """An output with all that spends it. `rail` is where a line comes down to it from its transaction."""
+        if len(self.parts) >= MOST:
+            self.left_out += 1
+            return
+        left, top = STEP * depth, self.y
+        cell, state = self.cell(output.states, lambda it: f"{it}|{it}")
+        kind, status = state.split("|")
+        sides = output.sides if output.kind != "funding" else "AB"
+        elbow = [element("path", d=f"M{left - STEP + 8} {rail}V{top + 13}H{left}", class_="rail")] if rail else []
+        inside = [*elbow, *chip(sides, left, top)]
+        x = left + (40 if len(sides) == 2 else 26)
+        inside.append(element("text", element("tspan", satoshis(output.value), class_="strong"), escaped(f" {kind_of(output)}"), x=x, y=top + 17, class_="said"))
+        inside.append(element("text", escaped(status), x="100%", dx=-6, y=top + 17, class_="small soft end status", data_c=cell, data_part=1))
+        y = top + 22
+        for way in ways(output):
+            for line in lines(way, WIDE - x - 8, 12):
+                y += 15
+                inside.append(words(x, y - 4, line, "small soft"))
+        y += 4
+        ground = element("rect", x=left, y=top + 1, width="100%", height=y - top - 2, rx=5, class_=f"ground {sides}")
+        self.parts.append(element("g", told(heard(output)), ground, *inside, class_=f"output {kind}", role="listitem", data_c=cell, data_part=0))
+        self.y = y + 2
+        for spend in output.spenders:
+            self.spend(spend, depth + 1, left, top + 22, output is spend.inputs[0])
+
+    def spend(self, spend, depth, rail, top, first):
+        """A transaction, and the outputs that it makes. They stand below the first output that it spends; below the others it is named alone."""
+        left = STEP * depth
+        cell, state = self.cell(spend.states, lambda height: "absent|" if height is None else f"there|block {height:,}")
+        kind, status = state.split("|")
+        elbow = element("path", d=f"M{rail + 6} {top}V{self.y + 12}h{STEP - 6}", class_="rail")
+        name = [words(left + 4, self.y + 16 + 15 * number, line, "small strong") for number, line in enumerate(lines(spend.brief if first else f"{spend.brief}, see above", WIDE - left - 80, 12, bold=True))]
+        status = element("text", escaped(status), x="100%", dx=-6, y=self.y + 16, class_="small soft end status", data_c=cell, data_part=1)
+        fee = f", fee {satoshis(spend.fee)}" if spend.fee else ""
+        self.parts.append(element("g", told(f"{spend.said}{fee}; transaction {spend.txid}"), elbow, *name, status, class_=f"spend {kind}", role="listitem", data_c=cell, data_part=0))
+        self.y += 9 + 15 * len(name)
+        rail = self.y - 3
+        for output in spend.outputs if first else []:
+            self.output(output, depth + 1, rail)
+
+
+def chip(sides, left, top):
+    """Who can spend an output, as a letter on the side's colour; two where both can."""
+    found = []
+    for number, side in enumerate(sides):
+        found.append(element("rect", x=left + 4 + 15 * number, y=top + 5, width=16, height=16, rx=3, class_=f"chip {side}"))
+        found.append(words(left + 12 + 15 * number, top + 17, side, f"small middle strong on {side}"))
+    return found
+
+
+def ways(output):
+    """Who can spend an output, how and from which block on, a line each."""
+    if output.kind in ("wallet", "funding"):
+        return []
+    return [f"{it['side']} {BY.get(it['by'], it['by'])}, from block {it['due']:,}" for it in output.ways]
+
+
+def heard(output):
+    return f"{kind_of(output)} of {satoshis(output.value)}: {'; '.join(ways(output)) or 'of ' + ' and '.join(output.sides)}. Outpoint {output.outpoint}"
+
+
+def picture(story, channel, now, wide=None, headed=False):
+    """A channel's tree, with its number above it or not."""
+    tree = Tree(story, now)
+    if headed:
+        tree.parts.append(words(0, 14, f"Outputs of channel {channel.number}", "strong"))
+        tree.y = 22
+    tree.output(channel.funding, 0)
+    if tree.left_out:
+        tree.parts.append(words(4, tree.y + 16, f"{tree.left_out:,} more outputs are not drawn", "small strong"))
+        tree.y += 24
+    title = f"The outputs of channel {channel.number}"
+    return tree.y + 4, figure(tree.parts, wide, tree.y + 4, title, "A tree from top to bottom: the funding output, the commitment that spends it, its outputs, and what spends each of them.", "tree", "list")

@@ -1,0 +1,209 @@
+"""The page around the pictures: one HTML text that stands alone, and pictures that stand alone."""
+import json
+import pathlib
+import re
+
+import band
+import outputs
+import script_tree
+import sequence
+from drawing import element, escaped, figure
+from story import many, satoshis
+
+HERE = pathlib.Path(__file__).resolve().parent
+WINDOW = 200
+NARROW, WIDE, OPCODES = 328, 820, 328
+
+
+def part(name):
+    return (HERE / name).read_text(encoding="utf-8")
+
+
+def document(title, inside):
+    """A page of HTML. Nothing in it is fetched from anywhere."""
+    return "\n".join(
+        [
+            "<!doctype html>",
+            '<html lang="en" class="noscript">',
+            "<head>",
+            '<meta charset="utf-8">',
+            '<meta name="viewport" content="width=device-width, initial-scale=1">',
+            "<meta http-equiv=\"Content-Security-Policy\" content=\"default-src 'none'; style-src 'unsafe-inline'; script-src 'unsafe-inline'\">",
+            '<link rel="icon" href="data:,">',
+            f"<title>{escaped(title)}</title>",
+            f"<style>\n{part('picture.css')}{part('page.css')}</style>",
+            "</head>",
+            "<body>",
+            *inside,
+            "</body>",
+            "</html>",
+            "",
+        ]
+    )
+
+
+def definitions():
+    """What the pictures of a page share."""
+    return f'<svg width="0" height="0" style="position:absolute" aria-hidden="true">{sequence.markers()}{band.stripes()}</svg>'
+
+
+def scenario(story):
+    """The page of a scenario."""
+    count = len(story.rows)
+    rows = [sequence.drawn(row, len(story.channels)) for row in story.rows]
+    now = min(count, WINDOW) - 1
+    title = f"A scenario of {many(count, 'event')} and {many(len(story.channels), 'channel')}"
+    bands = [band.picture(story, channel, now)[1] for channel in story.channels]
+    trees = [(channel, outputs.picture(story, channel, now)[1]) for channel in story.channels]
+    left = [*left_part(story, rows, now)]
+    right = ['<section class="state" aria-label="How all stands after this event" tabindex="0">', "<h2>Who owns the money</h2>"]
+    right += ['<p class="soft">Off the chain by each side\'s newest commitment, before its fees. On the chain an output is undecided while both sides can spend it.</p>', *bands]
+    right.append(panel(story, now))
+    for channel, tree in trees:
+        right += [f"<h2>Outputs of channel {channel.number}</h2>", tree]
+    right.append("</section>")
+    head = [f"<header><h1>{escaped(title)}</h1>", f'<p class="soft">{escaped(ending(story))}</p></header>']
+    inside = [definitions(), *head, "<main>", controls(story, now), '<div class="parts">', *left, *right, "</div>", "</main>", foot()]
+    if count:
+        inside += [data(story, rows, now), f"<script>\n{part('page.js')}</script>"]
+    return document(title, inside)
+
+
+def left_part(story, rows, now):
+    """The sequence, or the first part of a long one."""
+    high, picture = sequence.picture(story, rows[:WINDOW], 0, now)
+    note = f"Events 0 to {WINDOW - 1} of {len(rows):,} are drawn." if len(rows) > WINDOW else ""
+    choose = '<span class="more">The slider, the arrow keys or a click choose an event.</span>'
+    heads = element("svg", *sequence.heads(), width="100%", height=sequence.HEAD, aria_hidden="true")
+    return ['<section aria-label="What happens">', "<h2>What happens</h2>", f'<p class="soft"><span id="window">{note}</span> {choose}</p>', f'<div class="heads">{heads}</div>', picture, "</section>"]
+
+
+def controls(story, now):
+    """The slider over the events, and what the event is where it stands."""
+    if not story.rows:
+        return '<p class="soft">There are no events.</p>'
+    said = escaped(sequence.heard(story.rows[now], len(story.channels)))
+    return (
+        '<div class="controls"><div class="bar"><button id="before" type="button" aria-label="The event before">&#8592;</button>'
+        f'<input id="event" type="range" min="0" max="{len(story.rows) - 1}" value="{now}" step="1" aria-label="Event" aria-valuetext="{said}">'
+        '<button id="after" type="button" aria-label="The next event">&#8594;</button></div>'
+        f'<output id="said" for="event" aria-live="polite">{said}</output></div>'
+    )
+
+
+PANEL = {"height": "chain", "pool": "in the pool", "jobs": "jobs", "kept": "penalties", "commitments": "commitments", "htlcs": "HTLCs", "way": "on the way"}
+
+
+def panel(story, now):
+    """How all stands: a list of names and values."""
+    found = ["<h2>How all stands</h2>", "<dl>"]
+    found += [entry(PANEL[name], cell, story, now) for name, cell in story.panel.items()]
+    for channel in story.channels:
+        place = f"ch {channel.number}: " if len(story.channels) > 1 else ""
+        found += [entry(place + PANEL[name], cell, story, now) for name, cell in channel.cells.items() if name in PANEL]
+    found.append("</dl>")
+    return "".join(found)
+
+
+def entry(name, cell, story, now):
+    return f'<dt>{name}</dt><dd data-c="{cell}">{escaped(story.cells.at(cell, now))}</dd>'
+
+
+def ending(story):
+    """How the run ends, in a sentence."""
+    if story.end is None:
+        return "The trace breaks off before its end."
+    end = story.end
+    refused = sum(row.refused for row in story.rows)
+    said = f"It ends at height {end['height']:,} with {many(end['unspent'], 'unspent output')} worth {satoshis(end['value'])}, and {satoshis(end['fees'])} of fees."
+    return said + (f" {many(refused, 'event')} {'was' if refused == 1 else 'were'} refused." if refused else "")
+
+
+def foot():
+    return (
+        "<footer><p>The arrow keys, Home and End move over the events, as the slider does. Blue and the letter A mean side A, orange and the letter B side B. "
+        "A dashed arrow is a message that leaves, a whole one a message that arrives, or a transaction or a look that reaches the chain; a square is something that a side does for itself, a cross a refusal. "
+        "HTLC A0 is the first one that A offered in its channel.</p></footer>"
+    )
+
+
+def data(story, rows, now):
+    """All rows and cells, for the script of the page."""
+    texts, numbers, cells = [], {}, []
+    for history in story.cells.histories:
+        line = []
+        for event, value in history:
+            value = "absent|" if value is None else value
+            if value not in numbers:
+                numbers[value] = len(texts)
+                texts.append(value)
+            line += [event, numbers[value]]
+        cells.append(line)
+    text = json.dumps({"first": 0, "now": now, "rows": rows, "texts": texts, "cells": cells}, separators=(",", ":"), ensure_ascii=False)
+    return f'<script type="application/json" id="data">{text.replace("<", chr(92) + "u003c")}</script>'
+
+
+def scripts(objects):
+    """The page of scripts."""
+    title = headed(objects[0]) if len(objects) == 1 else many(len(objects), "script")
+    inside = [f"<header><h1>{escaped(title)}</h1></header>", "<main>"]
+    for number, script in enumerate(objects):
+        if len(objects) > 1:
+            inside.append(f"<h2>{number}: {headed(script)}</h2>")
+        inside += ['<div class="parts script">', '<section aria-label="Opcodes">', "<h2>Opcodes</h2>", script_tree.opcodes(script, OPCODES), "</section>"]
+        inside += ['<section aria-label="Paths">', "<h2>Paths</h2>"]
+        if "paths" in script:
+            for kind, wide in (("narrow", NARROW), ("wide", WIDE)):
+                inside.append(f'<div class="{kind}">{script_tree.paths(script, wide)}</div>')
+        else:
+            inside.append(f"<p>{escaped(script_tree.refusal(script))}</p>")
+        inside += ["</section>", "</div>"]
+    inside += ["</main>"]
+    return document(title, inside)
+
+
+def headed(script):
+    size = script_tree.size_of(script)
+    return size[:1].upper() + size[1:]
+
+
+def alone(wide, high, title, description, inside):
+    """A picture that stands alone, with its own styles and ground."""
+    ground = element("rect", width="100%", height="100%", class_="page")
+    style = f"<style>{re.sub(r'/[*].*?[*]/', '', part('picture.css'), flags=re.S).strip()}</style>"
+    shared = sequence.markers() + band.stripes()
+    whole = figure([style, shared, ground, *inside], wide, high, title, description, "alone")
+    # a line for each shape, so that a change is a small one
+    return re.sub(r">(?=<(?:g|rect|path|text|line|circle|svg|defs|style)\b)", ">\n", whole) + "\n"
+
+
+def at(x, y, wide, picture):
+    """A picture in a place of another one."""
+    return picture.replace("<svg ", f'<svg x="{x}" y="{y}" ', 1).replace('width="100%"', f'width="{wide}"', 1)
+
+
+def scenario_alone(story, name):
+    """The picture of a scenario: its sequence, and beside it the bands and trees, as all stands at the end."""
+    now, margin, column = len(story.rows) - 1, 16, 400
+    rows = [sequence.drawn(row, len(story.channels)) for row in story.rows[:WINDOW]]
+    high, picture = sequence.picture(story, rows, 0, None)
+    heads = element("svg", *sequence.heads(), width="100%", height=sequence.HEAD)
+    inside = [at(margin, 8, column, heads), at(margin, 8 + sequence.HEAD, column, picture)]
+    y, x = 8, 2 * margin + 24 + column
+    several = len(story.channels) > 1
+    drawn = [band.picture(story, it, now) for it in story.channels] + [outputs.picture(story, it, now, headed=several) for it in story.channels]
+    for tall, picture in drawn:
+        inside.append(at(x, y, column, picture))
+        y += tall + 20
+    title = f"The scenario {name}" if name else "A scenario"
+    whole = max(high + sequence.HEAD + 24, y)
+    return alone(x + column + margin, whole, title, f"{many(len(story.rows), 'event')}. {ending(story)}", inside)
+
+
+def script_alone(script):
+    """The picture of a script: its opcodes, and beside them the tree of its paths."""
+    left, right = script_tree.opcodes(script, OPCODES), script_tree.paths(script, 560) if "paths" in script else None
+    highs = [int(it.split(' height="', 1)[1].split('"', 1)[0]) for it in (left, right) if it]
+    inside = [at(16, 12, OPCODES, left)] + ([at(OPCODES + 48, 12, 560, right)] if right else [])
+    wide = OPCODES + 32 + (592 if right else 0)
+    return alone(wide, max(highs) + 24, headed(script), "Its opcodes, and beside them the tree of its paths.", inside)
