@@ -1,64 +1,25 @@
 // A channel of A, whose book stands behind a desk, and of B, whose book is its own.
 
-ghost use Rattle.std.specs.Prelude.{◌≡◌, ◌<◌, All};
-ghost use Rattle.keys.specs.declared.bases.Base.TheVariants.{Funding};
-ghost use Rattle.keys.specs.Derivation.{base_key};
-ghost use Rattle.terms.specs.Agreement.{party};
-ghost use Rattle.terms.specs.Sides.{other};
+ghost use Rattle.std.specs.Prelude.{◌<◌, All};
 ghost use Rattle.desk.specs.Seats.{IsSeatOf};
 
 use book::errors::{SignError, StepError};
 use book::{Book, Call, Opening, Reply, Step};
-use channel::{Message, opening_points, opening_token};
+use book_peers::{Opened, open_side};
+use channel::Message;
 use desk::{Desk, Seat};
-use keys::{Key, Signer};
-use parties::{FUNDING, party};
+use keys::Key;
 use std::alloc::Global;
 use std::process::Abort;
 use std::sync::Wait;
-use terms::{Side, Terms};
-use tx::OutPoint;
+use terms::Side;
 use updates::{OwnUpdate, Update};
 
-// The channel of a number, of two signers.
-fn terms_of(rt: &impl Abort, number: u32, a: &Signer, b: &Signer) -> Terms
-    ensures a { result.a.bases.funding.bytes ≡ base_key a.now.seed Funding }
-    ensures b { result.b.bases.funding.bytes ≡ base_key b.now.seed Funding }
-{
-    let (of_a, of_b) = (party(a, 80_000_000), party(b, 20_000_000));
-    let funding = OutPoint {
-        index: number,
-        ..FUNDING
-    };
-    parties::terms_of(funding, 100_000, of_a, of_b).expect(rt, "terms")
-}
-
-// What a side opens the channel with.
-fn opening_of(
-    rt: &impl Abort,
-    alloc: Global,
-    terms: &Terms,
-    side: Side,
-    seed: [u8; 32],
-    peer: &Signer,
-) -> Opening
-    requires { (party (other side) terms.now).bases.funding.bytes ≡ base_key peer.now.seed Funding }
-{
-    let point = opening_points(&Signer::new(alloc, &seed)).first;
-    let token = opening_token(alloc, terms, side.other(), peer, &point).expect(rt, "a token");
-    let points = opening_points(peer);
-    let (first, next) = (points.first, points.second);
-    Opening::new(alloc, *terms, side, seed, first, next, token).expect(rt, "an opening")
-}
-
-/// How a side opens the channel of a number. The sides have the seeds 01..01 and 02..02.
+/// How a side opens the channel of a number.
 pub(crate) fn opening(rt: &impl Abort, alloc: Global, number: u32, side: Side) -> Opening {
-    let (a, b) = (Signer::new(alloc, &[1; 32]), Signer::new(alloc, &[2; 32]));
-    let terms = terms_of(rt, number, &a, &b);
-    match side {
-        Side::A => opening_of(rt, alloc, &terms, Side::A, [1; 32], &b),
-        Side::B => opening_of(rt, alloc, &terms, Side::B, [2; 32], &a),
-    }
+    let Opened { opening, channel } = open_side(alloc, number, side).expect(rt, "an opening");
+    drop(channel);
+    opening
 }
 
 /// An offer of an HTLC, until a height.

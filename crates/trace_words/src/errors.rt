@@ -8,9 +8,12 @@ use thiserror::Error;
 /// Why input is refused: what `enforce` prints after its word `refused`.
 #[derive(Debug, Drop, Error)]
 pub enum TraceError {
-    /// Memory ran out.
-    #[error("NoMemory")]
-    NoMemory,
+    /// The input has more than 4,194,304 bytes.
+    #[error("TooLong")]
+    TooLong,
+    /// The input can't be read.
+    #[error("ReadFailed")]
+    ReadFailed,
     /// A text is not hexadecimal.
     #[error("BadHex")]
     BadHex,
@@ -20,12 +23,9 @@ pub enum TraceError {
     /// The script is not listed.
     #[error("{0}")]
     Check(CheckError),
-    /// The input has more than 4,194,304 bytes.
-    #[error("TooLong")]
-    TooLong,
-    /// The input can't be read.
-    #[error("ReadFailed")]
-    ReadFailed,
+    /// Memory ran out.
+    #[error("NoMemory")]
+    NoMemory,
 }
 
 impl From<AllocError> for TraceError {
