@@ -24,7 +24,7 @@
 //! let book = desk.close(&rt, &mut seat);
 //! ```
 //!
-//! The test `keeps_penalties_by_another_seat` of `desk_tests` makes these calls.
+//! These calls stand in no crate that is proved yet.
 #![tactic(auto)]
 
 mod desk;
