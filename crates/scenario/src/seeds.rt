@@ -4,7 +4,7 @@ ghost use Rattle.std.specs.Prelude.{◌≡◌};
 
 use terms::Side;
 
-/// The seeds from which the two sides derive their keys, each channel's from a seed of its own.
+/// The two sides' seeds, of which the seed of each channel is derived, and from it the keys.
 #[derive(Clone, Copy, Debug, PartialEq, Eq, Drop)]
 pub struct Seeds {
     pub a: [u8; 32],
