@@ -1,4 +1,5 @@
 //! Limits of books.
 
-/// How many channels a book has at most.
+/// The greatest number of channels of a
+/// book.
 pub const MAX_CHANNELS: usize = 65_536;

@@ -1,5 +1,4 @@
--- Events and scenarios with distinct values in all their parts, and values that just miss the
--- shape.
+-- Events and scenarios with distinct values in all their parts, and values that just miss the shape.
 use Rattle.std.proofs.Common.{◌≡◌, ℕ, List, [], ◌∷◌, Some, None, codes, refl}
 use Rattle.std.specs.Prelude.{replicate}
 use Rattle.hex.proofs.OnLiterals.{hex_on_literals}

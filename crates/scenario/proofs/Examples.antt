@@ -1,5 +1,4 @@
--- Values on both sides of the limits, the order of the refusals, and whole
--- texts.
+-- Values on both sides of the limits, the order of the refusals, and whole texts.
 use Rattle.std.proofs.Common.{◌≡◌, ℕ, true, false, List, [], ◌∷◌, ◌++◌, replicate, map, Ok, Err, codes, refl}
 use Rattle.std.specs.Str.{chars, is_utf8}
 use Rattle.hex.proofs.OnLiterals.{hex_on_literals}
@@ -39,8 +38,7 @@ blocks : (map has_few_blocks (Blocks 0 ∷ Blocks 10000 ∷ Blocks 10001 ∷ Blo
     × (map has_few_blocks (Broadcast A 20000 20000 ∷ BroadcastHtlc A 20000 20000 20000 ∷ Look A ∷ Take A 20000 ∷ Release A 20000 ∷ Reorg 20000 20000 ∷ []) ≡ replicate 6 true)
 blocks = (refl, refl, refl)
 
--- terms of a capacity of one satoshi, whose sides begin with 999 and with this
--- number of millisatoshis
+-- terms of a capacity of one satoshi, whose sides begin with 999 and with this number of millisatoshis
 abbrev terms : ℕ → ProposedTerms
 terms b = record {
   capacity = 1;

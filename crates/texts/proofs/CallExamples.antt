@@ -1,5 +1,4 @@
--- Calls, entries and dumps with distinct values in all their parts, and values that just miss the
--- shape.
+-- Calls, entries and dumps with distinct values in all their parts, and values that just miss the shape.
 use Rattle.std.proofs.Common.{◌≡◌, ℕ, ◌+◌, ◌*◌, ◌^◌, true, false, List, [], ◌∷◌, ◌++◌, Option, Some, None, codes, refl}
 use Rattle.std.specs.Prelude.{replicate, is_some}
 use Rattle.hex.proofs.OnLiterals.{hex_on_literals}

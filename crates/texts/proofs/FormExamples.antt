@@ -1,5 +1,4 @@
--- The shapes with distinct values in all their parts, and values that just miss a
--- shape.
+-- The shapes with distinct values in all their parts, and values that just miss a shape.
 use Rattle.std.proofs.Common.{◌≡◌, ℕ, List, [], ◌∷◌, Option, Some, None, codes, refl}
 use Rattle.std.specs.Prelude.{replicate}
 use Rattle.hex.proofs.OnLiterals.{hex_on_literals}

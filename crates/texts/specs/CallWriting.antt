@@ -148,8 +148,7 @@ OpeningsComeBack = (o : PlainOpening) → IsOpening o → call_of (open_data o) 
 abbrev pub OwnStepsComeBack : Type 0
 OwnStepsComeBack = (channel : ℕ) (u : OwnUpdate) → IsOwnUpdate u → call_of (own_data channel u) ≡ Some (Step channel (Own u))
 
--- an update that is read back alone is also read back as a received
--- message
+-- an update that is read back alone is also read back as a received message
 abbrev pub UpdatesAreReceived : Type 0
 UpdatesAreReceived = (u : Update) → update_of (update_data u) ≡ Some u → received_of (update_data u) ≡ Some (Updated u)
 

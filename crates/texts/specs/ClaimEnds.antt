@@ -16,7 +16,6 @@ claim_from path place form = do
   shell ← member_of (codes "shell") shell_of form
   Some (record { script = script; path = path; slots = slots; place = place; shell = shell })
 
--- the result completes the claim, with any path and
--- place
+-- the result completes the claim, with any path and place
 abbrev pub Ends : Result ClaimEnd ShapeError → Data → Type 0
 Ends result form = (path : ℕ) (place : Place) → Gives (λ (end : ClaimEnd). record { script = end.script; path = path; slots = end.slots; place = place; shell = end.shell }) result (claim_from path place form)

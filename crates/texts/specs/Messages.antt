@@ -1,5 +1,4 @@
--- Updates in JSON, with the fields of BOLT 2's messages: arrays whose first item is the message's
--- name.
+-- Updates in JSON, with the fields of BOLT 2's messages: arrays whose first item is the message's name.
 use Rattle.std.specs.Prelude.{ℕ, if◌then◌else◌, List, Option, Some, None, codes}
 use Rattle.std.specs.Str.{bytes_eq}
 use Rattle.serde_json.specs.Data.{Data}
