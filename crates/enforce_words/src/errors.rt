@@ -20,7 +20,7 @@ pub enum CommandError {
     /// The bytes are no script.
     #[error("{0}")]
     Parse(ParseError),
-    /// The script is not listed.
+    /// The script's paths can't be listed.
     #[error("{0}")]
     Check(CheckError),
     /// The input has more than 4,194,304 bytes.

@@ -5,7 +5,7 @@ use std::alloc::{AllocError, Global};
 use std::fmt;
 use std::fmt::Write;
 
-// A number, or `-` where there is none.
+// A number, printed as `-` if there is none.
 #[derive(Drop)]
 struct OrDash(Option<u64>);
 
@@ -18,7 +18,8 @@ impl fmt::Display for OrDash {
     }
 }
 
-/// How many paths there are, then each path with its facts, a line each.
+/// The number of paths, followed by each path with its facts, a line
+/// each.
 pub fn paths_text(alloc: Global, paths: &[Path]) -> Result<String, AllocError> {
     let count = paths.len();
     let mut text = format!(in alloc; "paths {count}\n")?;
@@ -28,7 +29,7 @@ pub fn paths_text(alloc: Global, paths: &[Path]) -> Result<String, AllocError> {
     Ok(text)
 }
 
-// One path with its facts.
+// Appends one path with its facts.
 fn push_path(text: &mut String, k: usize, path: &Path) -> Result<(), AllocError> {
     let (arity, ops, height) = (path.arity, path.ops, path.height);
     let lock = OrDash(path.lock);

@@ -12,7 +12,7 @@ pub enum TraceError {
     NoMemory,
     /// A line can't be written.
     WriteFailed,
-    /// The input is refused: it has more than 4,194,304 bytes.
+    /// The input has more than 4,194,304 bytes.
     TooLong,
     /// The input can't be read.
     ReadFailed,
