@@ -27,8 +27,8 @@ pub record Raised (v : SeatView) (raised : Mark) (w : SeatView) : Type 0 where
   pub no_ticket : after.draws ≡ before.draws
   pub added : w ≡ knows v.shares v.drawn (v.raised ++ raised ∷ []) v.looked
 
--- the top was looked up: it is the seat's newest look, not below what the seat raised or looked up before, and some seat raised it (or it is
--- (0, 0))
+-- the top was looked up: it is the seat's newest look, not below what the
+-- seat raised or looked up before, and some seat raised it (or it is (0, 0))
 pub record Looked (v : SeatView) (found : Mark) (w : SeatView) : Type 0 where
   pub before : Standing
   pub after : Standing

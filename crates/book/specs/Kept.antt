@@ -6,8 +6,8 @@ use Rattle.book.specs.declared.calls.Entry.{Entry}
 use Rattle.book.specs.Books.{ChannelBook, Channels, is_kept, replay}
 use Rattle.book.specs.Accepted.{all_accepted}
 
--- by number, a flag says whether the number is kept, and no number past the flags is; all numbers below `below` are kept, and `below` is
--- not
+-- by number, a flag says whether the number is kept, and no number past
+-- the flags is; all numbers below `below` are kept, and `below` is not
 pub record AreFlags (kept : List ℕ) (flags : List Bool) (below : ℕ) : Type 0 where
   pub each : (n : ℕ) → n < length flags → slice_get flags n ≡ Some (is_kept kept n)
   pub later : (n : ℕ) → length flags ≤ n → is_kept kept n ≡ false

@@ -62,7 +62,7 @@ abbrev pub history_in_dump : Signing → Result PlainDump LoadError → Result (
 history_in_dump tokens_of (Ok dump) = history_after_plain tokens_of 0 [] dump.history
 history_in_dump tokens_of (Err e) = Err e
 
--- the history that a text is loaded as: it is valid JSON, the whole value has a dump's shape, and then entries are taken in order, each one's claims
--- first
+-- the history that a text is loaded as: it is valid JSON, the whole value has
+-- a dump's shape, and then entries are taken in order, each one's claims first
 unfoldable pub loaded : Signing → List ℕ → Result (List Entry) LoadError
 loaded tokens_of text = history_in_dump tokens_of (dump_in text)

@@ -6,8 +6,8 @@ use crate::history::Book;
 use channel::Message;
 use filling::Filled;
 
-/// A book's reply to a call: the result of the method that the call is named
-/// after.
+/// A book's reply to a call: the result of
+/// the method that the call is named after.
 #[derive(Drop)]
 pub enum Reply {
     /// The channel's index.

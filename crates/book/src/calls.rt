@@ -94,8 +94,8 @@ impl Batch {
     ghost use Rattle.book.specs.Bounds.{CanRelease};
     ghost use Rattle.book.specs.Calls.{IsBatchOf};
 
-    /// Claims with the outputs of their transaction and the preimages. `None` where there is no claim, or there are more than 4,000 claims or outputs. Does not
-    /// allocate.
+    /// Claims with the outputs of their transaction and the preimages. `None` where there
+    /// is no claim, or there are more than 4,000 claims or outputs. Does not allocate.
     pub fn new(
         claims: List<Claim>,
         outputs: List<TxOut>,

@@ -44,8 +44,8 @@ fn has_parts(
         && is_same_view(&state.view, &commitment.view)
 }
 
-/// Whether a state is the peer's commitment of a number, with the secret that revokes it. Builds no
-/// commitment.
+/// Whether a state is the peer's commitment of a number,
+/// with the secret that revokes it. Builds no commitment.
 pub(crate) fn is_state_at(channel: &Channel, number: u64, state: &RevokedState) -> bool
     ensures { IsTrue result ↔ IsStateAt channel.now number state.now }
 {

@@ -2,8 +2,8 @@
 
 ghost use Rattle.std.specs.Prelude.{◌≡◌, ◌<◌, ◌≤◌, ℕ, length, slice_get, Some, true, false};
 
-// The first number from `from` on whose flag is not set, or the number of flags if
-// all are.
+// The first number from `from` on whose flag is
+// not set, or the number of flags if all are.
 pub(crate) fn first_unset(flags: &[bool], from: usize) -> usize
     requires { from ≤ length flags.now }
     ensures from { from ≤ result }

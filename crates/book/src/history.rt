@@ -66,8 +66,8 @@ impl Book {
         }
     }
 
-    /// The history, the oldest entry first. Each entry's call was accepted after the entries before it. The penalties of each revoked commitment were kept after its revocation and before the channel's next
-    /// signature.
+    /// The history, the oldest entry first. Each entry's call was accepted after the entries before it. No signature stands after a revocation in its channel
+    /// unless the penalties of the revoked commitment were kept between the two.
     pub fn entries(&self) -> &[Entry]
         ensures value { result.now ≡ self.now }
         ensures accepted { all_accepted peer_tokens self.now ≡ true }

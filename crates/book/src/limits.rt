@@ -1,5 +1,4 @@
 //! Limits of books.
 
-/// The greatest number of channels of a
-/// book.
+/// The most channels that a book has.
 pub const MAX_CHANNELS: usize = 65_536;

@@ -48,8 +48,8 @@ fn checked_of(alloc: Global, bytes: &[u8]) -> Result<Checked, EntryError>
     }
 }
 
-/// Reads and checks the script of a plain claim, and accepts the claim anew. `BadClaim` where one of these is refused for another reason than
-/// memory.
+/// Reads and checks the script of a plain claim, and accepts the claim anew.
+/// `BadClaim` where one of these is refused for another reason than memory.
 pub fn claim_of(alloc: Global, plain: PlainClaim) -> Result<Claim, EntryError>
     ensures { Takes result (claim_of plain) }
 {

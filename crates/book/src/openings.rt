@@ -37,8 +37,8 @@ fn terms_of(alloc: Global, plain: &PlainOpening) -> Option<Terms>
     plain.terms.agreed(plain.funding, a, b)
 }
 
-/// The opening that a plain one stands for, with the base keys of its seed as its own. `None` where the sides can't agree on the terms. Does
-/// not allocate.
+/// The opening that a plain one stands for, with the base keys of its seed as
+/// its own. `None` where the sides can't agree on the terms. Does not allocate.
 pub fn opening_of(alloc: Global, plain: &PlainOpening) -> Option<Opening>
     ensures { result ≡ opening_of plain.now }
 {

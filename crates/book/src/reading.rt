@@ -25,8 +25,8 @@ fn value_in(alloc: Global, text: &str) -> Result<Value, LoadError>
     }
 }
 
-/// Reads the dump in a text: `NotJson`, or `BadShape` where the value does not have the
-/// shape.
+/// Reads the dump in a text: `NotJson`, or `BadShape`
+/// where the value does not have the shape.
 pub(crate) fn dump_in(alloc: Global, text: &str) -> Result<PlainDump, LoadError>
     ensures { Loads result (dump_in text.now) }
 {

@@ -10,8 +10,8 @@ use channel::{Channel, CommitmentState};
 use penalty::RevokedState;
 use std::alloc::AllocError;
 
-// The state of a commitment of the peer and the secret that revokes it. The only error is that memory ran
-// out.
+// The state of a commitment of the peer and the secret
+// that revokes it. The only error is that memory ran out.
 fn revoked_by(
     channel: &Channel,
     commitment: &CommitmentState,

@@ -17,8 +17,8 @@ use updates::OwnUpdate;
 /// The seat of all calls.
 pub const SEAT: u32 = 0;
 
-/// The second channel of a channel in the book, and the messages that came for it and were not received
-/// yet.
+/// The second channel of a channel in the book, and the
+/// messages that came for it and were not received yet.
 #[derive(Drop)]
 struct Line {
     channel: Channel,

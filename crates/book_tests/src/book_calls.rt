@@ -50,8 +50,8 @@ fn takes_the_secret_of_the_seed_alone(rt: HostRuntime) {
     assert_eq!(rt; b.entries().len(), 3);
 }
 
-// A's book offers an HTLC and signs it to a new book of B's. Returns the revocation in
-// B's answer.
+// A's book offers an HTLC and signs it to a new book
+// of B's. Returns the revocation in B's answer.
 pub(crate) fn answered(rt: &impl Abort, alloc: Global, a: &mut Book) -> Revocation {
     let mut b = opened(rt, alloc, Side::B);
     offered(rt, a, &mut b)
@@ -147,8 +147,8 @@ fn release_refusal(
     book.release(2, 0, batch).err()
 }
 
-// The penalties of a revoked commitment are filled by the channel's signer, and by no
-// other.
+// The penalties of a revoked commitment are filled
+// by the channel's signer, and by no other.
 #[test]
 fn releases_penalties(rt: HostRuntime) {
     let alloc = rt.alloc();

@@ -48,8 +48,8 @@ fn keeps_a_built_set_once(rt: HostRuntime) {
     assert_eq!(rt; a.entries().len(), 5);
 }
 
-// Only the low 48 bits of a number count (BOLT 3). A state with other bits above them is not the book's own, but its
-// claims are.
+// Only the low 48 bits of a number count (BOLT 3). A state with
+// other bits above them is not the book's own, but its claims are.
 #[test]
 fn keeps_the_same_claims_of_another_state(rt: HostRuntime) {
     let alloc = rt.alloc();

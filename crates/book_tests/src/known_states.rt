@@ -88,8 +88,8 @@ fn knows_no_other_channel(rt: HostRuntime) {
     assert!(rt; has_the_funding(&rt, rt.alloc(), &book));
 }
 
-// The peer's commitment with the HTLC is its next one, until the peer revokes the first, whose penalties are
-// then kept.
+// The peer's commitment with the HTLC is its next one, until
+// the peer revokes the first, whose penalties are then kept.
 #[test]
 fn knows_what_is_revoked_and_kept(rt: HostRuntime) {
     let alloc = rt.alloc();

@@ -9,8 +9,8 @@ use std::alloc::Global;
 use std::process::Abort;
 use texts::{PlainDump, ReadValue};
 
-// An entry that keeps a claim on a script of CHECKSIG, whose two slots are a key and
-// its token.
+// An entry that keeps a claim on a script of
+// CHECKSIG, whose two slots are a key and its token.
 const FRONT: &str =
     "{\"history\":[{\"call\":[\"keep\",0,0,[{\"outpoint\":\"0707070707070707070707070707070707070707070707070707070707070707:1\",\"path\":";
 
@@ -25,8 +25,8 @@ fn keeping(rt: &impl Abort, alloc: Global, middle: &str) -> String {
 const GOOD: &str =
     "0,\"program\":\"0020ee6bb86b44339392bae631c8f61dd8f009243c635adab33c0b20923a2794bf22\",\"script\":\"ac\"";
 
-// Path 9, a program of zeros, a byte that is not an opcode, and an IF without its
-// ENDIF.
+// Path 9, a program of zeros, a byte that is
+// not an opcode, and an IF without its ENDIF.
 const DAMAGED: [&str; 4] = [
     "9,\"program\":\"0020ee6bb86b44339392bae631c8f61dd8f009243c635adab33c0b20923a2794bf22\",\"script\":\"ac\"",
     "0,\"program\":\"00200000000000000000000000000000000000000000000000000000000000000000\",\"script\":\"ac\"",

@@ -1,5 +1,5 @@
-// Proposed terms that tests share, and a hash: SHA-256 of 32 zero bytes (Python's
-// hashlib).
+// Proposed terms that tests share, and a hash:
+// SHA-256 of 32 zero bytes (Python's hashlib).
 use terms::{ProposedParty, ProposedTerms, Side};
 
 pub(crate) const HASH: [u8; 32] = [

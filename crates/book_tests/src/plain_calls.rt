@@ -46,8 +46,8 @@ fn entry(rt: &impl Abort, alloc: Global, entry: &PlainEntry) -> Value {
     write_entry(alloc, call, entry.seat).expect(rt, "memory")
 }
 
-/// Writes the dump that was read from a text, and expects the same
-/// text.
+/// Writes the dump that was read from
+/// a text, and expects the same text.
 fn check_back(rt: &impl Abort, alloc: Global, text: &str) {
     let dump = read_dump(rt, alloc, text).expect(rt, "a dump");
     let mut entries = Vec::new(alloc);

@@ -15,8 +15,8 @@ pub enum Claimed {
     KeyHash,
     HtlcTimeout,
     HtlcSuccess,
-    /// The funding output, spent by the commitment that both sides
-    /// signed.
+    /// The funding output, spent by the
+    /// commitment that both sides signed.
     Funding,
 }
 

@@ -82,8 +82,8 @@ pub fn script_of(alloc: Global, parties: &Parties, claimed: Claimed) -> Result<C
     }
 }
 
-/// The program of the claimed output (BIP 141): that of the key, or of the
-/// script.
+/// The program of the claimed output (BIP
+/// 141): that of the key, or of the script.
 fn program_of(
     alloc: Global,
     parties: &Parties,

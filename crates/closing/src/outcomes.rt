@@ -11,8 +11,8 @@ pub enum Outcome {
     NotAccepted(AcceptError),
     NotFilled(FillError),
     NotConnected(ChainError),
-    /// A block took the transaction. The numbers are the claim's age, in blocks, and
-    /// its height.
+    /// A block took the transaction. The numbers are
+    /// the claim's age, in blocks, and its height.
     Connected(u16, u64),
 }
 

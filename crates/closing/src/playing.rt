@@ -120,8 +120,8 @@ fn exact(alloc: Global, bytes: &[u8]) -> Result<Slot> {
     }
 }
 
-/// The slots of the funding output, from the top of the stack: the signature of the greater key, that of the lesser, and the empty
-/// item.
+/// The slots of the funding output, from the top of the stack: the
+/// signature of the greater key, that of the lesser, and the empty item.
 fn funding_slots(alloc: Global, parties: &Parties, token: &Token) -> Result<Vec<Slot>> {
     let local = parties.owner.base(Base::Funding);
     let mut slots = Vec::new(alloc);
@@ -178,8 +178,8 @@ fn slots_of(
     Ok((slots, path))
 }
 
-/// A claim that is tried: the path of the script, the slots from the top of the stack, the place of the output, and the transaction
-/// round the claim.
+/// A claim that is tried: the path of the script, the slots from the top of
+/// the stack, the place of the output, and the transaction round the claim.
 #[derive(Drop)]
 struct Attempt {
     path: usize,

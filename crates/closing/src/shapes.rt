@@ -55,8 +55,8 @@ fn refusal_on(alloc: Global, script: &[u8], slots: Vec<Slot>) -> Result<Option<u
     }
 }
 
-/// Whether DROP and 1, which take any item, take one of `len` bytes; `None` if it is too long for an
-/// item.
+/// Whether DROP and 1, which take any item, take one of
+/// `len` bytes; `None` if it is too long for an item.
 fn takes_any(alloc: Global, len: usize) -> Result<Option<bool>> {
     let Some(slot) = exact(alloc, &vec![in alloc; 9u8; len]?)? else {
         return Ok(None);

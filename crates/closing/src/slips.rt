@@ -15,8 +15,8 @@ fn other_digest(alloc: Global, token: &[u8]) -> Result<ByteString> {
     Ok(ByteString::from_vec(bytes))
 }
 
-/// The index in a witness of the item to replace: the topmost token, or the top item, which stands before the
-/// script.
+/// The index in a witness of the item to replace: the topmost
+/// token, or the top item, which stands before the script.
 fn place_of(slip: Slip, items: &[ByteString]) -> Option<usize> {
     match slip {
         Slip::OtherToken => items.iter().rposition(|item| item.len() == 66),

@@ -9,8 +9,8 @@ use Rattle.book.specs.Guarding.{is_guarded}
 use Rattle.book.specs.Dispatch.{no_memory_of}
 use Rattle.desk.specs.Histories.{History, GoesOn, calls_of}
 
--- a history that the book may have when a seat takes it: it is accepted and guarded, the seat's entries in it are the seat's known calls, and it extends the history that the seat last put
--- back
+-- a history that the book may have when a seat takes it: it is accepted and guarded, the seat's
+-- entries in it are the seat's known calls, and it extends the history that the seat last put back
 pub record IsHistoryFor (seat : ℕ) (calls : List Entry) (seen history : History) : Type 0 where
   pub accepted : all_accepted peer_tokens history ≡ true
   pub guarded : is_guarded history ≡ true

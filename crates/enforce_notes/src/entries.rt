@@ -1,5 +1,5 @@
-// The entries on the stack of a branch, as far as they decide where the branch
-// goes.
+// The entries on the stack of a branch, as
+// far as they decide where the branch goes.
 
 ghost use Rattle.std.specs.Prelude.{◌≤◌, length};
 

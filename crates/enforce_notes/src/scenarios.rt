@@ -9,8 +9,8 @@ use texts::tag_of;
 // The most bytes that are read of a scenario.
 const MAX_INPUT: usize = 4_194_304;
 
-/// Notes on a text that is read as a scenario: where it is invalid JSON, or which of its parts does not have its
-/// shape.
+/// Notes on a text that is read as a scenario: where it is
+/// invalid JSON, or which of its parts does not have its shape.
 pub fn notes(alloc: Global, input: &[u8]) -> Result<String, AllocError> {
     let mut notes = String::new(alloc);
     if input.len() <= MAX_INPUT {

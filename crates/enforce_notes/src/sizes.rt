@@ -3,8 +3,8 @@
 use facts::texts::Hex;
 use std::fmt;
 
-/// Bytes in hexadecimal, printed with their
-/// number.
+/// Bytes in hexadecimal,
+/// printed with their number.
 #[derive(Drop)]
 pub struct Counted<'a>(pub &'a [u8]);
 

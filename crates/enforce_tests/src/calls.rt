@@ -1,5 +1,5 @@
-//! Small calls of each program, and words that name no
-//! program.
+//! Small calls of each program,
+//! and words that name no program.
 
 use crate::fixtures::{Broken, prints, repeated, words_of};
 use enforce_words::{USAGE, run_words};

@@ -42,8 +42,8 @@ pub fn prints(
     prints_of(rt, alloc, words, &mut input, out, err, status)
 }
 
-/// Asserts the output and the status of a call that may read this
-/// input.
+/// Asserts the output and the status
+/// of a call that may read this input.
 pub fn prints_of<R: io::Read>(
     rt: &impl Abort,
     alloc: Global,

@@ -30,8 +30,8 @@ fn lists_an_offered_htlc(rt: HostRuntime) -> Result<(), Fail> {
     prints(&rt, alloc, &["paths", code.as_str()], text.as_str(), "", 0)
 }
 
-// The script of an HTLC that a commitment receives (BOLT 3), expiring at height 500: three paths, the third with a
-// lock.
+// The script of an HTLC that a commitment receives (BOLT 3),
+// expiring at height 500: three paths, the third with a lock.
 #[test]
 fn lists_a_received_htlc(rt: HostRuntime) -> Result<(), Fail> {
     let alloc = rt.alloc();

@@ -1,5 +1,5 @@
-//! Scenarios: one in which a side tries to sign before it keeps penalties, and input that is not a
-//! scenario.
+//! Scenarios: one in which a side tries to sign before
+//! it keeps penalties, and input that is not a scenario.
 
 use crate::fixtures::{Broken, prints_of, repeated, words_of};
 use enforce_words::run_words;

@@ -7,8 +7,8 @@ use std::fmt::Write;
 use terms::Side;
 use world::{Outcome, World};
 
-/// A line for each event, followed by the lines of the world after them: the chain, the penalties that each side keeps, and the lengths of their
-/// histories.
+/// A line for each event, followed by the lines of the world after them: the
+/// chain, the penalties that each side keeps, and the lengths of their histories.
 pub fn text_of(alloc: Global, outcomes: &[Outcome], world: &World) -> Result<String, AllocError> {
     let mut text = String::new(alloc);
     let (a, b) = (world.book(Side::A), world.book(Side::B));

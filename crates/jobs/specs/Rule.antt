@@ -32,9 +32,9 @@ module _ {J : Type 0} where
   abbrev pub by_pass : ℕ → Log J → List J
   by_pass pass log = map (λ s. s.1) (filter (λ s. s.0 == pass) log)
 
-  -- The jobs that were put are those that were taken, followed by those in the queue, in order: first in, first out. Each view has the puts and the
-  -- takes of its pass, and there are no others. The jobs that all passes put are those that they took and those in the queue, with the same
-  -- multiplicity.
+  -- The jobs that were put are those that were taken, followed by those in the queue, in order: first
+  -- in, first out. Each view has the puts and the takes of its pass, and there are no others. The jobs
+  -- that all passes put are those that they took and those in the queue, with the same multiplicity.
   pub record IsFair (items : List J) (views : List (Hand J)) : Type 0 where
     pub puts : Log J
     pub takes : Log J

@@ -3,8 +3,8 @@
 use crossbeam_channel::protocol::{Lesson, Outcome, Protocol, Split};
 use std::collections::LinkedList;
 
-/// What a pass has put and taken. Only contracts use it; no program makes a
-/// value of it.
+/// What a pass has put and taken. Only contracts
+/// use it; no program makes a value of it.
 pub struct Hand<J> {
     /// The jobs that it put, in order.
     pub put: LinkedList<J>,

@@ -1,5 +1,5 @@
-//! Notes on scenarios: where a text is invalid JSON, and which part does not have its
-//! shape.
+//! Notes on scenarios: where a text is invalid
+//! JSON, and which part does not have its shape.
 
 use crate::fixtures::noted;
 use std::alloc::Global;

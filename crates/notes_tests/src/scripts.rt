@@ -59,8 +59,8 @@ fn names_opcodes_outside_the_table(rt: HostRuntime) -> Result<(), Fail> {
     Ok(())
 }
 
-// The note on a branch that ends at an opcode, for bytes that are not what the rule
-// asks for.
+// The note on a branch that ends at an opcode,
+// for bytes that are not what the rule asks for.
 fn end_at(alloc: Global, op: usize, bytes: &str, rule: &str) -> Result<String, Fail> {
     Ok(format!(in alloc;
         "note: a branch ends at opcode {op}: {bytes} is {rule}; consensus is laxer, and may let others spend\n"

@@ -1,7 +1,7 @@
 //! Plays with books, and with what is due of a channel: `stdin` is the input, and `stdout` the expected output.
 //!
-//! A line `== WORD` begins a part, and is printed again. The lines after it, up to the next such line, belong to the
-//! part:
+//! A line `== WORD` begins a part, and is printed again. The
+//! lines after it, up to the next such line, belong to the part:
 //!
 //! - `book`: calls of two books, their dumps, and what changed dumps are loaded as
 //! - `due`: transactions of a channel, the claims that are due by each verdict, and claims in one transaction; it has

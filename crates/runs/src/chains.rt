@@ -79,15 +79,15 @@ fn show_on<C: Coins, W: Write>(
     Ok(())
 }
 
-/// Prints the answers of a scan of the blocks, and then those of an
-/// index.
+/// Prints the answers of a scan of the
+/// blocks, and then those of an index.
 fn show_both<W: Write>(alloc: Global, out: &mut W, calls: &[Command]) -> Result<()> {
     show_on(alloc, out, &mut Scan::new(alloc)?, calls)?;
     show_on(alloc, out, &mut Index::new(alloc)?, calls)
 }
 
-/// Prints the answers of both to the calls that make a scenario's
-/// chain.
+/// Prints the answers of both to the
+/// calls that make a scenario's chain.
 pub fn show<W: Write>(alloc: Global, out: &mut W, line: &str) -> Result<()> {
     let mut calls = Vec::new(alloc);
     push_played(alloc, &mut calls, line)?;

@@ -25,8 +25,8 @@ due_claims_of c preimages claims = map (λ x. record { channel = c; claim = x; p
 
 -- ---- one channel
 
--- what a block gives by what is known of a channel: what was seen of the channel after it, the due claims, and the preimages that the block
--- shows
+-- what a block gives by what is known of a channel: what was seen of the
+-- channel after it, the due claims, and the preimages that the block shows
 pub record Finds (known : Known) (height : ℕ) (txs : List Transaction) (c : ℕ) (older newer : Seen) (jobs : List DueClaim) (shown : List (List ℕ)) : Type 0 where
   pub claims : List ClaimParts
   pub sight : IsSight older height txs known claims shown

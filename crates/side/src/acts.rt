@@ -36,8 +36,8 @@ pub fn call_of(alloc: Global, channel: u64, message: &Message) -> Result<Call, A
     }
 }
 
-/// The message that an accepted reply has for the peer, if there is one. The transactions of a release are dropped. A refused reply is returned as it
-/// is.
+/// The message that an accepted reply has for the peer, if there is one. The
+/// transactions of a release are dropped. A refused reply is returned as it is.
 pub fn message_of(reply: Reply) -> Result<Option<Message>, Reply>
     ensures { let form = reply_form reply
         in MatchResult result (λ m. (is_accepted form ≡ true)

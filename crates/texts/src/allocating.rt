@@ -1,5 +1,5 @@
-//! Readers that allocate: byte strings of any length, and arrays of one
-//! shape.
+//! Readers that allocate: byte strings of
+//! any length, and arrays of one shape.
 
 ghost use Rattle.std.specs.Prelude.{◌≡◌, Option};
 ghost use Rattle.serde_json.specs.Data.{Data};
@@ -17,8 +17,8 @@ pub trait ReadValue: Sized {
     // the value read, or `None` if the JSON value does not have the shape
     ghost reads: { Data → Option Self };
 
-    /// Reads the value; `BadShape` if the JSON value does not have the
-    /// shape.
+    /// Reads the value; `BadShape` if the
+    /// JSON value does not have the shape.
     fn read_value(alloc: Global, value: &Value) -> Result<Self, ShapeError>
         ensures { Gives (λ x. x) result (reads (view value.now)) };
 }

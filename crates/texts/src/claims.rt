@@ -15,8 +15,8 @@ use serde_json::Value;
 use std::alloc::Global;
 use tx::{DecodeError, decode_stripped};
 
-/// A claim as read from JSON: the parts that `accept` takes, with the bytes of the script in place of its paths. Nothing of it is tested
-/// yet.
+/// A claim as read from JSON: the parts that `accept` takes, with the
+/// bytes of the script in place of its paths. Nothing of it is tested yet.
 #[derive(Debug, Drop)]
 pub struct PlainClaim {
     /// The witness script of the claimed output.

@@ -1,5 +1,5 @@
-//! Writers: each writes the value that its reader reads back as the
-//! same.
+//! Writers: each writes the value that
+//! its reader reads back as the same.
 
 ghost use Rattle.std.specs.Prelude.{◌≡◌, Some, map, length, IfOk, string_bytes};
 ghost use Rattle.std.specs.List.{AllByRecursion};

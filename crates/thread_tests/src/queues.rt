@@ -88,8 +88,8 @@ fn fill_and_empty<R: Wait>(
     )
 }
 
-// With both ends open, 64 puts of one thread succeed, and then 64 takes return the 64 jobs in order. This is done twice, so that the ring
-// wraps.
+// With both ends open, 64 puts of one thread succeed, and then 64 takes
+// return the 64 jobs in order. This is done twice, so that the ring wraps.
 #[test]
 fn sixty_four_jobs(rt: HostRuntime) {
     let alloc = rt.alloc();

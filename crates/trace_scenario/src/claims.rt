@@ -27,8 +27,8 @@ fn way(due: &DueClaim) -> &'static str {
     "revocation"
 }
 
-// The height of the first block that can take a claim, if the claimed output is in a block of this
-// height.
+// The height of the first block that can take a claim,
+// if the claimed output is in a block of this height.
 fn due_height(claim: &Claim, height: u64) -> u64 {
     let lock = claim.needs_height();
     let aged = height.saturating_add(u64::from(claim.needs_age()));

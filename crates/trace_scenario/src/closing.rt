@@ -146,8 +146,8 @@ fn tell_if_of(
     }
 }
 
-/// Writes a transaction that spends the funding output of a channel: whose commitment it is, and its
-/// outputs.
+/// Writes a transaction that spends the funding output of
+/// a channel: whose commitment it is, and its outputs.
 pub fn tell_commitment(
     alloc: Global,
     world: &World,

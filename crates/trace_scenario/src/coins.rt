@@ -44,8 +44,8 @@ pub struct Coin {
 enum Change {
     Came(OutPoint),
     Went(OutPoint),
-    /// The changes before it are those of the transaction with this id, in a block of this
-    /// height.
+    /// The changes before it are those of the transaction
+    /// with this id, in a block of this height.
     Mined { height: u64, txid: [u8; 32] },
 }
 
@@ -175,8 +175,8 @@ impl Coins {
         }
     }
 
-    /// Disconnects the blocks above a height, and writes the ids of their transactions, the
-    /// last first.
+    /// Disconnects the blocks above a height, and writes
+    /// the ids of their transactions, the last first.
     pub fn back_to(&mut self, line: &mut Line, height: u64) {
         for _ in 0..self.changes.len() {
             if self.is_within(height) {

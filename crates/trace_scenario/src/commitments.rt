@@ -13,8 +13,8 @@ fn tell_htlc_name(line: &mut Line, offerer: Side, htlc: &Htlc) {
     line.close("}");
 }
 
-// How many of the HTLCs from before still stand. New ones are appended, so these are the first ones
-// now.
+// How many of the HTLCs from before still stand. New
+// ones are appended, so these are the first ones now.
 fn kept(before: &[Htlc], now: &[Htlc]) -> usize {
     let mut kept = 0usize;
     for htlc in before {

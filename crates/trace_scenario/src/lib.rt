@@ -148,8 +148,8 @@ fn refuse<W: Write>(alloc: Global, out: &mut W, error: &TraceError) {
     }
 }
 
-/// Plays the scenario in the input, and returns the status: 0 when all lines are written, 1 for refused input, a failed write, or if memory ran
-/// out.
+/// Plays the scenario in the input, and returns the status: 0 when all lines
+/// are written, 1 for refused input, a failed write, or if memory ran out.
 pub fn run<R: Read, W: Write>(alloc: Global, input: &mut R, out: &mut W) -> u8
     ensures { result ≤ 1 }
 {

@@ -32,8 +32,8 @@ fn tell_message(line: &mut Line, world: &World, what: &str, to: Side, channel: u
     line.close("}");
 }
 
-// Writes the next stage of the HTLC in an update, by the names of the stages for an offer, a fulfilment and a
-// failure.
+// Writes the next stage of the HTLC in an update, by the names
+// of the stages for an offer, a fulfilment and a failure.
 fn tell_htlc(line: &mut Line, channel: u64, by: Side, update: &Update, stages: [&str; 3]) {
     let [offered, fulfilled, failed] = stages;
     match update {

@@ -36,8 +36,8 @@ fn delay(world: &World, channel: u64, side: Side) -> u64 {
     }
 }
 
-// The coin of an output whose transaction, in a block of this height, spends this
-// coin.
+// The coin of an output whose transaction, in
+// a block of this height, spends this coin.
 fn output_coin(
     alloc: Global,
     world: &World,
@@ -101,8 +101,8 @@ fn fee(coins: &Coins, tx: &Tx) -> u64 {
     coins.worth(tx).saturating_sub(paid)
 }
 
-// Writes a transaction in a block of this height, whose first input spends this
-// coin.
+// Writes a transaction in a block of this
+// height, whose first input spends this coin.
 fn tell_tx(
     alloc: Global,
     world: &World,

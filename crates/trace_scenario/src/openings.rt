@@ -45,8 +45,8 @@ fn funding_coin(channel: u64, terms: &Terms) -> Coin {
     }
 }
 
-/// Writes the opening: the terms of each channel, whose funding outputs are on the
-/// chain.
+/// Writes the opening: the terms of each channel,
+/// whose funding outputs are on the chain.
 pub fn tell_opening(line: &mut Line, coins: &mut Coins, world: &World, events: usize) {
     let book = world.book(Side::A);
     line.open("{");

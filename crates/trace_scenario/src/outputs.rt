@@ -34,8 +34,8 @@ fn kind_name(kind: Kind) -> &'static str {
     }
 }
 
-// Writes that a side can spend an output from a block of
-// this height on.
+// Writes that a side can spend an output
+// from a block of this height on.
 fn tell_way(line: &mut Line, side: Side, by: &str, due: u64) {
     line.open("{");
     line.side("side", side);

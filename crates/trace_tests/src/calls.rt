@@ -35,8 +35,8 @@ fn prints<R: io::Read>(
     Ok(())
 }
 
-// An IF with a lock of 144 blocks in its first branch, a script with a fault, and a script
-// without a path.
+// An IF with a lock of 144 blocks in its first branch,
+// a script with a fault, and a script without a path.
 const PAGES: &str = "    0  IF
     1    PUSH 9000 (number 144)
     4    CHECKSEQUENCEVERIFY

@@ -2,8 +2,8 @@
 
 use std::io;
 
-/// A reader that returns zero bytes without an end, or
-/// fails.
+/// A reader that returns zero
+/// bytes without an end, or fails.
 #[derive(Drop)]
 pub struct Endless {
     pub fails: bool,

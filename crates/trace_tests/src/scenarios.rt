@@ -1,5 +1,5 @@
-//! A scenario's trace, input that is not a scenario, and readers and writers that
-//! fail.
+//! A scenario's trace, input that is not a
+//! scenario, and readers and writers that fail.
 
 use crate::fixtures::{Broken, Endless};
 use std::alloc::Global;

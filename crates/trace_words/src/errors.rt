@@ -5,8 +5,8 @@ use script::ParseError;
 use std::alloc::AllocError;
 use thiserror::Error;
 
-/// Why input is refused: the text that `enforce` prints after the word
-/// `refused`.
+/// Why input is refused: the text that
+/// `enforce` prints after the word `refused`.
 #[derive(Debug, Drop, Error)]
 pub enum TraceError {
     /// The input has more than 4,194,304 bytes.

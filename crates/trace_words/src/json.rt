@@ -233,8 +233,8 @@ impl fmt::Display for PathOf<'_> {
     }
 }
 
-/// The paths through a script of this number of bytes, the elements of an
-/// array.
+/// The paths through a script of this number
+/// of bytes, the elements of an array.
 #[derive(Drop)]
 pub struct Paths<'a>(pub &'a [Path], pub usize);
 

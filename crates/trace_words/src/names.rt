@@ -29,8 +29,8 @@ pub fn name(op: &Op) -> &'static str
     }
 }
 
-/// The number of branches that an opcode is in, if `ifs` IFs are open before it. ELSE and ENDIF are shown at the level of
-/// their IF.
+/// The number of branches that an opcode is in, if `ifs` IFs are open
+/// before it. ELSE and ENDIF are shown at the level of their IF.
 pub fn depth(op: &Op, ifs: usize) -> usize
     ensures { result ≡ shown_depth op.now ifs }
 {

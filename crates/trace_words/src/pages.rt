@@ -57,8 +57,8 @@ impl fmt::Display for Indent {
     }
 }
 
-/// The opcodes of a script, a line each: the byte at which the opcode begins, and its name, indented by
-/// branch.
+/// The opcodes of a script, a line each: the byte at which
+/// the opcode begins, and its name, indented by branch.
 #[derive(Drop)]
 pub struct OpLines<'a>(pub &'a [Op]);
 

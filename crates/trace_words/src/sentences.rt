@@ -62,8 +62,8 @@ fn are(holds: bool) -> &'static str
     if holds { "are" } else { "are not" }
 }
 
-// The words for a slot that counts as true, or
-// that does not.
+// The words for a slot that counts
+// as true, or that does not.
 fn truth(holds: bool) -> &'static str
     ensures { result.now ≡ truth_words holds }
 {

@@ -1,8 +1,8 @@
 //! Compares the libraries' output with vectors that were published, or that independent programs wrote: `stdin` is
 //! the input, and `stdout` the expected output.
 //!
-//! A line `== WORD` begins a part, and is printed again. The lines after it, up to the next such line, belong to
-//! the part:
+//! A line `== WORD` begins a part, and is printed again. The
+//! lines after it, up to the next such line, belong to the part:
 //!
 //! - `tx`: transactions, and the digests that signatures sign
 //! - `patterns`: patterns of scripts, and what fills them

@@ -1,5 +1,5 @@
--- Two sides that fit: their histories are those of calls, and their books hold the two ends of the same channels, with the messages on their
--- way.
+-- Two sides that fit: their histories are those of calls, and their books
+-- hold the two ends of the same channels, with the messages on their way.
 use Rattle.std.proofs.Common.{◌≡◌, ℕ, List, ◌++◌, None, Result, Ok, Err, refl, sym, ap, subst}
 use Rattle.std.proofs.lemmas.Option.{none-some}
 use Rattle.terms.specs.declared.sides.Side.{Side}

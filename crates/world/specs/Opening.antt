@@ -1,5 +1,5 @@
--- How the channels of a scenario are opened: the seeds and keys of their signers, their terms and funding outputs, and the openings that each side's
--- book is given.
+-- How the channels of a scenario are opened: the seeds and keys of their signers,
+-- their terms and funding outputs, and the openings that each side's book is given.
 use Rattle.std.specs.Prelude.{ℕ, nat_lt, if◌then◌else◌, List, ◌++◌, Option, Some, None, codes}
 use Rattle.sha2.specs.Sha256.{sha256}
 use Rattle.script.specs.Spelling.{spelling}

@@ -46,8 +46,8 @@ fn open(alloc: Global, node: &mut Node, opening: Opening) -> Result<(), AllocErr
     }
 }
 
-// Grants the funding output of a channel on whose terms the two sides can agree, and returns its outpoint. The only error is that memory ran
-// out.
+// Grants the funding output of a channel on whose terms the two sides can
+// agree, and returns its outpoint. The only error is that memory ran out.
 fn grant_funding(
     alloc: Global,
     chain: &mut Index,

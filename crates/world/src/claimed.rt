@@ -12,8 +12,8 @@ use chain::{ChainError, Coins};
 use claim::Claim;
 use tx::Tx;
 
-/// Tests an input of a transaction for the next block, as `check_input` does. If the input fits the claim and is due, the only possible error is out of
-/// memory.
+/// Tests an input of a transaction for the next block, as `check_input` does. If
+/// the input fits the claim and is due, the only possible error is out of memory.
 pub fn check_claimed<C: Coins>(
     chain: &C,
     claim: &Claim,

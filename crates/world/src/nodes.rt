@@ -146,8 +146,8 @@ impl Node {
         self.book.call(SEAT, call)
     }
 
-    /// Makes a call of the side's book that opens no channel, and returns the message to send, refused as the book refuses. A refusal leaves the side
-    /// as it was.
+    /// Makes a call of the side's book that opens no channel, and returns the message
+    /// to send, refused as the book refuses. A refusal leaves the side as it was.
     pub(crate) fn answer(&mut self, call: Call) -> Result<Option<Message>, EventError>
         requires { opens_none call ≡ true }
         ensures { IsAnswered call result self.old self.new }

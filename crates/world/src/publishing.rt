@@ -37,8 +37,8 @@ fn preimages_known(alloc: Global, me: &Node, channel: u64) -> Result<Vec<[u8; 32
     Ok(preimages)
 }
 
-/// The HTLC transaction of a side's commitment of a number, for the untrimmed HTLC at an index. Refused with `NoSuchChannel`,
-/// `NoSuchTx`.
+/// The HTLC transaction of a side's commitment of a number, for the
+/// untrimmed HTLC at an index. Refused with `NoSuchChannel`, `NoSuchTx`.
 pub(crate) fn htlc_tx(
     alloc: Global,
     me: &Node,

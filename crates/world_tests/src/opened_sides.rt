@@ -1,5 +1,5 @@
-// Channels between the sides with the seeds 0a..0a and 0b..0b. Programs, points and the id of the first grant are from an independent script (Python's
-// hashlib).
+// Channels between the sides with the seeds 0a..0a and 0b..0b. Programs, points
+// and the id of the first grant are from an independent script (Python's hashlib).
 
 use crate::worlds::terms;
 use book::errors::OpenError;

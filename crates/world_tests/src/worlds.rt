@@ -32,8 +32,8 @@ pub(crate) fn terms(a: u64, b: u64) -> ProposedTerms {
     }
 }
 
-// A world of `channels` equal channels, in which B begins with `start` millisatoshis. The sides can agree if these are
-// 20,000,000.
+// A world of `channels` equal channels, in which B begins with
+// `start` millisatoshis. The sides can agree if these are 20,000,000.
 pub(crate) fn begin(
     rt: &impl Abort,
     alloc: Global,

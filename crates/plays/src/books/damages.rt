@@ -3,8 +3,8 @@
 use anyhow::{Context, Result};
 use std::alloc::Global;
 
-/// The position of a value in a dump: after the first call of this name, after these words, up to this
-/// end.
+/// The position of a value in a dump: after the first
+/// call of this name, after these words, up to this end.
 #[derive(Clone, Copy, Debug, Drop)]
 pub struct Spot {
     pub call: &'static str,
@@ -108,8 +108,8 @@ const KEEP_ENTRY: &str = "{\"call\":[\"keep\"";
 
 const SIGN_ENTRY: &str = "{\"call\":[\"sign\"";
 
-/// The text without the first entry that keeps, and without what follows it up to the next entry that
-/// signs.
+/// The text without the first entry that keeps, and without
+/// what follows it up to the next entry that signs.
 pub fn without_keep(alloc: Global, text: &str) -> Result<String> {
     let (before, rest) = text.split_once(KEEP_ENTRY).context("nothing is kept")?;
     let (_, after) = rest.split_once(SIGN_ENTRY).context("nothing is signed")?;

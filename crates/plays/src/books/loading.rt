@@ -55,8 +55,8 @@ fn is_no_json(alloc: Global, text: &str) -> bool {
     }
 }
 
-/// The number of proper beginnings of an ASCII text that are not refused as invalid
-/// JSON.
+/// The number of proper beginnings of an ASCII
+/// text that are not refused as invalid JSON.
 pub fn read_beginnings(alloc: Global, text: String) -> u64 {
     let mut beginning = text;
     let mut read = 0u64;
@@ -119,8 +119,8 @@ pub fn print_version(rt: &impl Print, alloc: Global, dump: &str) -> Result<()> {
     print_again(rt, alloc, "version 1", &changed, dump)
 }
 
-/// Prints what a dump stored in the input is loaded as, and whether it is dumped again
-/// as the same.
+/// Prints what a dump stored in the input is loaded
+/// as, and whether it is dumped again as the same.
 pub fn print_stored(rt: &impl Print, alloc: Global, dump: &str) -> Result<()> {
     print_again(rt, alloc, "stored", dump, dump)
 }

@@ -41,8 +41,8 @@ fn own_token(alloc: Global, known: &Known) -> Result<Token> {
     Ok(known.signer.sign(&key, &digests.commitment)?)
 }
 
-/// The witness that spends the funding output: the empty item (BIP 147), the signature of the lesser key, that of the greater, and
-/// the script.
+/// The witness that spends the funding output: the empty item (BIP 147),
+/// the signature of the lesser key, that of the greater, and the script.
 fn witness_of(
     alloc: Global,
     lesser: &Token,

@@ -198,8 +198,8 @@ fn show_three<R: Print + AllocGlobal>(
     }
 }
 
-/// Claims an output twice; and three outputs together, with a satoshi too many and with their
-/// exact worth.
+/// Claims an output twice; and three outputs together,
+/// with a satoshi too many and with their exact worth.
 fn show_penalties<R: Print + AllocGlobal>(
     rt: &R,
     what: &str,

@@ -25,8 +25,8 @@ fn count_done(outcomes: &[Outcome]) -> u64 {
     done
 }
 
-/// Plays steps in turn, this number of times, and counts those that
-/// were done.
+/// Plays steps in turn, this number of
+/// times, and counts those that were done.
 fn play_times(pair: &mut Pair, steps: &[PairStep], times: u64) -> Result<u64> {
     let mut done: u64 = 0;
     for _ in 0..times {

@@ -71,8 +71,8 @@ impl Game {
         }
     }
 
-    /// The next step, chosen by a number. Mostly a side receives; else it offers, removes, changes the feerate or
-    /// signs.
+    /// The next step, chosen by a number. Mostly a side receives;
+    /// else it offers, removes, changes the feerate or signs.
     fn next_step(&self, number: u64) -> PairStep {
         let (side, theirs) = if number % 2 == 0 {
             (Side::A, &self.of_b)

@@ -9,8 +9,8 @@ use updates::OwnUpdate;
 /// The preimage of every HTLC.
 pub const PREIMAGE: [u8; 32] = [9; 32];
 
-/// The update that a step's words name: its name, and the words after
-/// it.
+/// The update that a step's words name:
+/// its name, and the words after it.
 fn update_of(name: &str, first: Option<&str>, second: Option<&str>) -> Result<OwnUpdate> {
     let update = match (name, first, second) {
         ("offer", Some(amount), Some(expiry)) => OwnUpdate::Offer {

@@ -9,8 +9,8 @@ use sha2::{Digest, Sha256};
 use std::alloc::Global;
 use terms::BaseKeys;
 
-/// The seed of a side's signer in a channel: SHA-256 of the ASCII bytes `channel`, the side's seed, and the channel's index in four bytes,
-/// little-endian.
+/// The seed of a side's signer in a channel: SHA-256 of the ASCII bytes `channel`,
+/// the side's seed, and the channel's index in four bytes, little-endian.
 #[tactic(auto, unfolding(crate::specs::Opening::channel_seed, tx::specs::Spelling::number))]
 pub(crate) fn channel_seed(seed: &[u8; 32], channel: u32) -> [u8; 32]
     ensures { result ≡ seed_for seed.now channel }
