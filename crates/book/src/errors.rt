@@ -42,7 +42,7 @@ pub enum SignError {
     /// Memory ran out.
     #[error("NoMemory")]
     NoMemory,
-    /// The penalties of a revoked commitment of the peer are not kept. This is the lowest such number.
+    /// The lowest number of a revoked commitment of the peer whose penalties are not kept.
     #[error("PenaltiesMissing {0}")]
     PenaltiesMissing(u64),
     /// An earlier signature awaits its revocation, or the last commitment number is signed.

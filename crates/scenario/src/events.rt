@@ -65,8 +65,7 @@ pub enum Event {
         side: Side,
         count: u64,
     },
-    /// A reorganisation: the newest `depth` blocks are replaced by one more, and the last
-    /// `forgotten` of their transactions are dropped.
+    /// One block more replaces the newest `depth`, and drops their last `forgotten` transactions.
     Reorg {
         depth: u64,
         forgotten: u64,

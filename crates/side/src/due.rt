@@ -3,8 +3,7 @@
 use claim::Claim;
 use lists::List;
 
-/// A claim that fell due: on an output of a channel's commitment or HTLC transaction, and
-/// yet to be filled.
+/// A claim that fell due on an output of a commitment or HTLC transaction, not yet filled.
 #[derive(Drop)]
 pub struct DueClaim {
     /// The index of the channel.

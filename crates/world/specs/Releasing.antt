@@ -64,7 +64,7 @@ pub record IsReady (jobs : List DueClaim) (n : Node) (channel : ℕ) (batch : Ba
   pub batch_is : IsBatchOf (claims_in jobs) (output_for ch.state jobs ∷ []) (preimages_for jobs) batch
   pub left : refusal_of jobs n ≡ refusal_in (answer_to n (Release channel batch))
 
--- the k oldest claims that a side took are released: the side after it, and the transaction
+-- the k oldest claims that a side took are released: the side after the release, and the transaction of it
 pub record IsReleased (k : ℕ) (n done : Node) (t : Transaction) : Type 0 where
   pub channel : ℕ
   pub batch : Batch

@@ -33,9 +33,8 @@ claims_of n = flat_map (λ e. claims_by e.call) n.history ++ map (λ j. j.claim)
 
 -- this holds at each moment
 pub record HoldsAt (w : World) : Type 0 where
-  -- each call in both books was accepted after those before it, and no signature follows a revocation in its channel without the penalties
-  -- kept between the two. (`GuardedMeans` of `book/specs/Guarding.antt` says what that means, entry by entry. `PenaltySetsAreExact` of
-  -- `book/specs/Penalties.antt` says that the kept claims are then exactly the accepted ones on all that is claimable.)
+  -- each call in both books was accepted after those before it, and no signature follows a revocation in its channel without the penalties kept between the two. (`GuardedMeans` of
+  -- `book/specs/Guarding.antt` says so entry by entry. By `PenaltySetsAreExact` of `book/specs/Penalties.antt`, the kept claims are exactly the accepted ones on all that is claimable.)
   pub accepted : (s : Side) → all_accepted peer_tokens (node_of s w).history ≡ true
   pub guarded : (s : Side) → is_guarded (node_of s w).history ≡ true
   -- each claim of a side is an accepted one
