@@ -20,8 +20,8 @@ is_token item = length item == 66 && is_key_start (slice_index item 0) && slice_
 unfoldable pub is_signature : List ℕ → Bool
 is_signature item = length item == 0 || is_token item
 
--- whether an increasing choice of keys exists, each signature being the token of its key: the first key is that of the first
--- signature, or it is passed over
+-- whether an increasing choice of keys exists such that each signature is the token of its key: the first key is that of the
+-- first signature, or it is skipped
 abbrev pub assigned : List (List ℕ) → List (List ℕ) → List ℕ → Bool
 assigned [] keys digest = true
 assigned (s ∷ sigs) [] digest = false
