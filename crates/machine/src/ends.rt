@@ -13,7 +13,7 @@ use thiserror::Error;
 pub struct Run {
     /// The counted opcodes: those of the whole script above 60 (in hexadecimal), and the keys of each CHECKMULTISIG that ran.
     pub counted: usize,
-    /// The greatest number of elements that stood on the stack, at the start or after an opcode.
+    /// The greatest number of elements on the stack, at the start or after an opcode.
     pub height: usize,
 }
 
@@ -30,7 +30,7 @@ pub enum Stop {
 }
 
 impl Stop {
-    /// The number of the refusal: that of the cause, or 0 for running out of memory.
+    /// The refusal's number: that of the cause, or 0 for out of memory.
     pub fn number(&self) -> u8
         ensures { result ≡ refusal_number self.now }
     {

@@ -18,7 +18,7 @@ pub struct Skip {
 }
 
 impl Skip {
-    /// What is jumped over after an opcode.
+    /// What a run jumps over after an opcode with this jump.
     pub fn begin(jump: Jump) -> Option<Skip>
         ensures jumps { (rest : List Opcode) → ahead_of result rest ≡ jump_length jump rest }
         ensures shallow { depth_of result ≡ 0 }
@@ -36,7 +36,7 @@ impl Skip {
         }
     }
 
-    /// What is still jumped over after an opcode that was.
+    /// What is left to jump over once `op` was jumped over.
     pub fn after(self, op: &Op) -> Option<Skip>
         requires { self.depth ≤ MAX_OPS_PER_SCRIPT }
         ensures jumps { (rest : List Opcode)
