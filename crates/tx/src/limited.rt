@@ -31,7 +31,7 @@ pub trait Element: Drop {
     fn copy(&self) -> Result<Self, AllocError>
         ensures { IfOk result (λ x. x ≡ self.now) };
 
-    /// Whether the two have one value.
+    /// Whether the two are equal.
     fn equals(&self, other: &Self) -> bool
         ensures { IsTrue result ↔ (self.now ≡ other.now) };
 }
@@ -117,7 +117,7 @@ impl<T: Element> LimitedList<T> {
         self.items.as_slice()
     }
 
-    /// The elements, with the memory that they lie in.
+    /// Gives the elements back as a `Vec` without allocating.
     pub fn into_vec(self) -> Vec<T>
         ensures value { result.items ≡ self }
         ensures limits { IsWithin T.LIMIT T.Keeps result.items }
@@ -134,7 +134,7 @@ impl<T: Element> LimitedList<T> {
         self.items.len()
     }
 
-    /// Whether there is no element.
+    /// Whether the list is empty.
     pub fn is_empty(&self) -> bool
         ensures { result ≡ (length self.now == 0) }
     {
