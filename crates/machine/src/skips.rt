@@ -11,7 +11,7 @@ use script::{Jump, Op};
 /// A branch that is jumped over.
 #[derive(Clone, Copy, Debug, PartialEq, Eq)]
 pub struct Skip {
-    /// How many IFs stand open inside it.
+    /// How many IFs are open inside it.
     pub depth: usize,
     /// Whether its own ELSE ends the jump.
     pub stop: bool,
