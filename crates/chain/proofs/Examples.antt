@@ -1,4 +1,4 @@
--- The definitions at work on known values.
+-- The definitions on known values.
 use Rattle.std.proofs.Common.{◌≡◌, List, ℕ, [], ◌∷◌, true, false, Option, Some, None, Ok, max, refl, ap, ◌∙◌, replicate, drop}
 use Rattle.tx.specs.declared.input.OutPoint.{OutPoint}
 use Rattle.tx.specs.declared.input.TxIn.{TxIn}
@@ -53,7 +53,7 @@ ages : (is_old_enough 244 2 144 100 ≡ true)
     × (is_old_enough 100000 1 0x400000 100 ≡ true)
 ages = (refl, refl, refl, refl, refl, refl, refl, refl, refl, refl, refl, refl, refl, refl, refl)
 
--- outpoints of one id and another index are two
+-- outpoints with the same id and different indices are different
 repeats : (names_twice (from first 0 ∷ from second 0 ∷ []) ≡ false)
     × (names_twice (from first 0 ∷ from second 0 ∷ from first 1 ∷ []) ≡ true)
     × (names_twice (from first 0 ∷ []) ≡ false)
@@ -125,7 +125,8 @@ greatest_of_some refusals s c = c.2 ∙ ap (λ blocks. max 8 (height_of blocks))
 greatest_of_taken : (txs : List Transaction) (s : Standing) → Disconnects (standing (replicate 9 empty_block) 8) 6 (Ok txs) s → s.greatest ≡ 8
 greatest_of_taken txs s c = ap (λ (x : Standing). x.greatest) c.2
 
--- an outpoint that is named twice is refused as that, though nothing was created there; named once it is unknown, whatever the outputs pay
+-- an outpoint that two inputs spend is refused as Twice, though nothing was created there; spent once it is Unknown, whatever the outputs
+-- pay
 in_turn : (transaction_refusal [] (record spending { inputs = from first 1 ∷ from first 2 ∷ [] }) ≡ Some Twice)
     × (transaction_refusal [] (record spending { inputs = from second 1 ∷ from first 1 ∷ from first 1 ∷ [] }) ≡ Some Twice)
     × (transaction_refusal [] spending ≡ Some Unknown)

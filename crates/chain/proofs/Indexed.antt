@@ -1,4 +1,4 @@
--- How what is kept beside the blocks follows them.
+-- How an index follows the blocks.
 use Rattle.std.proofs.Common.{◌≡◌, ℕ, zero, suc, ◌+◌, ◌<◌, ◌≤◌, Bool, true, false, not, ◌&&◌, ◌||◌, cond, List, [], ◌∷◌, ◌++◌, length, Option, Some, None, option_map, sym, ap, ◌∙◌, refl, arith, append_assoc, append-nil, ne_eqb, eq-eqb}
 use Rattle.std.specs.Prelude.{is_some, nat_lt, IfSome, slice_get}
 use Rattle.std.specs.Ordering.{is_eq, nat_cmp}
