@@ -7,7 +7,7 @@ use script::tokens::has_key_form;
 
 /// A compressed public key: 33 bytes, the first of which is 02 or 03 (BIP 141).
 ///
-/// No curve is behind it: any bytes of this form are a key.
+/// It need not be a point of the curve: any bytes of this form are a key.
 #[derive(Clone, Copy, Debug, PartialEq, Eq)]
 pub struct Key {
     pub bytes: [u8; 33],
