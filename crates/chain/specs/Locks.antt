@@ -7,8 +7,8 @@ use Rattle.tx.specs.declared.input.TxIn.{TxIn}
 use Rattle.tx.specs.Fields.{Transaction}
 use Rattle.chain.specs.Blocks.{Contents, Coin, coin_at}
 
--- a block of this height may hold a transaction of this lock time: a height below 500,000,000 is passed, a time up to 0x20FFFFFF counts as
--- passed and none above it; and the lock time counts for nothing where every input is final
+-- a block of this height may hold a transaction of this lock time. A lock time below 500,000,000 is a height, and must be below the
+-- block's. A time counts as reached up to 0x20FFFFFF, and never above. The lock time does not count where every input is final.
 abbrev pub is_final : ℕ → ℕ → List TxIn → Bool
 is_final height lock_time inputs =
     (nat_lt lock_time locktime_threshold && nat_lt lock_time height)

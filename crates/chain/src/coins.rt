@@ -48,7 +48,7 @@ pub trait Coins {
     fn unspent(&self) -> Result<Unspent, AllocError>
         ensures { IfOk result (IsUnspent (standing self.now).blocks) };
 
-    /// The height of the newest block; that of the first is 0.
+    /// The height of the newest block; the first block has height 0.
     fn height(&self) -> u64
         ensures { result ≡ height_of (standing self.now).blocks };
 

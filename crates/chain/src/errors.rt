@@ -28,7 +28,8 @@ pub enum ChainError {
     /// The script stops for this cause, at the opcode of this index (BIP 141).
     #[error("Script {0} {1}")]
     Script(Cause, usize),
-    /// The program is not one of version 0, or the witness or its script has not the program's form (BIP 141).
+    /// The output's program is not a version 0 one, or the witness or its script does not have the form that
+    /// the program requires (BIP 141).
     #[error("BadProgram")]
     BadProgram,
     /// The outputs are worth more than the inputs.
