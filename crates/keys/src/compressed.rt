@@ -15,7 +15,7 @@ pub struct Key {
 }
 
 impl Key {
-    /// The key of these bytes; `None` where they have not the form of one.
+    /// The key with these bytes; `None` where they do not have the form of a key.
     pub fn read(bytes: &[u8; 33]) -> Option<Key>
         ensures some { IfSome result (λ k. k.bytes ≡ bytes.now) }
         ensures none { IfNone result (is_key bytes.now ≡ false) }
