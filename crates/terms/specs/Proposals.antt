@@ -10,7 +10,7 @@ use Rattle.terms.specs.declared.agreement.Terms.{Terms}
 use Rattle.terms.specs.declared.proposals.ProposedParty.{ProposedParty}
 use Rattle.terms.specs.declared.proposals.ProposedTerms.{ProposedTerms}
 
--- the capacity is within the limit of a value, and what the two sides begin with is the capacity
+-- the capacity is at most the greatest value of an output, and the two starting balances sum to it
 abbrev pub can_agree : ProposedTerms → Bool
 can_agree t = nat_le t.capacity max_value && t.a.start + t.b.start == MSAT_PER_SAT * t.capacity
 
