@@ -1,7 +1,7 @@
 //! The per-commitment secrets of BOLT 3: their derivation from a seed, and the store of a peer's secrets in 49
 //! buckets.
 //!
-//! The main contract is that of [`Store::insert`]: it takes the secret of the next index, counted down from 2^48 - 1,
+//! The main contract is that of [`Store::insert`]. It takes the secret of the next index, counted down from 2^48 - 1,
 //! exactly where all secrets that were inserted below its prefix derive from it. [`Store::get`] then returns exactly
 //! what was inserted. Nothing here allocates.
 //!
