@@ -240,7 +240,7 @@ reaches stop closer xs n c l =
     let p = s.counted in let q = r.counted in let d = l.place in let g = ap (skip_length stop 0) l.same in
     record { counted = omega arith; seen = ap (found stop 0) l.same ∙ s.seen ∙ r.seen }
 
--- what is found stands after a block
+-- what is found comes after a block
 behind : (stop : Bool) (xs : List Op) (l : Nested stop xs) → LeadsAfter (not stop) l.closer xs (skip_length stop 0 xs)
 behind stop xs l =
     let h : LeadsAfter (not stop) l.closer xs (length l.block + 1) = record { block = l.block; after = l.after; same = l.same; closed = l.closed; place = refl } in

@@ -111,7 +111,7 @@ locked_longer : outcome spend (Push (0xf5 ∷ 1 ∷ []) ∷ CheckLockTimeVerify 
 unfolding spend state_after effect number_of lock_passes
 locked_longer = refl
 
--- DUP and DROP so many times
+-- DUP and DROP, this number of times
 pairs : ℕ → List Op
 pairs n = flat_map (λ op. Dup ∷ Drop ∷ []) (replicate n Dup)
 

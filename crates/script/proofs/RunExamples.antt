@@ -31,7 +31,7 @@ after_endif = refl
 next : jump_length Next (Number 2 ∷ EndIf ∷ []) ≡ 0
 next = refl
 
--- the IFs that stand open, each with whether its ELSE has come
+-- the IFs that are open, each with whether its ELSE has come
 abbrev refused : Result (List Bool) Cause
 refused = Err OpenBranch
 

@@ -53,7 +53,8 @@ not_chosen : map (λ sigs. assigned sigs (key 1 ∷ key 2 ∷ key 3 ∷ []) dige
 unfolding token_of
 not_chosen = refl
 
--- one key that stands twice serves two signatures; no key serves any; a token over another digest is none
+-- a key listed twice serves two signatures; without keys only the empty list of signatures is served; a token over
+-- another digest does not fit
 chosen_twice : (assigned (token 1 ∷ token 1 ∷ []) (key 1 ∷ key 1 ∷ []) digest ≡ true) × (assigned (token 1 ∷ []) [] digest ≡ false) × (assigned [] [] digest ≡ true) × (assigned (token 1 ∷ []) (key 1 ∷ []) (replicate 32 8) ≡ false)
 unfolding token_of
 chosen_twice = (refl, refl, refl, refl)

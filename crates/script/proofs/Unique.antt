@@ -45,14 +45,14 @@ decoded-spelt CheckMultiSig rest h = refl
 decoded-spelt CheckLockTimeVerify rest h = refl
 decoded-spelt CheckSequenceVerify rest h = refl
 
--- two opcodes that begin one list are one
+-- two opcodes that begin the same list are the same
 same_op : (x y : Op) (r s : List ℕ) → IsOp x → IsOp y → code_of x ∷ (payload_of x ++ r) ≡ code_of y ∷ (payload_of y ++ s) → x ≡ y
 same_op x y r s hx hy e =
     let c : code_of x ≡ code_of y = cc in
     let p : payload_of x ++ r ≡ payload_of y ++ s = cc in
     sym (decoded-spelt x r hx) ∙ ap (λ b. decoded b (payload_of x ++ r)) c ∙ ap (decoded (code_of y)) p ∙ decoded-spelt y s hy
 
--- and what follows them is one
+-- and what follows them is the same
 same_rest : (x y : Op) (r s : List ℕ) → IsOp x → IsOp y → code_of x ∷ (payload_of x ++ r) ≡ code_of y ∷ (payload_of y ++ s) → r ≡ s
 same_rest x y r s hx hy e =
     let p : payload_of x ++ r ≡ payload_of y ++ s = cc in

@@ -1,5 +1,5 @@
--- Runs of a script in the standard's own terms: steps between positions of the list of opcodes, chains of steps, clean runs, and the first
--- fault of any other run (BIP 141, 65, 112, 147). The partners of IF, NOTIF, ELSE and ENDIF are found in the list, by nesting.
+-- Runs of a script in the standard's own terms (BIP 141, 65, 112, 147): steps between positions of the list of opcodes, chains of steps,
+-- clean runs, and the first fault of any other run. The partners of IF, NOTIF, ELSE and ENDIF are found in the list, by nesting.
 use Rattle.std.specs.Prelude.{◌≡◌, ◌≢◌, ℕ, ◌+◌, ◌<◌, ◌≤◌, max, Bool, true, false, IsTrue, IsFalse, List, [], ◌∷◌, ◌++◌, length, take, drop, reverse, Result, Ok, Err, All, Any, ◌↔◌}
 use Rattle.script.specs.declared.opcode.Op.{Op}
 use Rattle.script.specs.declared.opcode.Op.TheVariants.{If, NotIf, Else, EndIf}
@@ -42,8 +42,8 @@ pub record LeadsAfter (elses : Bool) (closer : Op) (list : List Op) (n : ℕ) : 
   pub closed : IsBlock elses block
   pub place : n ≡ length block + 1
 
--- how many of the opcodes that follow a run jumps over: none; past the ELSE, or past the ENDIF where there is no ELSE; past the ENDIF; and
--- to the end of the list where no partner is found
+-- how many of the following opcodes a run jumps over. Next: none. AfterElse: up to and including the ELSE, or the ENDIF where there is no
+-- ELSE. AfterEndIf: up to and including the ENDIF. Where no partner is found, all of them.
 pub data Jumps (rest : List Op) : Jump → ℕ → Type 0 where
   onward : Jumps rest Next 0
   after_else : {n : ℕ} → LeadsAfter false Else rest n → Jumps rest AfterElse n
@@ -52,8 +52,8 @@ pub data Jumps (rest : List Op) : Jump → ℕ → Type 0 where
   after_endif : {n : ℕ} → LeadsAfter true EndIf rest n → Jumps rest AfterEndIf n
   to_list_end : ((n : ℕ) → LeadsAfter true EndIf rest n → ⊥) → Jumps rest AfterEndIf (length rest)
 
--- where a chain of steps has come to: the position in the list, the elements, the keys of the CHECKMULTISIGs so far, and the greatest number
--- of elements so far
+-- where a chain of steps has come to: the position in the list, the elements, the number of keys of the CHECKMULTISIGs so far, and the
+-- greatest number of elements so far
 pub record Point : Type 0 where
   pub at : ℕ
   pub stack : Elements
@@ -94,7 +94,7 @@ pub record HasOpen (elses : Bool) (ops : List Op) : Type 0 where
   pub opens : IsTrue (is_opener opener)
   pub closed : IsBlock elses block
 
--- the opcode may stand after these
+-- the opcode is allowed after these
 abbrev pub MayFollow : List Op → Op → Type 0
 MayFollow before Else = HasOpen false before
 MayFollow before EndIf = HasOpen true before
@@ -159,8 +159,8 @@ pub data FaultAt (spend : Spend) (ops : List Op) (witness : List (List ℕ)) (k 
 abbrev pub AreFaultless : Spend → List Op → List (List ℕ) → ℕ → Type 0
 AreFaultless spend ops witness k = (j : ℕ) (cause : Cause) → j < k → FaultAt spend ops witness j cause → ⊥
 
--- the run stops at this position, for this cause: an item that is too long; else the fault of the least position that has one; else what is
--- wrong at the end of the list
+-- the run stops at this position, for this cause. An item that is too long comes first, then the fault of the least position that has one,
+-- then what is wrong at the end of the list
 pub data StopsAt (spend : Spend) (ops : List Op) (witness : List (List ℕ)) : ℕ → Cause → Type 0 where
   long_item : Any (λ item. max_element_size < length item) witness → StopsAt spend ops witness 0 ItemTooLong
   least_fault : {k : ℕ} {cause : Cause} → AreShort witness → AreFaultless spend ops witness k → FaultAt spend ops witness k cause → StopsAt spend ops witness k cause

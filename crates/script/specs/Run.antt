@@ -21,8 +21,8 @@ abbrev pub counted_in : List Op → ℕ
 counted_in [] = 0
 counted_in (op ∷ ops) = weight op + counted_in ops
 
--- how many of these opcodes come up to and including the ENDIF of the branch, or its ELSE if `stop` is true and that comes first,
--- where `depth` IFs inside it are open; all of them where neither comes
+-- how many of these opcodes come up to and including the branch's ENDIF, or its ELSE if `stop` is true and that comes first;
+-- `depth` IFs inside the branch are open. All of them where neither comes
 abbrev pub skip_length : Bool → ℕ → List Op → ℕ
 skip_length stop depth [] = 0
 skip_length stop depth (If ∷ rest) = suc (skip_length stop (suc depth) rest)
@@ -54,7 +54,7 @@ abbrev pub IsOpened : Op → List Bool → List Bool → Bool → Type 0
 IsOpened op old new true = open_ifs_after op old ≡ Ok new
 IsOpened op old new false = open_ifs_after op old ≡ Err OpenBranch
 
--- where a run stands as it comes to an opcode of the list
+-- the state of a run as it comes to an opcode of the list
 pub record RunState : Type 0 where
   -- how many opcodes it still jumps over
   pub ahead : ℕ

@@ -78,8 +78,8 @@ unfoldable pub lock_passes : Spend → ℕ → Bool
 lock_passes spend n =
     alike (nat_lt n locktime_threshold) (nat_lt spend.lock_time locktime_threshold) && nat_le n spend.lock_time && not (spend.sequence == 0xffffffff)
 
--- a relative lock passes: it is disabled, or all of these hold: the transaction has version 2 or above, the input's sequence is a lock
--- of the same kind, and the lock is not above it (BIP 112)
+-- a relative lock passes: it is disabled, or the transaction has version 2 or above, the input's sequence is a lock of the same kind,
+-- and the lock is not above it (BIP 112)
 unfoldable pub age_passes : Spend → ℕ → Bool
 age_passes spend n =
     bit_at 31 n || (nat_le 2 spend.version && not (bit_at 31 spend.sequence) && alike (bit_at 22 spend.sequence) (bit_at 22 n) && nat_le (n % 2 ^ 16) (spend.sequence % 2 ^ 16))
