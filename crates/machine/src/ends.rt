@@ -23,8 +23,8 @@ pub enum Stop {
     /// Memory ran out.
     #[error("NoMemory")]
     NoMemory,
-    /// The cause, and the index of the opcode that the run stops at: 0 for an item that is too long, and the number of opcodes for a stop
-    /// at the end.
+    /// The cause, and the index of the opcode that the run stops at. The index is 0 for an item that is too long, and the number of
+    /// opcodes for a stop at the end.
     #[error("{0} {1}")]
     At(Cause, usize),
 }
