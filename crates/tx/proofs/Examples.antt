@@ -1,4 +1,4 @@
--- The definitions at work on known bytes.
+-- The definitions on known bytes.
 use Rattle.std.proofs.Common.{◌≡◌, ℕ, Bool, true, false, List, [], ◌∷◌, ◌++◌, map, Result, Ok, Err, refl, replicate}
 use Rattle.tx.specs.declared.input.TxIn.{TxIn}
 use Rattle.tx.specs.declared.errors.DecodeError.{DecodeError}
