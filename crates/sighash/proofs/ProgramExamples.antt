@@ -17,7 +17,7 @@ no_opcodes : map single_op (0x00 ∷ 0x4b ∷ 0x4c ∷ 0x50 ∷ 0x61 ∷ 0x62 �
 unfolding single_op
 no_opcodes = refl
 
--- a script with pushes of no byte, of two and of 75, and one that is cut short or has a byte that is no opcode
+-- scripts with pushes of 0, 2 and 75 bytes, with pushes that are cut short, and with bytes that are not opcodes
 scripts : (script_ops (0x63 ∷ 0x00 ∷ 0x67 ∷ 0x02 ∷ 0x90 ∷ 0x00 ∷ 0xb2 ∷ 0x68 ∷ []) ≡ Some (If ∷ Push [] ∷ Else ∷ Push (0x90 ∷ 0x00 ∷ []) ∷ CheckSequenceVerify ∷ EndIf ∷ []))
     × (script_ops (0x4b ∷ replicate 75 7) ≡ Some (Push (replicate 75 7) ∷ []))
     × (script_ops [] ≡ Some [])
@@ -60,7 +60,7 @@ bip173_script = refl
 abbrev program_of : ℕ → ℕ → ℕ → List ℕ
 program_of version push n = version ∷ push ∷ replicate n 0x11
 
--- a key's hash has 20 bytes, a script's 32, after 0x00 and that number; another length, version or number, or an empty program, is none
+-- a key's hash has 20 bytes, a script's 32, after 0x00 and that number; another length, version or number is refused, and so is an empty program
 key_hash_forms : map is_key_hash_program (program_of 0x00 0x14 20 ∷ program_of 0x00 0x14 19 ∷ program_of 0x00 0x14 21 ∷ program_of 0x00 0x14 32
     ∷ program_of 0x51 0x14 20 ∷ program_of 0x01 0x14 20 ∷ program_of 0x00 0x13 20 ∷ program_of 0x00 0x15 20 ∷ program_of 0x00 0x20 20 ∷ program_of 0x00 0x20 32 ∷ [] ∷ [])
     ≡ true ∷ replicate 10 false

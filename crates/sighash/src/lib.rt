@@ -5,8 +5,8 @@
 //! ALL. To sign more than one input of a transaction, make a [`SighashCache`] first. A [`Token`] names one key and
 //! one digest. [`programs`] makes and recognises the two programs for all crates.
 //!
-//! `tx` provides the transactions. `keys` makes the token of a key over a digest where a signer has the right,
-//! `commit` pays to the programs, and `chain` reads the program of each spent output and runs its script with the
+//! `tx` provides the transactions. `keys` makes the token of a key over a digest where a signer has the right.
+//! `commit` pays to the programs. `chain` reads the program of each spent output and runs its script with the
 //! digest.
 //!
 //! ```rust
