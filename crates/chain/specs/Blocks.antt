@@ -15,7 +15,7 @@ pub record Contents : Type 0 where
   pub transactions : List Transaction
   pub granted : List Output
 
--- the list of blocks as it stands, and the greatest height that it ever had
+-- the list of blocks, and the greatest height that it ever had
 pub record Standing : Type 0 where
   pub blocks : List Contents
   pub greatest : ℕ
@@ -38,7 +38,7 @@ grant_id g = sha256d ((0x67 ∷ 0x72 ∷ 0x61 ∷ 0x6e ∷ 0x74 ∷ []) ++ numbe
 abbrev pub grant_outpoint : ℕ → OutPoint
 grant_outpoint g = record { txid = grant_id g; index = 0 }
 
--- an output on the chain: where it stands, the output, and the height of its block
+-- an output on the chain: its outpoint, the output, and the height of its block
 pub record Creation : Type 0 where
   pub outpoint : OutPoint
   pub output : Output

@@ -65,8 +65,8 @@ ConnectsSome old txs refusals new =
 abbrev pub has_grant : Contents → Bool
 has_grant b = not (length b.granted == 0)
 
--- this number of blocks cannot be taken off: there are not as many above the first, the height would fall more than 6 below the
--- greatest, or one of them holds a grant
+-- this number of blocks cannot be taken off: fewer are above the first, the height would fall more than 6 below the greatest,
+-- or one of them holds a grant
 abbrev pub is_too_deep : Standing → ℕ → Bool
 is_too_deep s k = nat_lt (height_of s.blocks) k || nat_lt (height_of s.blocks - k + 6) s.greatest || list_any has_grant (take k s.blocks)
 

@@ -37,8 +37,9 @@ pub trait Coins {
     fn connect(&mut self, txs: Vec<Tx>) -> Result<u64, BlockError>
         ensures { Connects (standing self.old) txs.items result (standing self.new) };
 
-    /// Takes the newest `k` blocks off, and gives their transactions in the order of the chain. `TooDeep` where fewer stand above the
-    /// first, where the height would fall more than 6 below the greatest that the chain ever had, or where one of them holds a grant.
+    /// Takes the newest `k` blocks off, and gives their transactions in the order of the chain. The error is `TooDeep` where there are
+    /// fewer above the first, where one of them holds a grant, or where the height would fall more than 6 below the greatest that the
+    /// chain ever had.
     fn disconnect(&mut self, k: u64) -> Result<Vec<Tx>, ChainError>
         ensures { MatchResult result (λ txs. Disconnects (standing self.old) k (Ok txs.items)
             (standing self.new)) (λ e. Disconnects (standing self.old) k (Err e)

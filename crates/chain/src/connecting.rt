@@ -122,7 +122,7 @@ fn add_passing<S: Store>(store: &mut S, txs: Vec<Tx>) -> Result<Vec<Option<Chain
     Ok(refusals)
 }
 
-/// Adds the next block, with those of the transactions that pass their tests after those before them, and gives the refusal of each;
+/// Adds the next block, with those of the transactions that pass their tests after those before them. It gives the refusal of each;
 /// `None` for one that is in the block. The only error is that memory ran out, which changes nothing.
 #[tactic(auto, using(crate::proofs::Growing::more_than_one))]
 pub(crate) fn connect_some<S: Store>(

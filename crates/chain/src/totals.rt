@@ -34,7 +34,7 @@ fn sum_of(amounts: &[u64]) -> u128
     sum
 }
 
-/// The value in satoshis of the output at an outpoint, 0 where there is none.
+/// The value in satoshis of the output at an outpoint, or 0 if there is none.
 fn value_at<S: Store>(store: &S, outpoint: &OutPoint) -> u64
     ensures value { result ≡ value_at (S.standing store.now).blocks outpoint.now }
     ensures limit { result ≤ max_value }
