@@ -21,7 +21,7 @@ use Rattle.mempool.specs.Mining.{Mined, waits, is_taken, still_waiting, blocks_a
 abbrev Fewer : List Transaction → List (Option ChainError) → Type 0
 Fewer ts rs = length (filter is_taken rs) + length (still_waiting ts rs) ≤ length ts
 
--- one more of them, whatever it was refused for
+-- one more of them, whatever the reason of its refusal
 one_fewer : (t : Transaction) (ts : List Transaction) (r : Option ChainError) (rs : List (Option ChainError)) → Fewer ts rs → Fewer (t ∷ ts) (r ∷ rs)
 one_fewer t ts None rs rest = omega arith
 one_fewer t ts (Some r) rs rest = by (waits (Some r)) refl
@@ -46,7 +46,7 @@ pub no_more : (n : ℕ) (m whole : Mined) → n ≡ 0 → blocks_after n m ≡ w
 unfolding blocks_after
 no_more n m whole none e = sym (subst (λ x. blocks_after x m ≡ whole) none e)
 
--- the transactions of a new block and those that still wait are no more than waited
+-- the transactions of a new block and those that still wait are at most as many as waited before
 pub no_more_left : (old new : Standing) (txs waiting : List Transaction) (taken : ℕ) → IsNextBlock old txs new waiting taken → taken + length waiting ≤ length txs
 no_more_left old new txs waiting taken next =
     let few = fewer_left (empty_block ∷ old.blocks) txs in

@@ -12,8 +12,8 @@ pub enum ReorgError {
     /// Memory ran out.
     #[error("NoMemory")]
     NoMemory,
-    /// This number of blocks cannot be taken off: it is 0, there are not as many above the first, the height would fall more than 6 below the greatest that
-    /// the chain ever had, or one of them holds a grant.
+    /// This number of blocks cannot be taken off. It is 0, it is more than there are above the first block, or one of them holds a grant; or the height
+    /// would fall more than 6 below the greatest that the chain ever had.
     #[error("TooDeep")]
     TooDeep,
     /// The blocks hold fewer transactions than are to be forgotten.
