@@ -60,7 +60,7 @@ others = refl
 same_long : same_fact (Assigned (0 ∷ 1 ∷ []) (SlotKey 1 ∷ FixedKey (2 ∷ 3 ∷ []) ∷ [])) (Assigned (0 ∷ 1 ∷ []) (SlotKey 1 ∷ FixedKey (2 ∷ 3 ∷ []) ∷ [])) ≡ true
 same_long = refl
 
--- one fact with both polarities, wherever they stand; a repeated one is no contradiction
+-- a fact with both polarities, at any positions; a repeated fact is not a contradiction
 contradictions : map contradicts ((yes (Truth 0) ∷ no (Truth 0) ∷ []) ∷ (no (Truth 0) ∷ yes (Form 1) ∷ yes (Truth 0) ∷ []) ∷ (yes (Form 1) ∷ yes (Truth 1) ∷ no (Truth 1) ∷ []) ∷ []) ≡ true ∷ true ∷ true ∷ []
 contradictions = refl
 
