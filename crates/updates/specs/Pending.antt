@@ -21,8 +21,8 @@ pending_if_live Live e es = e ∷ es
 pending_if_live Fulfilled e es = es
 pending_if_live Failed e es = es
 
--- the HTLCs that a list of updates offers and that the other side's `settled` updates do not remove, each with its end among all known updates of
--- the other side; the first update of the list has position `at`
+-- the HTLCs that a list of updates offers and that the other side's `settled` updates do not remove. Each has its end among all known updates of
+-- the other side. The first update of the list has position `at`
 abbrev pub pending_htlcs : ℕ → List Update → List Update → List Update → List PendingHtlc
 pending_htlcs at [] known settled = []
 pending_htlcs at (Add h ∷ us) known settled =

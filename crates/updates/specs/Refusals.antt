@@ -49,8 +49,8 @@ abbrev pub first_refusal : List Test → Option ChannelError
 first_refusal [] = None
 first_refusal (t ∷ tests) = if_so t.0 t.1 (first_refusal tests)
 
--- the tests of an HTLC that `by` offers: `next` is the next id, `live` the number of live HTLCs of this direction, `had` what the side had in
--- millisatoshis, and `out` what of that has gone out
+-- the tests of an HTLC that `by` offers. `next` is the next id, and `live` the number of live HTLCs of this direction. `had` is what the side
+-- had in millisatoshis, and `out` what of it has gone out
 abbrev pub add_tests : Terms → Side → ℕ → ℕ → ℕ → ℕ → Htlc → List Test
 add_tests terms by next live had out h =
     (not (h.id == next), WrongId)

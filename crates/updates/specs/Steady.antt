@@ -63,8 +63,8 @@ pub record IsSteady (h : Held) : Type 0 where
   pub own_fair : IsFair (start_of h.side h.terms) h.own h.theirs
   pub their_fair : IsFair (start_of (other h.side) h.terms) h.theirs h.own
 
--- what calls and messages make of it: nothing yet; an update of one's own, a signature given out; an update received, a signature
--- received (which is answered by a revocation), a revocation received
+-- what calls and messages make of it: nothing yet; an update of one's own, a signature sent; an update received, a signature received and
+-- answered by a revocation, a revocation received
 
 abbrev pub holding_none : Terms → Side → Held
 holding_none terms side = record { terms = terms; side = side; own = none_yet; theirs = none_yet }

@@ -20,8 +20,8 @@ fn amounts(htlcs: &[Htlc]) -> u128
     sum
 }
 
-/// The share of a side with this starting balance in millisatoshis, where its first `own` updates and the first `theirs` of its peer
-/// count: its balance, and the HTLCs that it offered. The only error is that memory ran out.
+/// The share of a side with this starting balance in millisatoshis: its balance, and the HTLCs that it offered. Its own first `own`
+/// updates and the first `theirs` of its peer count. The only error is that memory ran out.
 pub(crate) fn share_at(
     start: u64,
     htlcs: &Pending,
