@@ -11,7 +11,7 @@ use Rattle.chain.specs.declared.coin_map.IndexedCoin.{IndexedCoin}
 use Rattle.chain.specs.Blocks.{Contents, Creation, Coin, same_outpoint, coin_at, has_id}
 use Rattle.chain.specs.Checked.{is_checked}
 
--- outpoints by their ids, byte by byte, and then by their indices
+-- the order of outpoints: by their ids, byte by byte, and then by their indices
 abbrev pub outpoint_cmp : OutPoint → OutPoint → Ordering
 outpoint_cmp o p = ordering_then (slice_cmp nat_cmp o.txid p.txid) (nat_cmp o.index p.index)
 

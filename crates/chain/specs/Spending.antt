@@ -31,8 +31,8 @@ IsCreated [] o output height = ⊥
 IsCreated (b ∷ older) o output height =
     ((height ≡ length older) × (IsPaid b o output ⊎ IsGranted (grants_in older) b o output)) ⊎ IsCreated older o output height
 
--- the input may spend this output in the next block: the output was created in the block of this height, no input on the chain spends it, its
--- locks are reached, and its program runs clean
+-- in the next block the input may spend this output, created in the block of this height: no input on the chain spends it, its locks are
+-- reached, and its program runs clean
 pub record MaySpend (blocks : List Contents) (t : Transaction) (input : TxIn) (output : Output) (height : ℕ) : Type 0 where
   pub created : IsCreated blocks input.outpoint output height
   pub unnamed : is_named blocks input.outpoint ≡ false

@@ -78,7 +78,7 @@ pub(crate) fn forget_output(
     }
 }
 
-/// Removes the first outputs of a transaction, this many, if they were created at this height.
+/// Removes the first `count` outputs of a transaction, if they were created at this height.
 pub(crate) fn forget_outputs(
     coins: &mut BTreeMap<OutPoint, IndexedCoin>,
     id: &[u8; 32],

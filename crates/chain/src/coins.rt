@@ -37,9 +37,9 @@ pub trait Coins {
     fn connect(&mut self, txs: Vec<Tx>) -> Result<u64, BlockError>
         ensures { Connects (standing self.old) txs.items result (standing self.new) };
 
-    /// Takes the newest `k` blocks off, and gives their transactions in the order of the chain. The error is `TooDeep` where there are
-    /// fewer above the first, where one of them holds a grant, or where the height would fall more than 6 below the greatest that the
-    /// chain ever had.
+    /// Takes the newest `k` blocks off, and gives their transactions in the order of the chain. The error is `TooDeep` where fewer than
+    /// `k` blocks are above the first, where one of the `k` holds a grant, or where the height would fall more than 6 below the
+    /// greatest so far.
     fn disconnect(&mut self, k: u64) -> Result<Vec<Tx>, ChainError>
         ensures { MatchResult result (λ txs. Disconnects (standing self.old) k (Ok txs.items)
             (standing self.new)) (λ e. Disconnects (standing self.old) k (Err e)

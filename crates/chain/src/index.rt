@@ -15,9 +15,9 @@ use std::collections::{BTreeMap, BTreeSet};
 use std::marker::Model;
 use tx::{OutPoint, Tx, TxOut};
 
-/// A chain that finds outputs and ids by an index, in time logarithmic in their number. A block changes only the outputs that its
-/// transactions create and those that their inputs spend. So the cost of connecting a block or taking it off depends on the block, not on the
-/// chain.
+/// A chain that finds outputs and ids by an index, in time logarithmic in their number. A block changes only the entries of its own
+/// transactions: the outputs that they create, and those that their inputs spend. So the cost of connecting a block or taking it off depends
+/// on the block, not on the chain.
 #[derive(Drop)]
 pub struct Index {
     blocks: Blocks,

@@ -1,12 +1,12 @@
 //! The simulated chain: blocks of transactions, the outputs that they create and spend, time locks, and blocks taken
 //! off again.
 //!
-//! [`Coins`] has the calls. Each speaks of the list of blocks as it is at the time. An input passes exactly where its
-//! output was created and is unspent, its locks are reached (BIP 65, BIP 68), and the output's program runs clean on
-//! its witness (BIP 141), barring out-of-memory. A block is connected exactly where each of its transactions passes;
-//! else the first at fault is named and nothing changes. [`Scan`] searches its blocks for every answer. [`Index`],
-//! which is the [`Chain`], keeps a map of the outputs and a set of the ids beside them. Both are proved against the
-//! same clauses. [`replay_commands`] makes calls that are values, one after another.
+//! [`Coins`] has the calls. Each speaks of the list of blocks as it is at the time. Barring out-of-memory, an input
+//! passes exactly where its output was created and is unspent, its locks are reached (BIP 65, BIP 68), and the
+//! output's program runs clean on its witness (BIP 141). A block is connected exactly where each of its transactions
+//! passes; else the first at fault is named and nothing changes. [`Scan`] searches its blocks for every answer.
+//! [`Index`], which is the [`Chain`], keeps a map of the outputs and a set of the ids as well. Both are proved
+//! against the same clauses. [`replay_commands`] makes calls that are values, one after another.
 //!
 //! `filling` and `publish` make the transactions, and `machine` runs their scripts here. `mempool` makes blocks of
 //! the transactions that wait, and `watch` reads the blocks.
