@@ -36,7 +36,7 @@ fewer_left blocks [] = omega arith
 fewer_left blocks (t ∷ ts) =
     one_fewer t ts (transaction_refusal blocks t) (refusals_of (unless_refusal (transaction_refusal blocks t) blocks t) ts) (fewer_left (unless_refusal (transaction_refusal blocks t) blocks t) ts)
 
--- a block more is one fewer to come
+-- one more block is one fewer still to make
 pub next_block : (n k : ℕ) (m whole : Mined) (new : Standing) (waiting : List Transaction) (taken : ℕ) → n ≡ suc k → IsNextBlock m.chain m.waiting new waiting taken → blocks_after n m ≡ whole
     → blocks_after k (record { chain = new; waiting = waiting; txs = m.txs + taken }) ≡ whole
 unfolding blocks_after

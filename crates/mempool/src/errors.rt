@@ -12,7 +12,7 @@ pub enum ReorgError {
     /// Memory ran out.
     #[error("NoMemory")]
     NoMemory,
-    /// This number of blocks cannot be taken off. It is 0, it is more than there are above the first block, or one of them holds a grant; or the height
+    /// This number of blocks cannot be taken off. It is 0, it is more than there are above the first block, or one of them holds a grant. Or the height
     /// would fall more than 6 below the greatest that the chain ever had.
     #[error("TooDeep")]
     TooDeep,
