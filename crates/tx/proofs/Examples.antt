@@ -113,7 +113,7 @@ stripped_is_read : (stripped_reading mixed_stripped ≡ Ok (unsigned_transaction
 unfolding stripped_reading number_at bytes_at inputs_at list_at input_count_at compact_size_up_to compact_size_at fields_at input_at outputs_at output_at byte_string_at end_at
 stripped_is_read = (refl, refl, refl)
 
--- one witness with an item is enough, wherever it stands
+-- one witness with an item is enough, at any input
 witness_found : (has_witness (signed ∷ unsigned ∷ []) ≡ true) × (has_witness (unsigned ∷ signed ∷ []) ≡ true) × (has_witness (unsigned ∷ unsigned ∷ []) ≡ false) × (has_witness [] ≡ false)
 witness_found = (refl, refl, refl, refl)
 

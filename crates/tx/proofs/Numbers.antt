@@ -57,7 +57,7 @@ pub record Takes (bytes spelled rest : List ℕ) : Type 0 where
 pub Takes-then : (a x b y c : List ℕ) → Takes a x b → Takes b y c → Takes a (x ++ y) c
 Takes-then a x b y c p q = record { parts = p.parts ∙ ap (λ (t : List ℕ). x ++ t) q.parts ∙ sym (append_assoc x y c); rest_fits = q.rest_fits }
 
--- a reader takes what spell makes of good values, and reads it again whatever follows
+-- a reader takes off what `spell` writes for good values, and gives the value back whatever follows
 pub record Reads {A : Type 0} (read : List ℕ → Field A) (spell : A → List ℕ) (Good : A → Type 0) : Type 0 where
   pub takes : (bytes : List ℕ) (x : A × List ℕ) → IsBytes bytes → read bytes ≡ Ok x → Takes bytes (spell x.0) x.1 × Good x.0
   pub again : (a : A) (rest : List ℕ) → Good a → read (spell a ++ rest) ≡ Ok (a, rest)

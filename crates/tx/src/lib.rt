@@ -7,7 +7,6 @@
 //!
 //! `digest` hashes its ids. `sighash` computes from a [`Tx`] what its signatures sign, `commit` and `filling` make
 //! transactions, and `chain` connects them.
-//! transactions, and `chain` connects them.
 //!
 //! ```rust
 //! /// Whether the bytes are a transaction with an output of this value in satoshis.

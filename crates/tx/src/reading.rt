@@ -209,11 +209,11 @@ fn all(alloc: Global, bytes: &[u8]) -> Result<Tx, DecodeError>
 /// The transaction that all of the bytes spell (BIP 144). Marker and flag are always there, each compactSize is minimal, and at least
 /// one witness has an item. The error is that memory ran out, or the first fault from left to right.
 pub fn decode(alloc: Global, bytes: &[u8]) -> Result<Tx, DecodeError>
-    // What is read is spelled so.
+    // The bytes spell the transaction that is read.
     ensures found { IfOk result (λ t. IsTransaction t bytes.now) }
-    // What is spelled so is read, unless memory runs out.
+    // A transaction that the bytes spell is read, unless memory runs out.
     ensures only { (t : Transaction) → IsTransaction t bytes.now → Gives (λ t. t) result (Ok t) }
-    // Which fault it is: the first one from left to right.
+    // The fault is the first one from left to right.
     ensures exact { Gives (λ t. t) result (reading bytes.now) }
 {
     all(alloc, bytes)
@@ -237,11 +237,11 @@ fn all_stripped(alloc: Global, bytes: &[u8]) -> Result<Tx, DecodeError>
 /// The transaction that the bytes spell in the form without marker, flag and witnesses, over which its id is taken
 /// (BIP 141). It has no witness items. The error is that memory ran out, or the first fault from left to right.
 pub fn decode_stripped(alloc: Global, bytes: &[u8]) -> Result<Tx, DecodeError>
-    // What is read is spelled so.
+    // The bytes spell the transaction that is read.
     ensures found { IfOk result (λ t. IsStripped t bytes.now) }
-    // What is spelled so is read, unless memory runs out.
+    // A transaction that the bytes spell is read, unless memory runs out.
     ensures only { (t : Transaction) → IsStripped t bytes.now → Gives (λ t. t) result (Ok t) }
-    // Which fault it is: the first one from left to right.
+    // The fault is the first one from left to right.
     ensures exact { Gives (λ t. t) result (stripped_reading bytes.now) }
 {
     all_stripped(alloc, bytes)
