@@ -22,7 +22,7 @@ pub record HasFields (t : Terms) (funding : OutPoint) (capacity : ℕ) (opener :
   pub a_is : t.a ≡ a
   pub b_is : t.b ≡ b
 
--- what a side brought to the terms
+-- a side's part of the terms
 abbrev pub party : Side → Terms → Party
 party A t = t.a
 party B t = t.b

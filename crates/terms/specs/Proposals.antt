@@ -14,7 +14,7 @@ use Rattle.terms.specs.declared.proposals.ProposedTerms.{ProposedTerms}
 abbrev pub can_agree : ProposedTerms → Bool
 can_agree t = nat_le t.capacity max_value && t.a.start + t.b.start == MSAT_PER_SAT * t.capacity
 
--- what a side with these base keys brings
+-- a side's part of the terms, with these base keys
 abbrev pub party_of : ProposedParty → BaseKeys → Party
 party_of p bases = record { dust = p.dust; delay = p.delay; minimum = p.minimum; start = p.start; bases = bases }
 

@@ -42,7 +42,7 @@ impl BaseKeys {
     }
 }
 
-/// What one side brings to the terms.
+/// One side's part of the terms.
 #[derive(Clone, Copy, Debug, PartialEq, Eq, Drop)]
 pub struct Party {
     /// The dust limit of its own commitments in satoshis: they have no output below it (`dust_limit_satoshis`).
@@ -108,7 +108,7 @@ impl Terms {
         })
     }
 
-    /// What a side brought to the terms.
+    /// A side's part of the terms.
     pub fn party(&self, side: Side) -> &Party
         ensures { result.now ≡ party side self.now }
     {

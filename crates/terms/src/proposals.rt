@@ -8,7 +8,7 @@ use crate::amounts::MSAT_PER_SAT;
 use crate::sides::Side;
 use tx::{MAX_VALUE, OutPoint};
 
-/// What one side would bring to the terms, without its keys.
+/// One side's part of proposed terms, without its keys.
 #[derive(Clone, Copy, Debug, PartialEq, Eq, Drop)]
 pub struct ProposedParty {
     /// The dust limit of its own commitments in satoshis: they have no output below it (`dust_limit_satoshis`).
@@ -34,7 +34,7 @@ pub struct ProposedTerms {
     pub b: ProposedParty,
 }
 
-// What a side with these base keys brings.
+// A side's part of the terms, with these base keys.
 fn party_of(proposed: &ProposedParty, bases: BaseKeys) -> Party
     ensures { result ≡ party_of proposed.now bases }
 {
