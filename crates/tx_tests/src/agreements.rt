@@ -41,7 +41,7 @@ fn starts_sum_to_the_capacity(rt: HostRuntime) {
     assert_eq!(rt; TermsError::BadTerms.number(), 1);
 }
 
-// What a side would bring to the terms.
+// A side's part of proposed terms.
 fn proposed_party(start: u64) -> ProposedParty {
     ProposedParty {
         dust: 546,
