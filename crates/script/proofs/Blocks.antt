@@ -266,7 +266,7 @@ finding stop xs = by_seen (found stop 0 xs) refl
 not_behind : (stop : Bool) (closer : Op) (xs : List Op) → IsCloser stop closer → found stop 0 xs ≡ false → (n : ℕ) → LeadsAfter (not stop) closer xs n → ⊥
 not_behind stop closer xs c e n l = true≢false (sym ((reaches stop closer xs n c l).seen) ∙ e)
 
--- the function's jump is one
+-- the function's jump is allowed by the relation
 pub jumps_made : (move : Jump) (rest : List Op) → Jumps rest move (jump_length move rest)
 jumps_made Next rest = onward
 jumps_made AfterElse rest = by (finding true rest)

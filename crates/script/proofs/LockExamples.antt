@@ -51,7 +51,7 @@ read_bits : (of_age 0x8000 0 ≡ false) × (of_age 0x8000 0x8000 ≡ true) × (o
 unfolding age_passes
 read_bits = (refl, refl, refl, refl, refl, refl, refl, refl, refl, refl)
 
--- bit 31 of the number switches the check off, whatever the version and the sequence are; bit 30 does not
+-- bit 31 of the number disables the check, whatever the version and the sequence are; bit 30 does not
 switched_off : (of_age 0x80000090 0 ≡ true) × (of_age 0x80000090 0xffffffff ≡ true) × (age_passes (aged 1 0) 0x80000090 ≡ true) × (age_passes (aged 0 0xffffffff) 0x80000000 ≡ true) × (of_age 0x40000001 0 ≡ false) × (of_age 0x40000001 1 ≡ true) × (of_age 0x100000090 0 ≡ false)
 unfolding age_passes
 switched_off = (refl, refl, refl, refl, refl, refl, refl)

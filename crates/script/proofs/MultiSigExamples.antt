@@ -60,7 +60,7 @@ signed : (of_three 1 (token 1 ∷ []) ≡ yes 3) × (of_three 1 (token 3 ∷ [])
 unfolding effect multi_sig number_of token_of is_signature is_token is_key
 signed = (refl, refl, refl, refl, refl, refl, refl, refl, refl, refl)
 
--- no signature is due: true
+-- where no signature is required, the result is true
 none_due : (checks 1 ([] ∷ [] ∷ [] ∷ under ∷ []) ≡ yes 0) × (checks 1 ((1 ∷ []) ∷ key 1 ∷ [] ∷ [] ∷ under ∷ []) ≡ yes 1) × (checks 1 ((20 ∷ []) ∷ (replicate 20 (key 1) ++ ([] ∷ [] ∷ under ∷ []))) ≡ yes 20)
 unfolding effect multi_sig number_of is_key
 none_due = (refl, refl, refl)
@@ -105,7 +105,7 @@ forms : (formed (key 1) (key 2) (token 1) (token 2) [] ≡ yes 2) × (formed (ke
 unfolding effect multi_sig number_of token_of is_signature is_token is_key
 forms = (refl, refl, refl, refl, refl, refl, refl, refl, refl)
 
--- the extra item has to be empty, also where no signature is due
+-- the extra item must be empty, also where no signature is required
 extras : (formed (key 1) (key 2) (token 1) (token 2) (0 ∷ []) ≡ fails Extra) × (formed (key 1) (key 2) [] [] (1 ∷ []) ≡ fails Extra) × (checks 1 ([] ∷ [] ∷ (0x80 ∷ []) ∷ under ∷ []) ≡ fails Extra)
 unfolding effect multi_sig number_of token_of is_signature is_token is_key
 extras = (refl, refl, refl)

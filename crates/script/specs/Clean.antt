@@ -1,5 +1,5 @@
--- Runs of a script in the standard's own terms (BIP 141, 65, 112, 147): steps between positions of the list of opcodes, chains of steps,
--- clean runs, and the first fault of any other run. The partners of IF, NOTIF, ELSE and ENDIF are found in the list, by nesting.
+-- Runs of a script in the standard's own terms (BIP 141, 65, 112, 147). There are steps between positions of the list of opcodes, chains
+-- of steps, clean runs, and the first fault of any other run. The partners of IF, NOTIF, ELSE and ENDIF are found in the list, by nesting.
 use Rattle.std.specs.Prelude.{◌≡◌, ◌≢◌, ℕ, ◌+◌, ◌<◌, ◌≤◌, max, Bool, true, false, IsTrue, IsFalse, List, [], ◌∷◌, ◌++◌, length, take, drop, reverse, Result, Ok, Err, All, Any, ◌↔◌}
 use Rattle.script.specs.declared.opcode.Op.{Op}
 use Rattle.script.specs.declared.opcode.Op.TheVariants.{If, NotIf, Else, EndIf}

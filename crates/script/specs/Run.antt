@@ -21,8 +21,8 @@ abbrev pub counted_in : List Op → ℕ
 counted_in [] = 0
 counted_in (op ∷ ops) = weight op + counted_in ops
 
--- how many of these opcodes come up to and including the branch's ENDIF, or its ELSE if `stop` is true and that comes first;
--- `depth` IFs inside the branch are open. All of them where neither comes
+-- how many of these opcodes come up to and including the branch's ENDIF, or its ELSE if `stop` is true and that comes first; all
+-- of them where neither comes. `depth` IFs inside the branch are open
 abbrev pub skip_length : Bool → ℕ → List Op → ℕ
 skip_length stop depth [] = 0
 skip_length stop depth (If ∷ rest) = suc (skip_length stop (suc depth) rest)
