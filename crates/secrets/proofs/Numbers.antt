@@ -19,7 +19,7 @@ bit_at_multiple q b c h = subst (λ (n : ℕ). bit_at n c ≡ 0) (omega arith) (
 pub floor_of-sum : (a c r : ℕ) → r < 2 ^ c → floor_of c (a * 2 ^ c + r) ≡ a * 2 ^ c
 floor_of-sum a c r h = ap (λ (n : ℕ). n * 2 ^ c) (shr_high a c r h)
 
--- a multiple of 2^b is one of each lower power
+-- a multiple of 2^b is also a multiple of each lower power
 pub multiple_of_lower : (q b c : ℕ) → c ≤ b → q * 2 ^ b ≡ q * 2 ^ (b - c) * 2 ^ c
 multiple_of_lower q b c h =
     let e : b ≡ (b - c) + c = omega arith in
