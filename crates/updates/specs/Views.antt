@@ -51,8 +51,8 @@ view_by terms B mine others = view_of terms others mine
 abbrev pub expire_at_heights : List Htlc → Bool
 expire_at_heights htlcs = list_all (λ h. nat_lt h.expiry EXPIRY_END) htlcs
 
--- a view is sound if no balance is below 0, balances and HTLCs sum to the capacity, no more HTLCs of a side are live than allowed, and each expires
--- at a height
+-- what a sound view satisfies: no balance is below 0, balances and HTLCs sum to the capacity, at most 483 HTLCs of a side are live, and each
+-- expires at a height
 pub record IsSound (terms : Terms) (xs ys : List Update) : Type 0 where
   pub a : IsCovered terms.a.start xs ys
   pub b : IsCovered terms.b.start ys xs
