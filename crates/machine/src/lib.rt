@@ -1,5 +1,5 @@
-//! The machine that runs a version 0 witness script on a witness (BIP 141), with the lock times of BIP 65 and BIP
-//! 112 and the empty extra item of BIP 147.
+//! The machine that runs version 0 witness scripts (BIP 141), with the lock times of BIP 65 and BIP 112 and the
+//! empty extra item of BIP 147.
 //!
 //! Barring out-of-memory, [`run`] is exactly the definition `outcome` of `script`. It is Ok with the counted
 //! opcodes and the greatest number of elements on the stack where the run is clean, else the [`Stop`] with its
