@@ -176,7 +176,7 @@ impl Ledger {
         self.make(Update::Fee { rate })
     }
 
-    /// Receives an update of the peer, with the same tests as for an own update. A refusal leaves the ledger as it was.
+    /// Receives an update of the peer, with the same tests as for an update of one's own. A refusal leaves the ledger as it was.
     pub fn receive_update(&mut self, update: &Update) -> Result<(), ChannelError>
         ensures ok { IfOk result (λ _. self.new ≡ holding_update update.now self.old) }
         ensures tested { let first = first_refusal (their_tests self.old update.now)
@@ -264,7 +264,7 @@ impl Ledger {
         self.view(self.own.part(own), self.theirs.part(theirs))
     }
 
-    /// The view of the peer's next commitment, for which this side's next signature would be. The only error is that memory ran out.
+    /// The view of the peer's next commitment, which this side's next signature would cover. The only error is that memory ran out.
     pub fn view_to_sign(&self) -> Result<View, AllocError>
         ensures value { IfOk result (λ v. v
             ≡ view_in self.now self.now.own.known self.now.theirs.past_receiver) }
@@ -273,7 +273,7 @@ impl Ledger {
         self.view_at(Stage::Known, Stage::PastReceiver)
     }
 
-    /// The view of this side's next commitment, for which the peer's next signature has to be. The only error is that memory ran out.
+    /// The view of this side's next commitment, which the peer's next signature has to cover. The only error is that memory ran out.
     pub fn view_to_receive(&self) -> Result<View, AllocError>
         ensures value { IfOk result (λ v. v ≡ view_in self.now self.now.own.past_receiver
             self.now.theirs.known) }
