@@ -86,7 +86,7 @@ given_of program witness =
 abbrev pub spend_of : Transaction → TxIn → List ℕ → ℕ → Spend
 spend_of t input code value = record { version = t.version; lock_time = t.lock_time; sequence = input.sequence; digest = sha256d (signed_list t input code value) }
 
--- how the script runs that spends an input, where its bytes are a script
+-- the outcome of the script that spends an input, where its bytes are a script
 abbrev pub run_of_given : Transaction → TxIn → ℕ → Given → Option Outcome
 run_of_given t input value given = option_map (λ ops. outcome (spend_of t input given.script value) ops given.items) (script_ops given.script)
 
