@@ -102,7 +102,7 @@ joined : {a b c : Bool} {i j k : ℕ} {xs ys zs : List Op} {n m : ℕ} → Same 
 joined {n = n} {m = m} s t =
     let p = s.counted in let q = t.counted in record { counted = omega arith; seen = s.seen ∙ t.seen }
 
--- a search goes over a block, at a depth where it looks for no ELSE of that level
+-- a search goes over a block, at a depth where it does not look for an ELSE of that level
 abbrev pub Skips : Bool → Bool → ℕ → Type 0
 Skips false stop depth = Unit {0}
 Skips true false depth = Unit {0}

@@ -1,4 +1,4 @@
--- What each opcode does that is run: its operands, its checks in their order, and what it leaves (BIP 65, 112, 141, 147).
+-- What each opcode does when it runs: its operands, its checks in their order, and what it leaves (BIP 65, 112, 141, 147).
 use Rattle.std.proofs.Common.{◌≡◌, ℕ, true, false, List, [], ◌∷◌, ◌++◌, map, replicate, refl, Result, Ok, Err}
 use Rattle.digest.specs.Hash.{hash160}
 use Rattle.script.specs.declared.opcode.Op.{Op}

@@ -172,11 +172,11 @@ inner_else = after_else (record {
   place = refl;
 })
 
--- an IF with no ELSE is left after its ENDIF, and what follows that is not looked at
+-- from an IF with no ELSE a run jumps past the ENDIF; what follows that is ignored
 no_else : Jumps (Number 1 ∷ EndIf ∷ Else ∷ []) AfterElse 2
 no_else = after_endif_for_else (record { block = Number 1 ∷ []; after = Else ∷ []; same = refl; closed = one_more refl no_more; place = refl })
 
--- an ELSE is left after the ENDIF, whatever ELSEs come first
+-- from an ELSE a run jumps past the ENDIF, whatever ELSEs come first
 over_an_else : Jumps (Else ∷ EndIf ∷ Number 1 ∷ []) AfterEndIf 2
 over_an_else = after_endif (record { block = Else ∷ []; after = Number 1 ∷ []; same = refl; closed = an_else no_more; place = refl })
 

@@ -31,7 +31,7 @@ bad_token = 2 ∷ replicate 65 9
 abbrev under : List ℕ
 under = 0xee ∷ []
 
--- this many opcodes are counted with it; the elements stand top first
+-- CHECKMULTISIG with this number of opcodes counted, itself included; the elements, the top first
 abbrev checks : ℕ → Elements → Result Effect Cause
 checks counted stack = effect spend counted CheckMultiSig stack
 
@@ -80,7 +80,7 @@ twenty_one : checks 1 ((21 ∷ []) ∷ (replicate 21 (key 1) ++ ([] ∷ [] ∷ u
 unfolding effect multi_sig number_of
 twenty_one = refl
 
--- the keys may lift the count to 201, and what lifts it further stops before they are taken, also where they are missing
+-- the keys may raise the count to 201; a higher count stops the run before they are taken, even if they are missing
 counts : (checks 199 ((2 ∷ []) ∷ key 2 ∷ key 1 ∷ [] ∷ [] ∷ under ∷ []) ≡ yes 2) × (checks 200 ((2 ∷ []) ∷ key 2 ∷ key 1 ∷ [] ∷ [] ∷ under ∷ []) ≡ stops TooManyOps) × (checks 200 ((2 ∷ []) ∷ []) ≡ stops TooManyOps) × (checks 199 ((2 ∷ []) ∷ key 1 ∷ []) ≡ stops MissingOperand) × (checks 201 ([] ∷ [] ∷ [] ∷ under ∷ []) ≡ yes 0) × (checks 201 ((21 ∷ []) ∷ []) ≡ fails KeyCount)
 unfolding effect multi_sig number_of is_key
 counts = (refl, refl, refl, refl, refl, refl)

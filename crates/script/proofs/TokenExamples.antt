@@ -46,7 +46,7 @@ chosen : map (λ sigs. assigned sigs (key 1 ∷ key 2 ∷ key 3 ∷ []) digest) 
 unfolding token_of
 chosen = refl
 
--- a stranger's, in another order, one twice, an empty one, and more than there are keys
+-- by another key, in another order, one twice, an empty one, and more than there are keys
 not_chosen : map (λ sigs. assigned sigs (key 1 ∷ key 2 ∷ key 3 ∷ []) digest) (
     (token 4 ∷ []) ∷ (token 2 ∷ token 1 ∷ []) ∷ (token 3 ∷ token 1 ∷ []) ∷ (token 1 ∷ token 1 ∷ []) ∷ (token 1 ∷ token 4 ∷ []) ∷ ([] ∷ []) ∷ (token 1 ∷ [] ∷ []) ∷ (token 1 ∷ token 2 ∷ token 3 ∷ token 3 ∷ []) ∷ []) ≡
     false ∷ false ∷ false ∷ false ∷ false ∷ false ∷ false ∷ false ∷ []

@@ -115,7 +115,7 @@ short_splits (x ∷ xs) (y ∷ ys) b rest h k n l e =
 pub one_reading : (xs ys : List Op) (bytes : List ℕ) → Spells xs bytes → Spells ys bytes → xs ≡ ys
 one_reading xs ys bytes s t = spelling-unique xs ys s.each t.each (s.same ∙ sym t.same)
 
--- bytes that split into opcodes have no fault but their number
+-- bytes that split into opcodes have no fault except their length
 pub no_reading : (ops : List Op) (bytes : List ℕ) (e : ParseError) → Spells ops bytes → length bytes ≤ 10000 → IsFault bytes e → e ≡ NoMemory
 no_reading ops bytes NoMemory s l f = refl
 no_reading ops bytes (BadOpcode at) s l f = let r = f.1.2 in absurd (bad_splits ops r.ops f.1.0 f.1.1 s.each r.each f.1.3 (s.same ∙ sym r.same))

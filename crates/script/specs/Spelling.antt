@@ -26,7 +26,7 @@ code_of CheckMultiSig = 0xae
 code_of CheckLockTimeVerify = 0xb1
 code_of CheckSequenceVerify = 0xb2
 
--- the bytes that follow it
+-- the bytes that follow the opcode's own
 abbrev pub payload_of : Op → List ℕ
 payload_of (Push item) = item
 payload_of op = []
