@@ -97,7 +97,7 @@ fn push(stack: &mut Stack<ByteString>, item: ByteString) -> Result<Jump, Halt>
     Ok(Jump::Next)
 }
 
-// IF, and NOTIF, which runs where the top is false.
+// IF, and NOTIF, whose branch runs if the top is false.
 #[tactic(auto, unfolding(script::specs::Step::effect))]
 fn enter(stack: &mut Stack<ByteString>, wanted: bool) -> Result<Jump, Halt>
     ensures on_true { (spend : Spending) → wanted ≡ true

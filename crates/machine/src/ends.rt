@@ -8,7 +8,7 @@ use script::Cause;
 use std::alloc::AllocError;
 use thiserror::Error;
 
-/// How a clean run went.
+/// The result of a clean run.
 #[derive(Clone, Copy, Debug, PartialEq, Eq)]
 pub struct Run {
     /// The counted opcodes: those of the whole script above 60 (in hexadecimal), and the keys of each CHECKMULTISIG that ran.
