@@ -69,7 +69,7 @@ impl<T: Element> LimitedList<T> {
     pub fn from_vec(items: Vec<T>) -> Result<Self, LimitError>
         ensures value { result ≡ (if list_all T.is_bounded items.items && nat_le
             (length items.items) T.LIMIT then Ok items.items else Err LimitError.OverLimit) }
-        // Where the kind has no limits of its own, the number decides.
+        // Where the kind has no limits of its own, only the number of elements counts.
         ensures by_number { ((x : T) → T.is_bounded x ≡ true)
             → result ≡ (if nat_le (length items.items) T.LIMIT then Ok items.items
             else Err LimitError.OverLimit) }
