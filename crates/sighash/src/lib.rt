@@ -10,7 +10,7 @@
 //! digest.
 //!
 //! ```rust
-//! /// A token for each input of a transaction, which spend outputs of one value to one script.
+//! /// A token for each input of a transaction whose inputs spend outputs of one value to one script.
 //! fn sign_all(alloc: Global, tx: &Tx, key: &[u8; 33], code: &[u8], value: u64) -> Result<Vec<Token>, AllocError> {
 //!     let cache = SighashCache::new(tx);
 //!     let mut tokens = Vec::new(alloc);
