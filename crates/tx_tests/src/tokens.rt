@@ -11,7 +11,8 @@ fn prints_its_refusal(rt: HostRuntime) {
     assert_prints(&rt, rt.alloc(), &DigestError::NoSuchInput, "NoSuchInput");
 }
 
-// The example in the documentation of `sighash`: a token for each input of a transaction whose inputs spend outputs of one value to one script.
+// The example in the documentation of `sighash`: a token for each input of a transaction whose inputs spend outputs of one value to one
+// script.
 fn sign_all(
     alloc: Global,
     tx: &Tx,
