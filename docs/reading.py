@@ -1,7 +1,7 @@
 #!/usr/bin/env python3
 """What has to be read to know what a contract says.
 
-  docs/reading.py WORD     WORD is a public function or law, as world::World::play or world::laws::claims_open,
+  docs/reading.py WORD     WORD is a public function or law, as world::World::play or world::laws::claims_spend,
                            or a word of the definitions, as Rattle.world.specs.Theorem.HoldsAt
 
 It walks from word to word. It begins with the word itself, of a function with its clauses (requires and ensures)
