@@ -176,7 +176,7 @@ module _ (holes : List (Option HoleKind)) (whole : List Op) (counted : ℕ) wher
   alike_filled at (HashHole ∷ pieces) fills rest hs ws e = alike_hole ForHash at (map op_of pieces) (map hole_of pieces) (filled pieces) fills rest hs ws e (λ fs more h w l. alike_filled (at + 1) pieces fs more h w l)
   alike_filled at (NumHole ∷ pieces) fills rest hs ws e = alike_hole ForNumber at (map op_of pieces) (map hole_of pieces) (filled pieces) fills rest hs ws e (λ fs more h w l. alike_filled (at + 1) pieces fs more h w l)
 
-  -- branches close alike, and as many opcodes count
+  -- branches close the same way, and the same number of opcodes count
   both_ways : (r : Result (List Bool) Cause) (go go' : List Bool → Bool) → ((ifs : List Bool) → go ifs ≡ go' ifs) → balanced_with r go ≡ balanced_with r go'
   both_ways (Ok ifs) go go' h = h ifs
   both_ways (Err c) go go' h = refl
@@ -217,7 +217,7 @@ filled_listing pieces fills ops paths h e =
     walk_all-follows false (filling ops) (filled_path ops) (hole_guide holes) plain_guide n (filled_ends ops holes n) bare ops a))) in
     subst (λ r. Follows false (filled_paths ops) r (listing ops)) h follows
 
--- the opcodes of a filled pattern are opcodes, and no more bytes than the pattern may come to
+-- the opcodes of a filled pattern are valid, and their bytes are at most the greatest length of the pattern
 valid_op : (op : Op) → is_op op ≡ true → IsOp op
 valid_op (Push item) e = grind (arith, e)
 valid_op (SmallNumber n) e = grind (arith, e)
