@@ -22,7 +22,7 @@ pub all-mono : {X : Type 0} (p q : X → Bool) → ((x : X) → p x ≡ true →
 all-mono p q h [] e = e
 all-mono p q h (x ∷ xs) e = let w = and_parts (p x) (list_all p xs) e in and_from (q x) (list_all q xs) (h x w.0) (all-mono p q h xs w.1)
 
--- one more key never hurts, nor one slot fewer
+-- one more key keeps a choice, and so does one slot fewer
 pub more : (p : Test) (is : List ℕ) (k : KeySource) (keys : List KeySource) → exists_choice p is keys ≡ true → exists_choice p is (k ∷ keys) ≡ true
 more p [] k keys e = refl
 more p (i ∷ is) k keys e = or_right (p i k && exists_choice p is keys) (exists_choice p (i ∷ is) keys) e
