@@ -49,7 +49,7 @@ fn outpoint_bytes(outpoint: &OutPoint) -> [u8; 36]
     bytes
 }
 
-/// Whether two claims spend the same outpoint. It takes O(n log n) steps for n claims.
+/// Whether two claims spend the same outpoint. The time is O(n log n) for n claims.
 pub(crate) fn share_outpoint(alloc: Global, claims: &[&Claim]) -> Result<bool, AllocError>
     ensures { IfOk result (λ b. b ≡ share_outpoint (map (λ c. c.now) claims.now)) }
 {

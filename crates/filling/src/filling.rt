@@ -45,7 +45,8 @@ fn finished(unsigned: Tx, inputs: Inputs, places: Vec<Place>) -> Filled
 ///
 /// The signer signs for the slots of keys. The slots of hashes are filled from the preimages. Each input fits its claim, and so runs clean.
 /// Checked in this order: `MixedShells`, `SameOutpoint`, `OutputsExceed`, and then each slot, claim by claim and with the top of the stack first,
-/// for `NoRight` and `NoPreimage`. `NoMemory` may come at any time. For n claims, outputs and preimages together it takes O(n log n) steps.
+/// for `NoRight` and `NoPreimage`. `NoMemory` may come at any time. The time is linear in the claims, the outputs and the preimages, apart from a
+/// logarithmic factor.
 pub fn fill(
     alloc: Global,
     claims: &[&Claim],
