@@ -1,4 +1,4 @@
--- What a state is once all messages of its queue came.
+-- The state after all messages of its queue have come.
 use Rattle.std.proofs.Common.{◌≡◌, ℕ, ◌+◌, true, List, [], ◌∷◌, ◌++◌, sym, ◌∙◌, refl, arith, None, append-nil, append_assoc}
 use Rattle.updates.specs.declared.changes.Update.{Update}
 use Rattle.updates.specs.Stages.{Stages, with_update}
