@@ -126,7 +126,7 @@ signatures : map (λ xs. rule_of 0 CheckSig (state xs)) ((Const (key 17) ∷ Slo
 unfolding rule_of is_key is_signature is_token
 signatures = refl
 
--- a key of 32 bytes, a signature of one byte: dead, also beside what no rule decides
+-- a key of 32 bytes, a signature of one byte: dead, also next to an operand that no rule decides
 dead_signatures : map (λ xs. rule_of 0 CheckSig (state xs)) ((Const (replicate 32 2) ∷ Slot 1 ∷ []) ∷ (Const [] ∷ HashOf 1 ∷ []) ∷ (Slot 0 ∷ Const (1 ∷ []) ∷ []) ∷ (HashOf 0 ∷ Const (1 ∷ []) ∷ []) ∷ []) ≡ replicate 4 dead
 unfolding rule_of is_key is_signature is_token
 dead_signatures = refl

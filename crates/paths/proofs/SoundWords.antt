@@ -52,8 +52,8 @@ pub record Asks (s s' : State) : Type 0 where
   pub same : s' ≡ record s { facts = s'.facts }
   pub facts : (spend : Spend) (w : Elements) → AllStated spend w s'.facts → AllStated spend w s.facts
 
--- an opcode, where so many of the whole script count, takes the elements of the first state to those of the second, for each witness that
--- meets the second
+-- an opcode, in a script with `counted` counted opcodes, takes the elements of the first state to those of the second, for each witness
+-- that meets the second
 pub record Follows (counted : ℕ) (op : Op) (s : State) (turn : SymbolicJump) (s' : State) : Type 0 where
   pub ahead : s'.ahead ≡ s.ahead
   pub excess : s'.excess ≡ s.excess

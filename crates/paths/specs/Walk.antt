@@ -23,8 +23,8 @@ refusal_at at none Dead = Ok none
 refusal_at at none Undecided = Err (NoRule at)
 refusal_at at none TooManyOps = Err TooMany
 
--- what a walk needs: the rule of an opcode at its position in a script with n counted opcodes; what decides whether a symbol is true; and the
--- path of a state at the end
+-- what a walk needs. The rule is that of an opcode at its position, in a script with n counted opcodes. The condition decides whether a symbol
+-- is true. The path is that of a state at the end
 pub record Guide (C L A P : Type 0) : Type 0 where
   pub rule : ℕ → ℕ → Op → StateOver C L A → Result (SymbolicJumpOver C L A × StateOver C L A) Halt
   pub condition : SymOver C L A → Result (ConditionOver C L A) Halt

@@ -94,8 +94,8 @@ impl Checked {
 /// number of paths begun times the number of opcodes.
 ///
 /// Checked in this order: branches of the whole script that do not close (`OpenBranch`), more than 201 counted opcodes (`TooManyOps`), and then the first fault that the paths meet. That is an
-/// opcode or an end that no rule decides (`Undecided`), keys of a CHECKMULTISIG that lift the count above 201 (`TooManyOps`), more than 1,000 elements (`TooTall`), or the start of a 65th path
-/// (`TooManyPaths`). `NoMemory` may come at any time.
+/// opcode or an end that no rule decides (`Undecided`), or keys of a CHECKMULTISIG that lift the count above 201 (`TooManyOps`). Or it is more than 1,000 elements (`TooTall`), or the start of a
+/// 65th path (`TooManyPaths`). `NoMemory` may come at any time.
 #[tactic(auto, using(crate::proofs::SoundListing::exact_sound))]
 pub fn check(alloc: Global, script: Script) -> Result<Checked, CheckError>
     ensures exact { IsListing script result }
