@@ -24,8 +24,8 @@ use Rattle.terms.specs.Scripts.{offered, received}
 use Rattle.forms.specs.Ways.{no}
 use Rattle.forms.specs.Forms.{to_local_form, key_hash_form, offered_form, received_form}
 
--- A kind of claim spends a form by a path, at this place and with this transaction round it. Two cases are left out, because they are refused: a
--- timeout where the revocation key's hash is HASH160 of the empty item, and a preimage where it is RIPEMD-160 of the payment hash.
+-- A kind of claim spends a form by a path, at this place and with this transaction round it. Two cases are refused, and so left out. One is a timeout
+-- where the revocation key's hash is HASH160 of the empty item. The other is a preimage where it is RIPEMD-160 of the payment hash.
 pub data Claims : ClaimKind → CheckedScript → ℕ → Place → Shell → Type 0 where
   of_penalty : (revocation : Key) (delay : ℕ) (delayed : List ℕ) (place : Place)
       → Claims (Penalty revocation) (to_local_form revocation.bytes delay delayed) 0 place Open
