@@ -118,7 +118,7 @@ pub record IsOutputOf (k : KeyBytes) (o : CommitmentOutput) : Type 0 where
   pub limits : IsTxOutput o
   pub htlc : IsHtlcOf k o o.kind
 
--- what a commitment keeps beside its contents: its transaction and id, its HTLCs, and the program of their second stage
+-- what a commitment keeps besides its contents: its transaction and id, its HTLCs, and the program of their second stage
 pub record Keeps (c : Contents) (transaction : Transaction) (id : List ℕ) (htlcs : List HtlcOutput) (second_stage_program : List ℕ) : Type 0 where
   pub transaction_is : transaction ≡ transaction_of c
   pub id_is : id ≡ id_of c
