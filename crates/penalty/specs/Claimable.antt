@@ -23,8 +23,8 @@ use Rattle.forms.specs.Forms.{to_local_form, key_hash_form, offered_form, receiv
 use Rattle.forms.specs.Fillings.{Filling, Signature, Bytes}
 use Rattle.penalty.specs.declared.states.RevokedState.{RevokedState}
 
--- an output that may be claimed: its place, and its script with the paths through it; the path that is taken, what fills its slots with the top
--- of the stack first, and the transaction round the claim
+-- an output that may be claimed: its place, and its script with the paths through it. Then the path that is taken, what fills its slots with the
+-- top of the stack first, and the transaction round the claim
 pub record Claimable : Type 0 where
   pub place : Place
   pub form : CheckedScript

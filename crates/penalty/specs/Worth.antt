@@ -44,8 +44,8 @@ fee_with stands feerate h = if stands h.index then fee_of (htlc_weight h.directi
 abbrev pub fees_with : (ℕ → Bool) → Contents → ℕ
 fees_with stands c = sum_by (λ h. fee_with stands c.feerate h) (htlcs_of c)
 
--- satoshis are the capacity together with three things: the commitment's fee, of which the opener pays no more than it
--- has; what was left out as dust; and the millisatoshis that were rounded off
+-- satoshis are the capacity together with three amounts. These are the commitment's fee, of which the opener pays no
+-- more than it has, what was left out as dust, and the millisatoshis that were rounded off
 abbrev pub IsCapacityWith : RevokedState → ℕ → Type 0
 IsCapacityWith s satoshis =
     MSAT_PER_SAT * (satoshis + fee_paid s.terms s.view s.owner + left_out s.terms s.view s.owner)
