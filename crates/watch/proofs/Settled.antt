@@ -1,4 +1,4 @@
--- Where all that is due was given, a block that leaves the funding output alone gives nothing more.
+-- Once all that is due was given, a block that leaves the funding output alone gives nothing more.
 use Rattle.std.proofs.Common.{◌≡◌, ℕ, ◌&&◌, ◌||◌, Bool, true, false, cond, List, [], ◌∷◌, ◌++◌, map, refl, sym, ap, subst, ◌∙◌, append_assoc, append-nil, eq-eqb}
 use Rattle.std.specs.Prelude.{filter}
 use Rattle.std.specs.List.{list_any, list_all}
