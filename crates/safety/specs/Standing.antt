@@ -8,7 +8,7 @@ use Rattle.chain.specs.Checks.{coin_refusal}
 use Rattle.chain.specs.Checked.{is_checked}
 use Rattle.chain.specs.Indexing.{marked}
 
--- the transaction stands in the block of this height
+-- the transaction is in the block of this height
 pub record StandsAt (blocks : List Contents) (height : ℕ) (t : Transaction) : Type 0 where
   pub block : Contents
   pub there : slice_get (reverse blocks) height ≡ Some block
