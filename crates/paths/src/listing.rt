@@ -93,9 +93,11 @@ impl Checked {
 /// Lists every way through a script, in the text order of its branches: the second branch of a split begins once all paths through the first have ended. The number of steps is at most the
 /// number of paths begun times the number of opcodes.
 ///
-/// Checked in this order: branches of the whole script that do not close (`OpenBranch`), more than 201 counted opcodes (`TooManyOps`), and then the first fault that the paths meet. That is an
-/// opcode or an end that no rule decides (`Undecided`), or keys of a CHECKMULTISIG that lift the count above 201 (`TooManyOps`). Or it is more than 1,000 elements (`TooTall`), or the start of a
-/// 65th path (`TooManyPaths`). `NoMemory` may come at any time.
+/// `NoMemory` may come at any time. The other refusals are checked in this order:
+/// - `OpenBranch`: branches of the whole script do not close.
+/// - `TooManyOps`: more than 201 opcodes of the whole script count.
+/// - Then the first fault that the paths meet: `Undecided` for an opcode or an end that no rule decides, `TooManyOps` for keys of a CHECKMULTISIG that lift the count above 201, `TooTall` for
+///   more than 1,000 elements, or `TooManyPaths` for a 65th path that begins.
 #[tactic(auto, using(crate::proofs::SoundListing::exact_sound))]
 pub fn check(alloc: Global, script: Script) -> Result<Checked, CheckError>
     ensures exact { IsListing script result }
