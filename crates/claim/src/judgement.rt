@@ -98,7 +98,7 @@ fn is_denied(stated: &Stated, others: &[Stated]) -> bool
     others.iter().any(|other| denies(stated, other))
 }
 
-// Whether the facts state one of them with both polarities.
+// Whether some fact is stated with both polarities.
 fn contradicts(facts: &[Stated]) -> bool
     ensures { result ≡ contradicts facts.now }
 {
