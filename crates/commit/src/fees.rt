@@ -5,7 +5,7 @@ ghost use Rattle.commit.specs.Fees.{satoshis_of, fee_of, commitment_weight, htlc
 
 use terms::{Htlc, MSAT_PER_SAT};
 
-/// A feerate is in satoshis for this weight.
+/// A feerate is in satoshis per this many weight units.
 const WEIGHT_PER_FEERATE: u32 = 1000;
 
 /// Weight of a commitment without HTLCs.
