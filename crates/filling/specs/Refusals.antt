@@ -32,7 +32,7 @@ is_fixed (Fixed t) = true
 abbrev pub has_fixed : List ClaimParts → Bool
 has_fixed claims = list_any (λ c. is_fixed c.shell) claims
 
--- a claim with a fixed transaction is together with others
+-- a claim with a fixed transaction is not alone
 abbrev pub are_mixed : List ClaimParts → Bool
 are_mixed claims = nat_lt 1 (length claims) && has_fixed claims
 

@@ -22,7 +22,7 @@ pub enum FillError {
     /// The outputs are worth more than the claimed outputs together.
     #[error("OutputsExceed")]
     OutputsExceed,
-    /// A claim with a fixed transaction is together with others.
+    /// A claim with a fixed transaction is not alone.
     #[error("MixedShells")]
     MixedShells,
     /// Two claims spend the same outpoint.

@@ -31,7 +31,7 @@ fn has_fixed(claims: &[&Claim]) -> bool
     false
 }
 
-/// Whether a claim with a fixed transaction is together with others.
+/// Whether a claim with a fixed transaction is not alone.
 pub(crate) fn are_mixed(claims: &[&Claim]) -> bool
     ensures { result ≡ are_mixed (map (λ c. c.now) claims.now) }
 {
