@@ -12,7 +12,7 @@ use Rattle.channel.specs.Playing.{IsPlay, AreDelivered}
 
 -- in each view of a state no balance is below 0, and balances and HTLCs sum to 1000 times the capacity
 pub record IsSoundState (s : State) : Type 0 where
-  pub newest : IsSoundIn s.held s.held.own.with_sender s.held.theirs.with_receiver  -- of the own newest commitment
+  pub newest : IsSoundIn s.held s.held.own.with_sender s.held.theirs.with_receiver  -- of this side's newest commitment
   pub next : IsSoundIn s.held s.held.own.past_receiver s.held.theirs.known  -- of the one that the peer's next signature is for
   pub peers : IsSoundIn s.held s.held.own.past_receiver s.held.theirs.settled  -- of the peer's newest
   pub peers_next : IsSoundIn s.held s.held.own.with_receiver s.held.theirs.with_sender  -- of the one after it, where it is signed

@@ -32,12 +32,12 @@ pub record State : Type 0 where
   pub held : Held  -- the terms, which side it is, and the updates
   pub seed : List ℕ  -- of its signer
   pub awaiting : Bool  -- a signature given out awaits its revocation
-  pub number : ℕ  -- of the own newest commitment
+  pub number : ℕ  -- of this side's newest commitment
   pub peer_number : ℕ  -- of the peer's newest commitment that revoked the one before
   pub point : Key  -- the peer's point for that number
   pub next_point : Key  -- and for the number after it
   pub secrets : List (List ℕ)  -- the peer's, by number
-  pub mine : List CommitmentState  -- own commitments that the peer signed, by number
+  pub mine : List CommitmentState  -- this side's commitments that the peer signed, by number
   pub signed : List CommitmentState  -- the peer's commitments that were signed, by number
 
 -- commitment 0, which pays the balances at the start

@@ -235,8 +235,8 @@ impl Channel {
         &self.signer
     }
 
-    /// Offers an HTLC of `amount` millisatoshis, and returns the message. Checked in this order: AmountZero, BelowMinimum, ExpiryTooLarge, TooManyHtlcs,
-    /// OverBalance. A refusal leaves the channel as it was.
+    /// Offers an HTLC of `amount` millisatoshis for the payment hash `hash`, which expires at the block height `expiry` (BOLT 2, `update_add_htlc`), and returns
+    /// the message. Checked in this order: AmountZero, BelowMinimum, ExpiryTooLarge, TooManyHtlcs, OverBalance. A refusal leaves the channel as it was.
     pub fn offer(
         &mut self,
         amount: u64,
@@ -258,8 +258,8 @@ impl Channel {
         }
     }
 
-    /// Fulfils an HTLC of the peer, and returns the message. UnknownHtlc if the peer has no HTLC of this id that passed all stages and that nobody removed, else
-    /// WrongPreimage if the preimage is not that of its hash. A refusal leaves the channel as it was.
+    /// Fulfils an HTLC of the peer (BOLT 2, `update_fulfill_htlc`), and returns the message. UnknownHtlc if the peer has no HTLC of this id that passed all
+    /// stages and that nobody removed, else WrongPreimage if the preimage is not that of its hash. A refusal leaves the channel as it was.
     pub fn fulfil(&mut self, id: u64, preimage: [u8; 32]) -> Result<Message, ChannelError>
         ensures message { IfOk result (λ m. m ≡ Updated (Fulfil id preimage)) }
         ensures ok { IfOk result (λ _. self.new ≡ after_update (Fulfil id preimage) self.old) }
@@ -273,7 +273,7 @@ impl Channel {
         }
     }
 
-    /// Fails an HTLC of the peer, and returns the message: UnknownHtlc as for `fulfil`. A refusal leaves the channel as it was.
+    /// Fails an HTLC of the peer (BOLT 2, `update_fail_htlc`), and returns the message: UnknownHtlc as for `fulfil`. A refusal leaves the channel as it was.
     pub fn fail(&mut self, id: u64) -> Result<Message, ChannelError>
         ensures message { IfOk result (λ m. m ≡ Updated (Fail id)) }
         ensures ok { IfOk result (λ _. self.new ≡ after_update (Fail id) self.old) }
@@ -287,8 +287,8 @@ impl Channel {
         }
     }
 
-    /// Changes the feerate, in satoshis per 1,000 weight units, and returns the message. NotOpener if this side did not open the channel. A refusal leaves the
-    /// channel as it was.
+    /// Changes the feerate, in satoshis per 1,000 weight units (BOLT 2, `update_fee`), and returns the message. NotOpener if this side did not open the channel.
+    /// A refusal leaves the channel as it was.
     pub fn set_fee(&mut self, rate: u32) -> Result<Message, ChannelError>
         ensures message { IfOk result (λ m. m ≡ Updated (Fee rate)) }
         ensures ok { IfOk result (λ _. self.new ≡ after_update (Fee rate) self.old) }
@@ -400,7 +400,8 @@ impl Channel {
         }
     }
 
-    /// Signs the peer's next commitment, and returns the message: refused as by [`ready`](Channel::ready). A refusal leaves the channel as it was.
+    /// Signs the peer's next commitment (BOLT 2, `commitment_signed`), and returns the message: refused as by [`ready`](Channel::ready). A refusal leaves the
+    /// channel as it was.
     pub fn signed(&mut self) -> Result<Message, ChannelError>
         ensures message { IfOk result (λ m. m ≡ signature_message tokens_of self.old) }
         ensures ok { IfOk result (λ _. self.new ≡ after_sign self.old) }
