@@ -1,6 +1,6 @@
 //! The two sides of a new channel, for programs that use it.
 //!
-//! [`open_sides`] makes both from one value of the terms, each with the other's points and token. The word of its contract is `AreOpened`.
+//! [`open_sides`] makes both from one value of the terms, each with the other's points and token. Its contract says so by `AreOpened`.
 //!
 //! `parties` has the keys and the terms, and `channel` the two ends. The program `vectors` plays them as a `Pair`.
 //!
