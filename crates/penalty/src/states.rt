@@ -71,8 +71,10 @@ fn total(view: &View) -> u128
     share_total(&view.a) + share_total(&view.b)
 }
 
-/// Why no commitment of the terms can pay a view; `None` if one can. Checked in this order: TooManyHtlcs if there are more than 3,998 HTLCs,
-/// ExpiryTooLarge if one expires at a time instead of a height, and WrongTotal if balances and HTLCs do not sum to the capacity.
+/// Why no commitment of the terms can pay a view; `None` if one can. Checked in this order:
+/// - TooManyHtlcs if there are more than 3,998 HTLCs;
+/// - ExpiryTooLarge if one expires at a time instead of a height;
+/// - WrongTotal if balances and HTLCs do not sum to the capacity.
 pub fn refusal(terms: &Terms, view: &View) -> Option<StateError>
     ensures value { result ≡ refusal_of terms.now view.now }
     ensures passed { IfNone result (CanPay terms.now view.now) }
