@@ -47,8 +47,11 @@ pub fn signed_commitment_in(
 /// that of the `k`-th HTLC that isn't trimmed, in the order of outputs, from 0. It is HTLC-timeout if the commitment's owner offered the HTLC, and else HTLC-success with the first
 /// of these preimages that has its hash.
 ///
-/// `None` in exactly these cases. No own commitment of that number is known, or it has no such HTLC. The HTLC was offered to its owner, and none of the preimages is its own. Or
-/// the signer may not sign for the owner's HTLC key. The only error is that memory ran out.
+/// The only error is that memory ran out. `None` in exactly these cases:
+/// - no own commitment of that number is known;
+/// - it has no such HTLC;
+/// - the HTLC was offered to its owner, and none of the preimages is its own;
+/// - the signer may not sign for the owner's HTLC key.
 pub fn signed_htlc_tx_in(
     alloc: Global,
     known: &Known,

@@ -80,8 +80,10 @@ fn signed_second_stage(
 /// An HTLC transaction of this side's commitment of a number, with both signatures (BOLT 3, "HTLC-Timeout and HTLC-Success Transactions"). It is that of the `k`-th HTLC that
 /// isn't trimmed, in the order of outputs, from 0. It is HTLC-timeout if this side offered the HTLC, and else HTLC-success with the first of these preimages that has its hash.
 ///
-/// `None` in exactly these cases. This side has no commitment of that number that its peer signed, or it has no such HTLC. Or the HTLC was offered to this side, and none of the
-/// preimages is its own. The only error is that memory ran out.
+/// The only error is that memory ran out. `None` in exactly these cases:
+/// - this side has no commitment of that number that its peer signed;
+/// - it has no such HTLC;
+/// - the HTLC was offered to this side, and none of the preimages is its own.
 pub fn signed_htlc_tx(
     alloc: Global,
     channel: &Channel,
