@@ -224,11 +224,13 @@ fn due_by(
     }
 }
 
-/// The claims that are due by a verdict, each accepted, in the order of the commitment's outputs (BOLT 5). For `Ours` they are the delayed claim on to_local,
-/// the HTLC-timeout transaction of each offered HTLC, and the HTLC-success transaction of each received HTLC whose preimage is known. Each HTLC transaction is
-/// followed by the delayed claim on its output. For `Theirs` and `TheirsNext` they are the key hash claim on to_remote and the direct timeout of each HTLC that
-/// this side offered. To these comes the direct preimage claim of each other HTLC whose preimage is known. For `Revoked(n)` they are the penalty set of n. For
-/// `Unknown` there are none.
+/// The claims that are due by a verdict, each accepted, in the order of the commitment's outputs (BOLT 5):
+/// - `Ours`: the delayed claim on to_local, the HTLC-timeout transaction of each offered HTLC, and the HTLC-success transaction of each received HTLC whose
+///   preimage is known. Each HTLC transaction is followed by the delayed claim on its output.
+/// - `Theirs` and `TheirsNext`: the key hash claim on to_remote, the direct timeout of each HTLC that this side offered, and the direct preimage claim of each
+///   other HTLC whose preimage is known.
+/// - `Revoked(n)`: the penalty set of n.
+/// - `Unknown`: none.
 ///
 /// The two claims that `accept` refuses are not due, nor is the delayed claim after one of them. These are a timeout where the revocation key's HASH160 is that
 /// of the empty item, and a preimage where it is the RIPEMD-160 of the payment hash. The only error is that memory ran out.
