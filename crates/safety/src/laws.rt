@@ -83,9 +83,13 @@ pub fn only_as_signed()
 {}
 
 /// Suppose that each token of the peer's keys in a witness is one of `commitment_signed` for an HTLC transaction, or is over an input that the peer signed of its own.
-/// Then an input that passes the chain's test has one of four fates. It is of an HTLC transaction, whose only output the peer can claim again. It is one of the peer's
-/// own. It is the owner's after the delay. Or named byte strings collide. This holds of any transaction in the next block, and of each transaction on a chain that
-/// passed its tests.
+/// Then for an input that passes the chain's test, one of four things holds:
+/// - it is of an HTLC transaction, whose only output the peer can claim again;
+/// - it is one of the peer's own;
+/// - it is the owner's after the delay;
+/// - named byte strings collide.
+///
+/// This holds of any transaction in the next block, and of each transaction on a chain that passed its tests.
 pub fn nothing_escapes()
     ensures digests { SignedWithCommitment }
     ensures fates { NothingEscapes }
