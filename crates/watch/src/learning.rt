@@ -118,7 +118,7 @@ fn is_preimage_of(preimage: &[u8; 32], index: u32, htlc: &HtlcOutput) -> bool
     htlc.index == index && sha256(preimage) == htlc.htlc.hash
 }
 
-// Whether one of the HTLCs is.
+// Whether this holds of one of the HTLCs.
 fn some_is_preimage_of(preimage: &[u8; 32], index: u32, htlcs: &[HtlcOutput]) -> bool
     ensures { result ≡ list_any (λ h. h.index == index && bytes_eq
         (sha256 preimage.now) h.htlc.hash) htlcs.now }

@@ -162,7 +162,7 @@ impl Lookout {
         watch
     }
 
-    // Reads a block as the watch does. All that is due was given after that.
+    // Reads a block as the watch does. Afterwards all that is due has been given.
     fn look_anew(&mut self, alloc: Global, height: u64, block: &Block) -> Result<Sight, AllocError>
         ensures sight { IfOk result (λ s. IsSight self.old.seen height
             (reverse block.now.transactions) self.old.known s.claims.items s.learnt.items) }
