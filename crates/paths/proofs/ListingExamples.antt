@@ -87,7 +87,7 @@ locked : listing (Push (0xf4 ∷ 0x01 ∷ []) ∷ CheckLockTimeVerify ∷ Drop �
 unfolding listing rule_of check_multi_sig number_of
 locked = refl
 
--- an age in units of 512 seconds, one that is switched off (bit 31), and one whose bit 30 is set
+-- an age in units of 512 seconds, one that is disabled (bit 31), and one whose bit 30 is set
 other_ages : map listing ((Push (0x90 ∷ 0 ∷ 0x40 ∷ []) ∷ CheckSequenceVerify ∷ []) ∷ (Push (0x90 ∷ 0 ∷ 0 ∷ 0x80 ∷ 0 ∷ []) ∷ CheckSequenceVerify ∷ []) ∷ (Push (0x90 ∷ 0 ∷ 0 ∷ 0x40 ∷ []) ∷ CheckSequenceVerify ∷ []) ∷ []) ≡
     paths (path 0 (yes (Age 0x400090) ∷ []) 1 1 ∷ []) ∷ paths (path 0 [] 1 1 ∷ []) ∷ paths (record { arity = 0; facts = yes (Age 144) ∷ []; ops = 1; height = 1; lock = None; age = Some 144 } ∷ []) ∷ []
 unfolding listing rule_of check_multi_sig number_of

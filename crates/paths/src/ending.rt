@@ -11,7 +11,7 @@ use crate::rules::{condition, insist, take};
 use crate::state::{Halt, Listed, PatternPath, State};
 use script::limits::{MAX_OPS_PER_SCRIPT, MAX_STACK_SIZE};
 
-/// The refusal for a halt at this position; none where the path dies.
+/// The refusal for a halt at this position; no refusal where the path dies.
 pub fn refusal(at: usize, halt: Halt) -> Result<(), CheckError>
     ensures { result ≡ refusal_at at tt halt }
 {

@@ -23,7 +23,7 @@ use script::{Op, Script};
 use std::alloc::{AllocError, Global};
 use std::marker::Model;
 
-/// A script with every way through it that runs clean. Only `check` and [`CheckedPattern::instance`](crate::CheckedPattern::instance) make one. A contract sees it as its opcodes and its paths.
+/// A script with every path on which it runs clean. Only `check` and [`CheckedPattern::instance`](crate::CheckedPattern::instance) make one. A contract sees it as its opcodes and its paths.
 #[derive(Drop)]
 pub struct Checked {
     script: Script,
@@ -73,7 +73,7 @@ impl Checked {
         // Nothing else satisfies the script.
         ensures exhaustive { IsExhaustive self.now.ops self.now.paths }
     {
-        // Borrowing both fields gives the prover the invariant, which says that these are the script's paths.
+        // Borrowing both fields gives the prover the invariant: these are the script's paths.
         let _script = &self.script;
         self.paths.values()
     }
@@ -96,8 +96,8 @@ impl Checked {
 /// `NoMemory` may come at any time. The other refusals are checked in this order:
 /// - `OpenBranch`: branches of the whole script do not close.
 /// - `TooManyOps`: more than 201 opcodes of the whole script count.
-/// - Then the first fault that the paths meet: `Undecided` for an opcode or an end that no rule decides, `TooManyOps` for keys of a CHECKMULTISIG that lift the count above 201, `TooTall` for
-///   more than 1,000 elements, or `TooManyPaths` for a 65th path that begins.
+/// - Then the first fault that the paths meet. `Undecided`: no rule decides an opcode or an end. `TooManyOps`: the keys of a CHECKMULTISIG lift the count above 201. `TooTall`: more than 1,000
+///   elements. `TooManyPaths`: a 65th path begins.
 #[tactic(auto, using(crate::proofs::SoundListing::exact_sound))]
 pub fn check(alloc: Global, script: Script) -> Result<Checked, CheckError>
     ensures exact { IsListing script result }

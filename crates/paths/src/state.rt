@@ -170,7 +170,7 @@ pub struct PatternPath {
     pub height: usize,
 }
 
-/// The paths that were listed so far, and how many were begun.
+/// The paths listed so far, and the number of paths begun.
 #[derive(Drop)]
 pub struct ListedOver<P> {
     /// The number of paths begun, including those that end dead.
