@@ -50,7 +50,7 @@ taken true a true h = or_right a true refl ∙ sym (h refl)
 taken true a false h = or_false a
 taken false a c h = refl
 
--- the greedy choice is a choice wherever there is one
+-- the greedy choice finds a choice wherever one exists
 pub greedy-choice : (p : Test) (is : List ℕ) (keys : List KeySource) → greedy p is keys ≡ exists_choice p is keys
 greedy-choice p [] keys = refl
 greedy-choice p (i ∷ is) [] = refl

@@ -25,7 +25,7 @@ pub record IsRound (p : Path) (place : Place) (shell : Shell) (script : List ℕ
   pub height : t.lock_time < 500000000
   pub known : Known (known_digest script place shell) (sha256d (signed_list t input script place.value))
 
--- two inputs that are one but for the witness
+-- two inputs that differ only in the witness
 record AreAlike (xs ys : List TxIn) (x : TxIn) : Type 0 where
   y : TxIn
   first : xs ≡ x ∷ []

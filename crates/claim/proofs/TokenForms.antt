@@ -15,7 +15,7 @@ pub token-length : (k d : List ℕ) → length d ≡ 32 → length (token_of k d
 unfolding token_of
 token-length k d e = simp length-append (omega arith)
 
--- the last byte
+-- the last byte of a token
 token-last : (k d : List ℕ) → length d ≡ 32 → get_or (token_of k d) (length k + 32) 0 ≡ 1
 unfolding token_of
 token-last k d e = get_or-append-add k (d ++ 1 ∷ []) 32 0 ∙ ap (λ n. get_or (d ++ 1 ∷ []) n 0) (sym e) ∙ get_or-append_seam d 1 [] 0
