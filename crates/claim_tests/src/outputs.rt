@@ -98,7 +98,7 @@ fn claims_from_a_height_on(rt: HostRuntime) {
     assert_eq!(rt; claim.sequence(), 0);
 }
 
-// How many slots a claim of a kind has.
+// The number of slots of a claim of a kind.
 fn count(alloc: Global, kind: &ClaimKind) -> Option<usize> {
     match accepted_slots(alloc, kind) {
         Ok(slots) => Some(slots.len()),
