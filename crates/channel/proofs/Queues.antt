@@ -31,7 +31,7 @@ pub flows-append : (tokens_of : Signing) (queue more : List Message) (s : State)
 flows-append tokens_of [] more s f g = g
 flows-append tokens_of (m ∷ queue) more s f g = (f.0, flows-append tokens_of queue more (after s m) f.1 g)
 
--- how many signatures and revocations stand in a queue
+-- the number of signatures and revocations in a queue
 abbrev pub is_signature : Message → ℕ
 is_signature (Updated u) = 0
 is_signature (CommitmentSigned tokens) = 1
