@@ -1,4 +1,4 @@
-//! The two sides of a new channel, for programs that use it.
+//! The two sides of a new channel, for programs that play with it.
 //!
 //! [`open_sides`] makes both from one value of the terms, each with the other's points and token. Its contract says so by `AreOpened`.
 //!
@@ -12,7 +12,7 @@
 //! }
 //! ```
 //!
-//! The part `== channel` of `vectors` opens its channels so.
+//! The part `== channel` of `vectors` opens its channels this way.
 #![tactic(auto)]
 
 ghost use Rattle.std.specs.Prelude.{◌≡◌, IfOk};
