@@ -145,7 +145,7 @@ module _ (known : Known) (terms : Terms) (funding : OutPoint) (hidden : Obscured
   htlc_keys : map (htlc_key of_a) (0 ∷ 1 ∷ 2 ∷ []) ≡ Some keys.local_htlc ∷ Some keys.local_htlc ∷ None ∷ []
   htlc_keys = refl
 
--- no right where there is no key, and that of the key where there is one
+-- without a key there is no right, and with one the right is that to the key
 module _ (r : Rights) (key : List ℕ) where
   no_key : MaySignIf r None → ⊥
   no_key h = h
@@ -156,7 +156,7 @@ module _ (r : Rights) (key : List ℕ) where
   that_key : MaySignIf r (Some key) → MaySign r key
   that_key h = h
 
--- an answer with the right and without it, where something is wanted and where nothing is
+-- an answer with the right and without it, where a transaction is wanted and where none is
 module _ (t : Transaction) where
   abbrev free : Type 0
   free = Unit {0}
