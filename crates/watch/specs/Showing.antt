@@ -44,7 +44,7 @@ pub record Goes (c : Contents) (h : HtlcOutput) (t : Transaction) (i : TxIn) (in
   pub witness : i.witness ≡ items ++ htlc_script c.keys h.direction h.htlc ∷ []
   pub meets : Meets (spend_of t i (htlc_script c.keys h.direction h.htlc) (satoshis_of h.htlc.amount)) items path.arity path.facts
 
--- the HTLC keys are keys, as those of each commitment of the terms are
+-- the HTLC keys have the form of keys, as those of each commitment of the terms have
 pub record AreKeys (k : KeyBytes) : Type 0 where
   pub local : is_key k.local_htlc ≡ true
   pub remote : is_key k.remote_htlc ≡ true
