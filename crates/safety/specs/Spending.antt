@@ -50,7 +50,7 @@ pub data ShowsTwin (c : Contents) (o : Claimable) (input : TxIn) : Type 0 where
   of_script : HasTwin sha256 (spelling o.form.ops) input.witness → ShowsTwin c o input
   of_key : (key : List ℕ) → IsPeerKeyOn c o key → HasTwin hash160 key input.witness → ShowsTwin c o input
 
--- the owner's way, which to_local's form alone has: the delayed key's token, and then `Late` holds
+-- the owner's way, which only to_local's form has: the delayed key's token, and `Late` holds
 pub record IsOwners (Late : Type 0) (c : Contents) (o : Claimable) (t : Transaction) (input : TxIn) : Type 0 where
   pub form : o.form ≡ to_local_form c.keys.revocation c.delay c.keys.delayed
   pub token : IsSignedBy c.keys.delayed (spend_on o t input)

@@ -1,4 +1,4 @@
--- What is known of an input on a chain that passed its tests.
+-- What an input on a chain that passed its tests satisfies.
 use Rattle.std.specs.Prelude.{◌≡◌, ℕ, true, false, List, reverse, slice_get, Some, None}
 use Rattle.std.specs.List.{Contains}
 use Rattle.tx.specs.declared.input.TxIn.{TxIn}
