@@ -59,8 +59,8 @@ pub record FitsClaim (c : ClaimParts) (t : Transaction) (input : TxIn) : Type 0 
 abbrev pub IsSpending : ClaimParts → Type 0
 IsSpending c = (p : Path) → TakesPath c p → Spends c.ways.ops p c.slots c.place c.shell
 
--- what every claim is: its script is opcodes that are at most 10,000 bytes, with the paths that are listed for them; a path was accepted for it; and its
--- shell is bare
+-- what every claim is. Its script is opcodes of at most 10,000 bytes together, with the paths that are listed for them. A path was accepted for it, and
+-- its shell is bare
 pub record IsWhole (c : ClaimParts) : Type 0 where
   pub ops : All IsOp c.ways.ops
   pub short : length (spelling c.ways.ops) ≤ max_script_size

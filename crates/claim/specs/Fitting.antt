@@ -35,8 +35,8 @@ FillsSlots spend [] [] = Unit {0}
 FillsSlots spend (slot ∷ slots) (x ∷ xs) = FillsSlot spend slot x × FillsSlots spend slots xs
 FillsSlots spend slots xs = ⊥
 
--- a transaction may stand round a claim on a path: any of version 2 whose lock time is a height that the path allows, or the fixed one,
--- whatever its witness
+-- a transaction may stand round a claim on a path. In an open shell it is any of version 2 whose lock time is a height that the path allows.
+-- In a fixed shell it is the fixed transaction, whatever its witness
 abbrev pub StandsRound : Path → Shell → Transaction → Type 0
 StandsRound p Open t = (t.version ≡ 2) × (height_of p ≤ t.lock_time) × (t.lock_time < locktime_threshold)
 StandsRound p (Fixed fixed) t = unsigned_transaction t ≡ unsigned_transaction fixed

@@ -41,7 +41,7 @@ abbrev pub is_only_input : List TxIn → OutPoint → ℕ → Bool
 is_only_input (i ∷ []) o sequence = bytes_eq i.outpoint.txid o.txid && i.outpoint.index == o.index && i.sequence == sequence
 is_only_input inputs o sequence = false
 
--- a fixed transaction fits the path and the place: version 2, one input, a lock time that is a height and that the path allows, and outputs
+-- a fixed transaction fits the path and the place. It has version 2, one input, a lock time that is a height and that the path allows, and outputs
 -- within the place's value
 abbrev pub is_shell : Path → Place → Shell → Bool
 is_shell p place Open = true

@@ -1,7 +1,7 @@
 //! Claims on outputs, accepted before use.
 //!
-//! A [`Claim`] is a path through a checked script on an output (its [`Place`]), with what each slot of the path is
-//! filled with: a signature, a preimage, or given bytes ([`Slot`]). Its [`Shell`] is either open, for any
+//! A [`Claim`] is a path through a checked script on an output (its [`Place`]), with what fills each slot of the
+//! path. That is a signature, a preimage, or given bytes ([`Slot`]). Its [`Shell`] is either open, for any
 //! transaction of version 2 with a lock time that the claim allows, or one fixed transaction. Only [`accept`] makes
 //! a claim. It refuses one unless the place's program is the script's and the slots meet the path. Whatever fits an
 //! accepted claim meets its path, and so runs the script clean.
