@@ -144,8 +144,8 @@ pub fn accepted_slots(alloc: Global, kind: &ClaimKind) -> Result<Vec<Slot>, Allo
     // They are accepted on each form that the kind claims, whatever its other parameters are, wherever its program stands.
     ensures accepted { IfOk result (λ v. AreAccepted kind.now v.items) }
 
-    // The two cases left out are refused: a timeout where the revocation key's hash is HASH160 of the empty item, and a preimage where it is
-    // RIPEMD-160 of the payment hash.
+    // The two cases left out are refused. One is a timeout where the revocation key's hash is HASH160 of the empty item. The other is a preimage
+    // where it is RIPEMD-160 of the payment hash.
     ensures refused { IfOk result (λ v. AreRefused kind.now v.items) }
 {
     fillings(alloc, kind)
