@@ -22,7 +22,7 @@ pub record IsSoundState (s : State) : Type 0 where
 abbrev pub FirstOf : List CommitmentState → List CommitmentState → Type 0
 FirstOf accepted signed = (later : List CommitmentState) × (accepted ++ later ≡ signed)
 
--- the two have one value of the terms; the oldest message that is on its way to a side is not refused; each side accepted what the other signed,
+-- the two have one value of the terms. The oldest message on its way to a side is not refused. Each side accepted what the other signed,
 -- commitment for commitment
 pub record AgreesIn (tokens_of : Signing) (w : World) : Type 0 where
   pub same_terms : w.a.held.terms ≡ w.b.held.terms

@@ -27,8 +27,8 @@ point_key secret = record { bytes = point_of secret; form = point_form secret }
 abbrev pub point_at : List ℕ → ℕ → Key
 point_at seed n = point_key (secret_at seed n)
 
--- whether a secret of index i is consistent with one of index j. If j begins with the leading bits of i, those above its trailing zeros, the secret
--- of j has to derive from that of i (BOLT 3, "Efficient Per-commitment Secret Storage")
+-- whether a secret of index i is consistent with one of index j (BOLT 3, "Efficient Per-commitment Secret Storage"). If j begins with the leading
+-- bits of i, those above its trailing zeros, the secret of j has to derive from that of i
 abbrev pub leads_to_one : List ℕ → ℕ → List ℕ → ℕ → Bool
 leads_to_one secret i other j =
     let b = count_trailing_zeros 48 i in

@@ -546,8 +546,9 @@ impl Channel {
     /// A refusal leaves the channel as it was.
     ///
     /// The channel has moved on by the time this returns. Before a caller sends the answer, it has to store what it received where a restart finds it. A
-    /// `revoke_and_ack` gives up the commitment before and can't be taken back (BOLT 2, "Message Retransmission"). The caller has to screen beforehand what is
-    /// not checked here: whether a received feerate is one that it would pay or that still confirms, and whether the sender keeps a reserve.
+    /// `revoke_and_ack` gives up the commitment before and can't be taken back (BOLT 2, "Message Retransmission"). Two things are not checked here, and the
+    /// caller has to screen them beforehand. One is whether a received feerate is one that it would pay or that still confirms. The other is whether the sender
+    /// keeps a reserve.
     pub fn receive(&mut self, message: &Message) -> Result<Option<Message>, ChannelError>
         ensures answer { IfOk result (λ m. cons_option m [] ≡ answers self.old message.now) }
         ensures ok { IfOk result (λ _. self.new ≡ after self.old message.now) }
