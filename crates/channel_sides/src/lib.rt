@@ -73,7 +73,7 @@ fn open_side(
 }
 
 /// The sides of a new channel that A opened, by its capacity in satoshis and the millisatoshis that A and B have at the start. Its other terms are common
-/// ones: dust limits of 546 satoshis, delays of 144 blocks, HTLCs of at least 1,000 millisatoshis, and a feerate of 1,000 satoshis per 1,000 weight units.
+/// ones. The dust limits are 546 satoshis, the delays 144 blocks, the least HTLC 1,000 millisatoshis, and the feerate 1,000 satoshis per 1,000 weight units.
 pub fn open_sides(alloc: Global, capacity: u64, starts: [u64; 2]) -> Result<Sides>
     ensures { IfOk result (λ s. AreOpened s.a s.b) }
 {
