@@ -31,8 +31,8 @@ module _ (funding : OutPoint) (bases : BaseKeys) (hash secret : List ℕ) where
   abbrev view : ℕ → List ℕ → ℕ → List ℕ → View
   view a from_a b from_b = record { a = record { balance = a; offered = offers from_a }; b = record { balance = b; offered = offers from_b }; feerate = 1000 }
 
-  -- the satoshis of each claim, the fees of the HTLC transactions on the chain, the fee that the opener pays, what is left out, and the millisatoshis that
-  -- are rounded off
+  -- the satoshis of each claim, and the fees of the HTLC transactions on the chain. Then the fee that the opener pays, what is left out, and the
+  -- millisatoshis that are rounded off
   abbrev figures : (ℕ → Bool) → RevokedState → List ℕ × ℕ × ℕ × ℕ × ℕ
   figures stands s = (
     map (λ o. o.place.value) (staged stands (commitment_in s)),

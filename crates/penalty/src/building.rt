@@ -161,9 +161,9 @@ fn revoked_claims(alloc: Global, state: &RevokedState) -> Result<List<Claim>, Al
 }
 
 /// All that a revoked state lets the owner's peer claim (BOLT 5, "Revoked Transaction Close Handling"). These are accepted claims on to_local and to_remote if they
-/// are outputs, on each HTLC that isn't trimmed, and on the output of the HTLC transaction that the peer signed for it. That is HTLC-timeout where the owner offered
-/// the HTLC, and HTLC-success where it was offered to the owner. They are in the order of the outputs, and each HTLC's claim is followed by that on its HTLC
-/// transaction. The only error is that memory ran out.
+/// are outputs, and on each HTLC that isn't trimmed. For each such HTLC there is another claim, on the output of the HTLC transaction that the peer signed for it.
+/// That is HTLC-timeout where the owner offered the HTLC, and HTLC-success where it was offered to the owner. They are in the order of the outputs, and each HTLC's
+/// claim is followed by that on its HTLC transaction. The only error is that memory ran out.
 pub fn penalties(alloc: Global, state: &RevokedState) -> Result<PenaltySet, AllocError>
     ensures state { IfOk result (λ p. p.state ≡ state.now) }
     ensures claims { IfOk result (λ p. AreClaimsOn (claimable_of state.now) p.claims) }
