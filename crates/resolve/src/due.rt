@@ -227,8 +227,8 @@ fn due_by(
 /// The claims that are due by a verdict, each accepted, in the order of the commitment's outputs (BOLT 5):
 /// - `Ours`: the delayed claim on to_local, the HTLC-timeout transaction of each offered HTLC, and the HTLC-success transaction of each received HTLC whose
 ///   preimage is known. Each HTLC transaction is followed by the delayed claim on its output.
-/// - `Theirs` and `TheirsNext`: the key hash claim on to_remote, the direct timeout of each HTLC that this side offered, and the direct preimage claim of each
-///   other HTLC whose preimage is known.
+/// - `Theirs` and `TheirsNext`: the key hash claim on to_remote and the direct timeout of each HTLC that this side offered. Also the direct preimage claim of
+///   each other HTLC whose preimage is known.
 /// - `Revoked(n)`: the penalty set of n.
 /// - `Unknown`: none.
 ///

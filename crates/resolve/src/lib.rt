@@ -2,10 +2,10 @@
 //!
 //! [`due_claims`] takes a [`Verdict`] on the transaction that closed the channel, and what is [`Known`] of the
 //! channel. Barring out-of-memory, it gives exactly the claims of the definition `due_of`, in the order of the
-//! commitment's outputs, each accepted. The types of `Known` guarantee that the commitments can be paid, that one's
-//! own have the peer's tokens on them ([`SignedCommitment`]), and that the i-th revoked one has number i
-//! ([`RevokedCommitments`]). [`preimage_in`] reads a preimage off a spend of an HTLC, and [`is_final`] tells what is
-//! buried deep enough.
+//! commitment's outputs, each accepted. The types of `Known` guarantee that the commitments can be paid. They also
+//! guarantee that one's own have the peer's tokens on them ([`SignedCommitment`]), and that the i-th revoked one has
+//! number i ([`RevokedCommitments`]). [`preimage_in`] reads a preimage off a spend of an HTLC, and [`is_final`]
+//! tells what is buried deep enough.
 //!
 //! `penalty` hands it the claims of a revoked commitment. `book` makes the `Known` of each channel, and `watch` asks
 //! what is due by its verdict on what it saw.
