@@ -46,7 +46,8 @@ abbrev pub branch_item : List (List ℕ) → Direction → Htlc → Option (List
 branch_item preimages Offered h = Some []
 branch_item preimages Received h = preimage_among preimages h.hash
 
--- what spends an HTLC's output by both HTLC keys, the lowest item first: the empty item, the signature of the owner's peer, the owner's, what the branch takes, and the script
+-- the witness that spends an HTLC's output by both HTLC keys, the lowest item first. It is the empty item, the signature of the owner's peer, the owner's, what the branch
+-- takes, and the script
 abbrev pub htlc_witness : Contents → HtlcOutput → List ℕ → List (List ℕ)
 htlc_witness c h item =
     [] ∷ token_of c.keys.remote_htlc (htlc_digest c h) ∷ token_of c.keys.local_htlc (htlc_digest c h) ∷ item ∷ htlc_script c.keys h.direction h.htlc ∷ []

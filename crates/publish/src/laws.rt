@@ -2,7 +2,7 @@
 
 ghost use Rattle.publish.specs.Opening.{CommitmentsSpend, HtlcTxsSpend};
 
-/// A commitment with both signatures spends the funding output on any chain on which that output is unspent: its input passes all tests of the chain, in a block of any height.
+/// A commitment with both signatures spends the funding output on any chain on which that output is unspent. Its input passes all tests of the chain, in a block of any height.
 pub fn commitments_spend()
     ensures { CommitmentsSpend }
 {}
