@@ -24,8 +24,9 @@ pub fn who_satisfies_a_key_hash()
     ensures { KeyHashSatisfied }
 {}
 
-/// Whatever runs clean on an HTLC's script has a key of the revocation key's hash and that key's token, or a token of the remote key. In the second case it also has,
-/// for an offered HTLC, the local key's token or the preimage; for a received one, both of these, or a lock time that CHECKLOCKTIMEVERIFY accepts for the expiry.
+/// Whatever runs clean on an HTLC's script has a key of the revocation key's hash and that key's token, or a token of the remote key. The second case asks for more.
+/// For an offered HTLC that is the local key's token or the preimage. For a received one it is both of these, or a lock time that CHECKLOCKTIMEVERIFY accepts for the
+/// expiry.
 pub fn who_satisfies_an_htlc()
     ensures offered { OfferedSatisfied }
     ensures received { ReceivedSatisfied }
@@ -82,8 +83,8 @@ pub fn only_as_signed()
     ensures { OnlyAsSigned }
 {}
 
-/// Suppose that each token of the peer's keys in a witness is one of `commitment_signed` for an HTLC transaction, or is over an input that the peer signed of its own.
-/// Then for an input that passes the chain's test, one of four things holds:
+/// Suppose that each token of the peer's keys in a witness is over what the peer signed: an HTLC transaction, by `commitment_signed`, or an input of its own. Then for
+/// an input that passes the chain's test, one of four things holds:
 /// - it is of an HTLC transaction, whose only output the peer can claim again;
 /// - it is one of the peer's own;
 /// - it is the owner's after the delay;
