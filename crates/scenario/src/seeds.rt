@@ -4,7 +4,7 @@ ghost use Rattle.std.specs.Prelude.{◌≡◌};
 
 use terms::Side;
 
-/// The two sides' seeds, of which the seed of each channel is derived, and from it the keys.
+/// The two sides' seeds. Each channel's seed derives from them, and its keys from that seed.
 #[derive(Clone, Copy, Debug, PartialEq, Eq, Drop)]
 pub struct Seeds {
     pub a: [u8; 32],

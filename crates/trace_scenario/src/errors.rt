@@ -16,7 +16,7 @@ pub enum TraceError {
     TooLong,
     /// The input can't be read.
     ReadFailed,
-    /// The input is no scenario.
+    /// The input is not a scenario.
     Scenario(ScenarioError),
     /// The world of the scenario does not begin.
     World(WorldError),

@@ -1,8 +1,8 @@
 -- Claims on a chain: what 'due' and 'passes' mean. `Theorem.antt` states this at each moment of every run. (`GuardedMeans` of `book/specs/Guarding.antt` states that a book signs nothing
 -- after a revocation before its penalties are kept.)
 --
--- Every filling of an accepted claim, once its output is unspent and its height and age are reached, runs to one true value with no missing operand, failed check or open
--- branch, within 201 counted opcodes and 1,000 entries; and the chain's test of that input finds nothing against it.
+-- Take any filling of an accepted claim whose output is unspent, and whose height and age are reached. It runs to one true value, within 201 counted opcodes and 1,000 entries.
+-- No operand is missing, no check fails, and no branch stays open. The chain's test of that input does not refuse it.
 --
 -- A filling is any input of any transaction that fits the claim (`FitsClaim`), no matter who made it, and what else the transaction spends and pays. An accepted claim is what every
 -- `Claim` is (`IsWhole`). The chain is any list of blocks, so the theorem holds at every moment, whatever happens to the chain. It does not say that the transaction gets into a block,
@@ -23,8 +23,8 @@ use Rattle.chain.specs.Checks.{input_refusal, indexed_refusal}
 -- The blocks have the newest first, and `height` is that of the block that is to take the transaction. `check_input` tests for the next block, whose height is the number of blocks.
 -- `connect` tests for the new block, after the transactions that it has so far.
 
--- an input fits a claim and is due: the output that it spends is unspent on the chain, with the value and the program of the claim's place, and the lock time and the age are reached in a
--- block of this height (BIP 65, 68)
+-- an input fits a claim and is due. The output that it spends is unspent on the chain, with the value and the program of the claim's place. The lock time and the age are reached
+-- in a block of this height (BIP 65, 68)
 pub record IsDue (blocks : List Contents) (height : ℕ) (x : ClaimParts) (t : Transaction) (input : TxIn) : Type 0 where
   pub fits : FitsClaim x t input
   pub coin : Coin

@@ -1,9 +1,9 @@
 -- The Enforcement theorem: what holds at every moment of every run of the world of two sides, for all events. Read this file first, then `Steps.antt` for what an event is, and `Enforcement.antt`
 -- for what 'due' and 'passes' mean.
 --
--- Over every interleaving of channel steps, blocks, reorganisations, broadcasts, looks and releases: every filling of an accepted claim, once its output is unspent and its height and age are
--- reached, passes the chain's test of its input and runs to one true value with no missing operand, failed check or open branch, within 201 counted opcodes and 1,000 entries; and after a
--- received revocation no commitment is signed until verified penalties for every claimable output are kept.
+-- Over every interleaving of channel steps, blocks, reorganisations, broadcasts, looks and releases, two things hold. First, take any filling of an accepted claim whose output is unspent, and whose
+-- height and age are reached. It passes the chain's test of its input and runs to one true value, within 201 counted opcodes and 1,000 entries. No operand is missing, no check fails, and no branch
+-- stays open. Second, after a received revocation no commitment is signed until verified penalties for every claimable output are kept.
 use Rattle.std.specs.Prelude.{◌≡◌, ◌⊎◌, ℕ, true, List, ◌∷◌, ◌++◌, length, map, Some, slice_get}
 use Rattle.std.specs.List.{AllByRecursion, flat_map}
 use Rattle.tx.specs.declared.input.TxIn.{TxIn}
