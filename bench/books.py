@@ -1,6 +1,6 @@
 #!/usr/bin/env python3
-"""Times a signature and the keeping of penalties behind 100 and behind 10,000 entries of a history, a revoked state behind 20 and behind 2,000 others, what is known of a channel beside the entries of another and by its own
-commitments, and the load of dumps of several lengths; and loads hostile texts of 4 MiB.
+"""Times a signature and the keeping of penalties after 100 and after 10,000 entries of a history, and a revoked state after 20 and after 2,000 others. Times what is known of a channel, by the number of another channel's entries and
+of its own commitments, and the load of dumps of several lengths. Loads hostile texts of 4 MiB.
 
 Wants the toolchain's `rt`: `.ci/program` proves and builds bench/programs/book_costs in a copy of the repository.
 """
@@ -13,7 +13,7 @@ TOP = os.path.dirname(os.path.dirname(os.path.abspath(__file__)))
 SIZE = 4 << 20
 TURNS = 5
 
-# a text of which the parts before and after are whole, and the middle is repeated; and what it is refused as
+# a text: the part before, the middle, which is repeated, and the part after; and the expected refusal
 SIGN = '{"call":["sign",0],"seat":0}'
 HOSTILE = {
     "arrays in arrays, open": ("", "[", "", "NotJson"),
@@ -44,7 +44,7 @@ def hostile(before, middle, after):
 
 
 def run(program, line):
-    """What the program prints for a line, the processor seconds that it takes, and the most memory that it has, in MiB."""
+    """The output of the program for a line, its processor seconds, and its peak memory in MiB."""
     with tempfile.TemporaryFile("w+") as given:
         given.write(line)
         given.seek(0)
@@ -58,7 +58,7 @@ def run(program, line):
 
 
 def fastest(program, line):
-    """The least of each number that the line prints."""
+    """The least of each number that the line prints, over several runs."""
     best = None
     for _ in range(TURNS):
         numbers = [int(word) for word in run(program, line)[0].split() if word.isdigit()]

@@ -8,7 +8,7 @@ import subprocess
 TOP = os.path.dirname(os.path.dirname(os.path.abspath(__file__)))
 TURNS = 9
 
-# what a line does, from which round to which
+# the work of a line, with its first and last round
 WORK = {
     "hash 1 MiB": ("hash", 1, 101),
     "round of 483 HTLCs": ("sign 483", 1, 31),
@@ -18,7 +18,7 @@ WORK = {
 
 
 def used():
-    """The processor seconds of all programs that ended."""
+    """The processor seconds of all child processes that ended."""
     usage = resource.getrusage(resource.RUSAGE_CHILDREN)
     return usage.ru_utime + usage.ru_stime
 
@@ -32,7 +32,7 @@ def seconds(program, line):
 def main():
     built = subprocess.run([os.path.join(TOP, ".ci", "program"), "channel_costs"], stdout=subprocess.PIPE, text=True, check=True)
     program = built.stdout.strip()
-    # the median of the turns, without what goes before the first of the rounds
+    # the median of the turns, without the work before the first round
     cost = {name: [] for name in WORK}
     for _ in range(TURNS):
         for name, (line, first, last) in WORK.items():

@@ -1,5 +1,5 @@
 #!/usr/bin/env python3
-"""Times the penalty set of a state with many HTLCs beside SHA-256 of 1 MiB, in one run, and prints both and their ratio; and that of a state with half as many.
+"""Times the penalty set of a state with many HTLCs and SHA-256 of 1 MiB in one run, and prints both and their ratio. Then the same with half as many HTLCs.
 
 Wants the toolchain's `rt`: `.ci/program` proves and builds bench/programs/penalty_costs in a copy of the repository.
 """
@@ -13,14 +13,14 @@ SETS, HASHES, ROUNDS = 10, 40, 7
 
 
 def seconds(program, text):
-    """The processor time that the program takes for a line, and what it prints."""
+    """The processor time that the program takes for a line, and its output."""
     start = resource.getrusage(resource.RUSAGE_CHILDREN).ru_utime
     done = subprocess.run([program], input=text, capture_output=True, text=True, check=True)
     return resource.getrusage(resource.RUSAGE_CHILDREN).ru_utime - start, done.stdout
 
 
 def each(program, line, times):
-    """The milliseconds of one piece of work: the fastest of the rounds, without what the program takes to start and to read the line."""
+    """The milliseconds of one piece of work: the fastest round, without the program's start and the reading of the line."""
     best, start = 1e9, 1e9
     for _ in range(ROUNDS):
         start = min(start, seconds(program, line.format(0))[0])

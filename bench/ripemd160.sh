@@ -1,5 +1,5 @@
 #!/bin/sh
-# Times RIPEMD-160 of 1 MiB, ours beside OpenSSL's in one run, and prints both rates and the ratio.
+# Times RIPEMD-160 of 1 MiB, ours and OpenSSL's, in one run, and prints both rates and the ratio.
 # Wants the toolchain's `rt`, a C compiler and OpenSSL's headers; LIBS names another libcrypto.
 set -eu
 top=$(cd "$(dirname "$0")/.." && pwd)

@@ -30,12 +30,12 @@ TERMS = {
 
 
 def payment(payer, channel, number):
-    """The events of one payment, the number-th of its channel, from the offer to the last penalties that are kept."""
+    """The events of one payment, with its number in its channel, from the offer to the last penalties that are kept."""
     payee = "AB"[payer == "A"]
     preimage = hashlib.sha256(b"%d %d" % (channel, number)).digest()
     # the commitments of each side that are revoked: by the offer, and by the fulfilment
     first, second = 2 * number, 2 * number + 1
-    # an id counts those of its own direction
+    # ids count the HTLCs of one direction
     identity = number // 2
     return [
         ["offer", payer, channel, 10_000_000 + number, hashlib.sha256(preimage).hexdigest(), 400_000],
@@ -61,7 +61,7 @@ def signed(updater, other, channel):
 
 
 def closes(payments):
-    """Every channel is closed by one of its sides, and what is due is claimed."""
+    """One side closes each channel, and what is due is claimed."""
     events = [["broadcast", "AB"[channel % 2], channel, 2 * payments[channel]] for channel in range(CHANNELS)]
     events += [["blocks", 1], ["look", "A"], ["look", "B"]]
     for side in "AB":
@@ -70,7 +70,7 @@ def closes(payments):
 
 
 def scenario(length):
-    """A scenario of so many events: payments in turn over the channels, with a block that both sides read after every eight of them, and closes at the end."""
+    """A scenario of this number of events: payments over the channels in turn, after every eight of them a block that both sides read, and closes at the end."""
     payments = CHANNELS * [0]
     events, turn = [], 0
     end = len(closes(payments))
@@ -87,7 +87,7 @@ def scenario(length):
 
 
 def timed(words, text):
-    """What a program prints for a text, and the processor seconds that it takes."""
+    """The output of a program for a text, and its processor seconds."""
     with tempfile.TemporaryFile() as given:
         given.write(text.encode())
         given.seek(0)
@@ -114,7 +114,7 @@ def hashing(program):
 
 
 def play(program, length):
-    """The processor seconds of a scenario, all of whose events succeed."""
+    """The processor seconds of a scenario, all events of which must succeed."""
     text = json.dumps(scenario(length))
     printed, _ = timed([program, "run"], text)
     refused = [line for line in printed.splitlines() if " refused " in line]
