@@ -5,6 +5,8 @@ import os
 import resource
 import subprocess
 
+from bounds import bounded
+
 TOP = os.path.dirname(os.path.dirname(os.path.abspath(__file__)))
 TURNS = 9
 
@@ -41,8 +43,8 @@ def main():
     cost = {name: sorted(times)[TURNS // 2] for name, times in cost.items()}
     for name, took in cost.items():
         print(f"{name}: {took * 1e3:.3f} ms")
-    print(f"round of 483 HTLCs to 1 MiB: {cost['round of 483 HTLCs'] / cost['hash 1 MiB']:.2f} (at most 6)")
-    print(f"rounds 1,000 to 1,200, to rounds 10 to 210: {cost['round of few, 1,000 to 1,200'] / cost['round of few, 10 to 210']:.2f} (at most 1.2)")
+    bounded("a round of 483 HTLCs to SHA-256 of 1 MiB", cost["round of 483 HTLCs"] / cost["hash 1 MiB"], 6)
+    bounded("rounds 1,000 to 1,200 of a channel to rounds 10 to 210", cost["round of few, 1,000 to 1,200"] / cost["round of few, 10 to 210"], 1.2)
 
 
 if __name__ == "__main__":

@@ -5,6 +5,8 @@ import os
 import resource
 import subprocess
 
+from bounds import bounded
+
 TOP = os.path.dirname(os.path.dirname(os.path.abspath(__file__)))
 ROUNDS = 15
 
@@ -35,8 +37,8 @@ def main():
             cost[name] = min(cost.get(name, took / times), took / times)
     for name, took in cost.items():
         print(f"{name}: {took * 1e3:.3f} ms")
-    print(f"966 HTLCs to 1 MiB: {cost['966 HTLCs'] / cost['hash 1 MiB']:.2f} (at most 0.6)")
-    print(f"966 HTLCs to 96: {cost['966 HTLCs'] / cost['96 HTLCs']:.1f} (at most 14)")
+    bounded("a commitment of 966 HTLCs to SHA-256 of 1 MiB", cost["966 HTLCs"] / cost["hash 1 MiB"], 0.6)
+    bounded("a commitment of 966 HTLCs to one of 96", cost["966 HTLCs"] / cost["96 HTLCs"], 14)
 
 
 if __name__ == "__main__":

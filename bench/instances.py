@@ -10,6 +10,8 @@ import subprocess
 import tempfile
 import time
 
+from bounds import bounded
+
 TOP = os.path.dirname(os.path.dirname(os.path.abspath(__file__)))
 TIMES, ROUNDS = 100_000, 7
 
@@ -75,7 +77,7 @@ def main():
             took = {kind: nanoseconds(program, form, kind) for kind in ("instance", "check")}
             for kind, value in took.items():
                 print(f"  {kind:9}{value:8.0f} ns {asked(program, form, kind, preload):8.0f} bytes of malloc")
-            print(f"  ratio    {took['check'] / took['instance']:8.2f}")
+            bounded(f"the check of the {form} script to an instance of its pattern", took["check"] / took["instance"], 1, least=True)
 
 
 if __name__ == "__main__":

@@ -10,6 +10,7 @@ import json
 import os
 import sys
 
+from bounds import bounded
 from worlds import TERMS, built, fastest, signed
 
 HTLCS = 480
@@ -55,10 +56,12 @@ def main(words):
     print(f"one look, {HTLCS} HTLCs, 1 block: {one * 1e3:.2f} ms")
     for blocks, most in ((10, 1.5), (100, 1.5), (1000, 1.5), (10_000, 3)):
         took = cost(program, HTLCS, blocks)
-        print(f"one look, {blocks:,} blocks: {took * 1e3:.2f} ms, {took / one:.2f} times (at most {most})")
+        print(f"one look, {blocks:,} blocks: {took * 1e3:.2f} ms")
+        bounded(f"a look over {blocks:,} blocks to one over 1", took / one, most)
     whole = cost(program, HTLCS, 1000)
     parts = cost(program, HTLCS, *10 * [100])
-    print(f"ten looks of 100 blocks: {parts * 1e3:.2f} ms, {parts / whole:.2f} times one of 1,000 (at most 2)")
+    print(f"ten looks of 100 blocks: {parts * 1e3:.2f} ms")
+    bounded("ten looks of 100 blocks to one of 1,000", parts / whole, 2)
 
 
 if __name__ == "__main__":

@@ -8,6 +8,8 @@ import os
 import resource
 import subprocess
 
+from bounds import bounded
+
 TOP = os.path.dirname(os.path.dirname(os.path.abspath(__file__)))
 SETS, HASHES, ROUNDS = 10, 40, 7
 
@@ -40,11 +42,14 @@ def main():
     program = built.stdout.strip()
     hashing = each(program, "hash {}\n", HASHES)
     print(f"SHA-256 of 1 MiB      {hashing:8.2f} ms")
+    took = {}
     for htlcs in (483, 966):
         line = "repeat {} " + state(htlcs) + "\n"
         print(seconds(program, line.format(1))[1].strip())
-        took = each(program, line, SETS)
-        print(f"penalties, {htlcs} HTLCs {took:8.2f} ms  ratio {took / hashing:.2f}")
+        took[htlcs] = each(program, line, SETS)
+        print(f"penalties, {htlcs} HTLCs {took[htlcs]:8.2f} ms")
+    bounded("the penalties of 966 HTLCs to SHA-256 of 1 MiB", took[966] / hashing, 4)
+    bounded("the penalties of 966 HTLCs to those of 483", took[966] / took[483], 2.4)
 
 
 if __name__ == "__main__":

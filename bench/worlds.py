@@ -14,6 +14,8 @@ import subprocess
 import sys
 import tempfile
 
+from bounds import bounded
+
 TOP = os.path.dirname(os.path.dirname(os.path.abspath(__file__)))
 CHANNELS = 8
 ROUNDS = 7
@@ -131,8 +133,9 @@ def main(words):
     print(f"SHA-256 of 1 MiB: {hashed * 1e3:.2f} ms")
     few, many = play(enforce, 1000), play(enforce, 10_000)
     print(f"1,000 events: {few * 1e3:.0f} ms")
-    print(f"10,000 events: {many * 1e3:.0f} ms, {many / hashed:.0f} times a SHA-256 of 1 MiB (at most 400)")
-    print(f"an event of 10,000 to one of 1,000: {many / few / 10:.2f} (at most 1.2)")
+    print(f"10,000 events: {many * 1e3:.0f} ms")
+    bounded("a scenario of 10,000 events to SHA-256 of 1 MiB", many / hashed, 400)
+    bounded("an event of 10,000 to one of 1,000", many / few / 10, 1.2)
 
 
 if __name__ == "__main__":
