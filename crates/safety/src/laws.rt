@@ -10,6 +10,7 @@ ghost use Rattle.safety.specs.Owning.{OnlyPeerSigns};
 ghost use Rattle.safety.specs.Standing.{HavePassed};
 ghost use Rattle.safety.specs.Taking.{OnlyAsSigned};
 ghost use Rattle.safety.specs.Fates.{SignedWithCommitment, NothingEscapes, NothingEscapesAbove, NothingEscapesOnChains};
+ghost use Rattle.safety.specs.Whereabouts.{NothingIsLost};
 
 use penalty::RevokedState;
 
@@ -91,4 +92,12 @@ pub fn nothing_escapes()
     ensures above { (blocks : List Block) (height : ℕ) (state : State) → HasShortDelay state
         → NothingEscapesAbove blocks height state }
     ensures chains { NothingEscapesOnChains }
+{}
+
+/// On a chain whose transactions passed their checks, and on which a revoked commitment stands, the whole channel is there for the owner's peer. For each output of
+/// the commitment there is one that the peer can claim: itself, or that of the HTLC transaction, where this stands. With fees, dust and what was rounded off these are
+/// worth the capacity. Each of them is unspent; or the peer took it; or the owner did, after the delay; or named byte strings collide. The premises are those of the
+/// law above, and that the ids of grants differ from one another and from those of transactions.
+pub fn nothing_is_lost()
+    ensures { NothingIsLost }
 {}
