@@ -164,7 +164,7 @@ module _ (funding : OutPoint) (hash : List ℕ) where
   abbrev on_to_local : Claimable
   on_to_local = penalty_on c (place_in (transaction_of c) 2 (record { value = 69104; script = script_hash_program (to_local_script c.delay c.keys) }))
 
-  abbrev on_htlc : Claimable
+  abbrev pub on_htlc : Claimable
   on_htlc = htlc_penalty_on c Offered htlc (place_in (transaction_of c) 0 (record { value = 10000; script = script_hash_program (htlc_script c.keys Offered htlc) }))
 
   to_local_claimable : Contains (claimable_of state) on_to_local
@@ -176,11 +176,11 @@ module _ (funding : OutPoint) (hash : List ℕ) where
   htlc_claimable = (0, lit< tt, refl)
 
   -- the coin of an output, in the block of height 1
-  abbrev coin_of : Claimable → Coin
+  abbrev pub coin_of : Claimable → Coin
   coin_of o = record { output = output_at o.place; height = 1; spent = false }
 
   -- an input with this sequence and witness, and a transaction of it alone
-  abbrev input_on : Claimable → ℕ → List (List ℕ) → TxIn
+  abbrev pub input_on : Claimable → ℕ → List (List ℕ) → TxIn
   input_on o sequence witness = record { outpoint = o.place.outpoint; sequence = sequence; witness = witness }
 
   abbrev spending : TxIn → Transaction
@@ -312,16 +312,16 @@ module _ (funding : OutPoint) (hash : List ℕ) where
   }))
 
   -- the HTLC-timeout transaction, with a witness
-  abbrev offer : HtlcOutput
+  abbrev pub offer : HtlcOutput
   offer = record { index = 0; direction = Offered; htlc = htlc }
 
-  abbrev timeout : TxIn → Transaction
+  abbrev pub timeout : TxIn → Transaction
   timeout input = record { version = 2; inputs = input ∷ []; outputs = second_stage_output c offer ∷ []; lock_time = 5 }
 
   abbrev timeout_digest : List ℕ
   timeout_digest = digest_of (spend_on on_htlc (timeout (input_on on_htlc 0 [])) (input_on on_htlc 0 []))
 
-  abbrev timed_out : TxIn
+  abbrev pub timed_out : TxIn
   timed_out = input_on on_htlc 0 ([] ∷ token_of c.keys.remote_htlc timeout_digest ∷ token_of c.keys.local_htlc timeout_digest ∷ [] ∷ spelling on_htlc.form.ops ∷ [])
 
   same_timeout : digest_of (spend_on on_htlc (timeout timed_out) timed_out) ≡ timeout_digest
@@ -332,7 +332,7 @@ module _ (funding : OutPoint) (hash : List ℕ) where
   unfolding commitment_of keys_of revocation_key point_of sha256 digest_bytes hash_after compress rounds schedule first_words left_words right_words left_rotations right_rotations left_constants right_constants block_words left_line right_line blocks ripemd_compress ripemd_hash_after ripemd_bytes ripemd160
   no_revocation = refl
 
-  timeout_takes : Takes state on_htlc 6 (timeout timed_out) timed_out (coin_of on_htlc)
+  pub timeout_takes : Takes state on_htlc 6 (timeout timed_out) timed_out (coin_of on_htlc)
   timeout_takes = record {
     claimable = htlc_claimable;
     output = refl;
@@ -349,7 +349,7 @@ module _ (funding : OutPoint) (hash : List ℕ) where
   unfolding htlcs_from commitment_of outputs_of in_order output_cmp keys_of
   htlcs_are = refl
 
-  second_is : second_stage_of c offer ≡ timeout (input_on on_htlc 0 [])
+  pub second_is : second_stage_of c offer ≡ timeout (input_on on_htlc 0 [])
   unfolding second_stage_of
   second_is = refl
 
@@ -360,11 +360,11 @@ module _ (funding : OutPoint) (hash : List ℕ) where
       ∙ ap (λ (t : Transaction). sha256 (sha256 (signed_list t (input_on on_htlc 0 []) (spelling on_htlc.form.ops) 10000))) (sym second_is)
       ∙ ap (λ (code : List ℕ). sha256 (sha256 (signed_list (second_stage_of c offer) (input_on on_htlc 0 []) code 10000))) (sym (same_htlc c.keys Offered htlc))
 
-  timeout_shows : ShowsOnly c.keys (signed_by_peer c []) (spend_on on_htlc (timeout timed_out) timed_out)
+  pub timeout_shows : ShowsOnly c.keys (signed_by_peer c []) (spend_on on_htlc (timeout timed_out) timed_out)
   timeout_shows key i s =
       subst (λ hs. Any (λ z. digest_of (spend_on on_htlc (timeout timed_out) timed_out) ≡ digest_of z) (map (htlc_signed c) hs ++ [])) (sym htlcs_are) (0, htlc_signed c offer, lit< tt, refl, timeout_is)
 
-  offer_among : Contains (htlcs_of c) offer
+  pub offer_among : Contains (htlcs_of c) offer
   offer_among = subst (λ hs. Contains hs offer) (sym htlcs_are) (0, lit< tt, refl)
 
   timeout_short : length (spelling on_htlc.form.ops) ≤ max_script_size
@@ -394,7 +394,7 @@ module _ (funding : OutPoint) (hash : List ℕ) where
         lock_time = omega arith;
       }
 
-  timeout_signed : IsAsSigned c.keys (signed_by_peer c []) (spend_on on_htlc (timeout timed_out) timed_out)
+  pub timeout_signed : IsAsSigned c.keys (signed_by_peer c []) (spend_on on_htlc (timeout timed_out) timed_out)
   timeout_signed = record { limits = timeout_limits; among = (0, lit< tt, refl); shows = timeout_shows }
 
   timeout_fate : Fate state on_htlc 1 6 (timeout timed_out) timed_out []

@@ -85,7 +85,7 @@ outputs_are : (c : Contents) → (transaction_of c).outputs ≡ map tx_output c.
 unfolding transaction_of
 outputs_are c = refl
 
-bare_commitment : (c : Contents) → unsigned_transaction (transaction_of c) ≡ transaction_of c
+pub bare_commitment : (c : Contents) → unsigned_transaction (transaction_of c) ≡ transaction_of c
 unfolding transaction_of
 bare_commitment c = refl
 
