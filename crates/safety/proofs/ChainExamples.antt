@@ -45,7 +45,8 @@ use Rattle.safety.proofs.Lists.{contains_none, both}
 use Rattle.safety.proofs.Limits.{limited, few_in}
 use Rattle.safety.proofs.Standing.{block_in}
 use Rattle.safety.proofs.Fates.{bare_second}
-use Rattle.safety.proofs.Whereabouts.{bare_commitment, nothing_is_lost}
+use Rattle.safety.proofs.Seconds.{bare_commitment}
+use Rattle.safety.proofs.Whereabouts.{nothing_is_lost}
 use Rattle.safety.proofs.Examples.{same_eq, shown, passes, state, on_htlc, coin_of, offer, timeout, timed_out, timeout_takes, timeout_shows, timeout_signed, second_is, offer_among}
 
 -- ---- limits

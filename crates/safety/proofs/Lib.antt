@@ -15,6 +15,8 @@ pub mod Fates
 pub mod Standing
 pub mod Stripped
 pub mod Indices
+pub mod Seconds
+pub mod Distinct
 pub mod Whereabouts
 pub mod Examples
 pub mod ChainExamples

@@ -1,9 +1,9 @@
 -- Where the outputs are that a revoked state lets the owner's peer claim, on a chain with its commitment.
-use Rattle.std.proofs.Common.{◌≡◌, ℕ, suc, ◌+◌, Bool, true, false, List, [], ◌∷◌, ◌++◌, map, length, Some, None, option_map, sym, ap, ◌∙◌, refl, subst, ⊎_elim, arith, length-append, eq-eqb}
-use Rattle.std.specs.Prelude.{◌&&◌, ◌==◌, slice_get, if◌then◌else◌}
-use Rattle.std.specs.List.{Contains, All, AllByRecursion, list_any}
-use Rattle.std.proofs.lemmas.Bool.{false≢true, and_parts, eqb-true}
-use Rattle.std.proofs.lemmas.List.Elements.{All-append, All-contains}
+use Rattle.std.proofs.Common.{◌≡◌, ℕ, ◌+◌, Bool, true, false, List, [], ◌∷◌, ◌++◌, map, length, Some, None, option_map, sym, ap, ◌∙◌, refl, subst, ⊎_elim, arith, length-append}
+use Rattle.std.specs.Prelude.{slice_get, if◌then◌else◌}
+use Rattle.std.specs.List.{Contains, All, AllByRecursion}
+use Rattle.std.proofs.lemmas.Bool.{false≢true}
+use Rattle.std.proofs.lemmas.List.Elements.{All-append}
 use Rattle.std.proofs.lemmas.Option.{slice_get-map}
 use Rattle.digest.specs.Hash.{hash160}
 use Rattle.digest.specs.Ripemd160.{ripemd160}
@@ -11,7 +11,7 @@ use Rattle.digest.proofs.OutsideVectors.{length-ripemd160}
 use Rattle.script.specs.Spelling.{spelling}
 use Rattle.tx.specs.declared.input.OutPoint.{OutPoint}
 use Rattle.tx.specs.declared.input.TxIn.{TxIn}
-use Rattle.tx.specs.Fields.{Transaction, KeepsLimits, unsigned_transaction}
+use Rattle.tx.specs.Fields.{Transaction, unsigned_transaction}
 use Rattle.tx.specs.Spelling.{transaction_id}
 use Rattle.tx.proofs.Witnesses.{same_id}
 use Rattle.terms.specs.Scripts.{to_local, key_hash, offered, received}
@@ -40,14 +40,15 @@ use Rattle.safety.specs.Spending.{spend_on, HasShortDelay, Takes}
 use Rattle.safety.specs.Taking.{IsAsSigned}
 use Rattle.safety.specs.Fates.{htlc_signed, signed_by_peer, Ending}
 use Rattle.safety.specs.Whereabouts.{IsOnChain, HasCommitment, IsNamedBy, ShowsOnlyOn, IsCoinOf, Whereabouts, unspent, taken, NothingIsLost}
-use Rattle.safety.proofs.Lists.{some_is, contains_map, any_found, any_holds, both}
+use Rattle.safety.proofs.Lists.{some_is}
 use Rattle.safety.proofs.Limits.{htlcs_signable}
 use Rattle.safety.proofs.Passed.{inputs_have_passed}
 use Rattle.safety.proofs.Taken.{only_as_signed}
 use Rattle.safety.proofs.Fates.{bare_second, IsForHtlc, taken_so}
 use Rattle.safety.proofs.Standing.{naming, coin_there, spent_is}
-use Rattle.safety.proofs.Stripped.{has_stripped, on_chain, by_bytes}
-use Rattle.safety.proofs.Indices.{IsHtlcIn, htlc_in, one_htlc}
+use Rattle.safety.proofs.Indices.{htlc_in}
+use Rattle.safety.proofs.Seconds.{bare_commitment, standing, found, stands_at, place_of, AreFrom, first_of, others_of, all_of}
+use Rattle.safety.proofs.Distinct.{apart_from}
 
 -- ---- no HTLC transaction is signed for another output than its HTLC's
 
@@ -85,10 +86,6 @@ outputs_are : (c : Contents) → (transaction_of c).outputs ≡ map tx_output c.
 unfolding transaction_of
 outputs_are c = refl
 
-pub bare_commitment : (c : Contents) → unsigned_transaction (transaction_of c) ≡ transaction_of c
-unfolding transaction_of
-bare_commitment c = refl
-
 -- the commitment's output at an index, in a transaction that is it but for witnesses
 commitment_pays : (c : Contents) (t : Transaction) (index : ℕ) (o : CommitmentOutput) → unsigned_transaction t ≡ transaction_of c → slice_get c.outputs index ≡ Some o → slice_get t.outputs index ≡ Some (tx_output o)
 commitment_pays c t index o s e =
@@ -106,33 +103,6 @@ at_place blocks o id index own same at coin there is = record {
   output = is;
 }
 
--- ---- which HTLC transactions stand
-
--- that of the HTLC at an index, by its bytes
-abbrev standing : List Block → Contents → ℕ → Bool
-standing blocks c index = list_any (λ h. h.index == index && has_stripped blocks (second_stage_of c h)) (htlcs_of c)
-
-found : (blocks : List Block) (c : Contents) (h : HtlcOutput) → Contains (htlcs_of c) h → IsOnChain blocks (second_stage_of c h) → standing blocks c h.index ≡ true
-found blocks c h i o =
-    any_holds (λ (g : HtlcOutput). g.index == h.index && has_stripped blocks (second_stage_of c g)) (htlcs_of c) h i
-    (both (h.index == h.index) (has_stripped blocks (second_stage_of c h)) (eq-eqb h.index h.index refl) (by_bytes blocks (second_stage_of c h) o))
-
-second_limits : (state : RevokedState) (h : HtlcOutput) → Contains (htlcs_of (commitment_in state)) h → KeepsLimits (second_stage_of (commitment_in state) h)
-second_limits state h i =
-    let signable : IsSignable (htlc_signed (commitment_in state) h) =
-    All-contains IsSignable (map (htlc_signed (commitment_in state)) (htlcs_of (commitment_in state))) (htlc_signed (commitment_in state) h) (htlcs_signable state)
-    (contains_map (htlc_signed (commitment_in state)) (htlcs_of (commitment_in state)) h i) in
-    signable.transaction
-
-stands_at : (blocks : List Block) (state : RevokedState) → HasCommitment blocks state → (h : HtlcOutput) → IsHtlcIn 0 (commitment_in state).outputs h → standing blocks (commitment_in state) h.index ≡ true
-    → IsOnChain blocks (second_stage_of (commitment_in state) h)
-stands_at blocks state chain h p e =
-    let c = commitment_in state in
-    let f = any_found (λ (g : HtlcOutput). g.index == h.index && has_stripped blocks (second_stage_of c g)) (htlcs_of c) e in
-    let q = and_parts (f.0.index == h.index) (has_stripped blocks (second_stage_of c f.0)) f.2 in
-    let same = one_htlc 0 c.outputs f.0 h (htlc_in 0 c.outputs f.0 f.1) p (eqb-true f.0.index h.index q.0) in
-    subst (λ g. IsOnChain blocks (second_stage_of c g)) same (on_chain blocks chain.limits (second_stage_of c f.0) (second_limits state f.0 f.1) (bare_second c f.0) q.1)
-
 -- whoever names an HTLC's output as the HTLC's own transaction does, stands there
 none_stands : (blocks : List Block) (c : Contents) (index : ℕ) (o : Claimable) → o.place.outpoint ≡ record { txid = id_of c; index = index } → standing blocks c index ≡ false
     → (height : ℕ) (t : Transaction) (input : TxIn) → IsNamedBy blocks o height t input → IsForHtlc c o t input → ⊥
@@ -147,9 +117,6 @@ none_stands blocks c index o at e height t input n f =
 record HasCoin (blocks : List Block) (o : Claimable) : Type 0 where
   coin : Coin
   is : IsCoinOf blocks o coin
-
-abbrev place_of : Contents → ℕ → CommitmentOutput → Place
-place_of c index o = place_in (transaction_of c) index (tx_output o)
 
 first_coin : (blocks : List Block) (state : RevokedState) → HasCommitment blocks state → (index : ℕ) (o : CommitmentOutput) → slice_get (commitment_in state).outputs index ≡ Some o
     → (claim : Claimable) → claim.place ≡ place_of (commitment_in state) index o → HasCoin blocks claim
@@ -248,26 +215,24 @@ on_kind blocks state own g index o e rest go (ToHtlc direction htlc) k a =
     let h : HtlcOutput = record { index = index; direction = direction; htlc = htlc } in
     (on_htlc blocks state own g index o e h refl k (standing blocks (commitment_in state) index) refl a.0, go a.1)
 
-each_from : (blocks : List Block) (state : RevokedState) (own : List Signed) → IsGiven blocks state own → (index : ℕ) (os : List CommitmentOutput)
-    → ((k : ℕ) (o : CommitmentOutput) → slice_get os k ≡ Some o → slice_get (commitment_in state).outputs (index + k) ≡ Some o)
+each_from : (blocks : List Block) (state : RevokedState) (own : List Signed) → IsGiven blocks state own → (index : ℕ) (os : List CommitmentOutput) → AreFrom (commitment_in state).outputs index os
     → AreClaimable state (claims_by (stage_on (standing blocks (commitment_in state)) (commitment_in state)) (commitment_in state) index os)
     → HaveWhereabouts blocks state own (claims_by (stage_on (standing blocks (commitment_in state)) (commitment_in state)) (commitment_in state) index os)
 unfolding claims_by
 each_from blocks state own g index [] at a = tt
 each_from blocks state own g index (o ∷ os) at a =
     let c = commitment_in state in
-    let here : index + 0 ≡ index = omega arith in
-    let next = λ (k : ℕ) (p : CommitmentOutput) (e : slice_get os k ≡ Some p). (let n : index + suc k ≡ index + 1 + k = omega arith in subst (λ m. slice_get c.outputs m ≡ Some p) n (at (suc k) p e)) in
-    on_kind blocks state own g index o (subst (λ m. slice_get c.outputs m ≡ Some o) here (at 0 o refl)) (claims_by (stage_on (standing blocks c) c) c (index + 1) os) (each_from blocks state own g (index + 1) os next) o.kind refl a
+    on_kind blocks state own g index o (first_of c.outputs index o os at) (claims_by (stage_on (standing blocks c) c) c (index + 1) os)
+    (each_from blocks state own g (index + 1) os (others_of c.outputs index o os at)) o.kind refl a
 
 pub nothing_is_lost : NothingIsLost
 nothing_is_lost state short blocks chain own all shows =
     let c = commitment_in state in
-    let from = λ (k : ℕ) (o : CommitmentOutput) (e : slice_get c.outputs k ≡ Some o). (let n : k ≡ 0 + k = omega arith in subst (λ m. slice_get c.outputs m ≡ Some o) n e) in
     record {
       stands = standing blocks c;
       those = λ h i. ((λ e. stands_at blocks state chain h (htlc_in 0 c.outputs h i) e), (λ o. found blocks c h i o));
       claimable = each_claimable state (standing blocks c);
+      apart = apart_from blocks state chain 0 c.outputs (all_of c.outputs);
       worth = each_stage state (standing blocks c);
-      each = each_from blocks state own (record { short = short; chain = chain; all = all; shows = shows }) 0 c.outputs from (each_claimable state (standing blocks c));
+      each = each_from blocks state own (record { short = short; chain = chain; all = all; shows = shows }) 0 c.outputs (all_of c.outputs) (each_claimable state (standing blocks c));
     }

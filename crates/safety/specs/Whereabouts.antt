@@ -1,6 +1,6 @@
 -- Where the money of a revoked commitment is, on a chain on which it stands.
-use Rattle.std.specs.Prelude.{◌≡◌, ◌↔◌, ℕ, ◌+◌, Bool, true, false, List, Some}
-use Rattle.std.specs.List.{Contains, All, AllByRecursion}
+use Rattle.std.specs.Prelude.{◌≡◌, ◌≢◌, ◌↔◌, ℕ, ◌+◌, Bool, true, false, List, Some}
+use Rattle.std.specs.List.{Contains, All, AllByRecursion, AllPairs}
 use Rattle.tx.specs.declared.input.TxIn.{TxIn}
 use Rattle.tx.specs.Fields.{Transaction, KeepsLimits, unsigned_transaction}
 use Rattle.chain.specs.Blocks.{Contents as Block, Coin, coin_at}
@@ -61,12 +61,14 @@ pub data Whereabouts (blocks : List Block) (state : RevokedState) (own : List Si
       → Ending state o coin.height height t input own → Whereabouts blocks state own o
 
 -- for each output of the commitment there is one that the peer can claim: itself, or that of the
--- HTLC transaction, where this stands. They are worth the capacity, and each is where it says
+-- HTLC transaction, where this stands. They stand at different outpoints, are worth the capacity,
+-- and each is where it says
 pub record AreAllThere (blocks : List Block) (state : RevokedState) (own : List Signed) : Type 0 where
   pub stands : ℕ → Bool
   pub those : (h : HtlcOutput) → Contains (htlcs_of (commitment_in state)) h
       → (stands h.index ≡ true) ↔ IsOnChain blocks (second_stage_of (commitment_in state) h)
   pub claimable : AllByRecursion (Contains (claimable_of state)) (staged stands (commitment_in state))
+  pub apart : AllPairs (λ o p. o.place.outpoint ≢ p.place.outpoint) (staged stands (commitment_in state))
   pub worth : IsCapacityWith state (value_of (staged stands (commitment_in state)) + fees_with stands (commitment_in state))
   pub each : AllByRecursion (Whereabouts blocks state own) (staged stands (commitment_in state))
 

@@ -95,9 +95,9 @@ pub fn nothing_escapes()
 {}
 
 /// On a chain whose transactions passed their checks, and on which a revoked commitment stands, the whole channel is there for the owner's peer. For each output of
-/// the commitment there is one that the peer can claim: itself, or that of the HTLC transaction, where this stands. With fees, dust and what was rounded off these are
-/// worth the capacity. Each of them is unspent; or the peer took it; or the owner did, after the delay; or named byte strings collide. The premises are those of the
-/// law above, and that the ids of grants differ from one another and from those of transactions.
+/// the commitment there is one that the peer can claim: itself, or that of the HTLC transaction, where this stands. No two are at one outpoint. With fees, dust and
+/// what was rounded off they are worth the capacity. Each is unspent; or the peer took it; or the owner did, after the delay; or named byte strings collide. The
+/// premises are those of the law above, and that the ids of grants differ from one another and from those of transactions.
 pub fn nothing_is_lost()
     ensures { NothingIsLost }
 {}
