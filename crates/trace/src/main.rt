@@ -1,7 +1,7 @@
-//! The program `trace` tells what stands in scripts, and who can spend an output to one, for programs and for people.
+//! The program `trace` explains scripts, and who can spend an output to one, for programs and for people.
 //!
-//! `trace_words::run_words` does what the words say, and answers a status of at most 2. Here stand the streams and
-//! the arguments alone.
+//! `trace_words::run_words` does what the words say, and returns a status of at most 2. This file has only the
+//! streams and the arguments.
 #![tactic(auto)]
 
 use std::env::{self, Env};
@@ -9,7 +9,7 @@ use std::io;
 use std::process::ExitCode;
 use trace_words::{refuse_memory, refuse_words, run_words};
 
-/// The words behind the program's name.
+/// The words after the program's name.
 fn words<R: Env + Alloc>(rt: &R) -> io::Result<Vec<String<R::A>, R::A>> {
     let mut words = Vec::new(rt.alloc());
     for word in env::args(rt)?.skip(1) {
@@ -18,7 +18,7 @@ fn words<R: Env + Alloc>(rt: &R) -> io::Result<Vec<String<R::A>, R::A>> {
     Ok(words)
 }
 
-/// Whether the words are those of a scenario on standard input.
+/// Whether the words ask for a scenario on standard input.
 fn is_scenario(words: &[String]) -> bool {
     match words {
         [word] => word.as_str() == "scenario",
@@ -26,7 +26,7 @@ fn is_scenario(words: &[String]) -> bool {
     }
 }
 
-/// Runs the words that the program was called with. Words that are no text are wrong words.
+/// Runs the words that the program was called with. Arguments that are not UTF-8 are wrong words.
 fn main(rt: HostRuntime) -> ExitCode {
     let status = match words(&rt) {
         Ok(words) if is_scenario(words.as_slice()) => {

@@ -1,11 +1,11 @@
-//! What a side's newest commitment gives.
+//! What changes with a side's newest commitment.
 
 use crate::writer::Line;
 use channel::CommitmentState;
 use terms::{Htlc, Side, View};
 use world::World;
 
-// An HTLC by its name.
+// Writes an HTLC's name: its offerer and its id.
 fn tell_htlc_name(line: &mut Line, offerer: Side, htlc: &Htlc) {
     line.open("{");
     line.side("offerer", offerer);
@@ -13,7 +13,8 @@ fn tell_htlc_name(line: &mut Line, offerer: Side, htlc: &Htlc) {
     line.close("}");
 }
 
-// How many of the HTLCs before stand still. New ones come at the end, so these are the first ones now.
+// How many of the HTLCs from before still stand. New
+// ones are appended, so these are the first ones now.
 fn kept(before: &[Htlc], now: &[Htlc]) -> usize {
     let mut kept = 0usize;
     for htlc in before {
@@ -24,7 +25,7 @@ fn kept(before: &[Htlc], now: &[Htlc]) -> usize {
     kept
 }
 
-// The HTLCs that stand now and did not before.
+// Writes the HTLCs that stand now and did not before.
 fn tell_in(line: &mut Line, offerer: Side, before: &View, now: &View) {
     let (before, now) = (before.share(offerer), now.share(offerer));
     let kept = kept(before.offered.values(), now.offered.values());
@@ -33,7 +34,7 @@ fn tell_in(line: &mut Line, offerer: Side, before: &View, now: &View) {
     }
 }
 
-// The HTLCs that stood before and do not now.
+// Writes the HTLCs that stood before and do not now.
 fn tell_out(line: &mut Line, offerer: Side, before: &View, now: &View) {
     let mut kept = now.share(offerer).offered.values().iter();
     let mut next = kept.next();
@@ -46,7 +47,7 @@ fn tell_out(line: &mut Line, offerer: Side, before: &View, now: &View) {
     }
 }
 
-// A commitment is its owner's newest one, after another.
+// Writes that a commitment is its owner's newest one, and what changed from the one before.
 fn tell_newest(line: &mut Line, channel: u64, before: &CommitmentState, now: &CommitmentState) {
     let view = &now.view;
     line.name("held");
@@ -69,7 +70,7 @@ fn tell_newest(line: &mut Line, channel: u64, before: &CommitmentState, now: &Co
     line.close("}");
 }
 
-/// A side has a new newest commitment in a channel.
+/// Writes a side's new newest commitment in a channel.
 pub fn tell_held(line: &mut Line, world: &World, side: Side, channel: u64) {
     let Some(own) = world.book(side).channel(channel) else {
         return;

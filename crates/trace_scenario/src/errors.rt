@@ -12,11 +12,11 @@ pub enum TraceError {
     NoMemory,
     /// A line can't be written.
     WriteFailed,
-    /// The input is refused: it has more than 4,194,304 bytes.
+    /// The input has more than 4,194,304 bytes.
     TooLong,
     /// The input can't be read.
     ReadFailed,
-    /// The input is no scenario.
+    /// The input is not a scenario.
     Scenario(ScenarioError),
     /// The world of the scenario does not begin.
     World(WorldError),

@@ -5,7 +5,7 @@ use crate::writer::{Line, side_name};
 use terms::{Side, Terms};
 use world::World;
 
-// A member that has two numbers, of A and of B, in an array.
+// Writes a member whose value is an array of two numbers, of A and of B.
 fn tell_pair(line: &mut Line, name: &str, a: u64, b: u64) {
     line.name(name);
     line.open("[");
@@ -14,7 +14,7 @@ fn tell_pair(line: &mut Line, name: &str, a: u64, b: u64) {
     line.close("]");
 }
 
-// A channel begins with these terms.
+// Writes the terms of a new channel.
 fn tell_terms(line: &mut Line, terms: &Terms) {
     line.open("{");
     line.name("funding");
@@ -31,7 +31,7 @@ fn tell_terms(line: &mut Line, terms: &Terms) {
     line.close("}");
 }
 
-// The funding output of a channel.
+// The coin of a channel's funding output.
 fn funding_coin(channel: u64, terms: &Terms) -> Coin {
     Coin {
         channel,
@@ -45,7 +45,8 @@ fn funding_coin(channel: u64, terms: &Terms) -> Coin {
     }
 }
 
-/// The opening: the terms of each channel, whose funding outputs stand on the chain.
+/// Writes the opening: the terms of each channel,
+/// whose funding outputs are on the chain.
 pub fn tell_opening(line: &mut Line, coins: &mut Coins, world: &World, events: usize) {
     let book = world.book(Side::A);
     line.open("{");

@@ -10,7 +10,7 @@ use std::io::Read;
 // The greatest number of bytes of a scenario.
 const MAX_INPUT: usize = 4_194_304;
 
-/// The bytes of the input. No more than one above the limit is read.
+/// Reads the whole input, but at most one byte above the limit.
 pub fn read_all<R: Read>(alloc: Global, input: &mut R) -> Result<Vec<u8>, TraceError> {
     let mut bytes = Vec::new(alloc);
     match input.take(MAX_INPUT as u64 + 1).read_to_end(&mut bytes) {
@@ -26,7 +26,7 @@ pub fn read_all<R: Read>(alloc: Global, input: &mut R) -> Result<Vec<u8>, TraceE
     Ok(bytes)
 }
 
-/// The scenario that bytes are.
+/// Reads a scenario.
 pub fn scenario_in(alloc: Global, bytes: &[u8]) -> Result<Scenario, TraceError> {
     match Scenario::read(alloc, bytes) {
         Ok(scenario) => Ok(scenario),
@@ -34,7 +34,7 @@ pub fn scenario_in(alloc: Global, bytes: &[u8]) -> Result<Scenario, TraceError> 
     }
 }
 
-/// The JSON value that the bytes of a scenario are. The only error is that memory ran out.
+/// Parses the bytes of a scenario as a JSON value. The only error is that memory ran out.
 pub fn value_in(alloc: Global, bytes: &[u8]) -> Result<Value, TraceError> {
     match Value::from_slice(alloc, bytes) {
         Ok(value) => Ok(value),
@@ -42,7 +42,7 @@ pub fn value_in(alloc: Global, bytes: &[u8]) -> Result<Value, TraceError> {
     }
 }
 
-/// The events as the text has them.
+/// The events of a scenario as JSON values.
 pub fn words_in(value: &Value) -> &[Value] {
     match value.get("events") {
         Some(events) => match events.as_array() {

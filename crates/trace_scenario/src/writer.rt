@@ -5,11 +5,11 @@ use std::fmt::Write as _;
 use terms::Side;
 use tx::OutPoint;
 
-/// A line of JSON that grows at its end. A piece that finds no memory is left out, and the line then counts as failed from then on.
+/// A line of JSON that is appended to. A piece for which there is no memory is left out, and the line then counts as failed.
 #[derive(Drop)]
 pub struct Line {
     text: String,
-    /// Whether no comma stands before the next value.
+    /// Whether the next value needs no comma before it.
     is_first: bool,
     has_failed: bool,
 }
@@ -23,7 +23,7 @@ pub fn side_name(side: Side) -> &'static str {
 }
 
 impl Line {
-    /// An empty line. It takes no memory.
+    /// An empty line. Does not allocate.
     pub fn new(alloc: Global) -> Line {
         Line {
             text: String::new(alloc),
@@ -32,7 +32,7 @@ impl Line {
         }
     }
 
-    /// What was written, where memory was there for all of it.
+    /// The line, unless it failed.
     pub fn text(&self) -> Option<&str> {
         if self.has_failed {
             return None;
@@ -40,13 +40,13 @@ impl Line {
         Some(self.text.as_str())
     }
 
-    /// It is empty again.
+    /// Clears the line.
     pub fn clear(&mut self) {
         self.text.clear();
         self.is_first = true;
     }
 
-    /// It counts as failed.
+    /// Marks the line as failed.
     pub fn fail(&mut self) {
         self.has_failed = true;
     }
@@ -58,7 +58,7 @@ impl Line {
         }
     }
 
-    // Writes the comma before a value, where one stands there.
+    // Writes the comma before a value, if it needs one.
     fn separate(&mut self) {
         if !self.is_first {
             self.push(",");
@@ -66,7 +66,7 @@ impl Line {
         self.is_first = false;
     }
 
-    /// The name of a member, whose value is next.
+    /// Writes the name of a member, whose value is next.
     pub fn name(&mut self, name: &str) {
         self.separate();
         self.push("\"");
@@ -75,31 +75,31 @@ impl Line {
         self.is_first = true;
     }
 
-    /// An object or an array begins.
+    /// Begins an object or an array.
     pub fn open(&mut self, bracket: &str) {
         self.separate();
         self.push(bracket);
         self.is_first = true;
     }
 
-    /// It ends.
+    /// Ends an object or an array.
     pub fn close(&mut self, bracket: &str) {
         self.push(bracket);
         self.is_first = false;
     }
 
-    /// The line ends.
+    /// Ends the line.
     pub fn end(&mut self) {
         self.push("}\n");
     }
 
-    /// A value that is written as JSON already.
+    /// Writes a value that is JSON already.
     pub fn json(&mut self, text: &str) {
         self.separate();
         self.push(text);
     }
 
-    /// A text without characters that JSON escapes.
+    /// Writes a string without characters that JSON escapes.
     pub fn word(&mut self, text: &str) {
         self.separate();
         self.push("\"");
@@ -107,7 +107,7 @@ impl Line {
         self.push("\"");
     }
 
-    /// A number.
+    /// Writes a number.
     pub fn number(&mut self, number: u128) {
         self.separate();
         if write!(self.text, "{number}").is_err() {
@@ -123,7 +123,7 @@ impl Line {
         }
     }
 
-    /// Bytes in hexadecimal.
+    /// Writes bytes in hexadecimal.
     pub fn bytes(&mut self, bytes: &[u8]) {
         self.separate();
         self.push("\"");
@@ -131,7 +131,7 @@ impl Line {
         self.push("\"");
     }
 
-    /// An outpoint.
+    /// Writes an outpoint.
     pub fn outpoint(&mut self, outpoint: &OutPoint) {
         self.separate();
         self.push("\"");
@@ -141,19 +141,19 @@ impl Line {
         }
     }
 
-    /// A member that is a number.
+    /// Writes a member that is a number.
     pub fn count(&mut self, name: &str, number: u64) {
         self.name(name);
         self.number(u128::from(number));
     }
 
-    /// A member that is a side.
+    /// Writes a member that is a side.
     pub fn side(&mut self, name: &str, side: Side) {
         self.name(name);
         self.word(side_name(side));
     }
 
-    /// A member that has two numbers, of A and of B.
+    /// Writes a member that has two numbers, of A and of B.
     pub fn of_both(&mut self, name: &str, a: u64, b: u64) {
         self.name(name);
         self.open("{");

@@ -1,4 +1,4 @@
-//! What is printed for people, wrong words, and readers and writers that fail.
+//! The output for people, wrong words, and readers and writers that fail.
 
 use crate::fixtures::{Broken, Endless};
 use std::alloc::Global;
@@ -16,7 +16,7 @@ fn words_of(alloc: Global, words: &[&str]) -> Result<Vec<String>, Fail> {
     Ok(all)
 }
 
-// Asserts what a call prints on both streams, one after another, and its status.
+// Asserts the output of a call on both streams, one after the other, and its status.
 fn prints<R: io::Read>(
     rt: &impl Abort,
     alloc: Global,
@@ -35,7 +35,8 @@ fn prints<R: io::Read>(
     Ok(())
 }
 
-// An IF with a lock of 144 blocks in its first branch; a fault; and a script without a path.
+// An IF with a lock of 144 blocks in its first branch,
+// a script with a fault, and a script without a path.
 const PAGES: &str = "    0  IF
     1    PUSH 9000 (number 144)
     4    CHECKSEQUENCEVERIFY

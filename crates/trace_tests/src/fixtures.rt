@@ -1,8 +1,9 @@
-//! Readers and writers that end otherwise than they should.
+//! Readers and writers that never end, or that fail.
 
 use std::io;
 
-/// A reader that gives zero bytes without an end, or fails.
+/// A reader that returns zero
+/// bytes without an end, or fails.
 #[derive(Drop)]
 pub struct Endless {
     pub fails: bool,

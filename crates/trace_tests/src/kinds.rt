@@ -7,10 +7,10 @@ use std::process::Abort;
 use std::test::Fail;
 use trace_words::Sentence;
 
-// How many kinds of facts there are.
+// The number of kinds of facts.
 const KINDS: usize = 10;
 
-// The sentences of a fact of each kind: where it holds, and where it does not.
+// The sentences of a fact of each kind: if it holds, and if it does not.
 const SENTENCES: [(&str, &str); KINDS] = [
     (
         "slot 7 is a preimage of the HASH160 0aff",
@@ -77,7 +77,7 @@ fn fact_of(alloc: Global, kind: usize) -> Result<Fact, AllocError> {
     }
 }
 
-// The number of a fact's kind: no kind is left out.
+// The number of a fact's kind. The match leaves out no kind.
 fn kind_of(fact: &Fact) -> usize {
     match fact {
         Fact::Hash(_, _) => 0,
@@ -93,7 +93,7 @@ fn kind_of(fact: &Fact) -> usize {
     }
 }
 
-// Asserts what a fact says.
+// Asserts the sentence of a fact.
 fn says(rt: &impl Abort, alloc: Global, fact: Fact, holds: bool, wanted: &str) -> Result<(), Fail> {
     let stated = Stated { fact, holds };
     let text = format!(in alloc; "{}", Sentence(&stated))?;
@@ -113,7 +113,7 @@ fn says_each_kind_of_fact(rt: HostRuntime) -> Result<(), Fail> {
     Ok(())
 }
 
-// Locks that this profile never reaches, the bounds of those that it does, an empty item, and a key that the witness brings.
+// Locks that this profile never reaches, the bounds of those that it does, an empty item, and a key from the witness.
 #[test]
 fn says_other_forms(rt: HostRuntime) -> Result<(), Fail> {
     let alloc = rt.alloc();

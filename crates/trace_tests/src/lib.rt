@@ -1,7 +1,7 @@
-//! Tests of the words of `trace`: each kind of fact in a sentence, what is printed for people, a scenario that is told,
-//! and input that ends otherwise than it should. What is printed for programs is compared by the rows of the program.
+//! Tests of the words of `trace`: a sentence for each kind of fact, the output for people, a scenario's trace, and
+//! input that never ends or that fails. The output for programs is compared by the rows of the program.
 //!
-//! They stand apart so that the library is proved without them.
+//! They are in a crate of their own, so that the library is proved without them.
 #![tactic(auto)]
 
 #[cfg(test)]

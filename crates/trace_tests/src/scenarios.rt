@@ -1,4 +1,5 @@
-//! A scenario that is told, input that is none, and readers and writers that fail.
+//! A scenario's trace, input that is not a
+//! scenario, and readers and writers that fail.
 
 use crate::fixtures::{Broken, Endless};
 use std::alloc::Global;
@@ -7,7 +8,7 @@ use std::process::Abort;
 use std::test::Fail;
 use trace_scenario::run;
 
-// Asserts what is told of a scenario, and the status.
+// Asserts the trace of a scenario, and the status.
 fn tells<R: io::Read>(
     rt: &impl Abort,
     alloc: Global,

@@ -5,7 +5,8 @@ use script::ParseError;
 use std::alloc::AllocError;
 use thiserror::Error;
 
-/// Why input is refused: what `enforce` prints after its word `refused`.
+/// Why input is refused: the text that
+/// `enforce` prints after the word `refused`.
 #[derive(Debug, Drop, Error)]
 pub enum TraceError {
     /// The input has more than 4,194,304 bytes.
@@ -20,7 +21,7 @@ pub enum TraceError {
     /// The bytes are not a script.
     #[error("{0}")]
     Parse(ParseError),
-    /// The script is not listed.
+    /// The script's paths can't be listed.
     #[error("{0}")]
     Check(CheckError),
     /// Memory ran out.

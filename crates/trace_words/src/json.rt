@@ -11,12 +11,12 @@ use script::Op;
 use script::num::Number;
 use std::fmt;
 
-// What stands before an element: a comma, but before the first.
+// The comma before an element, except the first.
 fn comma(index: usize) -> &'static str {
     if index == 0 { "" } else { "," }
 }
 
-// A number, or `null` where there is none.
+// A number, printed as `null` if there is none.
 #[derive(Drop)]
 pub struct OrNull(pub Option<u64>);
 
@@ -41,7 +41,7 @@ impl fmt::Display for Signed {
     }
 }
 
-// The members of a push beside its opcode.
+// The members of a push besides its opcode.
 #[derive(Drop)]
 struct Pushed<'a>(&'a [u8]);
 
@@ -168,7 +168,7 @@ impl fmt::Display for KeysOf<'_> {
     }
 }
 
-// What a fact compares with: bytes, a number, or nothing.
+// The value that a fact compares with: bytes, a number, or nothing.
 #[derive(Drop)]
 struct ValueOf<'a>(&'a Fact);
 
@@ -213,7 +213,7 @@ impl fmt::Display for Facts<'_> {
     }
 }
 
-// A path through a script of a number of bytes.
+// A path through a script of this number of bytes.
 #[derive(Drop)]
 struct PathOf<'a>(&'a Path, usize);
 
@@ -233,7 +233,8 @@ impl fmt::Display for PathOf<'_> {
     }
 }
 
-/// The paths through a script of a number of bytes, the elements of an array.
+/// The paths through a script of this number
+/// of bytes, the elements of an array.
 #[derive(Drop)]
 pub struct Paths<'a>(pub &'a [Path], pub usize);
 

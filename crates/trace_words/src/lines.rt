@@ -1,4 +1,4 @@
-// What is told of the scripts on standard input.
+// Explains the scripts on standard input.
 
 ghost use Rattle.std.specs.Prelude.{◌≡◌, ◌≤◌};
 
@@ -12,7 +12,7 @@ use std::io::{Read, Write};
 // The greatest number of bytes of the input.
 const MAX_INPUT: usize = 4_194_304;
 
-/// Tells of a script, and answers the status.
+/// Explains a script, and returns the status.
 pub fn told<W: Write>(alloc: Global, text: &str, form: Form, out: &mut W) -> u8
     ensures { result ≤ 1 }
 {
@@ -23,7 +23,7 @@ pub fn told<W: Write>(alloc: Global, text: &str, form: Form, out: &mut W) -> u8
     }
 }
 
-/// Tells of each script that the input has on a line of its own, at once, and answers the greatest status.
+/// Explains each script of the input, one a line and each at once, and returns the greatest status.
 pub fn tell_input<R: Read, W: Write>(alloc: Global, form: Form, input: &mut R, out: &mut W) -> u8
     ensures { result ≤ 1 }
 {
@@ -37,7 +37,7 @@ pub fn tell_input<R: Read, W: Write>(alloc: Global, form: Form, input: &mut R, o
     }
 }
 
-// Tells of each script of a text.
+// Explains each script of a text.
 fn tell_lines<W: Write>(alloc: Global, text: &str, form: Form, out: &mut W) -> u8
     ensures { result ≤ 1 }
 {
@@ -50,7 +50,7 @@ fn tell_lines<W: Write>(alloc: Global, text: &str, form: Form, out: &mut W) -> u
     status
 }
 
-// Answers that the input is refused.
+// Reports that the input is refused.
 fn refuse_input<W: Write>(alloc: Global, form: Form, refusal: &TraceError, out: &mut W) -> u8
     ensures { result ≤ 1 }
 {
@@ -60,7 +60,7 @@ fn refuse_input<W: Write>(alloc: Global, form: Form, refusal: &TraceError, out: 
     }
 }
 
-// The bytes of the input. No more than one above the limit is read.
+// Reads the whole input, but at most one byte above the limit.
 fn read_all<R: Read>(alloc: Global, input: &mut R) -> Result<Vec<u8>, TraceError> {
     let mut bytes = Vec::new(alloc);
     match input.take(MAX_INPUT as u64 + 1).read_to_end(&mut bytes) {

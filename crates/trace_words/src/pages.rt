@@ -30,7 +30,7 @@ impl fmt::Display for Pushed<'_> {
     }
 }
 
-// What a push has after its name.
+// The text after the name of a push.
 #[derive(Drop)]
 struct Operand<'a>(&'a Op);
 
@@ -57,7 +57,8 @@ impl fmt::Display for Indent {
     }
 }
 
-/// The opcodes of a script, a line each: the byte at which it begins, and its name, indented by branch.
+/// The opcodes of a script, a line each: the byte at which
+/// the opcode begins, and its name, indented by branch.
 #[derive(Drop)]
 pub struct OpLines<'a>(pub &'a [Op]);
 
@@ -74,7 +75,7 @@ impl fmt::Display for OpLines<'_> {
     }
 }
 
-// The sentences of one role, a line each, or another one where there is none.
+// The sentences of one role, a line each, or another line if there are none.
 #[derive(Drop)]
 struct Sentences<'a>(&'a [Stated], Role, &'static str);
 
@@ -95,7 +96,7 @@ impl fmt::Display for Sentences<'_> {
     }
 }
 
-// A path through a script of a number of bytes, by its number.
+// A path through a script of this number of bytes, with its number.
 #[derive(Drop)]
 struct PathLines<'a>(&'a Path, usize, usize);
 
@@ -115,7 +116,7 @@ impl fmt::Display for PathLines<'_> {
     }
 }
 
-/// The paths through a script of a number of bytes.
+/// The paths through a script of this number of bytes.
 #[derive(Drop)]
 pub struct PathsLines<'a>(pub &'a [Path], pub usize);
 

@@ -1,4 +1,4 @@
-// A script that is read and told.
+// Reads and explains a script.
 
 use crate::errors::TraceError;
 use crate::json::{Ops, OrNull, Paths};
@@ -10,7 +10,7 @@ use script::limits::MAX_SCRIPT_SIZE;
 use script::{Op, ParseError, Script};
 use std::alloc::{AllocError, Global};
 
-/// How an answer is written.
+/// The format of an answer.
 #[derive(Clone, Copy, Drop)]
 pub enum Form {
     /// One JSON object on a line.
@@ -19,7 +19,7 @@ pub enum Form {
     Text,
 }
 
-/// What is told of a script.
+/// The explanation of a script.
 #[derive(Drop)]
 pub struct Told {
     /// The lines.
@@ -28,7 +28,7 @@ pub struct Told {
     pub is_listed: bool,
 }
 
-/// What is told of a script that is written in hexadecimal: its opcodes, then its paths, or why it is refused. The only error is that memory ran out.
+/// Explains a script in hexadecimal: its opcodes, then its paths, or why it is refused. The only error is that memory ran out.
 pub fn tell(alloc: Global, text: &str, form: Form) -> Result<Told, AllocError> {
     match hex::decode(alloc, text) {
         Ok(bytes) => tell_bytes(alloc, bytes.as_slice(), form),
@@ -37,7 +37,7 @@ pub fn tell(alloc: Global, text: &str, form: Form) -> Result<Told, AllocError> {
     }
 }
 
-// What is told of the bytes of a script.
+// Explains the bytes of a script.
 fn tell_bytes(alloc: Global, bytes: &[u8], form: Form) -> Result<Told, AllocError> {
     match Script::parse(alloc, bytes) {
         Ok(script) => tell_script(alloc, &script, form),
@@ -46,7 +46,7 @@ fn tell_bytes(alloc: Global, bytes: &[u8], form: Form) -> Result<Told, AllocErro
     }
 }
 
-// What is told of bytes that are not a script: the opcodes before the fault.
+// Explains bytes that are not a script: the opcodes before the fault.
 fn tell_part(
     alloc: Global,
     bytes: &[u8],
@@ -65,7 +65,7 @@ fn tell_part(
     refuse(alloc, form, len, part.ops(), &refusal, Some(fault as u64))
 }
 
-// What is told of a script.
+// Explains a script.
 fn tell_script(alloc: Global, script: &Script, form: Form) -> Result<Told, AllocError> {
     let (ops, size) = (script.ops(), script.bytes().len());
     match check(alloc, script.copy()?) {
@@ -90,7 +90,7 @@ fn tell_script(alloc: Global, script: &Script, form: Form) -> Result<Told, Alloc
     }
 }
 
-// The object of a script that is listed.
+// The JSON object of a script that is listed.
 fn json_text(
     alloc: Global,
     size: usize,
@@ -100,7 +100,7 @@ fn json_text(
     format!(in alloc; "{{\"bytes\":{size},\"opcodes\":[{ops}],\"paths\":[{paths}]}}\n")
 }
 
-/// What is told of a script that is refused: how many bytes it has, the opcodes that were read, why it is refused, and at which byte.
+/// Explains a refusal: the script's number of bytes, the opcodes that were read, the reason, and the byte at which it is refused.
 pub fn refuse(
     alloc: Global,
     form: Form,
