@@ -100,8 +100,8 @@ impl Board {
         self.seat(list, dealer)
     }
 
-    /// A board on which nothing was raised or drawn, with this number of seats, at least one. It has no other seats, so no mark or ticket comes
-    /// from elsewhere. The only error is that memory ran out.
+    /// A board on which nothing was raised or drawn, with this number of seats, at least one. These are all of its seats: each mark and
+    /// each ticket comes from one of them. The only error is that memory ran out.
     pub fn new(alloc: Global, seats: u16) -> Result<(Board, Vec<Seat>), AllocError>
         requires { 0 < seats }
         ensures seats { IfOk result (λ r. AreSeats r.0 seats r.1.items) }
