@@ -4,7 +4,6 @@ use book_peers::open_side;
 use channel::{Channel, Message};
 use std::alloc::Global;
 use std::process::Abort;
-use std::test::Fail;
 use terms::Side;
 use updates::ChannelError;
 
@@ -25,24 +24,34 @@ fn opened(rt: &impl Abort, alloc: Global, side: Side) -> Channel {
     open_side(alloc, 0, side).expect(rt, "a channel").channel
 }
 
-// B takes the offer, and answers the signature by the revocation of its commitment 0, which A takes.
-#[test]
-fn offers_and_signs(rt: HostRuntime) -> Result<(), Fail> {
-    let mut a = opened(&rt, rt.alloc(), Side::A);
-    let mut b = opened(&rt, rt.alloc(), Side::B);
-    let (offer, signature) = offer_and_sign(&mut a, 1_000_000, [9; 32], 500)?;
-    assert!(rt; b.receive(&offer)?.is_none());
-    let answer = b.receive(&signature)?.expect(&rt, "a revocation");
-    assert!(rt; a.receive(&answer)?.is_none());
-    assert_eq!(rt; a.peer_number(), 1);
-    Ok(())
+// A channel receives a message that it does not answer.
+fn receives(rt: &impl Abort, channel: &mut Channel, message: &Message) {
+    assert!(rt; channel.receive(message).expect(rt, "received").is_none());
 }
 
-// A refusal leaves the channel as it was.
+// What a channel answers to a message.
+fn answer(rt: &impl Abort, channel: &mut Channel, message: &Message) -> Message {
+    channel
+        .receive(message)
+        .expect(rt, "received")
+        .expect(rt, "an answer")
+}
+
+// B takes the offer, and answers the signature by the revocation of its commitment 0.
+fn answered(rt: &impl Abort, alloc: Global, offer: &Message, signature: &Message) -> Message {
+    let mut b = opened(rt, alloc, Side::B);
+    receives(rt, &mut b, offer);
+    answer(rt, &mut b, signature)
+}
+
+// A takes B's answer to its offer and its signature.
 #[test]
-fn refuses_more_than_it_has(rt: HostRuntime) {
+fn offers_and_signs(rt: HostRuntime) {
     let mut a = opened(&rt, rt.alloc(), Side::A);
-    let refusal = a.offer(80_000_001, [9; 32], 500).err();
-    assert!(rt; refusal == Some(ChannelError::OverBalance));
-    assert!(rt; a.offer(80_000_000, [9; 32], 500).is_ok());
+    let (offer, signature) = offer_and_sign(&mut a, 1_000_000, [9; 32], 500).expect(
+        &rt, "messages",
+    );
+    let revocation = answered(&rt, rt.alloc(), &offer, &signature);
+    receives(&rt, &mut a, &revocation);
+    assert_eq!(rt; a.peer_number(), 1);
 }
