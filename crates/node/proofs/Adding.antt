@@ -1,16 +1,20 @@
 -- Entries for tasks come to a seat's calls.
 use Rattle.std.proofs.Common.{◌≡◌, ℕ, ◌+◌, ◌<◌, ◌≤◌, Bool, true, false, List, [], ◌∷◌, ◌++◌, length, map, take, get_or, refl, sym, ap, ◌∙◌, subst, ⊎_elim, ◌⊎◌, append_assoc, append-nil}
 use Rattle.std.proofs.lemmas.List.{take_more, take_all, map-append}
+use Rattle.std.specs.Prelude.{Result, Ok, Err, OnErr, MatchResult}
 use Rattle.channel.specs.Tokens.{peer_tokens}
+use Rattle.book.specs.declared.calls.Batch.{Batch}
 use Rattle.book.specs.declared.calls.Call.{Call}
+use Rattle.book.specs.declared.calls.Call.TheVariants.{Release}
 use Rattle.book.specs.declared.calls.Entry.{Entry}
-use Rattle.book.specs.Replies.{Reply, is_accepted, reply_of, extended, history_after}
+use Rattle.book.specs.declared.errors.KeepError.{KeepError}
+use Rattle.book.specs.Replies.{Reply, kept, is_accepted, reply_of, extended, history_after}
 use Rattle.book.specs.Dispatch.{no_memory_of}
 use Rattle.desk.specs.Histories.{History}
 use Rattle.desk.specs.Answers.{IsHistoryFor, IsAnswered, calls_after}
 use Rattle.side.specs.declared.due.DueClaim.{DueClaim}
 use Rattle.node.specs.Tasks.{Task, Does}
-use Rattle.node.specs.Entering.{Made, nothing, left_out, entered, Adds}
+use Rattle.node.specs.Entering.{Made, nothing, left_out, entered, Adds, by_release}
 
 -- ---- entries for tasks
 
@@ -61,6 +65,26 @@ unanswered n call before after seen last reply refused a = ⊎_elim
     (λ (it : (reply ≡ reply_of peer_tokens a.0 call) × (after ≡ calls_after before a.0 n call) × (last ≡ history_after peer_tokens a.0 n call)).
     it.1 ∙ ap (λ b. extended b before n call) (ap is_accepted (sym it.0) ∙ refused))
     a.2
+
+-- a keep that is refused
+pub unkept : (n : ℕ) (call : Call) (before after : List Entry) (seen last : History) (r : Result (Unit {0}) KeepError) → IsAnswered n before seen call (kept r) after last → OnErr r (after ≡ before)
+unkept n call before after seen last (Ok u) a = tt
+unkept n call before after seen last (Err e) a = unanswered n call before after seen last (kept (Err e)) refl a
+
+pub err_from : {A E : Type 0} (r : Result A E) (a b c : List Entry) → b ≡ a → OnErr r (c ≡ b) → OnErr r (c ≡ a)
+err_from (Ok u) a b c same e = tt
+err_from (Err x) a b c same e = e ∙ same
+
+-- a release that gave a transaction
+pub released_one : {A E : Type 0} (n channel : ℕ) (t : Task) (batch : Batch) (r : Result A E) (P : A → Type 0) (before after : List Entry) → Does t (Release channel batch)
+    → MatchResult r (λ x. P x × (after ≡ by_release n channel batch before)) (λ _. after ≡ before) → Adds n (t ∷ []) before after
+released_one n channel t batch (Ok x) P before after does m = adds_one n t (Release channel batch) before after does m.1
+released_one n channel t batch (Err e) P before after does m = adds_nothing n (t ∷ []) before after m
+
+pub unreleased : {A E : Type 0} (n channel : ℕ) (batch : Batch) (r : Result A E) (P : A → Type 0) (before after : List Entry)
+    → MatchResult r (λ x. P x × (after ≡ by_release n channel batch before)) (λ _. after ≡ before) → OnErr r (after ≡ before)
+unreleased n channel batch (Ok x) P before after m = tt
+unreleased n channel batch (Err e) P before after m = m
 
 -- ---- each of several
 

@@ -3,6 +3,7 @@ use Rattle.std.proofs.Common.{◌≡◌, ℕ, ◌≤◌, Bool, true, false, List
 use Rattle.std.specs.Prelude.{nat_lt, not, slice_get}
 use Rattle.std.proofs.lemmas.Bool.Decides.{nat_tests}
 use Rattle.std.proofs.lemmas.Option.{none-some}
+use Rattle.tx.specs.Fields.{Transaction}
 use Rattle.tx.specs.Limits.{max_value}
 use Rattle.channel.specs.Tokens.{peer_tokens}
 use Rattle.channel.specs.Rights.{rights_of}
@@ -69,8 +70,12 @@ filled_in : (o : Option ChannelBook) (batch : Batch) (f : Filling) → released 
 filled_in None batch f e = cc
 filled_in (Some ch) batch f e = filled_then (fill_refusal batch.claims batch.outputs (rights_of ch.state) batch.preimages) (filling_by batch) f e
 
--- the transaction is the filling of the batch, and the release came to the seat's calls
-pub filled_by_book : (n : ℕ) (channel : ℕ) (batch : Batch) (before after : List Entry) (seen last : History) (f : Filling) → IsAnswered n before seen (Release channel batch) (released (Ok f)) after last
+-- the reply to a release, by the reply of the desk
+told_as : (n channel : ℕ) (batch : Batch) (before after : List Entry) (seen last : History) (answer : Answer) (r : Result Filling ReleaseError) → answer ≡ answers.Released r → IsAnswered n before seen (Release channel batch) (reply_form answer) after last
+    → IsAnswered n before seen (Release channel batch) (released r) after last
+told_as n channel batch before after seen last answer r told is = subst (λ (a : Answer). IsAnswered n before seen (Release channel batch) (reply_form a) after last) told is
+
+filled_by_book : (n channel : ℕ) (batch : Batch) (before after : List Entry) (seen last : History) (f : Filling) → IsAnswered n before seen (Release channel batch) (released (Ok f)) after last
     → (f ≡ filling_by batch) × (after ≡ by_release n channel batch before)
 filled_by_book n channel batch before after seen last f is = ⊎_elim
     (λ (none_left : (released (Ok f) ≡ no_memory_of (Release channel batch)) × (after ≡ before) × (last ≡ is.0)). let e = none_left.0 in cc)
@@ -80,12 +85,22 @@ filled_by_book n channel batch before after seen last f is = ⊎_elim
     ))
     is.2
 
+-- the transaction is the filling of the batch, and the release came to the seat's calls
+pub is_filled : (n channel : ℕ) (batch : Batch) (before after : List Entry) (seen last : History) (answer : Answer) (f : Filling) (tx : Transaction) → answer ≡ answers.Released (Ok f) → tx ≡ f.tx
+    → IsAnswered n before seen (Release channel batch) (reply_form answer) after last → (tx ≡ (filling_by batch).tx) × (after ≡ by_release n channel batch before)
+is_filled n channel batch before after seen last answer f tx told gives is =
+    let made = filled_by_book n channel batch before after seen last f (told_as n channel batch before after seen last answer (Ok f) told is) in
+    (gives ∙ ap (λ (x : Filling). x.tx) made.0, made.1)
+
 -- a refused one
-pub unfilled_by_book : (n : ℕ) (channel : ℕ) (batch : Batch) (before after : List Entry) (seen last : History) (e : ReleaseError) → IsAnswered n before seen (Release channel batch) (released (Err e)) after last → after ≡ before
-unfilled_by_book n channel batch before after seen last e is = unanswered n (Release channel batch) before after seen last (released (Err e)) refl is
+pub is_unfilled : (n channel : ℕ) (batch : Batch) (before after : List Entry) (seen last : History) (answer : Answer) (e : ReleaseError) → answer ≡ answers.Released (Err e)
+    → IsAnswered n before seen (Release channel batch) (reply_form answer) after last → after ≡ before
+is_unfilled n channel batch before after seen last answer e told is =
+    unanswered n (Release channel batch) before after seen last (released (Err e)) refl (told_as n channel batch before after seen last answer (Err e) told is)
 
 -- ---- a claim by itself
 
+-- a claim that can be released is not worth too much
 pub little_enough : (due : DueClaim) → batch_refusal due.channel (due ∷ []) ≡ None → value_of (due ∷ []) ≤ max_value
 little_enough due fits = small (value_of (due ∷ [])) (go (are_of due.channel (due ∷ [])) (nat_lt max_value (value_of (due ∷ []))) fits)
   where

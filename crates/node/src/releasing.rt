@@ -119,13 +119,7 @@ fn release_to<R: Wait>(
 }
 
 // Releases a claim, where its channel has a payment key and the book fills it.
-fn release<R: Wait>(
-    rt: &R,
-    alloc: Global,
-    shared: &Shared<'_>,
-    seat: &mut Seat,
-    due: &DueClaim,
-)
+fn release<R: Wait>(rt: &R, alloc: Global, shared: &Shared<'_>, seat: &mut Seat, due: &DueClaim)
     requires { IsSeatOf shared.now.desk.now seat.old }
     ensures seat { IsSeatOf shared.now.desk.now seat.new
         × (number_in seat.new ≡ number_in seat.old) }

@@ -28,7 +28,7 @@ pub struct Done {
 
 /// How a worker's turn with one job ends.
 #[derive(Clone, Copy, Debug, Drop, PartialEq, Eq)]
-pub enum Turn {
+pub(crate) enum Turn {
     /// The job is done.
     Finished,
     /// The gate stopped the worker at this ticket.

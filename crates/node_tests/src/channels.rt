@@ -71,7 +71,9 @@ pub(crate) fn keep<R: Wait + Abort>(
     requires { IsSeatOf desk.now seat.old }
     ensures { IsSeatOf desk.now seat.new }
 {
-    let state = desk.revoked(rt, seat, channel, 0).expect(rt, "a revoked state");
+    let state = desk
+        .revoked(rt, seat, channel, 0)
+        .expect(rt, "a revoked state");
     let set = penalties(alloc, &state).expect(rt, "memory");
     desk.keep_set(rt, seat, channel, 0, set)
 }
