@@ -100,14 +100,14 @@ is_unfilled n channel batch before after seen last answer e told is =
 
 -- ---- a claim by itself
 
+small_enough : (v : ℕ) → nat_lt max_value v ≡ false → v ≤ max_value
+small_enough v little = grind (arith, nat_tests)
+
 -- a claim that can be released is not worth too much
 pub little_enough : (due : DueClaim) → batch_refusal due.channel (due ∷ []) ≡ None → value_of (due ∷ []) ≤ max_value
-little_enough due fits = small (value_of (due ∷ [])) (go (are_of due.channel (due ∷ [])) (nat_lt max_value (value_of (due ∷ []))) fits)
+little_enough due fits = small_enough (value_of (due ∷ [])) (go (are_of due.channel (due ∷ [])) (nat_lt max_value (value_of (due ∷ []))) fits)
   where
     go : (a b : Bool) → if_so (not a) MixedChannels (if_so b OverValue None) ≡ None → b ≡ false
     go true false e = refl
     go true true e = absurd (none-some OverValue (sym e))
     go false b e = absurd (none-some MixedChannels (sym e))
-
-    small : (v : ℕ) → nat_lt max_value v ≡ false → v ≤ max_value
-    small v little = grind (arith, nat_tests)

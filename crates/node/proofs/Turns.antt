@@ -38,8 +38,8 @@ with_none : (v : SeatView) → v ≡ with_tickets [] v
 with_none v = ap (λ l. knows v.shares l v.raised v.looked) (sym (append-nil v.drawn))
 
 with_more : (ts us : List ℕ) (u v w : SeatView) → v ≡ with_tickets ts u → w ≡ with_tickets us v → w ≡ with_tickets (ts ++ us) u
-with_more ts us u v w first then =
-    then ∙ ap (with_tickets us) first ∙ ap (λ l. knows u.shares l u.raised u.looked) (append_assoc u.drawn ts us)
+with_more ts us u v w first next =
+    next ∙ ap (with_tickets us) first ∙ ap (λ l. knows u.shares l u.raised u.looked) (append_assoc u.drawn ts us)
 
 -- ---- jobs
 
@@ -47,8 +47,8 @@ taken_none : (h : Hand Job) → h ≡ hand h.put (h.taken ++ [])
 taken_none h = ap (λ l. hand h.put l) (sym (append-nil h.taken))
 
 taken_more : (g h k : Hand Job) (done : List Job) (job : Job) → h ≡ hand g.put (g.taken ++ done) → k ≡ hand h.put (h.taken ++ job ∷ []) → k ≡ hand g.put (g.taken ++ (done ++ job ∷ []))
-taken_more g h k done job first then =
-    then ∙ ap (λ (x : Hand Job). hand x.put (x.taken ++ job ∷ [])) first ∙ ap (λ l. hand g.put l) (append_assoc g.taken done (job ∷ []))
+taken_more g h k done job first next =
+    next ∙ ap (λ (x : Hand Job). hand x.put (x.taken ++ job ∷ [])) first ∙ ap (λ l. hand g.put l) (append_assoc g.taken done (job ∷ []))
 
 tasks_more : (payments : List Key) (done : List Job) (job : Job) → flat_map (tasks_of payments) (done ++ job ∷ []) ≡ flat_map (tasks_of payments) done ++ tasks_of payments job
 tasks_more payments done job = flat_map-append (tasks_of payments) done (job ∷ []) ∙ ap (λ l. flat_map (tasks_of payments) done ++ l) (append-nil (tasks_of payments job))
@@ -76,60 +76,60 @@ few payments before now jobs board w s =
     let few_draws = s.few in
     omega (arith, all, length-append (known before.place).drawn w.tickets)
 
-module _ (payments : List Key) (before then : Hands) (pass : JobPass Job) (jobs : ℕ) (job : Job) where
+module _ (payments : List Key) (before now : Hands) (pass : JobPass Job) (jobs : ℕ) (job : Job) where
   -- the hands with the pass that took a job
   abbrev pub took : Hands
-  took = record { seat = then.seat; place = then.place; pass = pass }
+  took = record { seat = now.seat; place = now.place; pass = pass }
 
-  pub finished_one : (after : Hands) → HasWorked payments before then jobs → IsTake (hand_of then.pass) job (hand_of pass) → IsFinished payments job took after → HasWorked payments before after (jobs + 1)
-  finished_one after w take turn = record {
+  pub finished_one : (after : Hands) → HasWorked payments before now jobs → IsTake (hand_of now.pass) job (hand_of pass) → IsFinished payments job took after → HasWorked payments before after (jobs + 1)
+  finished_one after w taking turn = record {
     finished = w.finished ++ job ∷ [];
     tickets = w.tickets ++ turn.ticket ∷ [];
     many = let m = w.many in omega (arith, length-append w.finished (job ∷ []));
     each = let m = w.each in omega (arith, length-append w.tickets (turn.ticket ∷ []));
-    taken = ap hand_of turn.same.pass ∙ taken_more (hand_of before.pass) (hand_of then.pass) (hand_of pass) w.finished job w.taken take.added;
-    drawn = with_more w.tickets (turn.ticket ∷ []) (known before.place) (known then.place) (known after.place) w.drawn turn.drawn;
+    taken = ap (λ (p : JobPass Job). hand_of p) turn.same.pass ∙ taken_more (hand_of before.pass) (hand_of now.pass) (hand_of pass) w.finished job w.taken taking.added;
+    drawn = with_more w.tickets (turn.ticket ∷ []) (known before.place) (known now.place) (known after.place) w.drawn turn.drawn;
     number = turn.same.number ∙ w.number;
     calls = subst (λ ts. Adds (number_in before.seat) ts (calls_in before.seat) (calls_in after.seat)) (sym (tasks_more payments w.finished job))
-        (adds_then (number_in before.seat) (flat_map (tasks_of payments) w.finished) (tasks_of payments job) (calls_in before.seat) (calls_in then.seat) (calls_in after.seat) w.calls
-        (adds_from (number_in then.seat) (number_in before.seat) (tasks_of payments job) (calls_in then.seat) (calls_in then.seat) (calls_in after.seat) w.number refl turn.calls));
+        (adds_then (number_in before.seat) (flat_map (tasks_of payments) w.finished) (tasks_of payments job) (calls_in before.seat) (calls_in now.seat) (calls_in after.seat) w.calls
+        (adds_from (number_in now.seat) (number_in before.seat) (tasks_of payments job) (calls_in now.seat) (calls_in now.seat) (calls_in after.seat) w.number refl turn.calls));
   }
 
-  pub stopped_at : (after : Hands) (ticket : ℕ) → HasWorked payments before then jobs → IsTake (hand_of then.pass) job (hand_of pass) → IsStopped ticket took after → IsWork payments before after (record { jobs = jobs + 1; stopped = Some ticket })
-  stopped_at after ticket w take turn = record {
+  pub stopped_at : (after : Hands) (ticket : ℕ) → HasWorked payments before now jobs → IsTake (hand_of now.pass) job (hand_of pass) → IsStopped ticket took after → IsWork payments before after (record { jobs = jobs + 1; stopped = Some ticket })
+  stopped_at after ticket w taking turn = record {
     finished = w.finished;
     dropped = job ∷ [];
     tickets = w.tickets ++ ticket ∷ [];
     ends = was_stopped job w.tickets ticket (w.each ∙ sym w.many);
     jobs = let m = w.many in omega (arith, length-append w.finished (job ∷ []));
-    taken = ap hand_of turn.same.pass ∙ taken_more (hand_of before.pass) (hand_of then.pass) (hand_of pass) w.finished job w.taken take.added;
-    drawn = with_more w.tickets (ticket ∷ []) (known before.place) (known then.place) (known after.place) w.drawn turn.drawn;
+    taken = ap (λ (p : JobPass Job). hand_of p) turn.same.pass ∙ taken_more (hand_of before.pass) (hand_of now.pass) (hand_of pass) w.finished job w.taken taking.added;
+    drawn = with_more w.tickets (ticket ∷ []) (known before.place) (known now.place) (known after.place) w.drawn turn.drawn;
     number = turn.same.number ∙ w.number;
     calls = subst (λ l. Adds (number_in before.seat) (flat_map (tasks_of payments) w.finished) (calls_in before.seat) l) (sym turn.calls) w.calls;
   }
 
-  pub spent_before : (after : Hands) → HasWorked payments before then jobs → IsTake (hand_of then.pass) job (hand_of pass) → IsSpent took after → IsWork payments before after (record { jobs = jobs + 1; stopped = None })
-  spent_before after w take turn = record {
+  pub spent_before : (after : Hands) → HasWorked payments before now jobs → IsTake (hand_of now.pass) job (hand_of pass) → IsSpent took after → IsWork payments before after (record { jobs = jobs + 1; stopped = None })
+  spent_before after w taking turn = record {
     finished = w.finished;
     dropped = job ∷ [];
     tickets = w.tickets;
     ends = was_spent job w.tickets (w.each ∙ sym w.many) (ap (λ (v : SeatView). length v.drawn) turn.drawn ∙ turn.many);
     jobs = let m = w.many in omega (arith, length-append w.finished (job ∷ []));
-    taken = ap hand_of turn.same.pass ∙ taken_more (hand_of before.pass) (hand_of then.pass) (hand_of pass) w.finished job w.taken take.added;
+    taken = ap (λ (p : JobPass Job). hand_of p) turn.same.pass ∙ taken_more (hand_of before.pass) (hand_of now.pass) (hand_of pass) w.finished job w.taken taking.added;
     drawn = turn.drawn ∙ w.drawn;
     number = turn.same.number ∙ w.number;
     calls = subst (λ l. Adds (number_in before.seat) (flat_map (tasks_of payments) w.finished) (calls_in before.seat) l) (sym turn.calls) w.calls;
   }
 
 -- the queue was empty
-pub ended_dry : (payments : List Key) (before then : Hands) (pass : JobPass Job) (jobs : ℕ) → HasWorked payments before then jobs → hand_of pass ≡ hand_of then.pass → WasEmpty (hand_of then.pass)
-    → IsWork payments before (record { seat = then.seat; place = then.place; pass = pass }) (record { jobs = jobs; stopped = None })
-ended_dry payments before then pass jobs w same empty = record {
+pub ended_dry : (payments : List Key) (before now : Hands) (pass : JobPass Job) (jobs : ℕ) → HasWorked payments before now jobs → hand_of pass ≡ hand_of now.pass → WasEmpty (hand_of now.pass)
+    → IsWork payments before (record { seat = now.seat; place = now.place; pass = pass }) (record { jobs = jobs; stopped = None })
+ended_dry payments before now pass jobs w same empty = record {
   finished = w.finished;
   dropped = [];
   tickets = w.tickets;
-  ends = ran_dry w.tickets (w.each ∙ sym w.many) (subst WasEmpty (sym same) empty);
-  jobs = let m = w.many in omega (arith, append-nil w.finished, ap length (append-nil w.finished));
+  ends = ran_dry w.tickets (w.each ∙ sym w.many) (subst (λ (h : Hand Job). WasEmpty h) (sym same) empty);
+  jobs = let m = w.many in omega (arith, ap length (append-nil w.finished));
   taken = same ∙ w.taken ∙ ap (λ l. hand (hand_of before.pass).put ((hand_of before.pass).taken ++ l)) (sym (append-nil w.finished));
   drawn = w.drawn;
   number = w.number;

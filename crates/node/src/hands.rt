@@ -1,4 +1,4 @@
-//! What workers share, and what each has of its own.
+//! What the workers of a side share, and what each has of its own.
 
 use crate::pools::Pool;
 use crate::work::Job;
@@ -11,17 +11,17 @@ use std::sync::Mutex;
 /// What the workers of a side share.
 #[derive(Clone, Copy)]
 pub struct Shared<'a> {
-    /// The book of the side behind its lock.
+    /// The side's book behind its lock.
     pub desk: &'a Desk,
     /// The board from which tickets are drawn.
     pub board: &'a Board,
-    /// By channel, the side's payment key, to whose hash a release pays.
+    /// The side's payment key in each channel, by the channel's index. A release pays to its hash.
     pub payments: &'a [Key],
-    /// The chain with its pool, which takes the released fillings.
+    /// The chain and its pool, to which released fillings are added.
     pub pool: &'a Mutex<Pool>,
 }
 
-/// What a worker has of its own, but for its end of the queue. It is to be kept as long as the desk, the board and the queue are used.
+/// What a worker has of its own, except its end of the queue. Keep it as long as the desk, the board and the queue are used.
 #[derive(Drop)]
 pub struct Hands {
     /// Its seat at the desk.

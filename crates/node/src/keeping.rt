@@ -12,7 +12,7 @@ use std::alloc::Global;
 use std::sync::Wait;
 use std::thread;
 
-// Builds the penalty set of a revoked state, the book being free, and keeps it.
+// Builds the penalty set of a revoked state while other threads may have the book, and keeps it.
 fn keep_set_of<R: Wait>(
     rt: &R,
     alloc: Global,
@@ -34,7 +34,7 @@ fn keep_set_of<R: Wait>(
     }
 }
 
-// Keeps the penalties of the peer's revoked commitment of a number.
+// Keeps the penalties of the peer's revoked commitment of this number.
 fn try_to_keep<R: Wait>(
     rt: &R,
     alloc: Global,
@@ -55,7 +55,7 @@ fn try_to_keep<R: Wait>(
     }
 }
 
-/// Keeps the penalties of the peer's revoked commitment of a number, where they are to be kept. Where memory ran out, it tries again.
+/// Keeps the penalties of the peer's revoked commitment of this number, unless the book refuses. Retries if memory ran out.
 pub(crate) fn keep<R: Wait>(
     rt: &R,
     alloc: Global,

@@ -1,4 +1,4 @@
-//! The chain with its pool.
+//! The chain and its pool.
 
 ghost use Rattle.std.specs.Prelude.{◌≡◌, [], ◌∷◌, ◌++◌, OnOk, OnErr};
 
@@ -6,7 +6,7 @@ use chain::Index;
 use std::alloc::{AllocError, Global};
 use tx::Tx;
 
-/// The simulated chain, with the transactions that wait for a block of it. Threads share it under a lock.
+/// The simulated chain, and the transactions that wait for a block. Threads share it under a lock.
 #[derive(Drop)]
 pub struct Pool {
     pub chain: Index,
@@ -17,7 +17,7 @@ pub struct Pool {
 }
 
 impl Pool {
-    /// A chain with an empty pool, which takes no memory.
+    /// A chain with an empty pool. It takes no memory.
     pub fn new(alloc: Global, chain: Index) -> Pool
         ensures chain { result.chain ≡ chain }
         ensures waiting { result.waiting.items ≡ [] }
@@ -30,7 +30,7 @@ impl Pool {
         }
     }
 
-    /// A released filling waits for a block, and stays among those that were ever released. The only error is that memory ran out, which leaves all as it was.
+    /// Adds a released filling to the transactions that wait, and to the fillings that were ever released. The only error is that memory ran out, which leaves the pool unchanged.
     pub fn release(&mut self, filling: &Tx) -> Result<(), AllocError>
         ensures chain { self.new.chain ≡ self.old.chain }
         ensures waiting { OnOk result (self.new.waiting.items

@@ -22,7 +22,7 @@ use std::sync::{Mutex, Wait};
 use std::thread;
 use tx::Tx;
 
-// A released filling goes to the pool. Where memory ran out, it tries again: what was released once isn't released again.
+// Adds a released filling to the pool. Retries if memory ran out, since its claim is not to be released twice.
 fn give<R: Wait>(rt: &R, pool: &Mutex<Pool>, filling: Tx) {
     for _ in rt.forever() {
         if pool.lock(rt).release(&filling).is_ok() {
@@ -32,7 +32,7 @@ fn give<R: Wait>(rt: &R, pool: &Mutex<Pool>, filling: Tx) {
     }
 }
 
-// The book fills a batch: the transaction.
+// The transaction with which the book fills a batch.
 fn filled_by<R: Wait>(
     rt: &R,
     desk: &Desk,
@@ -56,7 +56,7 @@ fn filled_by<R: Wait>(
     }
 }
 
-// Releases a claim of this value in a transaction of its own, which is given back.
+// Releases a claim of this value, and returns its transaction.
 fn try_to_release<R: Wait>(
     rt: &R,
     alloc: Global,
@@ -80,7 +80,7 @@ fn try_to_release<R: Wait>(
     }
 }
 
-// What a claim is worth, in satoshis, where it can be released.
+// The value of a claim in satoshis, if it can be released.
 fn worth(due: &DueClaim) -> Option<u64>
     ensures { IfSome result (λ v. (v ≡ value_of (due.now ∷ [])) × (v ≤ max_value)) }
 {
@@ -91,7 +91,7 @@ fn worth(due: &DueClaim) -> Option<u64>
     }
 }
 
-// Releases a claim of this value to a payment key, where the book fills it. Where memory ran out, it tries again.
+// Releases a claim of this value to a payment key, unless the book refuses. Retries if memory ran out.
 fn release_to<R: Wait>(
     rt: &R,
     alloc: Global,
@@ -118,7 +118,7 @@ fn release_to<R: Wait>(
     unreachable!()
 }
 
-// Releases a claim, where its channel has a payment key and the book fills it.
+// Releases a claim, if its channel has a payment key, unless the book refuses.
 fn release<R: Wait>(rt: &R, alloc: Global, shared: &Shared<'_>, seat: &mut Seat, due: &DueClaim)
     requires { IsSeatOf shared.now.desk.now seat.old }
     ensures seat { IsSeatOf shared.now.desk.now seat.new
@@ -135,7 +135,7 @@ fn release<R: Wait>(rt: &R, alloc: Global, shared: &Shared<'_>, seat: &mut Seat,
     release_to(rt, alloc, shared, seat, payment, due, value)
 }
 
-/// Releases each of the claims in a transaction of its own, which goes to the pool.
+/// Releases each claim in a transaction of its own, and adds the transactions to the pool.
 pub(crate) fn release_each<R: Wait>(
     rt: &R,
     alloc: Global,

@@ -1,17 +1,17 @@
-//! What workers are to do.
+//! The jobs of workers.
 
 use side::DueClaim;
 use std::collections::VecDeque;
 
-/// What a worker is to do.
+/// A job of a worker.
 #[derive(Drop)]
 pub enum Job {
-    /// The peer's commitment of a number was revoked in a channel: its penalties are to be kept.
+    /// Keep the penalties of the peer's revoked commitment of a number.
     Keep {
         /// The index of the channel.
         channel: u64,
         number: u64,
     },
-    /// Claims fell due, each with its channel and the preimages that it wants: each is to be released in a transaction of its own.
+    /// Release each of these claims in a transaction of its own.
     Claims(VecDeque<DueClaim>),
 }

@@ -20,7 +20,7 @@ use std::sync::Wait;
 /// What a worker did.
 #[derive(Clone, Copy, Debug, Drop, PartialEq, Eq)]
 pub struct Done {
-    /// How many jobs it took, the dropped one too.
+    /// The number of jobs that it took, with the dropped one.
     pub jobs: u64,
     /// The ticket at which the gate stopped it.
     pub stopped: Option<u64>,
@@ -29,15 +29,15 @@ pub struct Done {
 /// How a worker's turn with one job ends.
 #[derive(Clone, Copy, Debug, Drop, PartialEq, Eq)]
 pub(crate) enum Turn {
-    /// The job is done.
+    /// The job was done.
     Finished,
     /// The gate stopped the worker at this ticket.
     Stopped(u64),
-    /// The worker's seat at the board has drawn as often as it may.
+    /// The worker's seat at the board has drawn 2^32 tickets, and got no more.
     Spent,
 }
 
-// Does a job: what it asks for is called for at most once each, in order.
+// Does a job: makes at most one call for each thing that it asks for, in order.
 fn do_job<R: Wait>(rt: &R, alloc: Global, shared: &Shared<'_>, seat: &mut Seat, job: &Job)
     requires { IsSeatOf shared.now.desk.now seat.old }
     ensures seat { IsSeatOf shared.now.desk.now seat.new
@@ -51,7 +51,7 @@ fn do_job<R: Wait>(rt: &R, alloc: Global, shared: &Shared<'_>, seat: &mut Seat, 
     }
 }
 
-// A turn with a job: a ticket is drawn, the gate is asked, and the job is done.
+// Draws a ticket, asks the gate, and does a job.
 fn take_turn<R: Wait, G: Gate>(
     rt: &R,
     alloc: Global,
@@ -78,10 +78,10 @@ fn take_turn<R: Wait, G: Gate>(
     Turn::Finished
 }
 
-/// Takes jobs and does them, until the queue is closed and empty, its seat at the board has drawn 2^32 tickets, or the gate stops it.
+/// Takes jobs and does them, until the queue is closed and empty, the gate stops it, or its seat at the board has drawn 2^32 tickets.
 ///
-/// Where it is stopped or gets no ticket, the job that it took last is dropped, and the desk is not called for it. Refused memory is tried again.
-/// May wait: for jobs, for the book and for the pool.
+/// If it is stopped or gets no ticket, it drops the job that it took last, and does not call the desk for it. It retries if memory ran out. Blocks while
+/// there is no job, and while another thread has the book or the pool.
 pub fn worker<R: Wait, G: Gate>(
     rt: &R,
     alloc: Global,
