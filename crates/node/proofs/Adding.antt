@@ -11,7 +11,7 @@ use Rattle.book.specs.declared.errors.KeepError.{KeepError}
 use Rattle.book.specs.Replies.{Reply, kept, is_accepted, reply_of, extended, history_after}
 use Rattle.book.specs.Dispatch.{no_memory_of}
 use Rattle.desk.specs.Histories.{History}
-use Rattle.desk.specs.Answers.{IsHistoryFor, IsAnswered, calls_after}
+use Rattle.desk.specs.Answers.{IsAnswered, calls_after}
 use Rattle.side.specs.declared.due.DueClaim.{DueClaim}
 use Rattle.node.specs.Tasks.{Task, Does}
 use Rattle.node.specs.Entering.{Made, nothing, left_out, entered, Adds, by_release}

@@ -1,5 +1,5 @@
 -- What the book answers to a release.
-use Rattle.std.proofs.Common.{◌≡◌, ℕ, ◌≤◌, Bool, true, false, List, [], ◌∷◌, ◌++◌, Option, Some, None, Result, Ok, Err, refl, sym, ap, ◌∙◌, subst, ⊎_elim, ◌⊎◌, arith}
+use Rattle.std.proofs.Common.{◌≡◌, ℕ, ◌≤◌, Bool, true, false, List, [], ◌∷◌, Option, Some, None, Result, Ok, Err, refl, sym, ap, ◌∙◌, subst, ⊎_elim, ◌⊎◌, arith}
 use Rattle.std.specs.Prelude.{nat_lt, not, slice_get}
 use Rattle.std.proofs.lemmas.Bool.Decides.{nat_tests}
 use Rattle.std.proofs.lemmas.Option.{none-some}
@@ -8,7 +8,6 @@ use Rattle.tx.specs.Limits.{max_value}
 use Rattle.channel.specs.Tokens.{peer_tokens}
 use Rattle.channel.specs.Rights.{rights_of}
 use Rattle.filling.specs.declared.errors.FillError.{FillError}
-use Rattle.filling.specs.declared.errors.FillError.TheVariants.{NoMemory as fill_memory}
 use Rattle.filling.specs.Filled.{Filling}
 use Rattle.book.specs.declared.calls.Batch.{Batch}
 use Rattle.book.specs.declared.calls.Call.TheVariants.{Release}

@@ -1,5 +1,5 @@
 -- What a worker has done so far, turn by turn.
-use Rattle.std.proofs.Common.{◌≡◌, ℕ, ◌+◌, ◌^◌, ◌≤◌, List, [], ◌∷◌, ◌++◌, length, Option, Some, None, refl, sym, ap, ◌∙◌, subst, append_assoc, append-nil, length-append, add-one, arith}
+use Rattle.std.proofs.Common.{◌≡◌, ℕ, ◌+◌, ◌^◌, ◌≤◌, List, [], ◌∷◌, ◌++◌, length, Some, None, refl, sym, ap, ◌∙◌, subst, append_assoc, append-nil, length-append, arith}
 use Rattle.std.specs.List.{flat_map}
 use Rattle.std.proofs.lemmas.Grind.{flat_map-append}
 use Rattle.keys.specs.declared.compressed.Key.{Key}
@@ -7,7 +7,6 @@ use Rattle.board.specs.declared.board.Board.{Board}
 use Rattle.board.specs.declared.rule.SeatView.{SeatView}
 use Rattle.board.specs.Rule.{knows}
 use Rattle.board.specs.Seats.{known, IsSeatOf}
-use Rattle.book.specs.declared.calls.Entry.{Entry}
 use Rattle.desk.specs.Seats.{number_in, calls_in}
 use Rattle.jobs.specs.declared.rule.Hand.{Hand}
 use Rattle.jobs.specs.Rule.{hand}
@@ -15,10 +14,9 @@ use Rattle.jobs.specs.Ends.{JobPass, hand_of}
 use Rattle.jobs.specs.Steps.{IsTake, WasEmpty}
 use Rattle.node.specs.declared.work.Job.{Job}
 use Rattle.node.specs.declared.hands.Hands.{Hands}
-use Rattle.node.specs.declared.workers.Done.{Done}
-use Rattle.node.specs.Tasks.{Task, tasks_of}
+use Rattle.node.specs.Tasks.{tasks_of}
 use Rattle.node.specs.Entering.{Adds}
-use Rattle.node.specs.Work.{with_tickets, IsFinished, IsStopped, IsSpent, Ends, ran_dry, was_stopped, was_spent, IsWork}
+use Rattle.node.specs.Work.{with_tickets, IsFinished, IsStopped, IsSpent, ran_dry, was_stopped, was_spent, IsWork}
 use Rattle.node.proofs.Adding.{adds_nothing, adds_then, adds_from}
 
 -- after so many jobs, each of them finished

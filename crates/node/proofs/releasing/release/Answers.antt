@@ -1,4 +1,4 @@
-use Rattle.std.proofs.Common.{◌≡◌, List, [], ◌∷◌, Option, Some, length, refl, sym, subst}
+use Rattle.std.proofs.Common.{◌≡◌, [], ◌∷◌, Option, Some, length, refl, sym, subst}
 use Rattle.std.specs.Prelude.{slice_get}
 use Rattle.std.proofs.lemmas.Option.{slice_get_read}
 use Rattle.keys.specs.declared.compressed.Key.{Key}
