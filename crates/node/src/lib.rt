@@ -10,9 +10,9 @@
 //! finished, and at most one that it dropped. It drew a ticket for each of them. The calls of its seat are for
 //! finished jobs alone, in their order, each for one thing that a job asks for: a keep for a revoked commitment, a
 //! release for a claim. So no worker signs. That a job is done, that a call returns and that workers run at once is
-//! tested, not proved.
+//! not proved.
 //!
-//! It stands on `desk`, `board`, `jobs` and `side`, and no crate but `node_tests` stands on it.
+//! It stands on `desk`, `board`, `jobs` and `side`, and no crate stands on it yet.
 //!
 //! ```text
 //! let shared = Shared { desk: &desk, board: &board, payments: &payments, pool: &pool };
@@ -22,7 +22,7 @@
 //! assert_eq!(rt; done.jobs, 1);
 //! ```
 //!
-//! The tests of `node_tests` make these calls.
+//! No proved crate makes these calls yet.
 #![tactic(auto)]
 
 mod gates;
