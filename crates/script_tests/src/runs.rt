@@ -1,5 +1,6 @@
 //! Runs in which a hash is compared. The rows that compare none are facts of `script`: a run is exactly what is defined there.
 
+mod elements;
 mod shapes;
 
 use lists::ByteString;

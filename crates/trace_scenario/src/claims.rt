@@ -1,11 +1,12 @@
 //! The claims of a side.
 
 use crate::coins::Coins;
-use crate::writer::Line;
+use crate::writer::{tell_outpoint, tell_side};
 use claim::{Claim, Shell};
 use side::DueClaim;
 use sighash::programs::is_key_hash_program;
 use terms::Side;
+use trace_words::Line;
 use world::World;
 
 // How a claim spends its output.
@@ -41,13 +42,12 @@ fn due_height(claim: &Claim, height: u64) -> u64 {
 fn tell_claim(line: &mut Line, coins: &Coins, side: Side, due: &DueClaim) {
     let place = due.claim.place();
     line.open("{");
-    line.side("side", side);
+    tell_side(line, "side", side);
     line.count("channel", due.channel);
     line.name("outpoint");
-    line.outpoint(&place.outpoint);
+    tell_outpoint(line, &place.outpoint);
     line.count("value", place.value);
-    line.name("by");
-    line.word(way(due));
+    line.member("by", way(due));
     match coins.get(&place.outpoint) {
         Some(coin) => line.count("due", due_height(&due.claim, coin.height)),
         None => {
@@ -62,8 +62,7 @@ fn tell_claim(line: &mut Line, coins: &Coins, side: Side, due: &DueClaim) {
 pub fn tell_claims(line: &mut Line, coins: &Coins, world: &World, side: Side, count: u64) {
     let jobs = world.jobs(side);
     let before = (jobs.len() as u64).saturating_sub(count);
-    line.name("claims");
-    line.open("[");
+    line.begin("claims", "[");
     for due in jobs.iter().skip(before as usize) {
         tell_claim(line, coins, side, due);
     }
@@ -72,9 +71,8 @@ pub fn tell_claims(line: &mut Line, coins: &Coins, world: &World, side: Side, co
 
 /// How many claims of a side nobody took yet, and how many were taken and not released yet.
 pub fn tell_jobs(line: &mut Line, world: &World, side: Side) {
-    line.name("jobs");
-    line.open("{");
-    line.side("side", side);
+    line.begin("jobs", "{");
+    tell_side(line, "side", side);
     line.count("jobs", world.jobs(side).len() as u64);
     line.count("taken", world.taken(side).len() as u64);
     line.close("}");

@@ -2,11 +2,11 @@
 
 use crate::coins::{Coin, Coins, Kind};
 use crate::outputs::{outpoint_of, tell_kind, tell_output};
-use crate::writer::Line;
 use chain::Confirmed;
 use commit::{Commitment, CommitmentOutput, Direction, OutputKind, build};
 use std::alloc::Global;
 use terms::{Htlc, Side, Terms, number_of};
+use trace_words::Line;
 use world::World;
 
 /// A commitment in a block.
@@ -75,8 +75,7 @@ fn tell_outputs(
     confirmed: &Confirmed,
 ) {
     let mut k = 0u64;
-    line.name("outputs");
-    line.open("[");
+    line.begin("outputs", "[");
     for (index, output) in outputs.iter().enumerate() {
         let coin = output_coin(closing, output);
         tell_output(line, coins, &outpoint_of(confirmed, index), coin);
@@ -105,8 +104,7 @@ fn tell_closing(
     }
     tell_kind(line, "commitment", closing.channel, closing.holder);
     line.count("number", number);
-    line.name("revoked");
-    line.json(if closing.is_revoked { "true" } else { "false" });
+    line.flag("revoked", closing.is_revoked);
     tell_outputs(coins, line, &closing, commitment.outputs(), confirmed);
 }
 

@@ -1,9 +1,10 @@
 //! The outputs that came, and what is undone where a block is taken off.
 
-use crate::writer::Line;
+use crate::writer::tell_both;
 use std::alloc::Global;
 use std::collections::BTreeMap;
 use terms::Side;
+use trace_words::Line;
 use tx::{OutPoint, Tx};
 
 /// What an output is.
@@ -189,7 +190,7 @@ impl Coins {
     /// What is each side's alone, where it is not as it was told last.
     pub fn tell_alone(&mut self, line: &mut Line) {
         if self.alone != self.told {
-            line.of_both("onchain", self.alone.a, self.alone.b);
+            tell_both(line, "onchain", self.alone.a, self.alone.b);
             self.told = self.alone;
         }
     }

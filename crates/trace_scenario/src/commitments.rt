@@ -1,14 +1,15 @@
 //! What a side's newest commitment gives.
 
-use crate::writer::Line;
+use crate::writer::{tell_both, tell_side};
 use channel::CommitmentState;
 use terms::{Htlc, Side, View};
+use trace_words::Line;
 use world::World;
 
 // An HTLC by its name.
 fn tell_htlc_name(line: &mut Line, offerer: Side, htlc: &Htlc) {
     line.open("{");
-    line.side("offerer", offerer);
+    tell_side(line, "offerer", offerer);
     line.count("id", htlc.id);
     line.close("}");
 }
@@ -49,20 +50,17 @@ fn tell_out(line: &mut Line, offerer: Side, before: &View, now: &View) {
 // A commitment is its owner's newest one, after another.
 fn tell_newest(line: &mut Line, channel: u64, before: &CommitmentState, now: &CommitmentState) {
     let view = &now.view;
-    line.name("held");
-    line.open("{");
+    line.begin("held", "{");
     line.count("channel", channel);
-    line.side("owner", now.owner);
+    tell_side(line, "owner", now.owner);
     line.count("number", now.number);
     line.count("feerate", u64::from(view.feerate));
-    line.of_both("balance", view.a.balance, view.b.balance);
-    line.name("in");
-    line.open("[");
+    tell_both(line, "balance", view.a.balance, view.b.balance);
+    line.begin("in", "[");
     tell_in(line, Side::A, &before.view, view);
     tell_in(line, Side::B, &before.view, view);
     line.close("]");
-    line.name("out");
-    line.open("[");
+    line.begin("out", "[");
     tell_out(line, Side::A, &before.view, view);
     tell_out(line, Side::B, &before.view, view);
     line.close("]");

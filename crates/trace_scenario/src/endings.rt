@@ -1,11 +1,12 @@
 //! The line that ends a trace.
 
 use crate::coins::Coins;
-use crate::writer::Line;
+use crate::writer::tell_both;
 use book::Book;
 use chain::{Coins as _, Index};
 use std::alloc::AllocError;
 use terms::Side;
+use trace_words::Line;
 use world::World;
 
 // The chain's height, its unspent outputs and its fees. The only error is that memory ran out.
@@ -39,8 +40,7 @@ fn tell_kept_in(line: &mut Line, book: &Book, channel: u64) {
 
 // Those of all channels.
 fn tell_kept(line: &mut Line, name: &str, book: &Book) {
-    line.name(name);
-    line.open("[");
+    line.begin(name, "[");
     for channel in 0..book.channel_count() {
         tell_kept_in(line, book, channel);
     }
@@ -51,22 +51,17 @@ fn tell_kept(line: &mut Line, name: &str, book: &Book) {
 pub fn tell_end(line: &mut Line, coins: &Coins, world: &World) {
     let (a, b) = (world.book(Side::A), world.book(Side::B));
     line.open("{");
-    line.name("end");
-    line.open("{");
+    line.begin("end", "{");
     if tell_chain(line, world.chain()).is_err() {
         line.fail();
     }
-    line.name("kept");
-    line.open("{");
+    line.begin("kept", "{");
     tell_kept(line, "A", a);
     tell_kept(line, "B", b);
     line.close("}");
-    line.of_both(
-        "history",
-        a.entries().len() as u64,
-        b.entries().len() as u64,
-    );
-    line.of_both("onchain", coins.alone.a, coins.alone.b);
+    let entries = (a.entries().len(), b.entries().len());
+    tell_both(line, "history", entries.0 as u64, entries.1 as u64);
+    tell_both(line, "onchain", coins.alone.a, coins.alone.b);
     line.close("}");
     line.end();
 }

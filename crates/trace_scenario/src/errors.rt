@@ -3,19 +3,16 @@
 use scenario::ScenarioError;
 use std::alloc::AllocError;
 use std::fmt;
+use trace_words::InputError;
 use world::errors::WorldError;
 
 /// Why a trace ends before its last line.
 #[derive(Drop)]
 pub enum TraceError {
-    /// Memory ran out.
-    NoMemory,
     /// A line can't be written.
     WriteFailed,
-    /// The input is refused: it has more than 4,194,304 bytes.
-    TooLong,
-    /// The input can't be read.
-    ReadFailed,
+    /// Memory ran out, or the input can't be read or is too long.
+    Input(InputError),
     /// The input is no scenario.
     Scenario(ScenarioError),
     /// The world of the scenario does not begin.
@@ -25,10 +22,8 @@ pub enum TraceError {
 impl fmt::Display for TraceError {
     fn fmt<W: fmt::Write>(&self, f: &mut fmt::Formatter<W>) -> fmt::Result {
         match self {
-            TraceError::NoMemory => write!(f, "NoMemory"),
             TraceError::WriteFailed => write!(f, "WriteFailed"),
-            TraceError::TooLong => write!(f, "TooLong"),
-            TraceError::ReadFailed => write!(f, "ReadFailed"),
+            TraceError::Input(error) => write!(f, "{error}"),
             TraceError::Scenario(error) => write!(f, "{error}"),
             TraceError::World(error) => write!(f, "{error}"),
         }
@@ -37,6 +32,6 @@ impl fmt::Display for TraceError {
 
 impl From<AllocError> for TraceError {
     fn from(_error: AllocError) -> TraceError {
-        TraceError::NoMemory
+        TraceError::Input(InputError::NoMemory)
     }
 }

@@ -1,10 +1,11 @@
 //! Messages between the sides, and what they bring about.
 
 use crate::commitments::tell_held;
-use crate::writer::Line;
+use crate::writer::tell_side;
 use book::{Call, Step};
 use channel::Message;
 use terms::Side;
+use trace_words::Line;
 use updates::Update;
 use world::World;
 
@@ -20,12 +21,10 @@ fn update_name(update: &Update) -> &'static str {
 
 // A message came to a side, or is on its way to it.
 fn tell_message(line: &mut Line, world: &World, what: &str, to: Side, channel: u64, message: &str) {
-    line.name(what);
-    line.open("{");
-    line.side("to", to);
+    line.begin(what, "{");
+    tell_side(line, "to", to);
     line.count("channel", channel);
-    line.name("message");
-    line.word(message);
+    line.member("message", message);
     if let Some(inbox) = world.inbox(to, channel) {
         line.count("waiting", inbox.len() as u64);
     }
@@ -39,15 +38,13 @@ fn tell_htlc(line: &mut Line, channel: u64, by: Side, update: &Update, stages: [
         Update::Add(htlc) => {
             tell_stage(line, channel, by, htlc.id, offered);
             line.count("amount", htlc.amount);
-            line.name("hash");
-            line.bytes(&htlc.hash);
+            line.hex("hash", &htlc.hash);
             line.count("expiry", u64::from(htlc.expiry));
             line.close("}");
         }
         Update::Fulfil { id, preimage } => {
             tell_stage(line, channel, by.other(), *id, fulfilled);
-            line.name("preimage");
-            line.bytes(preimage);
+            line.hex("preimage", preimage);
             line.close("}");
         }
         Update::Fail { id } => {
@@ -60,13 +57,11 @@ fn tell_htlc(line: &mut Line, channel: u64, by: Side, update: &Update, stages: [
 
 // The object of an HTLC that comes to a next stage begins.
 fn tell_stage(line: &mut Line, channel: u64, offerer: Side, id: u64, stage: &str) {
-    line.name("htlc");
-    line.open("{");
+    line.begin("htlc", "{");
     line.count("channel", channel);
-    line.side("offerer", offerer);
+    tell_side(line, "offerer", offerer);
     line.count("id", id);
-    line.name("stage");
-    line.word(stage);
+    line.member("stage", stage);
 }
 
 /// A side made an update.
@@ -84,10 +79,9 @@ pub fn tell_own(line: &mut Line, world: &World, side: Side, channel: u64) {
 
 // An owner's commitment of a number is signed or revoked.
 fn tell_commitment(line: &mut Line, what: &str, channel: u64, owner: Side, number: u64) {
-    line.name(what);
-    line.open("{");
+    line.begin(what, "{");
     line.count("channel", channel);
-    line.side("owner", owner);
+    tell_side(line, "owner", owner);
     line.count("number", number);
     line.close("}");
 }
@@ -144,9 +138,8 @@ pub fn tell_delivered(line: &mut Line, world: &World, side: Side, channel: u64) 
 
 /// A side keeps penalties.
 pub fn tell_kept(line: &mut Line, side: Side, channel: u64, number: u64) {
-    line.name("kept");
-    line.open("{");
-    line.side("side", side);
+    line.begin("kept", "{");
+    tell_side(line, "side", side);
     line.count("channel", channel);
     line.count("number", number);
     line.close("}");

@@ -4,11 +4,11 @@ use crate::closing::tell_commitment;
 use crate::coins::{Coin, Coins, Kind};
 use crate::outputs::{outpoint_of, tell_kind, tell_output};
 use crate::pool::tell_spends;
-use crate::writer::Line;
 use chain::{Block, Coins as _, Confirmed};
 use sighash::programs::{is_script_hash_program, key_hash_program};
 use std::alloc::Global;
 use terms::Side;
+use trace_words::Line;
 use tx::{Tx, TxOut, total_value};
 use world::World;
 
@@ -78,8 +78,7 @@ fn tell_follower(
                 _ => "claim",
             };
             tell_kind(line, kind, coin.channel, coin.owner);
-            line.name("outputs");
-            line.open("[");
+            line.begin("outputs", "[");
         }
         tell_output(line, coins, &outpoint_of(confirmed, index), coin);
         line.close("}");
@@ -112,8 +111,7 @@ fn tell_tx(
 ) {
     line.open("{");
     line.count("height", height);
-    line.name("txid");
-    line.bytes(confirmed.id());
+    line.hex("txid", confirmed.id());
     tell_spends(line, confirmed.tx());
     line.count("fee", fee(coins, confirmed.tx()));
     spend(coins, line, confirmed.tx());
@@ -153,8 +151,7 @@ fn tell_block(
 
 /// The transactions of the blocks above a height.
 pub fn tell_mined(alloc: Global, world: &World, coins: &mut Coins, line: &mut Line, above: u64) {
-    line.name("mined");
-    line.open("[");
+    line.begin("mined", "[");
     for (height, block) in world
         .chain()
         .blocks()

@@ -1,14 +1,14 @@
 //! The line that opens a trace.
 
 use crate::coins::{Coin, Coins, Kind};
-use crate::writer::{Line, side_name};
+use crate::writer::{side_name, tell_outpoint};
 use terms::{Side, Terms};
+use trace_words::Line;
 use world::World;
 
 // A member that has two numbers, of A and of B, in an array.
 fn tell_pair(line: &mut Line, name: &str, a: u64, b: u64) {
-    line.name(name);
-    line.open("[");
+    line.begin(name, "[");
     line.number(u128::from(a));
     line.number(u128::from(b));
     line.close("]");
@@ -18,10 +18,9 @@ fn tell_pair(line: &mut Line, name: &str, a: u64, b: u64) {
 fn tell_terms(line: &mut Line, terms: &Terms) {
     line.open("{");
     line.name("funding");
-    line.outpoint(&terms.funding);
+    tell_outpoint(line, &terms.funding);
     line.count("capacity", terms.capacity);
-    line.name("opener");
-    line.word(side_name(terms.opener));
+    line.member("opener", side_name(terms.opener));
     line.count("feerate", u64::from(terms.feerate));
     let (a, b) = (&terms.a, &terms.b);
     tell_pair(line, "dust", a.dust, b.dust);
@@ -49,11 +48,9 @@ fn funding_coin(channel: u64, terms: &Terms) -> Coin {
 pub fn tell_opening(line: &mut Line, coins: &mut Coins, world: &World, events: usize) {
     let book = world.book(Side::A);
     line.open("{");
-    line.name("opening");
-    line.open("{");
+    line.begin("opening", "{");
     line.count("events", events as u64);
-    line.name("channels");
-    line.open("[");
+    line.begin("channels", "[");
     for index in 0..book.channel_count() {
         if let Some(channel) = book.channel(index) {
             let terms = channel.terms();

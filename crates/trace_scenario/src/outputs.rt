@@ -1,9 +1,10 @@
 //! Outputs that come, and who can spend them when.
 
 use crate::coins::{Coin, Coins, Kind};
-use crate::writer::Line;
+use crate::writer::{tell_outpoint, tell_side};
 use chain::Confirmed;
 use terms::Side;
+use trace_words::Line;
 use tx::OutPoint;
 
 /// The outpoint of an output of a transaction.
@@ -16,10 +17,9 @@ pub fn outpoint_of(confirmed: &Confirmed, index: usize) -> OutPoint {
 
 /// What a transaction is, and whose.
 pub fn tell_kind(line: &mut Line, kind: &str, channel: u64, owner: Side) {
-    line.name("kind");
-    line.word(kind);
+    line.member("kind", kind);
     line.count("channel", channel);
-    line.side("owner", owner);
+    tell_side(line, "owner", owner);
 }
 
 // The name of a kind of output.
@@ -37,9 +37,8 @@ fn kind_name(kind: Kind) -> &'static str {
 // A side can spend an output from a block of this height on.
 fn tell_way(line: &mut Line, side: Side, by: &str, due: u64) {
     line.open("{");
-    line.side("side", side);
-    line.name("by");
-    line.word(by);
+    tell_side(line, "side", side);
+    line.member("by", by);
     line.count("due", due);
     line.close("}");
 }
@@ -65,13 +64,11 @@ fn tell_ways(line: &mut Line, coin: &Coin) {
 pub fn tell_output(line: &mut Line, coins: &mut Coins, outpoint: &OutPoint, coin: Coin) {
     line.open("{");
     line.name("outpoint");
-    line.outpoint(outpoint);
+    tell_outpoint(line, outpoint);
     line.count("value", coin.value);
-    line.name("kind");
-    line.word(kind_name(coin.kind));
-    line.side("owner", coin.owner);
-    line.name("ways");
-    line.open("[");
+    line.member("kind", kind_name(coin.kind));
+    tell_side(line, "owner", coin.owner);
+    line.begin("ways", "[");
     tell_ways(line, &coin);
     line.close("]");
     coins.come(line, outpoint, coin);

@@ -8,13 +8,13 @@ use crate::coins::Coins;
 use crate::messages::{tell_delivered, tell_kept, tell_own, tell_signed};
 use crate::mining::tell_mined;
 use crate::pool::Pool;
-use crate::writer::Line;
 use chain::Coins as _;
 use scenario::Event;
 use serde_json::Value;
 use std::alloc::{AllocError, Global};
 use std::slice;
 use terms::Side;
+use trace_words::Line;
 use world::{Outcome, World};
 
 /// What has been told, as far as later lines depend on it.
@@ -43,8 +43,7 @@ impl Told {
     fn tell_reorganised(&mut self, alloc: Global, line: &mut Line, world: &World, above: u64) {
         self.pool.tell_all_left(line);
         self.pool.tell_joined(line, world.pool());
-        line.name("undone");
-        line.open("[");
+        line.begin("undone", "[");
         self.coins.back_to(line, above);
         line.close("]");
         tell_mined(alloc, world, &mut self.coins, line, above);
@@ -123,17 +122,10 @@ pub fn played(world: &mut World, event: &Event) -> Result<Vec<Outcome>, AllocErr
 }
 
 /// The number of an event, its words and what became of it.
-pub fn tell_answer(alloc: Global, line: &mut Line, index: usize, words: &Value, outcome: &Outcome) {
+pub fn tell_answer(line: &mut Line, index: usize, words: &Value, outcome: &Outcome) {
     line.open("{");
     line.count("event", index as u64);
     line.name("words");
-    match words.to_string(alloc) {
-        Ok(words) => line.json(words.as_str()),
-        Err(_) => line.fail(),
-    }
-    line.name("answer");
-    match outcome.to_string(alloc) {
-        Ok(answer) => line.word(answer.as_str()),
-        Err(_) => line.fail(),
-    }
+    line.json_shown(words);
+    line.shown("answer", outcome);
 }

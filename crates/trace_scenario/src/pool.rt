@@ -1,16 +1,16 @@
 //! The transactions that wait for a block.
 
-use crate::writer::Line;
+use crate::writer::tell_outpoint;
 use std::alloc::Global;
 use std::mem;
+use trace_words::Line;
 use tx::{Tx, txid};
 
 /// The outputs that a transaction spends.
 pub fn tell_spends(line: &mut Line, tx: &Tx) {
-    line.name("spends");
-    line.open("[");
+    line.begin("spends", "[");
     for input in tx.inputs() {
-        line.outpoint(&input.outpoint);
+        tell_outpoint(line, &input.outpoint);
     }
     line.close("]");
 }
@@ -43,8 +43,7 @@ impl Pool {
     fn tell_one(&mut self, line: &mut Line, tx: &Tx) {
         let id = txid(tx);
         line.open("{");
-        line.name("txid");
-        line.bytes(&id);
+        line.hex("txid", &id);
         tell_spends(line, tx);
         line.close("}");
         if self.ids.push(id).is_err() {
@@ -57,8 +56,7 @@ impl Pool {
         if self.ids.len() >= pool.len() {
             return;
         }
-        line.name("joined");
-        line.open("[");
+        line.begin("joined", "[");
         for tx in pool.iter().skip(self.ids.len()) {
             self.tell_one(line, tx);
         }
@@ -71,8 +69,7 @@ impl Pool {
             return;
         }
         let mut kept = Vec::new(*self.ids.allocator());
-        line.name("left");
-        line.open("[");
+        line.begin("left", "[");
         for id in &self.ids {
             keep_or_tell(line, pool, &mut kept, id);
         }

@@ -1,7 +1,8 @@
 //! Tests of the words of `trace`: each kind of fact in a sentence, what is printed for people, a scenario that is told,
-//! and input that ends otherwise than it should. What is printed for programs is compared by the rows of the program.
+//! the inputs of a transaction, and input that ends otherwise than it should. What is printed of scripts for programs is
+//! compared by the rows of the program, and what is told of more inputs by `bench/witnesses.py`.
 //!
-//! They stand apart so that the library is proved without them.
+//! They stand apart so that the libraries are proved without them.
 #![tactic(auto)]
 
 #[cfg(test)]
@@ -12,3 +13,7 @@ mod fixtures;
 mod kinds;
 #[cfg(test)]
 mod scenarios;
+#[cfg(test)]
+mod verdicts;
+#[cfg(test)]
+mod witnesses;

@@ -6,7 +6,8 @@
 //! of at most 2. What an opcode is called, what a push looks like, each fact's sentence ([`Sentence`]) and each
 //! witness's weight ([`witness_weight`]) are proved; how they are laid out is tested.
 //!
-//! `paths` lists the ways, and `facts` has what they ask for. The program `trace` hands it the words.
+//! `paths` lists the ways, and `facts` has what they ask for. The program `trace` hands it the words. `trace_scenario`
+//! and `trace_witness` write what they tell by its [`Line`], and read their input by its [`read_all`].
 //!
 //! ```rust
 //! let status = run_words(alloc, words, &mut input, &mut out, &mut err);
@@ -17,7 +18,7 @@
 
 ghost use Rattle.std.specs.Prelude.{◌≡◌, ◌≤◌, ◌⊎◌};
 
-mod errors;
+mod input;
 mod json;
 mod lines;
 mod looks;
@@ -28,17 +29,24 @@ mod reading;
 mod sentences;
 mod weights;
 mod words;
+mod writer;
 
 use crate::lines::{tell_input, told};
 use crate::words::Command;
+pub use input::{InputError, MAX_INPUT, read_all};
+pub use lines::write_told;
 pub use looks::Look;
+pub use names::opcode_name;
+pub use places::byte_of;
+pub use reading::Form;
 pub use sentences::{Role, Sentence};
 use std::alloc::Global;
 use std::io::{Read, Write};
 pub use weights::{SIGNATURE_SIZE, TOKEN_SIZE, witness_weight};
+pub use writer::Line;
 
 /// The line that wrong words get.
-pub const USAGE: &str = "usage: trace scenario | script [--text] [HEX]\n";
+pub const USAGE: &str = "usage: trace scenario | script [--text] [HEX] | witness [--text]\n";
 
 /// Runs the program on its words (without its name) and answers its status: 0 when all scripts are listed, 1 for a refused script, refused input or a failed
 /// write, 2 for wrong words, which are found before any input is read. All that is told of a script is made before its first byte is written.
@@ -72,8 +80,8 @@ pub fn refuse_memory<W: Write>(out: &mut W) -> u8
     written(out, "refused NoMemory\n", 1)
 }
 
-// Writes a text, and answers the status, or 1 where the write fails.
-fn written<W: Write>(out: &mut W, text: &str, status: u8) -> u8
+/// Writes a text, and answers the status, or 1 where the write fails.
+pub fn written<W: Write>(out: &mut W, text: &str, status: u8) -> u8
     ensures { (result ≡ status) ⊎ (result ≡ 1) }
 {
     match out.write_all(text.as_bytes()) {
