@@ -1,8 +1,8 @@
-"""A copy of the repository outside of it, in which programs and edits are tried that the gate leaves out.
+"""A copy of the repository, outside of it. Programs and edits that the gate leaves out are tried there.
 
-The copy has the sources as they stand, uncommitted ones too. It keeps the libraries that were proved in it from one call to the next, and takes over those that stand
-finished in the repository (crates/*/out/rlib), so that a call proves only what has changed since. It lies in the folder that ROOM names, or else in one of its own below
-the system's folder for temporary files.
+The copy has the sources as they are, including uncommitted ones. It keeps the libraries that were proved in it from one call to the next, and takes over those that are
+finished in the repository (crates/*/out/rlib). So a call proves only what has changed since. It is in the folder that ROOM names, or else in one of its own in the
+system's folder for temporary files.
 """
 import fcntl
 import glob
@@ -20,7 +20,7 @@ MEMORY = 5 << 30
 
 
 def lines_of(command):
-    """What a command that must not fail prints, in lines."""
+    """The output of a command that must not fail, in lines."""
     return subprocess.run(command, cwd=TOP, check=True, capture_output=True, text=True).stdout.splitlines()
 
 
@@ -56,13 +56,13 @@ def below(uses, names):
 
 
 def at_once():
-    """How many checks run side by side: as many as there are processors, and at most one for each 5 GiB."""
+    """The number of checks that run side by side: at most one for each processor, and one for each 5 GiB."""
     memory = os.sysconf("SC_PAGE_SIZE") * os.sysconf("SC_PHYS_PAGES")
     return max(1, min(len(os.sched_getaffinity(0)), memory // MEMORY))
 
 
 def stamp(folder):
-    """What the toolchain wrote of the library that stands finished there."""
+    """The toolchain's stamp of the finished library there."""
     try:
         with open(f"{folder}/out/rlib/stamp", encoding="utf-8") as file:
             return file.read()
@@ -71,7 +71,7 @@ def stamp(folder):
 
 
 def refreshed(room):
-    """Lays the sources of the repository into the room, in place of those of an earlier call, and the libraries that stand finished in it."""
+    """Copies the sources of the repository into the room, in place of those of an earlier call, and its finished libraries."""
     for place in glob.glob(f"{room}/crates/*/*"):
         if not place.endswith("/out"):
             shutil.rmtree(place) if os.path.isdir(place) else os.remove(place)
@@ -87,7 +87,7 @@ def refreshed(room):
 
 
 def entered():
-    """The room, which no other call enters until this process has ended."""
+    """The room, locked until this process ends."""
     own = hashlib.sha256(TOP.encode()).hexdigest()[:16]
     room = os.path.abspath(os.environ.get("ROOM") or f"{tempfile.gettempdir()}/enforce-{own}")
     if f"{room}/".startswith(f"{TOP}/"):
@@ -100,7 +100,7 @@ def entered():
 
 
 def finish(room, names):
-    """Proves these libraries where they have changed, lowest first: the checks above them, side by side, then find each one finished."""
+    """Proves these libraries if they have changed, lowest first. So the checks above them, side by side, find them finished."""
     for name in names:
         print(f"{name}: proving the library, where it has changed", file=sys.stderr, flush=True)
         done = subprocess.run(["rt", "lib"], cwd=f"{room}/crates/{name}", stdin=subprocess.DEVNULL, stdout=subprocess.PIPE, stderr=subprocess.STDOUT, text=True)
@@ -109,7 +109,7 @@ def finish(room, names):
 
 
 def add(room, name):
-    """Lays a program of bench/programs into the room, as a crate."""
+    """Copies a program of bench/programs into the room, as a crate."""
     given, place = f"{TOP}/bench/programs/{name}", f"{room}/crates/{name}"
     os.makedirs(f"{place}/src", exist_ok=True)
     for file in glob.glob(f"{given}/src/*.rt.txt"):

@@ -1,20 +1,38 @@
 #!/usr/bin/env python3
-"""Times a signature and the keeping of penalties behind 100 and behind 10,000 entries of a history, a revoked state behind 20 and behind 2,000 others, what is known of a channel beside the entries of another and by its own
-commitments, and the load of dumps of several lengths; and loads hostile texts of 4 MiB.
+"""Times a signature and the keeping of penalties after 100 and after 10,000 entries of a history, and a revoked state after 20 and after 2,000 others. Times what is known of a channel, by the number of another channel's entries and
+of its own commitments, and the load of dumps of several lengths. Loads hostile texts of 4 MiB.
 
 Wants the toolchain's `rt`: `.ci/program` proves and builds bench/programs/book_costs in a copy of the repository.
 """
 
+import hashlib
+import json
 import os
 import subprocess
 import tempfile
+
+from bounds import bounded
 
 TOP = os.path.dirname(os.path.dirname(os.path.abspath(__file__)))
 SIZE = 4 << 20
 TURNS = 5
 
-# a text of which the parts before and after are whole, and the middle is repeated; and what it is refused as
+# a text: the part before, the middle, which is repeated, and the part after; and the expected refusal
 SIGN = '{"call":["sign",0],"seat":0}'
+# a claim by the first of the 64 paths of IF ELSE ENDIF, six times over: each branch and the end ask for a true element
+BRANCHES = "636768" * 6
+CLAIM = json.dumps(
+    {
+        "outpoint": "00" * 32 + ":0",
+        "path": 0,
+        "program": "0020" + hashlib.sha256(bytes.fromhex(BRANCHES)).hexdigest(),
+        "script": BRANCHES,
+        "shell": None,
+        "slots": 7 * [["exact", "01"]],
+        "value": 0,
+    },
+    separators=(",", ":"),
+)
 HOSTILE = {
     "arrays in arrays, open": ("", "[", "", "NotJson"),
     "objects in objects, open": ("", '{"a":', "", "NotJson"),
@@ -33,6 +51,7 @@ HOSTILE = {
     "a long seat": ('{"history":[{"call":["sign",0],"seat":', "9", '}],"version":2}', "NotJson"),
     "a long name of a call": ('{"history":[{"call":["', "a", '",0],"seat":0}],"version":2}', "BadShape"),
     "long bytes": ('{"history":[{"call":["step",0,"fulfil",0,"', "00", '"],"seat":0}],"version":2}', "BadShape"),
+    "claims on scripts of 64 paths": ('{"history":[{"call":["keep",0,0,[' + CLAIM, "," + CLAIM, ']],"seat":0}],"version":2}', "BadHistory 0"),
     "calls without a channel": ('{"history":[' + SIGN, "," + SIGN, '],"version":2}', "BadHistory 0"),
 }
 
@@ -44,7 +63,7 @@ def hostile(before, middle, after):
 
 
 def run(program, line):
-    """What the program prints for a line, the processor seconds that it takes, and the most memory that it has, in MiB."""
+    """The output of the program for a line, its processor seconds, and its peak memory in MiB."""
     with tempfile.TemporaryFile("w+") as given:
         given.write(line)
         given.seek(0)
@@ -58,7 +77,7 @@ def run(program, line):
 
 
 def fastest(program, line):
-    """The least of each number that the line prints."""
+    """The least of each number that the line prints, over several runs."""
     best = None
     for _ in range(TURNS):
         numbers = [int(word) for word in run(program, line)[0].split() if word.isdigit()]
@@ -69,23 +88,26 @@ def fastest(program, line):
 def time_calls(program):
     few, many = fastest(program, "calls 100\n"), fastest(program, "calls 10000\n")
     for name, of_few, of_many in zip(("sign", "keep"), few, many):
-        print(f"{name}: {of_few / 1e3:.1f} us behind 100 entries, {of_many / 1e3:.1f} us behind 10,000, ratio {of_many / of_few:.2f} (at most 1.2)")
+        print(f"{name}: {of_few / 1e3:.1f} us after 100 entries, {of_many / 1e3:.1f} us after 10,000")
+        bounded(f"{name} after 10,000 entries to {name} after 100", of_many / of_few, 1.2)
 
 
 def time_revoked(program):
     (few,), (many,) = fastest(program, "revoked 20\n"), fastest(program, "revoked 2000\n")
-    print(f"revoked: {few / 1e3:.1f} us behind 20 revoked commitments, {many / 1e3:.1f} us behind 2,000, ratio {many / few:.2f} (at most 1.2)")
+    print(f"revoked: {few / 1e3:.1f} us after 20 revoked commitments, {many / 1e3:.1f} us after 2,000")
+    bounded("a revoked state after 2,000 others to one after 20", many / few, 1.2)
 
 
 def time_known(program):
     alone, beside = fastest(program, "known 100 0\n")[0], fastest(program, "known 100 10000\n")[0]
-    print(f"known: {alone / 1e3:.0f} us alone, {beside / 1e3:.0f} us beside 10,000 entries of another channel, ratio {beside / alone:.2f} (at most 1.2)")
+    print(f"known: {alone / 1e3:.0f} us alone, {beside / 1e3:.0f} us beside 10,000 entries of another channel")
+    bounded("known beside 10,000 entries of another channel to known alone", beside / alone, 1.2)
     costs = []
     for commitments in (20, 200, 2000):
         known, tokens = fastest(program, f"known {commitments} 0\n")
         costs.append(known / commitments)
         print(f"known of {commitments} commitments of each side: {known / 1e6:.2f} ms, {costs[-1] / 1e3:.1f} us for one of each, of which the peer's tokens take {tokens / commitments / 1e3:.1f} us")
-    print(f"one of each of the longest channel to one of the shortest: {costs[-1] / costs[0]:.2f} (at most 1.2)")
+    bounded("known of one of 2,000 commitments to one of 20", costs[-1] / costs[0], 1.2)
 
 
 def load_cost(program, entries):
@@ -102,14 +124,17 @@ def time_loads(program):
         length, took = load_cost(program, entries)
         costs.append(took / length)
         print(f"load of {entries} entries: {length} bytes, {took * 1e3:.1f} ms, {costs[-1] * 1e9:.0f} ns a byte")
-    print(f"a byte of the longest dump to one of the shortest: {costs[-1] / costs[0]:.2f} (at most 1.5)")
+    bounded("a byte of a dump of 16,000 entries to one of 1,000", costs[-1] / costs[0], 1.5)
 
 
 def load_hostile(program):
     for name, (before, middle, after, wanted) in HOSTILE.items():
         answer, took, memory = run(program, "load " + hostile(before, middle, after) + "\n")
-        good = answer == wanted and took <= 2 and memory <= 256
-        print(f"{name}: {answer}, {took:.2f} s, {memory:.0f} MiB{'' if good else '  FAILED'}")
+        print(f"{name}: {answer}{'' if answer == wanted else f', and not {wanted}'}")
+        bounded(f"load of 4 MiB, {name}", took, 2, unit=" s")
+        bounded(f"load of 4 MiB, {name}, memory", memory, 256, unit=" MiB")
+        if answer != wanted:
+            raise SystemExit(f"books: {name} is refused as {answer}, and not as {wanted}")
 
 
 def main():

@@ -5,10 +5,12 @@ import os
 import resource
 import subprocess
 
+from bounds import bounded
+
 TOP = os.path.dirname(os.path.dirname(os.path.abspath(__file__)))
 TURNS = 9
 
-# what a line does, from which round to which
+# the work of a line, with its first and last round
 WORK = {
     "hash 1 MiB": ("hash", 1, 101),
     "round of 483 HTLCs": ("sign 483", 1, 31),
@@ -18,7 +20,7 @@ WORK = {
 
 
 def used():
-    """The processor seconds of all programs that ended."""
+    """The processor seconds of all child processes that ended."""
     usage = resource.getrusage(resource.RUSAGE_CHILDREN)
     return usage.ru_utime + usage.ru_stime
 
@@ -32,7 +34,7 @@ def seconds(program, line):
 def main():
     built = subprocess.run([os.path.join(TOP, ".ci", "program"), "channel_costs"], stdout=subprocess.PIPE, text=True, check=True)
     program = built.stdout.strip()
-    # the median of the turns, without what goes before the first of the rounds
+    # the median of the turns, without the work before the first round
     cost = {name: [] for name in WORK}
     for _ in range(TURNS):
         for name, (line, first, last) in WORK.items():
@@ -41,8 +43,8 @@ def main():
     cost = {name: sorted(times)[TURNS // 2] for name, times in cost.items()}
     for name, took in cost.items():
         print(f"{name}: {took * 1e3:.3f} ms")
-    print(f"round of 483 HTLCs to 1 MiB: {cost['round of 483 HTLCs'] / cost['hash 1 MiB']:.2f} (at most 6)")
-    print(f"rounds 1,000 to 1,200, to rounds 10 to 210: {cost['round of few, 1,000 to 1,200'] / cost['round of few, 10 to 210']:.2f} (at most 1.2)")
+    bounded("a round of 483 HTLCs to SHA-256 of 1 MiB", cost["round of 483 HTLCs"] / cost["hash 1 MiB"], 6)
+    bounded("rounds 1,000 to 1,200 of a channel to rounds 10 to 210", cost["round of few, 1,000 to 1,200"] / cost["round of few, 10 to 210"], 1.2)
 
 
 if __name__ == "__main__":

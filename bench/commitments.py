@@ -5,15 +5,17 @@ import os
 import resource
 import subprocess
 
+from bounds import bounded
+
 TOP = os.path.dirname(os.path.dirname(os.path.abspath(__file__)))
 ROUNDS = 15
 
-# what a line does, and how often
+# the work of a line, and how often it is done
 WORK = {"hash 1 MiB": ("hash", 100), "96 HTLCs": ("build 48", 1000), "966 HTLCs": ("build 483", 100)}
 
 
 def used():
-    """The processor seconds of all programs that ended."""
+    """The processor seconds of all child processes that ended."""
     usage = resource.getrusage(resource.RUSAGE_CHILDREN)
     return usage.ru_utime + usage.ru_stime
 
@@ -27,7 +29,7 @@ def seconds(program, line):
 def main():
     built = subprocess.run([os.path.join(TOP, ".ci", "program"), "commitment_costs"], stdout=subprocess.PIPE, text=True, check=True)
     program = built.stdout.strip()
-    # the fastest of the rounds, without what the program takes to start and to make its view
+    # the fastest round, without the program's start and the making of its view
     cost = {}
     for _ in range(ROUNDS):
         for name, (line, times) in WORK.items():
@@ -35,8 +37,8 @@ def main():
             cost[name] = min(cost.get(name, took / times), took / times)
     for name, took in cost.items():
         print(f"{name}: {took * 1e3:.3f} ms")
-    print(f"966 HTLCs to 1 MiB: {cost['966 HTLCs'] / cost['hash 1 MiB']:.2f} (at most 0.6)")
-    print(f"966 HTLCs to 96: {cost['966 HTLCs'] / cost['96 HTLCs']:.1f} (at most 14)")
+    bounded("a commitment of 966 HTLCs to SHA-256 of 1 MiB", cost["966 HTLCs"] / cost["hash 1 MiB"], 0.6)
+    bounded("a commitment of 966 HTLCs to one of 96", cost["966 HTLCs"] / cost["96 HTLCs"], 14)
 
 
 if __name__ == "__main__":

@@ -1,5 +1,5 @@
 #!/usr/bin/env python3
-"""Times instances of patterns beside checks of the same scripts, in one run, and counts the bytes that each asks of malloc.
+"""Times instances of patterns and checks of the same scripts in one run, and counts the bytes that each allocates with malloc.
 
 For the to_local and the received HTLC script of BOLT 3: an instance fills the pattern, which was listed once; a check parses the script's bytes and lists its paths.
 Wants the toolchain's `rt` and a C compiler: `.ci/program` proves and builds bench/programs/pattern_costs in a copy of the repository.
@@ -10,13 +10,15 @@ import subprocess
 import tempfile
 import time
 
+from bounds import bounded
+
 TOP = os.path.dirname(os.path.dirname(os.path.abspath(__file__)))
 TIMES, ROUNDS = 100_000, 7
 
 KEYS = ["02" + byte * 32 for byte in ("11", "22")]
 HASHES = [byte * 20 for byte in ("33", "44")]
 
-# each form: its pattern, what fills it, and the script
+# each form: its pattern, its fills, and the script
 FORMS = {
     "to_local": (
         "63 key 67 num b275 key 68ac",
@@ -32,7 +34,7 @@ FORMS = {
 
 
 def run(program, text, env=None):
-    """The seconds that the program takes, and what it writes on both streams."""
+    """The seconds that the program takes, and its output on both streams."""
     start = time.perf_counter()
     done = subprocess.run([program], input=text, capture_output=True, text=True, check=True, env=env)
     return time.perf_counter() - start, done.stdout, done.stderr
@@ -45,7 +47,7 @@ def lines(form, work, times):
 
 
 def nanoseconds(program, form, work):
-    """Of one piece of work: the fastest of the rounds, without what the program takes to start."""
+    """The nanoseconds of one piece of work: the fastest round, without the program's start."""
     bytes_of = len(FORMS[form][2]) // 2 * TIMES
     best, start = 1e9, 1e9
     for _ in range(ROUNDS):
@@ -57,7 +59,7 @@ def nanoseconds(program, form, work):
 
 
 def asked(program, form, work, preload):
-    """The bytes that one piece of work asks of malloc."""
+    """The bytes that one piece of work allocates with malloc."""
     env = dict(os.environ, LD_PRELOAD=preload)
     counts = [int(run(program, lines(form, work, times), env)[2].split()[-1]) for times in (1000, 2000)]
     return (counts[1] - counts[0]) / 1000
@@ -75,7 +77,7 @@ def main():
             took = {kind: nanoseconds(program, form, kind) for kind in ("instance", "check")}
             for kind, value in took.items():
                 print(f"  {kind:9}{value:8.0f} ns {asked(program, form, kind, preload):8.0f} bytes of malloc")
-            print(f"  ratio    {took['check'] / took['instance']:8.2f}")
+            bounded(f"the check of the {form} script to an instance of its pattern", took["check"] / took["instance"], 1, least=True)
 
 
 if __name__ == "__main__":

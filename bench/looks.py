@@ -1,5 +1,5 @@
 #!/usr/bin/env python3
-"""Times what a side reads in blocks after a cheater's close, in processor seconds, without the scenario up to there.
+"""Times how a side reads blocks after a revoked commitment closed a channel, in processor seconds, without the scenario up to there.
 
   bench/looks.py            proves and builds what it runs; wants the toolchain's `rt`
   bench/looks.py PROGRAM    times this build of crates/enforce
@@ -10,13 +10,14 @@ import json
 import os
 import sys
 
+from bounds import bounded
 from worlds import TERMS, built, fastest, signed
 
 HTLCS = 480
 
 
 def closed(htlcs):
-    """A commits to so many HTLCs, half of them its own, revokes that commitment, and broadcasts it."""
+    """A commits to this number of HTLCs, half of them its own, revokes that commitment, and broadcasts it."""
     hashes = [hashlib.sha256(b"%d" % number).hexdigest() for number in range(htlcs)]
     events = []
     for number, digest in enumerate(hashes):
@@ -33,7 +34,7 @@ def signed_once():
 
 
 def scenario(htlcs, looks):
-    """The close, and then looks of B, each after so many blocks."""
+    """The close, and then looks of B, each after this number of blocks."""
     events = closed(htlcs)
     for blocks, is_looked_at in looks:
         events.append(["blocks", blocks])
@@ -43,7 +44,7 @@ def scenario(htlcs, looks):
 
 
 def cost(program, htlcs, *blocks):
-    """The processor seconds of looks after so many blocks each, without the making of the blocks."""
+    """The processor seconds of looks after this number of blocks each, without mining the blocks."""
     looked = fastest([program, "run"], scenario(htlcs, [(count, True) for count in blocks]))
     passed = fastest([program, "run"], scenario(htlcs, [(count, False) for count in blocks]))
     return looked - passed
@@ -55,10 +56,12 @@ def main(words):
     print(f"one look, {HTLCS} HTLCs, 1 block: {one * 1e3:.2f} ms")
     for blocks, most in ((10, 1.5), (100, 1.5), (1000, 1.5), (10_000, 3)):
         took = cost(program, HTLCS, blocks)
-        print(f"one look, {blocks:,} blocks: {took * 1e3:.2f} ms, {took / one:.2f} times (at most {most})")
+        print(f"one look, {blocks:,} blocks: {took * 1e3:.2f} ms")
+        bounded(f"a look over {blocks:,} blocks to one over 1", took / one, most)
     whole = cost(program, HTLCS, 1000)
     parts = cost(program, HTLCS, *10 * [100])
-    print(f"ten looks of 100 blocks: {parts * 1e3:.2f} ms, {parts / whole:.2f} times one of 1,000 (at most 2)")
+    print(f"ten looks of 100 blocks: {parts * 1e3:.2f} ms")
+    bounded("ten looks of 100 blocks to one of 1,000", parts / whole, 2)
 
 
 if __name__ == "__main__":

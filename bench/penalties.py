@@ -1,5 +1,5 @@
 #!/usr/bin/env python3
-"""Times the penalty set of a state with many HTLCs beside SHA-256 of 1 MiB, in one run, and prints both and their ratio; and that of a state with half as many.
+"""Times the penalty set of a state with many HTLCs and SHA-256 of 1 MiB in one run, and prints both and their ratio. Then the same with half as many HTLCs.
 
 Wants the toolchain's `rt`: `.ci/program` proves and builds bench/programs/penalty_costs in a copy of the repository.
 """
@@ -8,19 +8,21 @@ import os
 import resource
 import subprocess
 
+from bounds import bounded
+
 TOP = os.path.dirname(os.path.dirname(os.path.abspath(__file__)))
 SETS, HASHES, ROUNDS = 10, 40, 7
 
 
 def seconds(program, text):
-    """The processor time that the program takes for a line, and what it prints."""
+    """The processor time that the program takes for a line, and its output."""
     start = resource.getrusage(resource.RUSAGE_CHILDREN).ru_utime
     done = subprocess.run([program], input=text, capture_output=True, text=True, check=True)
     return resource.getrusage(resource.RUSAGE_CHILDREN).ru_utime - start, done.stdout
 
 
 def each(program, line, times):
-    """The milliseconds of one piece of work: the fastest of the rounds, without what the program takes to start and to read the line."""
+    """The milliseconds of one piece of work: the fastest round, without the program's start and the reading of the line."""
     best, start = 1e9, 1e9
     for _ in range(ROUNDS):
         start = min(start, seconds(program, line.format(0))[0])
@@ -40,11 +42,14 @@ def main():
     program = built.stdout.strip()
     hashing = each(program, "hash {}\n", HASHES)
     print(f"SHA-256 of 1 MiB      {hashing:8.2f} ms")
+    took = {}
     for htlcs in (483, 966):
         line = "repeat {} " + state(htlcs) + "\n"
         print(seconds(program, line.format(1))[1].strip())
-        took = each(program, line, SETS)
-        print(f"penalties, {htlcs} HTLCs {took:8.2f} ms  ratio {took / hashing:.2f}")
+        took[htlcs] = each(program, line, SETS)
+        print(f"penalties, {htlcs} HTLCs {took[htlcs]:8.2f} ms")
+    bounded("the penalties of 966 HTLCs to SHA-256 of 1 MiB", took[966] / hashing, 4)
+    bounded("the penalties of 966 HTLCs to those of 483", took[966] / took[483], 2.4)
 
 
 if __name__ == "__main__":

@@ -1,10 +1,10 @@
 #!/usr/bin/env python3
-"""What `trace script` prints of the scripts whose listings the pages show, made anew from the bytes and from those listings.
+"""Recomputes what `trace script` prints for the scripts whose listings the pages show, from the bytes and from those listings.
 
   bench/traces.py            compares crates/trace/stdin and crates/trace/stdout with it; status 1 where they differ
   bench/traces.py --write    writes them
 
-A page shows a listing as './enforce paths HEX' with what it prints. The opcodes, what pushes look like, sentences and weights are found here by rules of this file's own, from
+A page shows a listing as './enforce paths HEX' with its output. The opcodes, what pushes look like, sentences and weights are computed here by rules of this file's own, from
 BIP 141, 144 and 65, 68, 112 and docs/TRACE.md.
 """
 import glob
@@ -53,7 +53,7 @@ def shown():
 
 
 def opcodes(script):
-    """The opcodes with their bytes, as far as they are read, with how many count so far."""
+    """The opcodes with their bytes, up to a fault, each with the number of counted opcodes so far."""
     ops, at = [], 0
     while at < len(script):
         byte = script[at]
@@ -74,7 +74,7 @@ def opcodes(script):
 
 
 def number(item):
-    """The number that an item of at most 5 bytes is, if it is minimally encoded."""
+    """The number that an item of at most 5 bytes encodes, if it is minimally encoded."""
     if item == b"":
         return 0
     if len(item) > 5:
@@ -215,7 +215,7 @@ def place(refusal, ops, size):
 
 
 def line_of(text, listing):
-    """What trace prints of a script."""
+    """The line that trace prints for a script."""
     if listing == "BadHex":
         told = {"bytes": None, "opcodes": [], "refused": "BadHex", "byte": None}
     else:

@@ -14,6 +14,8 @@ import subprocess
 import sys
 import tempfile
 
+from bounds import bounded
+
 TOP = os.path.dirname(os.path.dirname(os.path.abspath(__file__)))
 CHANNELS = 8
 ROUNDS = 7
@@ -30,12 +32,12 @@ TERMS = {
 
 
 def payment(payer, channel, number):
-    """The events of one payment, the number-th of its channel, from the offer to the last penalties that are kept."""
+    """The events of one payment, with its number in its channel, from the offer to the last penalties that are kept."""
     payee = "AB"[payer == "A"]
     preimage = hashlib.sha256(b"%d %d" % (channel, number)).digest()
     # the commitments of each side that are revoked: by the offer, and by the fulfilment
     first, second = 2 * number, 2 * number + 1
-    # an id counts those of its own direction
+    # ids count the HTLCs of one direction
     identity = number // 2
     return [
         ["offer", payer, channel, 10_000_000 + number, hashlib.sha256(preimage).hexdigest(), 400_000],
@@ -61,7 +63,7 @@ def signed(updater, other, channel):
 
 
 def closes(payments):
-    """Every channel is closed by one of its sides, and what is due is claimed."""
+    """One side closes each channel, and what is due is claimed."""
     events = [["broadcast", "AB"[channel % 2], channel, 2 * payments[channel]] for channel in range(CHANNELS)]
     events += [["blocks", 1], ["look", "A"], ["look", "B"]]
     for side in "AB":
@@ -70,7 +72,7 @@ def closes(payments):
 
 
 def scenario(length):
-    """A scenario of so many events: payments in turn over the channels, with a block that both sides read after every eight of them, and closes at the end."""
+    """A scenario of this number of events: payments over the channels in turn, after every eight of them a block that both sides read, and closes at the end."""
     payments = CHANNELS * [0]
     events, turn = [], 0
     end = len(closes(payments))
@@ -87,7 +89,7 @@ def scenario(length):
 
 
 def timed(words, text):
-    """What a program prints for a text, and the processor seconds that it takes."""
+    """The output of a program for a text, and its processor seconds."""
     with tempfile.TemporaryFile() as given:
         given.write(text.encode())
         given.seek(0)
@@ -114,7 +116,7 @@ def hashing(program):
 
 
 def play(program, length):
-    """The processor seconds of a scenario, all of whose events succeed."""
+    """The processor seconds of a scenario, all events of which must succeed."""
     text = json.dumps(scenario(length))
     printed, _ = timed([program, "run"], text)
     refused = [line for line in printed.splitlines() if " refused " in line]
@@ -131,8 +133,9 @@ def main(words):
     print(f"SHA-256 of 1 MiB: {hashed * 1e3:.2f} ms")
     few, many = play(enforce, 1000), play(enforce, 10_000)
     print(f"1,000 events: {few * 1e3:.0f} ms")
-    print(f"10,000 events: {many * 1e3:.0f} ms, {many / hashed:.0f} times a SHA-256 of 1 MiB (at most 400)")
-    print(f"an event of 10,000 to one of 1,000: {many / few / 10:.2f} (at most 1.2)")
+    print(f"10,000 events: {many * 1e3:.0f} ms")
+    bounded("a scenario of 10,000 events to SHA-256 of 1 MiB", many / hashed, 400)
+    bounded("an event of 10,000 to one of 1,000", many / few / 10, 1.2)
 
 
 if __name__ == "__main__":

@@ -1,7 +1,7 @@
 #!/usr/bin/env python3
 """What has to be read to know what a contract says.
 
-  docs/reading.py WORD     WORD is a public function or law, as world::World::play or world::laws::claims_open,
+  docs/reading.py WORD     WORD is a public function or law, as world::World::play or world::laws::claims_spend,
                            or a word of the definitions, as Rattle.world.specs.Theorem.HoldsAt
 
 It walks from word to word. It begins with the word itself, of a function with its clauses (requires and ensures)
@@ -52,7 +52,7 @@ def text_of(file):
 
 
 def imports_of(text):
-    """What each imported name stands for: a path with the word; and the paths of names for whole modules."""
+    """For each imported name its path, which ends with the word; and the paths of names for whole modules."""
     words, modules = {}, {}
     for path, names, alias in IMPORT.findall(text):
         if alias:
@@ -64,7 +64,7 @@ def imports_of(text):
 
 
 def lines_in(lines):
-    """How many lines there are, none of them longer than 100 columns."""
+    """The number of lines, a longer one counted in lines of 100 columns."""
     return sum(-(-len(line.rstrip()) // COLUMNS) for line in lines if line.strip() and not line.lstrip().startswith("#["))
 
 
@@ -123,7 +123,7 @@ def definitions(file):
 
 
 def equations(definition):
-    """The definition's signature and its equations, each for itself."""
+    """The definition's signature and its equations, each on its own."""
     parts = []
     for line in definition.text.split("\n"):
         if line[:1] not in (" ", "", "}", ")") or not parts:
@@ -183,7 +183,7 @@ class Walk:
         return next(((file, it.name) for it in known.values() if word in it.inside()), None)
 
     def named(self, path, word):
-        """The same, of a word that is imported and so has to be there."""
+        """The same for an imported word, which must be there."""
         at = self.of_path(path, word)
         if at is None and path.split(".")[0] == "Rattle" and os.path.isdir(f"{TOP}/crates/{path.split('.')[1]}"):
             raise SystemExit(f"reading: there is no definition {path}.{word}")
@@ -241,7 +241,7 @@ class Walk:
         return lines, found + self.types_in(GHOST_FIELD.sub("", text), file, name)
 
     def types_in(self, text, file, but=None):
-        """What the Rust types of a text are read as."""
+        """What the Rust types in a text are read as."""
         found = []
         uses = rust_uses(file)
         for name in re.findall(r"(?<![\w'])[A-Z]\w*", re.sub(r"^\s*[A-Z]\w*(?=[,({]| \{)", "", text, flags=re.M)):
@@ -289,7 +289,7 @@ class Walk:
         return sorted((it for it in self.seen if it[0] == file), key=lambda it: (rank.get(it[1], -1), it[1]))
 
     def files(self, root):
-        """The files, each before those that it cites: the reverse of the order in which a search in depth leaves them."""
+        """The files, each before those that it cites: the reverse postorder of a depth-first search."""
         done, left = set(), []
 
         def visit(file):
@@ -314,7 +314,7 @@ def sources(crate):
 
 @functools.cache
 def of_item(crate, name, module=None):
-    """The file and name of a type or constant of a crate, or of what the crate passes on."""
+    """The file and name of a type or constant of a crate, or of one that the crate re-exports."""
     files = [it for it in sources(crate) if any(item[2] == name for item in ITEM.finditer(text_of(it)))]
     if module:
         files = [it for it in files if it.endswith((f"/src/{module}.rt", f"/src/{module}/mod.rt"))] or files
@@ -329,7 +329,7 @@ def of_item(crate, name, module=None):
 
 @functools.cache
 def rust_uses(file):
-    """Which crate each name of a file's uses comes from; None: the kit's."""
+    """The crate of each name in a file's uses; None for the kit."""
     found, own = {}, file.split("/")[1]
     for path in re.findall(r"^(?:pub )?use ([^;]*);", text_of(file), re.M):
         crate = re.match(r"\w+", path)[0]
@@ -341,12 +341,12 @@ def rust_uses(file):
 
 @functools.cache
 def without_strings(text):
-    """A Rust text with its strings, characters and comments blanked."""
+    """A Rust text with its strings, characters and comments blanked out."""
     return re.sub(r"//[^\n]*|b?\"(?:\\.|[^\"\\])*\"|b?'(?:\\.[^']*|[^'\\\n])'", lambda it: " " * len(it[0]), text, flags=re.S)
 
 
 def closing(text, at):
-    """The place after the bracket that closes the one at a place."""
+    """The position after the bracket that closes the one at a position."""
     text, depth = without_strings(text), 0
     for n in range(at, len(text)):
         depth += (text[n] in "{(") - (text[n] in "})")

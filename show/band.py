@@ -11,7 +11,7 @@ PARTS = ("A", "undecided", "fees", "B")
 
 
 def runs(money, moments):
-    """Stretches in which nothing changes: first and last moment, and the shares. Moment 0 stands before the first event, moment n + 1 after event n."""
+    """Stretches without a change: first and last moment, and the shares. Moment 0 stands before the first event, moment n + 1 after event n."""
     starts = [event + 1 for event, _ in money] + [moments]
     return [(start, end, owned) for start, end, (_, owned) in zip(starts, starts[1:], money) if end > start]
 
@@ -51,7 +51,7 @@ def letters(channel, moments):
 
 
 def clear(stretches, starts, capacity, number, place, wide):
-    """How much height a share has all over a width around a place, with the place and the middle of that height."""
+    """The height that a share has across a width around a position, with the position and the middle of that height."""
     first = bisect.bisect_right(starts, place - wide / 2) - 1
     last = bisect.bisect_left(starts, place + wide / 2)
     at = [heights(owned, capacity) for _, _, owned in stretches[first:last]]

@@ -1,4 +1,4 @@
-"""Chromium without a window, asked over a pipe by its DevTools protocol."""
+"""Headless Chromium, driven over a pipe by its DevTools protocol."""
 import base64
 import fcntl
 import json
@@ -18,7 +18,7 @@ def found():
 
 
 def pipe():
-    """A pipe whose descriptors are none of those of which the protocol speaks."""
+    """A pipe whose descriptors are not those that the protocol uses."""
     ends = os.pipe()
     high = tuple(fcntl.fcntl(end, fcntl.F_DUPFD_CLOEXEC, 10) for end in ends)
     for end in ends:
@@ -73,7 +73,7 @@ class Browser:
         return json.loads(line)
 
     def ask(self, method, seconds=60, **parameters):
-        """What the browser answers. What it tells besides is kept in `events`."""
+        """The browser's answer. Other messages are kept in `events`."""
         self.number += 1
         asked = {"id": self.number, "method": method, "params": parameters}
         if self.session:

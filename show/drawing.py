@@ -50,7 +50,7 @@ def lines(text, room, size, bold=False, mono=False):
 
 
 def fitted(text, room, size, bold=False, mono=False):
-    """The text, or as much of its beginning as `room` pixels hold, with two points behind it."""
+    """The text, or as much of its beginning as `room` pixels hold, followed by two points."""
     if width(text, size, bold, mono) <= room:
         return text
     while text and width(text + "..", size, bold, mono) > room:
@@ -74,7 +74,7 @@ def words(x, y, text, kind="", **more):
 
 
 def told(text):
-    """What a reader hears of an element, and sees while the pointer is on it."""
+    """The title of an element: a screen reader reads it, and it is shown while the pointer is on the element."""
     return element("title", escaped(text))
 
 

@@ -9,14 +9,14 @@ BY = {"delay": "after the delay", "key": "with its key", "timeout": "by timeout"
 
 
 class Tree:
-    """What is drawn so far of a tree, from top to bottom."""
+    """The part of a tree that is drawn so far, from top to bottom."""
 
     def __init__(self, story, now):
         self.story, self.now = story, now
         self.parts, self.y, self.left_out = [], 0, 0
 
     def cell(self, states, told_of):
-        """A cell of what is said of a thing in each of its states, and what it is at this moment."""
+        """A cell with the text for each state of a thing, and the one for this moment."""
         cell = self.story.cells.new(None)
         for event, state in states:
             self.story.cells.set(cell, event, told_of(state))

@@ -79,7 +79,7 @@ def left_part(story, rows, now):
 
 
 def controls(story, now):
-    """The slider over the events, and what the event is where it stands."""
+    """The slider over the events, and the sentence of the event that it is on."""
     if not story.rows:
         return '<p class="soft">There are no events.</p>'
     said = escaped(sequence.heard(story.rows[now], len(story.channels)))
@@ -95,7 +95,7 @@ PANEL = {"height": "chain", "pool": "in the pool", "jobs": "jobs", "kept": "pena
 
 
 def panel(story, now):
-    """How all stands: a list of names and values."""
+    """The current state: a list of names and values."""
     found = ["<h2>How all stands</h2>", "<dl>"]
     found += [entry(PANEL[name], cell, story, now) for name, cell in story.panel.items()]
     for channel in story.channels:
@@ -183,7 +183,7 @@ def at(x, y, wide, picture):
 
 
 def scenario_alone(story, name):
-    """The picture of a scenario: its sequence, and beside it the bands and trees, as all stands at the end."""
+    """The picture of a scenario: its sequence, and beside it the bands and trees after the last event."""
     now, margin, column = len(story.rows) - 1, 16, 400
     rows = [sequence.drawn(row, len(story.channels)) for row in story.rows[:WINDOW]]
     high, picture = sequence.picture(story, rows, 0, None)

@@ -31,7 +31,7 @@ def opcodes(script, wide):
 
 
 def spoken(op):
-    """What a line shows behind an opcode's name, and the whole of it."""
+    """What a line shows after an opcode's name, and the whole of it."""
     if "hex" not in op:
         return "", f"byte {op['byte']}: {op['op']}"
     looks = f"number {op['number']}" if op["looks"] == "number" else op["looks"]
@@ -77,12 +77,12 @@ def tree(paths):
 
 
 def depth(node):
-    """How many branches lie one in another."""
+    """The depth of nested branches."""
     return 1 + max(map(depth, node["branches"])) if node["branches"] else 0
 
 
 class Paper:
-    """What is drawn so far of a tree of paths, from top to bottom."""
+    """The part of a tree of paths that is drawn so far, from top to bottom."""
 
     def __init__(self, script, wide, deepest):
         self.script, self.wide = script, wide

@@ -10,7 +10,7 @@ HEAD = 30
 
 
 def heads():
-    """Who stands where, above the first row."""
+    """The names of the sides and the chain, above the first row."""
     parts = []
     for who, place in PLACES.items():
         half = 26 if who == "chain" else 14
@@ -31,7 +31,7 @@ def texts(row, room):
 
 
 def drawn(row, channels):
-    """A row: its height, and what it looks like, from its own top down."""
+    """A row: its height and its parts, measured from its own top."""
     blocks = row.actor == "chain" and not row.refused
     x, side = {"A": (GUTTER, ""), "B": ("100%", " end"), "chain": (f"{PLACES['chain']}%", " middle")}[row.actor]
     kind_of_all, shift = side + (" bad" if row.refused else ""), -6 if row.actor == "B" else None
@@ -80,7 +80,7 @@ def marks(row, y):
 
 
 def cross(place, y):
-    """What is refused goes nowhere."""
+    """The mark of a refused event."""
     strokes = [element("line", x1=0, y1=start, x2=10, y2=10 - start, class_="cross") for start in (0, 10)]
     return element("svg", *strokes, x=f"{place}%", y=y - 5, width=10, height=10, class_="half")
 
@@ -108,7 +108,7 @@ def markers():
 
 
 def placed(rows, first, now):
-    """Rows one under another: how high they are together, and what they look like. `rows` are pairs of a height and parts."""
+    """Rows one under another: their height together, and their parts. `rows` are pairs of a height and parts."""
     y, found = 0, []
     for number, (high, parts) in enumerate(rows, first):
         found.append(f'<g class="row{" now" if number == now else ""}" role="listitem" data-n="{number}" transform="translate(0,{y})">{parts}</g>')

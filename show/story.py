@@ -1,4 +1,4 @@
-"""A scenario's trace, read event by event: what each event is in a sentence, and how all stands after it."""
+"""A scenario's trace, read event by event: a sentence for each event, and the state after it."""
 from collections import deque
 from dataclasses import dataclass, field
 from itertools import islice
@@ -112,7 +112,7 @@ class Channel:
         self.cells = {name: cells.new(self.told(name)) for name in ("commitments", "htlcs", "way")}
 
     def owned(self):
-        """Whose the money is: A's, undecided, fees, B's, in satoshis. On the chain an output is undecided while both sides can spend it."""
+        """The owners of the money, in satoshis: A's, undecided, fees, B's. On the chain an output is undecided while both sides can spend it."""
         if self.funding.outpoint in self.unspent:
             mine, theirs = (self.newest[side]["balance"][side] for side in SIDES)
             return mine // 1000, (1000 * self.capacity - mine - theirs) // 1000, 0, theirs // 1000
@@ -177,7 +177,7 @@ class Story:
             raise ValueError(f"event {number} stands where event {len(self.rows)} belongs")
         self.heights.append(line["height"])
         before = self.heights[-2] if number else 0
-        # a sentence of what goes away needs what stood before, and one of what comes needs what stands after
+        # a sentence about what is removed needs the state before, and one about what is added needs the state after
         self.follow_messages(line)
         self.follow_chain(number, line)
         row = tell(self, line, before)
@@ -193,7 +193,7 @@ class Story:
                 channel.money.append((number, owned))
 
     def follow_messages(self, line):
-        """What an event says of the channels, apart from the chain."""
+        """Applies what an event says about the channels, apart from the chain."""
         if "delivered" in line:
             it = line["delivered"]
             self.channels[it["channel"]].queue[it["to"]].popleft()
@@ -234,7 +234,7 @@ class Story:
             channel.live.pop(key, None)
 
     def follow_chain(self, number, line):
-        """What an event says of pool and chain."""
+        """Applies what an event says about pool and chain."""
         for claim in line.get("claims", []):
             self.claims[claim["outpoint"]] = claim
         for txid in line.get("left", []):
@@ -300,7 +300,7 @@ def spoken(story, mined):
 
 
 def name_of(story, event, joined):
-    """What a transaction is that joins the pool by an event."""
+    """The name of a transaction that joins the pool by an event."""
     if event[0] == "broadcast":
         of = f"commitment {event[3]}" if len(event) == 4 else f"HTLC transaction {event[4]} of commitment {event[3]}"
         return f"{event[1]}'s {of}{story.place(event[2])}"

@@ -1,4 +1,4 @@
--- The first seat gives shares away.
+-- The first seat hands out its shares.
 use Rattle.std.proofs.Common.{◌≡◌, ℕ, ◌+◌, ◌-◌, List, [], ◌∷◌, ◌++◌, length, sym, ap, ◌∙◌, All, arith, length-append}
 use Rattle.std.proofs.lemmas.List.Elements.{All-push}
 use Rattle.atomic_table.specs.declared.shared.Seat.{Seat as TableSeat}

@@ -1,4 +1,4 @@
--- The definitions at chosen values: which mark is the greater one, the words of marks, the greatest mark, and boards that meet the rule or break it.
+-- The definitions at chosen values: which mark is greater, the words of marks, the greatest mark, and boards that meet the rule or break it.
 use Rattle.std.proofs.Common.{◌≡◌, ℕ, ◌<◌, true, false, List, [], ◌∷◌, sym, refl, ap, subst, ⊎_elim, inl, inr, Contains, arith}
 use Rattle.std.proofs.lemmas.Bool.Decides.{nat_tests}
 use Rattle.std.proofs.lemmas.List.Elements.{All-nil, All-cons, All-head, All-tail, All-contains}
@@ -10,7 +10,7 @@ use Rattle.board.specs.Rule.{knows, numbers_below, Standing, IsDrawnOnce, everyt
 less : (m n : ℕ) → m ≡ n → m < n → ⊥
 less m n e h = omega arith
 
--- a newer round is greater, whatever the heights
+-- a newer round is greater, at any height
 older_round : at_most (mark 0 9) (mark 1 5) ≡ true
 older_round = refl
 
@@ -55,7 +55,7 @@ not_the_greater_height g =
     let P : Mark → Type 0 = λ m. at_most m (mark 0 9) ≡ true in
     let h : false ≡ true = All-head P (mark 1 5) [] (All-tail P (mark 0 9) (mark 1 5 ∷ []) g.bound) in cc
 
--- before a mark was raised the top is (0, 0), and nothing else
+-- before a mark is raised, the top is (0, 0)
 none_yet : IsGreatest (mark 0 0) []
 none_yet = record { bound = All-nil (λ m. at_most m (mark 0 0) ≡ true); reached = inl refl }
 
@@ -65,7 +65,7 @@ none_made_up g = ⊎_elim
     (λ (there : Contains [] (mark 0 1)). let h = there.1 in omega arith)
     g.reached
 
--- marks have one greatest
+-- a list of marks has one greatest mark
 at_most_antisym : (a b : Mark) → at_most a b ≡ true → at_most b a ≡ true → a ≡ b
 at_most_antisym a b h k =
     let r : a.round ≡ b.round = grind (arith, nat_tests) in
@@ -84,7 +84,7 @@ below_the_greatest a b marks g h = ⊎_elim
 one_greatest : (a b : Mark) (marks : List Mark) → IsGreatest a marks → IsGreatest b marks → a ≡ b
 one_greatest a b marks g h = at_most_antisym a b (below_the_greatest a b marks g h) (below_the_greatest b a marks h g)
 
--- Two seats: one drew 0 and 2 and raised (0, 9), the other drew some tickets and raised (1, 5).
+-- Two seats: one drew 0 and 2 and raised (0, 9), the other drew `others` and raised (1, 5).
 abbrev board_with : ℕ → List ℕ → Standing
 board_with draws others = record { top = mark 1 5; draws = draws; views = knows 1 (0 ∷ 2 ∷ []) (mark 0 9 ∷ []) [] ∷ knows 1 others (mark 1 5 ∷ []) [] ∷ [] }
 
@@ -99,6 +99,6 @@ drawn_twice h = less 3 4 (sum_by-IsPermutation (λ x. x) (0 ∷ 2 ∷ 2 ∷ []) 
 skipped : IsDrawnOnce (board_with 4 (1 ∷ [])) → ⊥
 skipped h = less 3 4 (sym (length_permutation (0 ∷ 2 ∷ 1 ∷ []) (0 ∷ 1 ∷ 2 ∷ 3 ∷ []) h.tickets)) (omega arith)
 
--- a ticket that the count has not reached
+-- a ticket that is not below the count
 too_early : IsDrawnOnce (board_with 3 (3 ∷ [])) → ⊥
 too_early h = less 3 5 (sum_by-IsPermutation (λ x. x) (0 ∷ 2 ∷ 3 ∷ []) (0 ∷ 1 ∷ 2 ∷ []) h.tickets) (omega arith)

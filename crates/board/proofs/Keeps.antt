@@ -34,7 +34,7 @@ begins = record {
   looked = push_each (λ u. AllPass (λ m. at_most m start) u.looked) [] everything (λ k d h. absurd (omega arith)) (λ j u e. absurd (some-ne-none u (sym e)));
 }
 
--- the view of one seat changes, and the top and the count with it
+-- the view of one seat changes, together with the top and the count
 changed : (words' words : List ℕ) (views : List SeatView) (p : ℕ) (v w : SeatView) (top : Mark) (draws : ℕ) → (h : IsBoard words views) → At views p v
     → words' ≡ word_of top ∷ draws ∷ [] → top.height < 2 ^ 32 → w.shares ≡ v.shares → at_most h.top top ≡ true
     → IsDrawnOnce (standing top draws (set views p w)) → length w.drawn ≤ 2 ^ 32 * w.shares → AllPass (λ m. at_most m top) w.looked
@@ -51,7 +51,7 @@ changed words' words views p v w top draws h at is low same up once few looked =
       (λ j u e. All-weaker (λ m. at_most m h.top ≡ true) (λ m. at_most m top ≡ true) (λ m b. at_most_trans m h.top top b up) u.looked (h.looked j u e));
 }
 
--- a view changed in neither its tickets nor its raised marks
+-- a view changes neither its tickets nor its raised marks
 as_before : (top : Mark) (draws : ℕ) (views : List SeatView) (p : ℕ) (v w : SeatView) → At views p v → w.drawn ≡ v.drawn → w.raised ≡ v.raised
     → IsDrawnOnce (standing top draws views) → IsDrawnOnce (standing top draws (set views p w))
 as_before top draws views p v w at drawn raised h = record {

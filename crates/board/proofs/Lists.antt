@@ -1,4 +1,4 @@
--- What all seats' views hold together, after the view of one seat changed or a new seat came.
+-- What all views contain together, after one view changed or a new seat came.
 use Rattle.std.proofs.Common.{◌≡◌, ◌≢◌, ℕ, zero, suc, ◌+◌, ◌*◌, ◌<◌, ◌≤◌, List, [], ◌∷◌, ◌++◌, length, set, sym, refl, ap, ◌∙◌, subst, ⊎_elim, All, Contains, sum_by, arith, add-one, append_assoc, length-append}
 use Rattle.std.specs.List.{flat_map}
 use Rattle.std.specs.List.Sorted.{IsPermutation}
@@ -30,13 +30,13 @@ sum_by_set f [] p v w e = absurd (some-ne-none v (sym e))
 sum_by_set f (x ∷ xs) zero v w e = let s : f x ≡ f v = ap f (some-injective x v e) in omega (arith, sum_by-cons f w xs, sum_by-cons f x xs)
 sum_by_set f (x ∷ xs) (suc p) v w e = let s = sum_by_set f xs p v w e in omega (arith, sum_by-cons f x (set xs p w), sum_by-cons f x xs)
 
--- where f is at most 2^32 times g in each view, it is so in all
+-- if f is at most 2^32 times g in each view, so are their sums
 pub sum_by_within : (f g : SeatView → ℕ) (views : List SeatView) → ((j : ℕ) (u : SeatView) → At views j u → f u ≤ 4294967296 * g u) → sum_by f views ≤ 4294967296 * sum_by g views
 sum_by_within f g [] each = omega arith
 sum_by_within f g (x ∷ xs) each = let here = each 0 x refl in let rest = sum_by_within f g xs (λ j u e. each (suc j) u e) in omega (arith, sum_by-cons f x xs, sum_by-cons g x xs)
 
 module _ {X : Type 0} (g : SeatView → List X) where
-  -- one view has one element more, and so have all views together
+  -- one view has one more element, and so have all views together
   pub grown : (views : List SeatView) (p : ℕ) (v w : SeatView) (x : X) → At views p v → g w ≡ g v ++ x ∷ [] → IsPermutation (flat_map g views ++ x ∷ []) (flat_map g (set views p w))
   grown [] p v w x e is = absurd (some-ne-none v (sym e))
   grown (u ∷ us) zero v w x e is =
@@ -49,7 +49,7 @@ module _ {X : Type 0} (g : SeatView → List X) where
       let Q : List X → Type 0 = λ l. IsPermutation l (g u ++ flat_map g (set us p w)) in
       subst Q (sym (append_assoc (g u) (flat_map g us) (x ∷ []))) (IsPermutation-append_right (g u) (flat_map g us ++ x ∷ []) (flat_map g (set us p w)) (grown us p v w x e is))
 
-  -- one view changed elsewhere
+  -- one view changed, but not in g
   pub unmoved : (views : List SeatView) (p : ℕ) (v w : SeatView) → At views p v → g w ≡ g v → flat_map g (set views p w) ≡ flat_map g views
   unmoved [] p v w e is = refl
   unmoved (u ∷ us) zero v w e is = ap (λ l. l ++ flat_map g us) (is ∙ ap g (sym (some-injective u v e)))
@@ -60,7 +60,7 @@ module _ {X : Type 0} (g : SeatView → List X) where
   joined [] w is = ap (λ l. l ++ []) is
   joined (u ∷ us) w is = ap (λ l. g u ++ l) (joined us w is)
 
-  -- what holds of all views' elements holds of one view's
+  -- an element of one view's list is one of all views' lists
   pub part : (views : List SeatView) (p : ℕ) (v : SeatView) (x : X) → At views p v → Contains (g v) x → Contains (flat_map g views) x
   part [] p v x e c = absurd (some-ne-none v (sym e))
   part (u ∷ us) zero v x e c = Contains-append_left (g u) (flat_map g us) x (subst (λ s. Contains (g s) x) (sym (some-injective u v e)) c)

@@ -14,7 +14,7 @@ at_most_refl a = grind (arith, nat_tests)
 pub at_most_trans : (a b c : Mark) → at_most a b ≡ true → at_most b c ≡ true → at_most a c ≡ true
 at_most_trans a b c h k = grind (arith, nat_tests)
 
--- marks are as their words are
+-- marks are ordered as their words are
 pub at_most-words : (a b : Mark) → b.height < 4294967296 → word_of a ≤ word_of b → at_most a b ≡ true
 at_most-words a b low h = grind (arith, nat_tests)
 
@@ -44,7 +44,7 @@ top_by top raised low low' (no not_le) =
 pub top_after : (top raised : Mark) → top.height < 4294967296 → raised.height < 4294967296 → (after : Mark) × TopAfter top raised after
 top_after top raised low low' = top_by top raised low low' (dec_le (word_of top) (word_of raised))
 
--- the greatest of the marks with one more
+-- the greatest mark, after one more was raised
 pub greatest_more : (top raised after : Mark) (marks more : List Mark) → TopAfter top raised after → IsGreatest top marks → IsPermutation (marks ++ raised ∷ []) more → IsGreatest after more
 greatest_more top raised after marks more t g moved =
     let P : Mark → Type 0 = λ m. at_most m after ≡ true in record {

@@ -1,4 +1,4 @@
--- Marks by their order, and as words.
+-- The order of marks, and marks as words.
 use Rattle.std.specs.Prelude.{◌≡◌, ℕ, ◌+◌, ◌*◌, ◌/◌, ◌%◌, ◌^◌, ◌==◌, ◌⊎◌, ◌&&◌, ◌||◌, Bool, List, nat_lt, nat_le, Contains}
 use Rattle.std.specs.List.{AllPass}
 use Rattle.board.specs.declared.marks.Mark.{Mark}
@@ -10,7 +10,7 @@ mark round height = record { round = round; height = height }
 abbrev pub start : Mark
 start = mark 0 0
 
--- an older round, or the same round and no greater height
+-- an older round, or the same round and at most the same height
 abbrev pub at_most : Mark → Mark → Bool
 at_most a b = nat_lt a.round b.round || (a.round == b.round && nat_le a.height b.height)
 
@@ -19,7 +19,7 @@ pub record IsGreatest (top : Mark) (marks : List Mark) : Type 0 where
   pub bound : AllPass (λ m. at_most m top) marks
   pub reached : (top ≡ start) ⊎ Contains marks top
 
--- a mark as one word of 64 bits
+-- a mark as one word of 64 bits: the round in the upper half, the height in the lower
 abbrev pub word_of : Mark → ℕ
 word_of m = m.round * 2 ^ 32 + m.height
 

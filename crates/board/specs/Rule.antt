@@ -1,4 +1,4 @@
--- The rule of the board: the tickets that the seats drew are the numbers below the count, each once, and the top is the greatest mark that any seat raised.
+-- The rule of the board: the seats' tickets are the numbers below the count, each once, and the top is the greatest mark that any seat raised.
 use Rattle.std.specs.Prelude.{◌≡◌, ℕ, zero, suc, ◌-◌, ◌*◌, ◌<◌, ◌≤◌, ◌^◌, List, [], ◌∷◌, ◌++◌, length, IsPermutation, sum_by}
 use Rattle.std.specs.List.{flat_map, AllPass}
 use mathlib.Core.Option.{some}
@@ -23,7 +23,7 @@ abbrev pub numbers_below : ℕ → List ℕ
 numbers_below zero = []
 numbers_below (suc n) = numbers_below n ++ n ∷ []
 
--- how the board stands at one moment: its top, how many tickets were drawn, and what each seat knows, by the seat's number
+-- the state of the board at one moment: its top, the number of tickets drawn, and what each seat knows, by the seat's number
 pub record Standing : Type 0 where
   pub top : Mark
   pub draws : ℕ
@@ -34,7 +34,7 @@ pub record IsDrawnOnce (s : Standing) : Type 0 where
   pub tickets : IsPermutation (drawn_by_all s.views) (numbers_below s.draws)
   pub top : IsGreatest s.top (raised_by_all s.views)
 
--- Shares keep the count from wrapping: there are 65,536 of them, one at least for each seat, and a seat draws at most 2^32 tickets for each.
+-- Shares keep the count from wrapping: there are 65,536, at least one for each seat, and a seat draws at most 2^32 tickets for each of its shares.
 
 abbrev pub everything : SeatView
 everything = knows 65536 [] [] []
@@ -45,7 +45,7 @@ one_share = knows 1 [] [] []
 abbrev pub less_one : SeatView → SeatView
 less_one v = knows (v.shares - 1) v.drawn v.raised v.looked
 
--- the two words stand for a top and a count that the seats' views explain
+-- the two words encode a top and a count that agree with the seats' views
 pub record IsBoard (words : List ℕ) (views : List SeatView) : Type 0 where
   pub top : Mark
   pub draws : ℕ
@@ -54,5 +54,5 @@ pub record IsBoard (words : List ℕ) (views : List SeatView) : Type 0 where
   pub drawn_once : IsDrawnOnce (record { top = top; draws = draws; views = views })
   pub shares : sum_by (λ v. v.shares) views ≡ 65536
   pub within : (seat : ℕ) (v : SeatView) → get_elem? views seat ≡ some v → length v.drawn ≤ 2 ^ 32 * v.shares
-  -- what a seat looked up was the top, so it is not above it
+  -- what a seat looked up was the top then, so it is not above the top now
   pub looked : (seat : ℕ) (v : SeatView) → get_elem? views seat ≡ some v → AllPass (λ m. at_most m top) v.looked

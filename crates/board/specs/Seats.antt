@@ -19,7 +19,7 @@ pub record IsSeatOf (board : Board) (seat : Seat) : Type 0 where
   pub counted : length (known seat).drawn ≡ seat.draws
   pub few : seat.draws ≤ 2 ^ 32
 
--- a seat of the table that has done nothing, with at least so many shares
+-- a seat of the table that has done nothing, with at least this number of shares
 pub record IsDealer (board : Board) (dealer : TableSeat (Unit {0}) SeatView) (shares : ℕ) : Type 0 where
   pub table : dealer.table_id ≡ board.table.shared.table_id
   pub words : board.table.shared.table_id.words ≡ 2
@@ -32,7 +32,7 @@ pub record IsNewSeatOf (board : Board) (seat : Seat) : Type 0 where
   pub seat_of : IsSeatOf board seat
   pub idle : known seat ≡ knows (known seat).shares [] [] []
 
--- so many seats, which have raised, looked up and drawn nothing
+-- `count` seats, which have raised, looked up and drawn nothing
 pub record AreSeats (board : Board) (count : ℕ) (seats : List Seat) : Type 0 where
   pub each : All (IsNewSeatOf board) seats
   pub many : length seats ≡ count

@@ -9,7 +9,7 @@ use Rattle.board.specs.declared.rule.SeatView.{SeatView}
 use Rattle.board.specs.Order.{start, at_most, mark_in}
 use Rattle.board.specs.Rule.{Standing, IsDrawnOnce, knows, drawn_by_all, raised_by_all}
 
--- one step of a seat, which knew v and then knows w: the rule holds before it and after it, and no other seat's view changes
+-- one step of a seat, whose view changes from v to w: the rule holds before and after it, and no other seat's view changes
 pub record IsStep (before after : Standing) (v w : SeatView) : Type 0 where
   pub seat : ℕ
   pub here : get_elem? before.views seat ≡ some v
@@ -17,7 +17,7 @@ pub record IsStep (before after : Standing) (v w : SeatView) : Type 0 where
   pub stood : IsDrawnOnce before
   pub stands : IsDrawnOnce after
 
--- the mark was raised: it is the seat's newest one, and the top is nothing below it or below the earlier top
+-- the mark was raised: it is the seat's newest one, and the top is not below it or below the earlier top
 pub record Raised (v : SeatView) (raised : Mark) (w : SeatView) : Type 0 where
   pub before : Standing
   pub after : Standing
@@ -27,7 +27,8 @@ pub record Raised (v : SeatView) (raised : Mark) (w : SeatView) : Type 0 where
   pub no_ticket : after.draws ≡ before.draws
   pub added : w ≡ knows v.shares v.drawn (v.raised ++ raised ∷ []) v.looked
 
--- the top was looked up: it is the seat's newest look, nothing below what the seat raised or looked up before, and nothing that no seat raised
+-- the top was looked up: it is the seat's newest look, not below what the
+-- seat raised or looked up before, and some seat raised it (or it is (0, 0))
 pub record Looked (v : SeatView) (found : Mark) (w : SeatView) : Type 0 where
   pub before : Standing
   pub after : Standing
@@ -40,7 +41,7 @@ pub record Looked (v : SeatView) (found : Mark) (w : SeatView) : Type 0 where
   pub from_a_seat : (found ≡ start) ⊎ Contains (raised_by_all before.views) found
   pub added : w ≡ knows v.shares v.drawn v.raised (v.looked ++ found ∷ [])
 
--- the ticket was drawn: it is the seat's newest one, the count before the step, and no seat had it
+-- the ticket was drawn: it is the seat's newest one, equal to the count before the step, and no seat had it
 pub record Drawn (v : SeatView) (ticket : ℕ) (w : SeatView) : Type 0 where
   pub before : Standing
   pub after : Standing

@@ -12,25 +12,25 @@ use atomic_table::Table;
 use std::alloc::{AllocError, Global};
 use thiserror::Error;
 
-/// The word of the top.
+/// The index of the word that holds the top.
 const TOP: usize = 0;
 
-/// The word that counts the tickets.
+/// The index of the word that counts the tickets.
 const DRAWS: usize = 1;
 
-/// How often one seat may draw.
+/// The number of tickets that one seat may draw.
 const MOST_DRAWS: u64 = 1 << 32;
 
-/// Why a seat gets no ticket. The refusal is numbered as `number` says.
+/// Why a seat gets no ticket. `number` gives the refusal's number.
 #[derive(Clone, Copy, Debug, Drop, Error, PartialEq, Eq)]
 pub enum DrawError {
-    /// 1: the seat has drawn 2^32 times.
+    /// The seat has drawn 2^32 tickets. The refusal has number 1.
     #[error("SeatSpent")]
     SeatSpent,
 }
 
 impl DrawError {
-    /// The number of the refusal. Out of memory would be 0, and is no refusal here.
+    /// The number of the refusal. It is not 0, which stands for out of memory: drawing does not allocate.
     pub fn number(&self) -> u8
         ensures { result ≡ 1 }
     {
@@ -46,9 +46,9 @@ pub struct Board {
     table: Table<(), SeatView, (), TwoWords, Global>,
 }
 
-/// A thread's place at one board: what it raised, looked up and drew there.
+/// A thread's seat at one board: what it raised, looked up and drew there.
 ///
-/// A seat is to be kept as long as the board is used. What a dropped seat drew and raised still counts, but nobody knows it any more.
+/// Keep a seat as long as the board is used. What a dropped seat drew and raised still counts, but its view of it is lost.
 #[derive(Drop)]
 pub struct Seat {
     draws: u64,
@@ -66,7 +66,7 @@ impl Seat {
 }
 
 impl Board {
-    // one seat more in the list, which has room for it
+    // adds a seat to the list, which has room for it
     fn seat(&self, mut list: Vec<Seat>, place: atomic_table::Seat<(), SeatView>) -> Vec<Seat>
         requires place { IsDealer self.now place 1 }
         requires list { All (IsNewSeatOf self.now) list.items
@@ -79,7 +79,7 @@ impl Board {
         list
     }
 
-    // this number of seats from the first one; the list has room for them
+    // makes `count` seats from the first one; the list has room for them
     fn seats(
         &self,
         mut dealer: atomic_table::Seat<(), SeatView>,
@@ -98,7 +98,7 @@ impl Board {
         self.seat(list, dealer)
     }
 
-    /// A board on which nothing was raised or drawn, with this number of seats at it, one at least. The only error is that memory ran out.
+    /// A board on which nothing was raised or drawn, with this number of seats, at least one. The only error is that memory ran out.
     pub fn new(alloc: Global, seats: u16) -> Result<(Board, Vec<Seat>), AllocError>
         requires { 0 < seats }
         ensures { IfOk result (λ r. AreSeats r.0 seats r.1.items) }
@@ -110,7 +110,7 @@ impl Board {
         Ok((board, list))
     }
 
-    /// Raises the top to this mark, if it is lower: one atomic maximum. `round` is the number of reorganisations so far, `height` the
+    /// Raises the top to this mark if it is lower, by one atomic maximum. `round` is the number of reorganisations so far, `height` the
     /// height of the chain, in blocks.
     pub fn raise(&self, seat: &mut Seat, round: u32, height: u32)
         requires { IsSeatOf self.now seat.old }
@@ -123,8 +123,8 @@ impl Board {
             .fetch_max::<Raise>(&mut seat.place, TOP, word);
     }
 
-    /// The top, by one atomic load: the greatest mark that any seat had raised at that moment, (0, 0) where none had. It is nothing below
-    /// what this seat raised or looked up before.
+    /// The top, by one atomic load: the greatest mark that any seat had raised at that moment, or (0, 0) if none had. It is not below any
+    /// mark that this seat raised or looked up before.
     pub fn look(&self, seat: &mut Seat) -> Mark
         requires { IsSeatOf self.now seat.old }
         ensures seat { IsSeatOf self.now seat.new }
@@ -134,8 +134,8 @@ impl Board {
         Mark::from_word(found)
     }
 
-    /// A ticket that no seat has drawn, by one atomic addition: the number of tickets drawn before it. A seat that has drawn 2^32
-    /// tickets is refused, and stays as it was.
+    /// Draws a ticket that no seat has drawn, by one atomic addition. It is the number of tickets drawn before it. A seat that has drawn
+    /// 2^32 tickets is refused and does not change.
     pub fn draw(&self, seat: &mut Seat) -> Result<u64, DrawError>
         requires { IsSeatOf self.now seat.old }
         ensures seat { IsSeatOf self.now seat.new }

@@ -2,12 +2,12 @@
 //!
 //! One word is the top, the greatest [`Mark`] that any seat raised; the other counts the tickets that were drawn.
 //! Each thread has a [`Seat`] of its own, and `raise`, `look` and `draw` are one atomic step each: a maximum, a load
-//! and an addition. None of them waits for another thread, tries again or takes memory. Between any two steps the
-//! tickets that the seats drew are the numbers below the count, each once, and the top is the greatest mark that any
-//! seat raised, (0, 0) before (`IsDrawnOnce` of `specs/Rule.antt`).
+//! and an addition. None of them blocks, retries or allocates. Between any two steps, the seats' tickets are the
+//! numbers below the count, each once. The top is the greatest mark that any seat raised, or (0, 0) before the first
+//! (`IsDrawnOnce` of `specs/Rule.antt`).
 //!
-//! It stands on the library `atomic_table`, and no crate but `thread_tests` stands on it. It is for a node's threads:
-//! the top tells them the newest round and height of the chain.
+//! It stands on the library `atomic_table`, and is used only by `thread_tests`. It is for a node's threads: the top
+//! tells them the newest round and height of the chain.
 //!
 //! ```text
 //! let (board, mut seats) = Board::new(alloc, 2)?;

@@ -1,4 +1,4 @@
-// Marks, and the words that stand for them.
+// Marks, and the words that encode them.
 
 ghost use Rattle.std.specs.Prelude.{◌≡◌};
 ghost use Rattle.board.specs.Order.{word_of, mark_in};
@@ -8,7 +8,7 @@ ghost use Rattle.board.specs.Order.{word_of, mark_in};
 /// Marks are compared by the round first, so a height of a newer round is greater than every height of an older one.
 #[derive(Clone, Copy, Debug, PartialEq, Eq, PartialOrd, Ord)]
 pub struct Mark {
-    /// How many reorganisations there were.
+    /// The number of reorganisations so far.
     pub round: u32,
     /// The height, in blocks.
     pub height: u32,
@@ -22,7 +22,7 @@ impl Mark {
         (u64::from(self.round) << 32) + u64::from(self.height)
     }
 
-    // the mark that a word stands for
+    // the mark that a word encodes
     pub(crate) fn from_word(word: u64) -> Mark
         ensures { result ≡ mark_in word }
     {

@@ -1,12 +1,12 @@
-// The rule of the board's table of words, and what its three kinds of step tell.
+// The rule of the board's table of words, and its kinds of step.
 
 use crate::marks::Mark;
 use atomic_table::{Play, Split, TableRule};
 use std::collections::LinkedList;
 
-/// What a seat knows, for contracts alone: no value of it is made.
+/// What a seat knows. Only contracts use it; no program makes a value of it.
 pub struct SeatView {
-    /// Its shares of the right to draw.
+    /// Its shares of the right to draw: 2^32 tickets each.
     pub shares: u64,
     /// The tickets that it drew, in order.
     pub drawn: LinkedList<u64>,
@@ -54,7 +54,7 @@ impl Play<(), SeatView> for Draw {
     ghost then = { Draws };
 }
 
-// a seat of its own, with one share
+// a new seat, with one share
 pub struct Deal;
 
 impl Split<SeatView> for Deal {

@@ -10,11 +10,11 @@ use Rattle.book.specs.Books.{replayed}
 use Rattle.book.specs.Replies.{is_accepted, answer_of, extended, history_after}
 use Rattle.book.specs.Accepted.{is_taken, are_accepted, all_accepted, first_refused_after, first_refused, IsHistory, begins, adds_call, AcceptedMeans}
 
--- one more entry
+-- a history with one more entry
 pub one_more : (tokens_of : Signing) (history : List Entry) (e : Entry) → all_accepted tokens_of (history ++ e ∷ []) ≡ (is_taken tokens_of (reverse history) e && all_accepted tokens_of history)
 one_more tokens_of history e = ap (are_accepted tokens_of) (reverse-append history (e ∷ []))
 
--- a call leaves a history of accepted calls as one
+-- a call turns a history of accepted calls into another one
 pub all_accepted_after : (tokens_of : Signing) (history : List Entry) (seat : ℕ) (call : Call) → all_accepted tokens_of history ≡ true → all_accepted tokens_of (history_after tokens_of history seat call) ≡ true
 all_accepted_after tokens_of history seat call ok = by (is_accepted (answer_of tokens_of (replayed (reverse history)) call)) refl
   where
@@ -26,7 +26,7 @@ accepted : (tokens_of : Signing) (history : List Entry) → IsHistory tokens_of 
 accepted tokens_of _ begins = refl
 accepted tokens_of _ (adds_call {history} seat call before) = all_accepted_after tokens_of history seat call (accepted tokens_of history before)
 
--- accepted entries, the newest first, are a history
+-- accepted entries, which have the newest first, are a history
 reached : (tokens_of : Signing) (es : List Entry) → are_accepted tokens_of es ≡ true → IsHistory tokens_of (reverse es)
 reached tokens_of [] ok = begins
 reached tokens_of (e ∷ es) ok = subst (IsHistory tokens_of) (grown (is_accepted (answer_of tokens_of (replayed (reverse (reverse es))) e.call)) taken) (adds_call e.seat e.call (reached tokens_of es parts.1))
@@ -41,9 +41,9 @@ reached tokens_of (e ∷ es) ok = subst (IsHistory tokens_of) (grown (is_accepte
     grown true h = sym (reverse-append (e ∷ []) es)
     grown false h = absurd (true≢false (sym h))
 
--- ---- the first that is refused
+-- ---- the first entry that is refused
 
--- the newest entries in front of those before them
+-- reversing entries puts the newest one next to those before
 pub onto : (e : Entry) (es before : List Entry) → reverse (e ∷ es) ++ before ≡ reverse es ++ (e ∷ before)
 onto e es before = ap (λ xs. xs ++ before) (reverse-append (e ∷ []) es) ∙ append_assoc (reverse es) (e ∷ []) before
 
@@ -55,7 +55,7 @@ no_successor : (o : Option ℕ) → option_map suc o ≡ None → o ≡ None
 no_successor None e = refl
 no_successor (Some i) e = absurd (none-some (suc i) (sym e))
 
--- none is refused where all are accepted, and only there
+-- no entry is refused exactly if all are accepted
 all_pass : (tokens_of : Signing) (before es : List Entry) → are_accepted tokens_of (reverse es ++ before) ≡ true → first_refused_after tokens_of before es ≡ None
 all_pass tokens_of before [] ok = refl
 all_pass tokens_of before (e ∷ es) ok = rw (taken) (ap (option_map suc) (all_pass tokens_of (e ∷ before) es further))
@@ -76,7 +76,7 @@ none_stops tokens_of before (e ∷ es) ok none = by (is_taken tokens_of before e
     by true taken rest on = ap (are_accepted tokens_of) (onto e es before) ∙ on (and_from _ _ taken ok) (no_successor _ rest)
     by false taken rest on = absurd (none-some 0 (sym rest))
 
--- the entries before the one at a place are accepted, and it is not
+-- the entries before index i are accepted, and the one at i is not
 record StopsAt (tokens_of : Signing) (before es : List Entry) (i : ℕ) : Type 0 where
   passed : are_accepted tokens_of (reverse (take i es) ++ before) ≡ true
   inside : i < length es

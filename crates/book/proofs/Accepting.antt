@@ -1,4 +1,4 @@
--- What holds where a call is accepted.
+-- What is true where a call is accepted.
 use Rattle.std.proofs.Common.{◌≡◌, ℕ, ◌<◌, Bool, true, false, not, true≢false, List, Option, Some, None, Result, refl, sym, ap}
 use Rattle.std.specs.Prelude.{is_ok, length}
 use Rattle.std.proofs.lemmas.Bool.{ltb-true}
@@ -19,7 +19,7 @@ pub unless_ok : {R A E : Type 0} (wrap : R → E) (o : Option R) (x : A) → is_
 unless_ok wrap None x ok = refl
 unless_ok wrap (Some r) x ok = absurd (true≢false (sym ok))
 
--- some is no none
+-- Some is not None
 abbrev is_there : {A : Type 0} → Option A → Bool
 is_there (Some x) = true
 is_there None = false
@@ -27,7 +27,7 @@ is_there None = false
 pub some_none : {A : Type 0} (x : A) → Some x ≡ None → ⊥
 some_none x e = true≢false (ap is_there e)
 
--- a test that passed
+-- the test does not hold, and no later one refuses
 pub passed : {E : Type 0} (test : Bool) (e : E) (later : Option E) → if_so test e later ≡ None → (test ≡ false) × (later ≡ None)
 passed true e later none = absurd (some_none e none)
 passed false e later none = (refl, none)
@@ -45,7 +45,7 @@ keeps ch n claims none =
     let other = passed _ _ _ new.1 in
     (ltb-true _ _ (not_false _ revoked.0), new.0, not_false _ other.0)
 
--- nothing is missing where a book signs
+-- a book that signs has no penalties missing
 pub none_missing : (ch : ChannelBook) → sign_refusal ch ≡ None → first_missing ch ≡ None
 none_missing ch none = by (first_missing ch) _ (passed _ _ _ none).1
   where

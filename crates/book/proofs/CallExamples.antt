@@ -1,4 +1,4 @@
--- What a book answers, call by call: the first scenario's calls, and each refusal before the next one in its order.
+-- A book's replies, call by call: those of the first scenario, and each refusal before the next one in the order.
 use Rattle.std.proofs.Common.{◌≡◌, ℕ, true, false, List, [], ◌∷◌, ◌++◌, length, replicate, map, Some, None, Ok, Err, refl, lit≤}
 use Rattle.sha2.specs.Sha256.{sha256, digest_bytes, hash_after, compress, rounds, schedule, first_words}
 use Rattle.keys.specs.Derivation.{point_of}
@@ -42,7 +42,7 @@ use Rattle.book.specs.Accepted.{all_accepted, first_refused}
 use Rattle.book.specs.Guarding.{is_set_in, number_kept, is_guarded}
 use Rattle.channel.proofs.Samples.{key, secret, point_is, point_key, tokens_of, tokens}
 
--- the numbers of the refusals; those of a channel and of a filling keep theirs
+-- the numbers of the refusals; those of channels and fillings are unchanged
 numbers : (map open_error_number (opens.NoMemory ∷ opens.BookFull ∷ opens.SameFunding ∷ opens.BadSignature ∷ []) ≡ 0 ∷ 1 ∷ 2 ∷ 3 ∷ [])
     × (map step_error_number (Refused NothingCovered ∷ Refused WrongSecret ∷ Refused NotYourTurn ∷ NoChannelToStep ∷ []) ≡ 9 ∷ 11 ∷ 12 ∷ 9 ∷ [])
     × (map sign_error_number (signs.NoMemory ∷ signs.PenaltiesMissing 7 ∷ signs.AwaitingRevocation ∷ signs.NoUpdates ∷ signs.NoSuchChannel ∷ []) ≡ 0 ∷ 1 ∷ 2 ∷ 3 ∷ 9 ∷ [])
@@ -55,7 +55,7 @@ numbers = (refl, refl, refl, refl, refl, refl, refl)
 limit : MAX_CHANNELS ≡ 65536
 limit = refl
 
--- the least number that is missing, whatever the order in which the others came
+-- the lowest number that is missing, in any order of those that are kept
 missing : (missing_from [] 0 0 ≡ None)
     × (missing_from [] 0 2 ≡ Some 0)
     × (missing_from (0 ∷ []) 0 2 ≡ Some 1)
@@ -65,7 +65,7 @@ missing : (missing_from [] 0 0 ≡ None)
     × (missing_from (2 ∷ 1 ∷ 0 ∷ []) 0 4 ≡ Some 3)
 missing = (refl, refl, refl, refl, refl, refl, refl)
 
--- the point of another secret than that of the samples (SHA-256 by Python's hashlib)
+-- the point of a secret that the samples do not have (SHA-256 by Python's hashlib)
 other_point_is : point_of (replicate 32 8) ≡ 2 ∷ 140 ∷ 23 ∷ 151 ∷ 150 ∷ 69 ∷ 241 ∷ 102 ∷ 21 ∷ 235 ∷ 156 ∷ 17 ∷ 161 ∷ 79 ∷ 72 ∷ 30 ∷ 34 ∷ 79 ∷ 112 ∷ 11 ∷ 47 ∷ 85 ∷ 77 ∷ 189 ∷ 29 ∷ 29 ∷ 29 ∷ 157 ∷ 195 ∷ 50 ∷ 118 ∷ 87 ∷ 111 ∷ []
 unfolding point_of sha256 digest_bytes hash_after compress rounds schedule first_words
 other_point_is = refl
@@ -76,7 +76,7 @@ hash = replicate 32 9
 abbrev htlc : ℕ → ℕ → ℕ → Htlc
 htlc id amount expiry = record { id = id; amount = amount; hash = hash; expiry = expiry }
 
--- the answers to calls of seat 0, one after another, and the history then
+-- the replies to calls of seat 0, one after another
 abbrev answers_from : List Entry → List Call → List Reply
 answers_from history [] = []
 answers_from history (call ∷ calls) = reply_of tokens_of history call ∷ answers_from (history_after tokens_of history 0 call) calls
@@ -111,7 +111,7 @@ module _ (bases : BaseKeys) (seed : List ℕ) (own : IsSeedOf seed bases) where
       ≡ opened (Ok 0) ∷ opened (Err SameFunding) ∷ opened (Err BadSignature) ∷ opened (Ok 1) ∷ []
   openings = refl
 
-  -- 65,536 channels are the most, whatever the opening is; with one channel less, the funding output is tested
+  -- 65,536 channels are the limit, for any opening; with one channel fewer, the funding output is tested
   full : (chs : Channels) (o : Opening) → length chs ≡ 65536 → open_refusal tokens_of chs o ≡ Some BookFull
   full chs o many = rw many refl
 
@@ -136,7 +136,7 @@ module _ (bases : BaseKeys) (seed : List ℕ) (own : IsSeedOf seed bases) where
   abbrev entry : Call → Entry
   entry call = record { seat = 0; call = call }
 
-  -- each is an entry of its history
+  -- each of these calls is an entry of the history
   abbrev first_history : List Entry
   first_history =
       entry (Open (opening A 0 (0 ∷ []))) ∷ entry (Stepping 0 (Own (Offer 1000000 hash 500))) ∷ entry (Sign 0) ∷ entry (Revoke 0 secret (key 2))
@@ -146,7 +146,7 @@ module _ (bases : BaseKeys) (seed : List ℕ) (own : IsSeedOf seed bases) where
   unfolding is_foreign
   first_entries = rw point_is refl
 
-  -- each of them is accepted after those before it, and not where one more is in front or another comes next
+  -- each entry is accepted after those before it; with one more in front, or another one next, not all are
   accepted : (all_accepted tokens_of [] ≡ true)
       × (all_accepted tokens_of first_history ≡ true)
       × (all_accepted tokens_of (first_history ++ entry (Sign 0) ∷ []) ≡ false)
@@ -157,12 +157,12 @@ module _ (bases : BaseKeys) (seed : List ℕ) (own : IsSeedOf seed bases) where
   unfolding is_foreign
   accepted = (refl, rw point_is refl, refl, rw point_is refl, rw point_is refl, rw point_is refl, refl)
 
-  -- A's state then
+  -- A's state after these calls
   abbrev then : State
   then =
       after_update (Add (htlc 1 1000000 501)) (after (after_sign (after_update (Add (htlc 0 1000000 500)) (opened_state (terms_of 0) A seed point_key (key 1)))) (RevokeAndAck secret (key 2)))
 
-  -- it may not sign before it kept the penalties, keeps them once, and signs
+  -- it may not sign before it keeps the penalties; it keeps them once, and signs
   module _ (claims : List ClaimParts) (is_set : is_penalty_set then 0 claims ≡ true) where
     last_answers : answers_from first_history (Sign 0 ∷ Keep 0 0 claims ∷ Sign 0 ∷ Keep 0 0 claims ∷ [])
         ≡ signed (Err (PenaltiesMissing 0)) ∷ kept (Ok tt) ∷ signed (Ok (CommitmentSigned (tokens 2 (1000000 ∷ 1000000 ∷ [])))) ∷ kept (Err AlreadyKept) ∷ []
@@ -171,7 +171,7 @@ module _ (bases : BaseKeys) (seed : List ℕ) (own : IsSeedOf seed bases) where
     whole_history : length (history_from first_history (Sign 0 ∷ Keep 0 0 claims ∷ Sign 0 ∷ Keep 0 0 claims ∷ [])) ≡ 7
     whole_history = rw is_set refl
 
-    -- the entries guard the signature where the penalties are kept between the two, in this channel and by this number
+    -- the entries guard the signature if the penalties are kept before it, in this channel and for this number
     guarded : (is_guarded (first_history ++ entry (Keep 0 0 claims) ∷ entry (Sign 0) ∷ []) ≡ true)
         × (is_guarded first_history ≡ true)
         × (is_guarded (first_history ++ entry (Sign 0) ∷ []) ≡ false)
@@ -191,13 +191,13 @@ module _ (bases : BaseKeys) (seed : List ℕ) (own : IsSeedOf seed bases) where
   abbrev signed_history : List Entry
   signed_history = entry (Open (opening A 0 (0 ∷ []))) ∷ entry (Stepping 0 (Own (Offer 1000000 hash 500))) ∷ entry (Sign 0) ∷ []
 
-  -- another secret is refused, and leaves the history; so is a revocation that nobody awaits
+  -- another secret is refused, and leaves the history as it was; so is a revocation that is not awaited
   wrong_secret : (reply_of tokens_of signed_history (Revoke 0 (replicate 32 8) (key 2)) ≡ revoked (Err (Refused WrongSecret)))
       × (history_after tokens_of signed_history 0 (Revoke 0 (replicate 32 8) (key 2)) ≡ signed_history)
       × (reply_of tokens_of first_history (Revoke 0 secret (key 3)) ≡ revoked (Err (Refused NotYourTurn)))
   wrong_secret = (rw other_point_is refl, rw other_point_is refl, refl)
 
-  -- no call finds a channel that is not there
+  -- every call refuses a channel that does not exist
   strangers : (batch : Batch) →
       (reply_of tokens_of first_history (Stepping 1 (Own (Offer 0 hash 500))) ≡ stepped (Err NoChannelToStep))
       × (reply_of tokens_of first_history (Sign 1) ≡ signed (Err NoChannelToSign))
@@ -209,7 +209,7 @@ module _ (bases : BaseKeys) (seed : List ℕ) (own : IsSeedOf seed bases) where
   abbrev channel : State → List ℕ → ChannelBook
   channel state kept_ones = record { state = state; kept = kept_ones }
 
-  -- a signature that is awaited comes before penalties that are missing, and these before a signature that covers nothing
+  -- an awaited revocation is reported before missing penalties, and these before a signature that covers nothing
   orders : (sign_refusal (channel (record then { awaiting = true }) []) ≡ Some AwaitingRevocation)
       × (sign_refusal (channel (record then { peer_number = 281474976710654 }) []) ≡ Some AwaitingRevocation)
       × (sign_refusal (channel (record then { peer_number = 281474976710653 }) (0 ∷ [])) ≡ None)
@@ -221,7 +221,7 @@ module _ (bases : BaseKeys) (seed : List ℕ) (own : IsSeedOf seed bases) where
       × (sign_refusal (channel (record (opened_state (terms_of 0) A seed point_key (key 1)) { secrets = secret ∷ [] }) []) ≡ Some (PenaltiesMissing 0))
   orders = (refl, refl, refl, refl, refl, refl, refl, refl, refl)
 
-  -- a number that is not revoked, one that is kept, and claims of another state
+  -- a number that is not revoked, a number that is kept, and claims of another state
   module _ (claims : List ClaimParts) (no_set : is_penalty_set then 0 claims ≡ false) where
     keepings : (keep_refusal (channel then []) 1 claims ≡ Some NotRevoked)
         × (keep_refusal (channel then (1 ∷ [])) 1 claims ≡ Some NotRevoked)
@@ -229,7 +229,7 @@ module _ (bases : BaseKeys) (seed : List ℕ) (own : IsSeedOf seed bases) where
         × (keep_refusal (channel then []) 0 claims ≡ Some OtherState)
     keepings = (refl, refl, refl, rw no_set refl)
 
-  -- the number of a revoked commitment is how many revocations came before, and not that of the own newest one
+  -- the number of a revoked commitment is the count of earlier revocations, and not the number of one's own newest commitment
   abbrev awaiting : List (List ℕ) → ChannelBook
   awaiting secrets = channel (record (after_sign (after_update (Add (htlc 0 1000000 500)) (opened_state (terms_of 0) A seed point_key (key 1)))) { number = 5; secrets = secrets }) []
 

@@ -1,4 +1,4 @@
--- What a call makes of a history, and of what a book keeps beside it.
+-- What a call does to a history, and to what a book keeps beside it.
 use Rattle.std.proofs.Common.{◌≡◌, ℕ, ◌<◌, Bool, true, false, List, [], ◌∷◌, ◌++◌, length, cond, is_some, Option, Some, None, Result, Ok, Err, refl, sym, ap, ◌∙◌, arith, inl, inr}
 use Rattle.std.specs.Prelude.{slice_get, is_ok, nat_le}
 use Rattle.std.specs.Map.{lookup, values_of}
@@ -52,7 +52,7 @@ keeping history new channels channels' seat call reply k answer ok is after = re
   left = after ∙ ap by_funding (sym (ap replay is ∙ ap replayed (reverse-append history (entry seat call ∷ []))));
 }
 
--- what is kept after an accepted call that writes one channel
+-- what is kept after an accepted call that changes one channel
 keeping_at : (f : ChannelBook → ChannelBook) → ((ch : ChannelBook) → (f ch).state.held.terms ≡ ch.state.held.terms)
     → (history new : List Entry) (channels : List (OutPoint × ChannelBook)) (seat : ℕ) (call : Call) (reply : Reply) (c : ℕ) (x y : ChannelBook)
     → channels_after call (replay history) ≡ at_index f c (replay history) → AreLeft history channels → reply_of peer_tokens history call ≡ reply → is_accepted reply ≡ true
@@ -102,9 +102,9 @@ token_answer : (chs : Channels) (o : Opening) (e : OpenError) → nat_le MAX_CHA
     → answer_of peer_tokens chs (Open o) ≡ opened (Err e)
 token_answer chs o e room other is = rw (room, other, is) refl
 
--- ---- accepted calls in whole: what they answer, and what is kept then
+-- ---- accepted calls as a whole: their replies, and what is kept after them
 
--- what was pushed
+-- the items after a push
 pub grown : {A T E : Type 0} (r : Result T E) (x : T) (items before history : List A) (e f : A) → r ≡ Ok x → items ≡ cond (is_ok r) (before ++ e ∷ []) before → before ≡ history → e ≡ f
     → items ≡ history ++ f ∷ []
 grown (Ok y) x items before history e f ok is same named = is ∙ ap (λ es. es ++ e ∷ []) same ∙ ap (λ g. history ++ g ∷ []) named

@@ -1,4 +1,4 @@
--- The forms of what commitments let claim are checked scripts.
+-- The forms of all that commitments let be claimed are checked scripts.
 use Rattle.std.proofs.Common.{◌≡◌, ℕ, ◌+◌, ◌^◌, ◌<◌, ◌≤◌, true, List, [], ◌∷◌, ◌++◌, length, arith}
 use Rattle.std.specs.Prelude.{codes}
 use Rattle.std.specs.List.{AllByRecursion}

@@ -1,4 +1,4 @@
--- The answers of one call for all: of which of the six each is, what it gives where it is accepted, and the numbers of the refusals.
+-- The replies of the six calls as one: which call each belongs to, what it returns if accepted, and the numbers of the refusals.
 use Rattle.std.proofs.Common.{◌≡◌, ℕ, true, List, [], ◌∷◌, map, Option, Some, None, Result, Ok, Err, refl}
 use Rattle.updates.specs.declared.errors.ChannelError.TheVariants as refuses
 use Rattle.filling.specs.Filled.{Filling}
@@ -21,7 +21,7 @@ use Rattle.book.specs.Refusals.{open_error_number, step_error_number, sign_error
 use Rattle.book.specs.Replies.{Reply, opened, stepped, signed, revoked, kept, released, is_accepted}
 use Rattle.book.specs.Dispatch.{reply_form, no_memory_of}
 
--- the calls by their names
+-- the names of the calls
 data Name : Type 0 where
   opening : Name
   stepping : Name
@@ -34,7 +34,7 @@ abbrev number_of : {A E : Type 0} → (E → ℕ) → Result A E → Option ℕ
 number_of number (Ok x) = None
 number_of number (Err e) = Some (number e)
 
--- which call an answer is of, and the number of its refusal
+-- which call a reply belongs to, and the number of its refusal
 abbrev shown : Reply → Name × Option ℕ
 shown (opened r) = (opening, number_of open_error_number r)
 shown (stepped r) = (stepping, number_of step_error_number r)
@@ -43,14 +43,14 @@ shown (revoked r) = (revoking, number_of step_error_number r)
 shown (kept r) = (keeping, number_of keep_error_number r)
 shown (released r) = (releasing, number_of release_error_number r)
 
--- out of memory is number 0 of each call
+-- out of memory has number 0 for each call
 module _ (o : Opening) (taken : Step) (secret : List ℕ) (point : Key) (claims : List ClaimParts) (batch : Batch) where
   no_memory : map shown (map no_memory_of
       (calls.Open o ∷ calls.Step 1 taken ∷ calls.Sign 2 ∷ calls.Revoke 3 secret point ∷ calls.Keep 4 5 claims ∷ calls.Release 6 batch ∷ []))
       ≡ (opening, Some 0) ∷ (stepping, Some 0) ∷ (signing, Some 0) ∷ (revoking, Some 0) ∷ (keeping, Some 0) ∷ (releasing, Some 0) ∷ []
   no_memory = refl
 
--- a channel's index, the messages of a step, the message of a signature, the number of what is revoked, nothing, and a filling
+-- a channel's index, the messages of a step, the message of a signature, the number that is revoked, nothing, and a filling
 module _ (message : Message) (filling : Filling) where
   given : map reply_form (Opened (Ok 7) ∷ Stepped (Ok None) ∷ Stepped (Ok (Some message)) ∷ Signed (Ok message) ∷ Revoked (Ok 8) ∷ Kept (Ok tt) ∷ Released (Ok filling) ∷ [])
       ≡ opened (Ok 7) ∷ stepped (Ok []) ∷ stepped (Ok (message ∷ [])) ∷ signed (Ok message) ∷ revoked (Ok 8) ∷ kept (Ok tt) ∷ released (Ok filling) ∷ []

@@ -1,4 +1,4 @@
--- Claims of a channel's kept sets lack nothing.
+-- The claims of a channel's kept sets lack nothing.
 use Rattle.std.proofs.Common.{◌≡◌, ℕ, ◌+◌, true, false, true≢false, List, [], ◌∷◌, ◌++◌, map, Option, Some, None, refl, sym, ap, ◌∙◌, subst, arith, Contains}
 use Rattle.std.specs.Prelude.{slice_get}
 use Rattle.std.specs.List.{AllByRecursion}
@@ -33,12 +33,12 @@ use Rattle.book.specs.Signers.{lack_of, first_lack}
 use Rattle.book.proofs.Deciding.{rights_are_tested}
 use Rattle.book.proofs.Sets.{fillings_are}
 
--- ---- what a state's own keys and secrets fill, whatever points came
+-- ---- what a state's own keys and secrets can fill, whatever points came
 
 abbrev pub knowledge_of : State → Rights
 knowledge_of s = record { seed = s.seed; points = []; secrets = s.secrets }
 
--- a claim's slots are filled by it
+-- the state can fill a claim's slots
 abbrev pub CanFillClaim : State → ClaimParts → Type 0
 CanFillClaim s c = AllByRecursion (CanFill (knowledge_of s)) (map filling_of c.slots)
 
@@ -70,7 +70,7 @@ claimable_fillable s c secret b known =
 not_so : {P : Type 0} → false ≡ true → P
 not_so e = absurd (true≢false (sym e))
 
--- the slots of a claim that is on an output
+-- the slots of a claim on an output
 slots_of_claim : (o : Claimable) (c : ClaimParts) → is_claim_on o c ≡ true → map filling_of c.slots ≡ o.slots
 slots_of_claim o c e =
     let same = (and_parts _ _ (and_parts _ _ e).0).0 in
@@ -85,7 +85,7 @@ claims_fillable s (o ∷ os) (c ∷ cs) h e =
     let parts = and_parts (is_claim_on o c) (are_claims_on os cs) e in
     (subst (AllByRecursion (CanFill (knowledge_of s))) (sym (slots_of_claim o c parts.0)) h.0, claims_fillable s os cs h.1 parts.1)
 
--- a penalty set is filled by a side that has its own base keys
+-- a side with its own base keys can fill a penalty set
 pub set_fillable : (s : State) (n : ℕ) (claims : List ClaimParts) → IsSeedOf s.seed (party s.held.side s.held.terms).bases → is_penalty_set s n claims ≡ true → AllByRecursion (CanFillClaim s) claims
 unfolding is_penalty_set
 set_fillable s n claims b e = by (slice_get s.signed n) (slice_get s.secrets n) refl e

@@ -26,26 +26,26 @@ use Rattle.book.specs.Fulfilled.{Preimages, preimages_after, preimages_replayed,
 use Rattle.book.proofs.Fundings.{as_many}
 use Rattle.book.proofs.Accepting.{asked_ok}
 
--- a channel's list is written
+-- a channel's list is changed
 written_by : (more : List (List ℕ)) (vs : List (Vec (List ℕ))) (c : ℕ) (v w : Vec (List ℕ)) → slice_get vs c ≡ Some v → w.items ≡ v.items ++ more
     → map (λ (x : Vec (List ℕ)). x.items) (set vs c w) ≡ at_index (λ own. own ++ more) c (map (λ (x : Vec (List ℕ)). x.items) vs)
 written_by more [] c v w found is = absurd (none-some v found)
 written_by more (x ∷ xs) zero v w found is = ap (λ y. y ∷ map (λ (z : Vec (List ℕ)). z.items) xs) (is ∙ ap (λ (z : Vec (List ℕ)). z.items ++ more) (sym (same_Some x v found)))
 written_by more (x ∷ xs) (suc c) v w found is = ap (λ ys. x.items ∷ ys) (written_by more xs c v w found is)
 
--- nothing is put at its end
+-- nothing is appended to a list
 pub nothing_more : (c : ℕ) (ps : List (List (List ℕ))) → at_index (λ own. own ++ []) c ps ≡ ps
 nothing_more c [] = refl
 nothing_more zero (p ∷ ps) = ap (λ q. q ∷ ps) (append-nil p)
 nothing_more (suc c) (p ∷ ps) = ap (λ qs. p ∷ qs) (nothing_more c ps)
 
--- what is written stands there
+-- what was written is read back
 written_there : {A : Type 0} (xs : List A) (c : ℕ) (x y z : A) → slice_get xs c ≡ Some x → slice_get (set xs c y) c ≡ Some z → z ≡ y
 written_there [] c x y z found there = absurd (none-some x found)
 written_there (u ∷ us) zero x y z found there = sym (same_Some y z there)
 written_there (u ∷ us) (suc c) x y z found there = written_there us c x y z found there
 
--- a channel whose list is there
+-- a channel that has a list
 module _ (vs : List (Vec (List ℕ))) (c : ℕ) (v w : Vec (List ℕ)) (within : c < length (map (λ (x : Vec (List ℕ)). x.items) vs)) (is : v ≡ get_or vs c v) where
   there : slice_get vs c ≡ Some v
   there = slice_get_read vs (length vs) c v refl (subst (λ n. c < n) (length-map vs (λ (x : Vec (List ℕ)). x.items)) within) is
@@ -68,7 +68,7 @@ pub pushed : {T E : Type 0} (r : Result T E) (x : T) (before items : List (List 
 pushed (Ok y) x before items p more ok is one = is ∙ ap (λ ps. before ++ ps) one
 pushed (Err e) x before items p more ok is one = absurd cc
 
--- ---- what stands at an index, and nothing past the end
+-- ---- what stands at an index, and that nothing stands past the end
 
 abbrev at_or : Preimages → ℕ → List (List ℕ)
 at_or ps c = unwrap_or (slice_get ps c) []
@@ -104,11 +104,11 @@ at_written more (suc d) (suc c) (p ∷ ps) within = at_written more d c ps (omeg
 
 -- ---- after a history
 
--- one more entry
+-- the history has one more entry
 one_more : (history : List Entry) (e : Entry) → preimages_of (history ++ e ∷ []) ≡ preimages_after e.call (preimages_of history)
 one_more history e = ap preimages_replayed (reverse-append history (e ∷ []))
 
--- as many as there are channels
+-- there are as many lists as channels
 many_after : (call : Call) (ps : Preimages) (chs : Channels) → length ps ≡ length chs → length (preimages_after call ps) ≡ length (channels_after call chs)
 many_after (Open o) ps chs same = length-append ps ([] ∷ []) ∙ ap (λ n. n + 1) same ∙ sym (length-append chs (opened_by o ∷ []))
 many_after (Stepping c step) ps chs same = as_long _ c ps ∙ same ∙ sym (as_long _ c chs)
@@ -131,7 +131,7 @@ chosen : (b : Bool) (o : Option (List ℕ)) → (if b then cons_option o [] else
 chosen true o = refl
 chosen false o = refl
 
--- an accepted call adds to each channel's what it is to the channel
+-- an accepted call appends to each channel's list what the call is to that channel
 added : (tokens_of : Signing) (chs : Channels) (c : ℕ) (call : Call) (ps : Preimages) → length ps ≡ length chs → is_accepted (answer_of tokens_of chs call) ≡ true
     → at_or (preimages_after call ps) c ≡ at_or ps c ++ cons_option (preimage_of c call) []
 added tokens_of chs c (Open o) ps same ok = at_end ps c ∙ sym (append-nil (at_or ps c))
@@ -147,7 +147,7 @@ none_there : (c : ℕ) → at_or [] c ≡ []
 none_there zero = refl
 none_there (suc c) = refl
 
--- each channel's are those of its fulfils in the history
+-- each channel's preimages are those of its fulfils in the history
 are_in : (tokens_of : Signing) (es : List Entry) (c : ℕ) → are_accepted tokens_of es ≡ true → at_or (preimages_replayed es) c ≡ preimages_in c (reverse es)
 are_in tokens_of [] c ok = none_there c
 are_in tokens_of (e ∷ es) c ok =
@@ -156,7 +156,7 @@ are_in tokens_of (e ∷ es) c ok =
     ∙ ap (λ ps. ps ++ cons_option (preimage_of c e.call) []) (are_in tokens_of es c parts.1)
     ∙ sym (ap (preimages_in c) (reverse-append (e ∷ []) es) ∙ filter_map-append (λ (x : Entry). preimage_of c x.call) (reverse es) (e ∷ []))
 
--- ---- beside a history
+-- ---- what is kept beside a history
 
 module _ (history : List Entry) (channels : List (OutPoint × ChannelBook)) (ps : Preimages) (k : AreBeside history channels ps) where
   pub of_channel : (c : ℕ) → unwrap_or (slice_get ps c) [] ≡ preimages_in c history

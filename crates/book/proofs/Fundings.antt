@@ -42,7 +42,7 @@ keys_are : (chs : Channels) → keys_of (by_funding chs) ≡ fundings_of chs
 keys_are [] = refl
 keys_are (ch ∷ chs) = ap (λ os. ch.state.held.terms.funding ∷ os) (keys_are chs)
 
--- a change of one channel that leaves its funding output
+-- one channel changes, and keeps its funding output
 changed : (f : ChannelBook → ChannelBook) → ((ch : ChannelBook) → (f ch).state.held.terms ≡ ch.state.held.terms) → (c : ℕ) (chs : Channels) (x y : ChannelBook) → slice_get chs c ≡ Some x → y ≡ f x
     → set_value_at (by_funding chs) c y ≡ by_funding (at_index f c chs)
 changed f same c [] x y found e = absurd (none-some x found)
@@ -63,24 +63,24 @@ module _ (history : List Entry) (channels : List (OutPoint × ChannelBook)) (k :
   pub fundings_are : (os : List OutPoint) → os ≡ keys_of channels → os ≡ fundings_of (replay history)
   fundings_are os is = is ∙ ap keys_of k.left ∙ keys_are (replay history)
 
-  -- an outpoint is found where it is a channel's funding output
+  -- an outpoint is found if it is a channel's funding output
   pub funds : (o : OutPoint) → is_some (lookup (same_outpoint o) channels) ≡ list_any (λ ch. same_outpoint ch.state.held.terms.funding o) (replay history)
   funds o = ap (λ es. is_some (lookup (same_outpoint o) es)) k.left ∙ any_funds o (replay history)
 
-  -- the channel of an index
+  -- the channel at an index
   pub stands : (c : ℕ) (x : ChannelBook) → slice_get (values_of channels) c ≡ Some x → slice_get (replay history) c ≡ Some x
   stands c x found = sym (ap (λ es. slice_get (values_of es) c) k.left ∙ ap (λ chs. slice_get chs c) (values_are (replay history))) ∙ found
 
-  -- one channel is written
+  -- one channel is changed
   pub written : (f : ChannelBook → ChannelBook) → ((ch : ChannelBook) → (f ch).state.held.terms ≡ ch.state.held.terms) → (c : ℕ) (x y : ChannelBook) → slice_get (values_of channels) c ≡ Some x → y ≡ f x
       → set_value_at channels c y ≡ by_funding (at_index f c (replay history))
   written f same c x y found e = ap (λ es. set_value_at es c y) k.left ∙ changed f same c (replay history) x y (stands c x found) e
 
-  -- one channel more
+  -- one more channel
   pub joined : (ch : ChannelBook) → channels ++ (ch.state.held.terms.funding, ch) ∷ [] ≡ by_funding (replay history ++ ch ∷ [])
   joined ch = ap (λ es. es ++ (ch.state.held.terms.funding, ch) ∷ []) k.left ∙ sym (map-append (λ (c : ChannelBook). (c.state.held.terms.funding, c)) (replay history) (ch ∷ []))
 
-  -- a channel is as it was
+  -- a channel did not change
   pub left_alone : (new : List Entry) → new ≡ history → (c : ℕ) (x y : ChannelBook) → slice_get (values_of channels) c ≡ Some x → y ≡ x → AreLeft new (set_value_at channels c y)
   left_alone new is c x y found e = record {
     accepted = ap (all_accepted peer_tokens) is ∙ k.accepted;

@@ -1,4 +1,4 @@
--- A book that keeps the penalties of each revocation before it signs again: every history that calls lead to is guarded.
+-- A book keeps the penalties of each revocation before it signs again, so every history that calls lead to is guarded.
 use Rattle.std.proofs.Common.{◌≡◌, ℕ, suc, ◌<◌, ◌==◌, ◌||◌, if◌then◌else◌, Bool, true, false, true≢false, List, [], ◌∷◌, ◌++◌, length, length-append, reverse, Option, Some, None, refl, sym, ap, ◌∙◌, subst, arith, ⊎_elim, inl, inr, ◌⊎◌}
 use Rattle.std.specs.Prelude.{slice_get, option_map, unwrap_or}
 use Rattle.std.proofs.lemmas.Bool.{eqb-true, eqb-false, eq-eqb, and_from, and_parts}
@@ -45,7 +45,7 @@ step_leaves (Own u) s = refl
 step_leaves (Updated u) s = refl
 step_leaves (Signed tokens) s = refl
 
--- ---- as many secrets are there as revocations came
+-- ---- there are as many secrets as revocations came
 
 revoked_once : (c d : ℕ) (secret : List ℕ) (next_point : Key) (chs : Channels) (ch : ChannelBook) → slice_get chs d ≡ Some ch → (here : Bool) → (d == c) ≡ here
     → count_of (slice_get (channels_after (Revoke d secret next_point) chs) c) ≡ (if here then suc (count_of (slice_get chs c)) else count_of (slice_get chs c))
@@ -68,14 +68,14 @@ counted c tokens_of [] ok = refl
 counted c tokens_of (e ∷ es) ok =
     counted_once c e.call tokens_of (replayed es) ok.0 ∙ ap (λ n. if is_revocation c e.call then suc n else n) (counted c tokens_of es ok.1)
 
--- ---- a number is kept after a call where it was before, or where the call keeps its penalties
+-- ---- a number is kept after a call if it was before, or if the call keeps its penalties
 
 abbrev Kept : ℕ → ℕ → Call → Channels → Type 0
 Kept c n call chs =
     is_kept (kept_of (slice_get (channels_after call chs) c)) n ≡ true
     → (is_kept (kept_of (slice_get chs c)) n ≡ true) ⊎ ((number_kept c chs call ≡ Some n) × (n < count_of (slice_get chs c)))
 
--- the kept numbers are those of before
+-- the kept numbers do not change
 unchanged : (c n : ℕ) (call : Call) (chs : Channels) → kept_of (slice_get (channels_after call chs) c) ≡ kept_of (slice_get chs c) → Kept c n call chs
 unchanged c n call chs same h = inl (ap (λ ks. is_kept ks n) (sym same) ∙ h)
 
@@ -182,7 +182,7 @@ answered c tokens_of later (e ∷ es) ok kept = and_from _ _ (here (is_revocatio
         (kept_once c n e.call tokens_of (replayed es) ok.0 now))
         (kept n (further n lt))
 
--- ---- a signature is given out only where none is missing
+-- ---- a book signs only if no penalties are missing
 
 allowed_to_sign : (tokens_of : Signing) (c : ℕ) (es : List Entry) → AreAccepted tokens_of es → (ch : ChannelBook) → at c es ≡ Some ch → first_missing ch ≡ None
     → are_answered c [] es ≡ true

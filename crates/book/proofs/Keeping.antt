@@ -1,4 +1,4 @@
--- What the flags beside a channel say of a call that keeps penalties.
+-- What a channel's flags say of a call that keeps penalties.
 use Rattle.std.proofs.Common.{◌≡◌, ℕ, ◌+◌, ◌*◌, ◌<◌, ◌≤◌, ◌==◌, Bool, true, false, List, [], ◌∷◌, ◌++◌, length, Some, None, refl, sym, ◌∙◌, subst, arith, set, ⊎_elim}
 use Rattle.std.specs.Prelude.{slice_get, nat_lt}
 use Rattle.std.proofs.lemmas.Bool.{cases_lt, and_from, eq-eqb}
@@ -87,7 +87,7 @@ none_refused ch flags below n flag claims b there is own =
     let f : is_kept ch.kept n ≡ false = flagged ch flags below n flag b there ∙ is in
     rw (e, f, own) refl
 
--- ---- one number more
+-- ---- one more number
 
 pub beside_kept : (ch : ChannelBook) (flags : List Bool) (below n next : ℕ) (kept : List ℕ) → IsBeside ch flags below → n < length ch.state.secrets → kept ≡ ch.kept ++ n ∷ [] → below ≤ next
     → next ≤ length (set flags n true)
@@ -110,6 +110,6 @@ payable terms view s =
     let whole : (total_of view == MSAT_PER_SAT * terms.capacity) ≡ true = eq-eqb (total_of view) (MSAT_PER_SAT * terms.capacity) s.whole in
     rw (few, heights, whole) refl
 
--- as each of the peer's commitments does
+-- so does each of the peer's commitments
 pub peers_payable : (terms : Terms) (side : Side) (many n : ℕ) (cs : List CommitmentState) (c : CommitmentState) → AreNumbered terms side many cs → slice_get cs n ≡ Some c → refusal_of terms c.view ≡ None
 peers_payable terms side many n cs c numbered there = payable terms c.view (numbered.each n c there).shares

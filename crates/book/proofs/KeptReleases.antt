@@ -1,4 +1,4 @@
--- Claims of a channel's kept sets are released.
+-- The claims of a channel's kept sets can be released.
 use Rattle.std.proofs.Common.{◌≡◌, ℕ, zero, suc, if◌then◌else◌, ⊎_elim, Bool, true, false, true≢false, List, [], ◌∷◌, ◌++◌, map, reverse, Option, Some, None, Err, refl, sym, ap, ◌∙◌, subst, arith, Contains}
 use Rattle.std.specs.Prelude.{slice_get}
 use Rattle.std.specs.List.{AllByRecursion}
@@ -80,7 +80,7 @@ record Grew (old new : ChannelBook) : Type 0 where
 same_knowledge : (ch : ChannelBook) → Grew ch ch
 same_knowledge ch = record { seed = refl; secrets = λ secret h. h }
 
--- a channel that is there is there after a call, and knows as much
+-- after a call, a channel is still there, and knows at least as much
 record IsLater (c : ℕ) (old : ChannelBook) (chs : Channels) : Type 0 where
   new : ChannelBook
   there : slice_get chs c ≡ Some new
@@ -125,7 +125,7 @@ all_fill_later : (old new : ChannelBook) → Grew old new → (fs : List Filling
 all_fill_later old new g [] h = tt
 all_fill_later old new g (f ∷ fs) h = (fills_later old new g f h.0, all_fill_later old new g fs h.1)
 
--- ---- a claim that is kept is filled from then on
+-- ---- a kept claim can be filled from then on
 
 record IsFilled (c : ℕ) (es : List Entry) (claim : ClaimParts) : Type 0 where
   channel : ChannelBook

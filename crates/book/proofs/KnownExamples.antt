@@ -1,4 +1,4 @@
--- What is known, part by part: which preimages, at which numbers, and the numbers of the refusals.
+-- What is known, part by part: the preimages, the numbers, and the numbers of the refusals.
 use Rattle.std.proofs.Common.{◌≡◌, ℕ, ◌*◌, true, false, List, [], ◌∷◌, Some, None, refl}
 use Rattle.updates.specs.declared.changes.Update.TheVariants.{Fulfil as Fulfilling, Fail as Failing}
 use Rattle.updates.specs.declared.changes.OwnUpdate.TheVariants.{Fulfil, Fail}
@@ -14,7 +14,7 @@ use Rattle.book.specs.Knowing.{below, flag_at, preimages_in}
 abbrev by : ℕ → Call → Entry
 by seat call = record { seat = seat; call = call }
 
--- fulfils of two channels, made and received, one of them twice; a failure, and a call that is no step
+-- fulfils of two channels, made and received, one of them twice; a failure, and a call that is not a step
 abbrev history : List Entry
 history =
     by 0 (Stepping 1 (Own (Fulfil 0 (5 ∷ []))))
@@ -29,7 +29,7 @@ history =
 preimages : (preimages_in 1 history ≡ (5 ∷ []) ∷ (7 ∷ []) ∷ (5 ∷ []) ∷ []) × (preimages_in 0 history ≡ (6 ∷ []) ∷ []) × (preimages_in 2 history ≡ [])
 preimages = (refl, refl, refl)
 
--- what is there at a number, and what is not
+-- values at some numbers, and at none
 numbers : (below (λ n. Some (2 * n)) 3 ≡ 0 ∷ 2 ∷ 4 ∷ []) × (below (λ n. Some n) 0 ≡ []) × (below {A = ℕ} (λ n. None) 2 ≡ [])
 numbers = (refl, refl, refl)
 

@@ -1,4 +1,4 @@
--- What is known by flags, and by the numbers that are kept.
+-- What is known by flags is what is known by kept numbers.
 use Rattle.std.proofs.Common.{◌≡◌, ℕ, ◌<◌, ◌≤◌, Bool, false, List, length, Result, Ok, Err, sym, ap, ◌∙◌, ⊎_elim}
 use Rattle.std.specs.Prelude.{slice_get, unwrap_or, option_map, IfOk}
 use Rattle.std.proofs.lemmas.Bool.{cases_lt}

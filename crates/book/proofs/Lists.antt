@@ -1,9 +1,9 @@
--- What stands at an index of a list that one call changed.
+-- What stands at an index of a list after one call.
 use Rattle.std.proofs.Common.{◌≡◌, ℕ, zero, suc, List, [], ◌∷◌, ◌++◌, Some, refl, ap}
 use Rattle.std.specs.Prelude.{slice_get, option_map, unwrap_or}
 use Rattle.book.specs.Books.{at_index}
 
--- at the index that is changed, at another, and in a view that the change leaves alone
+-- at the index that changes, at another one, and where the change does not show
 pub at_here : {A : Type 0} (f : A → A) (c : ℕ) (xs : List A) → slice_get (at_index f c xs) c ≡ option_map f (slice_get xs c)
 at_here f c [] = refl
 at_here f zero (x ∷ xs) = refl
@@ -24,7 +24,7 @@ unseen see f same zero (suc c) (x ∷ xs) = refl
 unseen see f same (suc d) zero (x ∷ xs) = refl
 unseen see f same (suc d) (suc c) (x ∷ xs) = unseen see f same d c xs
 
--- one more at the end, in a view in which it is what is seen where nothing is
+-- one more element, which is seen as if nothing stood there
 pub as_before : {A V : Type 0} (see : A → V) (none : V) (x : A) → see x ≡ none → (c : ℕ) (xs : List A)
     → unwrap_or (option_map see (slice_get (xs ++ x ∷ []) c)) none ≡ unwrap_or (option_map see (slice_get xs c)) none
 as_before see none x same zero [] = same

@@ -1,4 +1,4 @@
--- What texts are loaded as: each refusal before the next one in its order.
+-- What texts are loaded as: each refusal before the next one in the order.
 use Rattle.std.proofs.Common.{◌≡◌, ℕ, List, [], ◌∷◌, replicate, Some, None, Ok, Err, codes, refl}
 use Rattle.serde_json.proofs.OnLiterals.{serde_json_on_literals}
 use Rattle.script.specs.declared.opcode.Op.TheVariants.{Push, Number, If, NotIf, Else, EndIf, Drop, Dup, Swap, Size, Equal, EqualVerify, Hash160, CheckSig, CheckMultiSig, CheckLockTimeVerify, CheckSequenceVerify}
@@ -16,7 +16,7 @@ use Rattle.book.specs.Openings.{batch_of}
 use Rattle.book.specs.Loading.{checked_of, claim_of, claims_of, call_of, entry_of}
 use Rattle.book.specs.Loaded.{dump_in, history_after_plain}
 
--- each opcode by its byte, pushes of 0, 2 and 75 bytes, the numbers 1 and 16, and bytes that are none
+-- each opcode by its byte, pushes of 0, 2 and 75 bytes, the numbers 1 and 16, and bytes that spell no opcode
 opcodes : (ops_of [] ≡ Some [])
     × (ops_of (0x63 ∷ 0x64 ∷ 0x67 ∷ 0x68 ∷ 0x75 ∷ 0x76 ∷ 0x7c ∷ 0x82 ∷ []) ≡ Some (If ∷ NotIf ∷ Else ∷ EndIf ∷ Drop ∷ Dup ∷ Swap ∷ Size ∷ []))
     × (ops_of (0x87 ∷ 0x88 ∷ 0xa9 ∷ 0xac ∷ 0xae ∷ 0xb1 ∷ 0xb2 ∷ []) ≡ Some (Equal ∷ EqualVerify ∷ Hash160 ∷ CheckSig ∷ CheckMultiSig ∷ CheckLockTimeVerify ∷ CheckSequenceVerify ∷ []))
@@ -31,7 +31,7 @@ opcodes : (ops_of [] ≡ Some [])
 unfolding ops_of ops_in
 opcodes = (refl, refl, refl, refl, refl, refl, refl, refl, refl, refl, refl)
 
--- a claim on a script that `parse` refuses, and one on a script that `check` refuses
+-- a claim whose script `parse` refuses, and one whose script `check` refuses
 abbrev bad_claim : List ℕ → PlainClaim
 bad_claim script = record { script = script; path = 0; slots = []; place = record { outpoint = record { txid = replicate 32 7; index = 0 }; value = 1; program = [] }; shell = OpenShell }
 
@@ -41,7 +41,7 @@ bad_claims : (claim_of (bad_claim (0x50 ∷ [])) ≡ None)
 unfolding claim_of claims_of checked_of ops_of ops_in
 bad_claims = (refl, refl, refl)
 
--- a release of no claim has no form; of its claims one hears first
+-- a release without claims is BadShape; a bad claim is reported first
 releases : (call_of (plain.Release 3 [] [] []) ≡ Err entries.BadShape)
     × (call_of (plain.Release 3 (bad_claim (0x50 ∷ []) ∷ []) [] []) ≡ Err entries.BadClaim)
 unfolding call_of claims_of claim_of checked_of ops_of ops_in batch_of
@@ -50,7 +50,7 @@ releases = (refl, refl)
 abbrev entry : PlainCall → PlainEntry
 entry call = record { call = call; seat = 4 }
 
--- the first entry that is not taken, and of one entry its claims first
+-- the first entry that is not taken; of one entry, the claims are tested first
 module _ (tokens_of : Signing) where
   histories : (history_after_plain tokens_of 0 [] [] ≡ Ok [])
       × (history_after_plain tokens_of 0 [] (entry (plain.Sign 0) ∷ []) ≡ Err (BadHistory 0))

@@ -135,7 +135,7 @@ from_each tokens_of i before (e ∷ es) h none =
 
 -- ---- what is written
 
--- a received update, in the message that was written
+-- a received update, read back from the message that was written
 received_again : (channel : ℕ) (u : Update) (d : Data) → d ≡ update_data u → update_of (update_data u) ≡ Some u
     → ((m : PlainReceived) → received_of d ≡ Some m → call_in (receive_data channel d) ≡ Some (plain.Step channel (Receive m)))
     → call_in (step_data channel (Updated u)) ≡ Some (plain.Step channel (plain_step (Updated u)))
@@ -172,7 +172,7 @@ are_read : (es : List Entry) → AllByRecursion ComesBack es → AllByRecursion 
 are_read [] back tokens = refl
 are_read (e ∷ es) back tokens = rw (back.0.read tokens.0, are_read es back.1 tokens.1) refl
 
--- a text that is read as the form of accepted entries is loaded as their history
+-- a text with the JSON of accepted entries is loaded as their history
 loads_again : (history : List Entry) (text : List ℕ) → all_accepted peer_tokens history ≡ true → AllByRecursion ComesBack history → read text ≡ Some (history_data history)
     → loaded peer_tokens text ≡ Ok history
 unfolding loaded

@@ -73,7 +73,7 @@ keeping_of c n chs (Release d batch) e = absurd (none-some n e)
 
 -- ---- where it stands
 
--- a number that is kept once one more is
+-- a number that is kept after one more is
 kept_by : (o : Option ℕ) (later : List ℕ) (n : ℕ) → is_kept (joined o later) n ≡ true → (is_kept later n ≡ true) ⊎ (o ≡ Some n)
 kept_by None later n h = inl h
 kept_by (Some m) later n h = ⊎_elim (λ e. inr (ap Some (eqb-true m n e))) (λ old. inl old) (or_cases (m == n) (is_kept later n) h)
@@ -93,7 +93,7 @@ answers_one c later (x ∷ xs) earlier revoking is h = ⊎_elim
     (λ k. inr (further x k))
     (answers_one c (joined (number_kept c (replayed (xs ++ revoking ∷ earlier)) x.call) later) xs earlier revoking is (and_parts _ _ h).1)
 
--- the call of one entry is allowed
+-- the call of each entry is allowed
 allowed_at : (later rest : List Entry) (e : Entry) → all_allowed (later ++ e ∷ rest) ≡ true → is_allowed e.call rest ≡ true
 allowed_at [] rest e h = (and_parts _ _ h).0
 allowed_at (x ∷ later) rest e h = allowed_at later rest e (and_parts _ _ h).1

@@ -7,7 +7,7 @@ use Rattle.std.proofs.lemmas.List.Folds.{list_any-append}
 use Rattle.book.specs.Books.{is_kept, missing_from}
 use Rattle.book.specs.Kept.{AreFlags}
 
--- the least number that is missing, where all below a number are kept and this one is not
+-- the lowest missing number is `below`, where all numbers below it are kept and it is not
 pub missing_is : (kept : List ℕ) (n count below : ℕ) → n ≤ below → ((m : ℕ) → m < below → is_kept kept m ≡ true) → is_kept kept below ≡ false
     → missing_from kept n count ≡ (if nat_lt below (n + count) then Some below else None)
 missing_is kept n zero below from before here = let e : nat_lt below (n + 0) ≡ false = grind arith in rw e refl
@@ -26,7 +26,7 @@ missing_is kept n (suc count) below from before here = ⊎_elim (λ lt. earlier 
         let gone : is_kept kept n ≡ false = ap (is_kept kept) (sym same) ∙ here in
         rw (gone, e) (ap Some (sym same))
 
--- the least missing number, and that none is
+-- the lowest missing number, and that none is missing
 pub missing_here : (kept : List ℕ) (flags : List Bool) (below : ℕ) → AreFlags kept flags below → below < length flags → missing_from kept 0 (length flags) ≡ Some below
 missing_here kept flags below are lt = let e : nat_lt below (0 + length flags) ≡ true = grind arith in missing_is kept 0 (length flags) below (omega arith) are.before are.here ∙ rw e refl
 
@@ -66,7 +66,7 @@ or_false : (a : Bool) → (a || false) ≡ a
 or_false true = refl
 or_false false = refl
 
--- one number more is kept
+-- one more number is kept
 pub kept_one : (kept : List ℕ) (flags : List Bool) (below n next : ℕ) → AreFlags kept flags below → n < length flags → below ≤ next
     → next ≤ length (set flags n true)
     → ((m : ℕ) → below ≤ m → m < next → slice_get (set flags n true) m ≡ Some true)

@@ -1,4 +1,4 @@
--- Bytes are read as the opcodes that spell them.
+-- Bytes are read as the opcodes that they spell.
 use Rattle.std.proofs.Common.{◌≡◌, ℕ, zero, suc, ◌+◌, ◌-◌, ◌==◌, ◌&&◌, nat_le, nat_lt, ◌<◌, ◌≤◌, Bool, true, false, List, [], ◌∷◌, ◌++◌, length, take, drop, Option, Some, None, refl, ap, subst, ◌∙◌, arith, length-append}
 use Rattle.std.specs.Prelude.{All, if◌then◌else◌}
 use Rattle.std.specs.List.{AllByRecursion}
@@ -13,7 +13,7 @@ use Rattle.script.specs.Spelling.{code_of, payload_of, spelling, IsOp, Spells, B
 use Rattle.texts.specs.Values.{◌>>=◌}
 use Rattle.book.specs.Opcodes.{with_code, bare_ops, op_at, ops_in, ops_of}
 
--- ---- what spells, is read
+-- ---- what opcodes spell is read as these opcodes
 
 found : (op : Op) (rest : List ℕ) → IsOp op → op_at (code_of op) (payload_of op ++ rest) ≡ Some op
 found (Push item) rest h =
@@ -41,7 +41,7 @@ unfolding ops_of
 reads ops bytes s short =
     rw (le-leb (length bytes) max_script_size short, ← s.same) (read_in (length (spelling ops)) ops s.each (omega arith))
 
--- ---- what is read, spells
+-- ---- bytes that are read spell what is read
 
 -- an opcode of one byte
 abbrev IsBare : Op → Type 0

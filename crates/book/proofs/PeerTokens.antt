@@ -1,4 +1,4 @@
--- An accepted call took its tokens as the peer's, and these have a token's form.
+-- The tokens of an accepted call were the peer's, which have a token's form.
 use Rattle.std.proofs.Common.{◌≡◌, ℕ, suc, Bool, true, false, if◌then◌else◌, List, [], ◌∷◌, length, map, Option, Some, None, option_map, refl, ap, ◌∙◌, arith}
 use Rattle.std.specs.Prelude.{not, nat_le, slice_get}
 use Rattle.std.specs.Str.{bytes_eq}
@@ -75,7 +75,7 @@ commitment_form terms c =
 htlc_forms : (terms : Terms) (c : CommitmentState) → AllByRecursion (λ t. is_token t ≡ true) (peer_tokens terms c).htlcs
 htlc_forms terms c = have_forms (htlc_key terms c) (contents_of terms c) (htlcs_of (contents_of terms c)) (htlc_key_form terms c)
 
--- ---- the same tokens have the same form
+-- ---- equal tokens have the same form
 
 same_form : (s t : List ℕ) → bytes_eq s t ≡ true → is_token t ≡ true → is_token s ≡ true
 same_form s t same form = ap is_token ((bytes_eq-Decides s t).0 same) ∙ form
@@ -129,7 +129,7 @@ call_tokens chs (Revoke c secret next_point) ok = tt
 call_tokens chs (Keep c number claims) ok = tt
 call_tokens chs (Release c batch) ok = tt
 
--- so each entry of an accepted history has its tokens
+-- so the tokens of each entry of an accepted history have their form
 pub each_token : (before es : List Entry) → first_refused_after peer_tokens before es ≡ None → AllByRecursion (λ e. HasTokens e.call) es
 each_token before [] none = tt
 each_token before (e ∷ es) none = by (is_taken peer_tokens before e) refl none (each_token (e ∷ before) es)

@@ -32,7 +32,7 @@ use Rattle.book.specs.Kept.{AreLeft}
 use Rattle.book.specs.Calling.{IsCall, IsSignRefusal, IsKeepRefusal, IsFillRefusal}
 use Rattle.book.proofs.Fundings.{stands}
 
--- memory ran out, or a refusal is the first that holds
+-- memory ran out, or a refusal is the first that applies
 
 to_take : (first : Option ChannelError) (r : ChannelError) → IsRefusal first r → (r ≡ refuses.NoMemory) ⊎ (first ≡ Some r)
 to_take first refuses.NoMemory is = inl refl
@@ -93,7 +93,7 @@ release_answer : (chs : Channels) (c : ℕ) (ch : ChannelBook) (b : Batch) (e : 
     → answer_of peer_tokens chs (Release c b) ≡ released (Err (Unfilled e))
 release_answer chs c ch b e found is = rw (found, is) refl
 
--- ---- refused calls in whole
+-- ---- refused calls as a whole
 
 module _ (history new : List Entry) (channels : List (OutPoint × ChannelBook)) (k : AreLeft history channels) (same : new ≡ history) (seat c : ℕ) (x : ChannelBook) (found : slice_get (values_of channels) c ≡ Some x) where
   by_first : {E : Type 0} (call : Call) (wrap : E → Reply) (none e : E) (first : Option E) → ((r : E) → is_accepted (wrap r) ≡ false)

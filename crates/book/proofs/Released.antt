@@ -1,4 +1,4 @@
--- What a signer's rights say of a release.
+-- What a release says of its signer's rights.
 use Rattle.std.proofs.Common.{◌≡◌, ◌↔◌, ℕ, if◌then◌else◌, Bool, true, false, List, [], ◌∷◌, Option, Some, None, Result, Ok, Err, refl, sym, ap, ◌∙◌, inl, inr, ◌⊎◌}
 use Rattle.std.specs.Prelude.{MatchResult, IfOk}
 use Rattle.tx.specs.Parts.{Output}
@@ -60,7 +60,7 @@ named first OutputsExceed (inl h) = absurd cc
 named first MixedShells (inl h) = absurd cc
 named first SameOutpoint (inl h) = absurd cc
 
--- what filling by the signer says of the rights that it has
+-- filling with the signer tests the rights that it has
 pub tested_by : (b : Batch) (r s : Rights) (given : Result Filling FillError) → AreSame r s → MatchResult given (IsFillingOf b.claims b.outputs r b.preimages) (IsFirstRefusal b.claims b.outputs r b.preimages)
     → MatchResult given (λ f. fill_refusal b.claims b.outputs s b.preimages ≡ None) (IsFillRefusal (fill_refusal b.claims b.outputs s b.preimages))
 tested_by b r s (Ok f) same h = sym (same_refusal b.claims b.outputs r s b.preimages same) ∙ refusals_are_found.filled b.claims b.outputs r b.preimages h.passed h.fillable
@@ -75,7 +75,7 @@ pub filled_by : (b : Batch) (r : Rights) (given : Result Filling FillError) → 
 filled_by b r (Ok f) h = ap (λ t. record { tx = t; places = f.places }) h.tx ∙ ap (λ ps. record { tx = (filling_by b).tx; places = ps }) h.places
 filled_by b r (Err e) h = tt
 
--- and of any rights to the same keys
+-- and any rights to the same keys
 pub filled_as : (b : Batch) (r : Rights) (given : Result Filling FillError) → MatchResult given (IsFillingOf b.claims b.outputs r b.preimages) (IsFirstRefusal b.claims b.outputs r b.preimages) → (s : Rights) → AreSame r s
     → MatchResult given (λ f. (fill_refusal b.claims b.outputs s b.preimages ≡ None) × (f ≡ filling_by b)) (IsFillRefusal (fill_refusal b.claims b.outputs s b.preimages))
 filled_as b r (Ok f) h s same = (tested_by b r s (Ok f) same h, filled_by b r (Ok f) h)

@@ -1,4 +1,4 @@
--- What a book tells of its channels for claims and for penalties: the funding outputs, and which revoked commitments have none kept.
+-- What a book tells of its channels: the funding outputs, and which revoked commitments have no penalties kept.
 use Rattle.std.proofs.Common.{◌≡◌, ℕ, List, [], ◌∷◌, map, Option, Some, None, refl, replicate}
 use Rattle.std.specs.Prelude.{option_map}
 use Rattle.std.proofs.lemmas.Option.{none-some}
@@ -21,14 +21,14 @@ module _ (first second : Opening) where
       × (fundings_of (replay (entry (Open first) ∷ entry (Sign 0) ∷ entry (Open second) ∷ entry (Keep 1 0 []) ∷ [])) ≡ first.terms.funding ∷ second.terms.funding ∷ [])
   fundings = (refl, refl)
 
--- a channel with two revoked commitments, of which these have their penalties kept
+-- a channel with two revoked commitments; `kept` are the numbers whose penalties are kept
 abbrev channel : State → List ℕ → ChannelBook
 channel s kept = record { state = record s { secrets = replicate 32 7 ∷ replicate 32 8 ∷ [] }; kept = kept }
 
 abbrev refusal : State → List ℕ → ℕ → Option ℕ
 refusal s kept n = option_map keep_error_number (early_keep_refusal n (Some (channel s kept)))
 
--- no channel, a number past those that are revoked, and one that is kept: another one's set tells nothing
+-- no channel, a number that is not revoked, and a number that is kept; keeping another number changes nothing
 refusals : (s : State) →
     (map (λ n. option_map keep_error_number (early_keep_refusal n None)) (0 ∷ 5 ∷ []) ≡ Some 9 ∷ Some 9 ∷ [])
     × (map (refusal s []) (0 ∷ 1 ∷ 2 ∷ 3 ∷ []) ≡ None ∷ None ∷ Some 1 ∷ Some 1 ∷ [])
@@ -36,6 +36,6 @@ refusals : (s : State) →
     × (map (refusal s (0 ∷ 2 ∷ [])) (0 ∷ 1 ∷ 2 ∷ []) ≡ Some 3 ∷ None ∷ Some 1 ∷ [])
 refusals s = (refl, refl, refl, refl)
 
--- nothing is told of no channel
+-- nothing is told without a channel
 no_channel : (state : RevokedState) → IsRevokedIn 0 None state → ⊥
 no_channel state is = none-some is.ch is.there

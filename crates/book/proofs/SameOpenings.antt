@@ -1,4 +1,4 @@
--- Keys, terms, openings and batches are what their parts are: what their types keep beside has one proof.
+-- Keys, terms, openings and batches with equal parts are equal: what their types keep besides has one proof.
 use Rattle.std.proofs.Common.{◌≡◌, ◌≤◌, ℕ, ◌+◌, ◌*◌, Bool, true, false, true≢false, List, length, Option, Some, None, refl, sym, ap, ◌∙◌, subst}
 use Rattle.std.specs.Prelude.{◌↔◌, ◌&&◌, nat_le, nat_lt, IsTrue, IsSome, IfSome}
 use Rattle.std.proofs.lemmas.Bool.{and_from, and_parts, le-leb, leb-true, lt-ltb, ltb-true, eq-eqb}
@@ -32,7 +32,7 @@ use Rattle.book.specs.declared.calls.Batch.{Batch}
 pub same_key : (a b : Key) → a.bytes ≡ b.bytes → a ≡ b
 same_key a b q = λ i. record { bytes = q i; form = is_prop→PathP (λ j. IsTrue (is_key (q j))) (λ j. Bool-set _ _) a.form b.form i }
 
--- the base keys of a seed are these
+-- these base keys are those of the seed
 pub same_bases : (seed : List ℕ) (b : BaseKeys) → IsSeedOf seed b → b ≡ bases_of seed
 same_bases seed b h =
     λ i. record {
@@ -82,7 +82,7 @@ same_batch b c h =
       given = is_prop→PathP (λ j. length (h.outputs_is j) ≤ max_outputs) (λ j. le_prop) b.given c.given i;
     }
 
--- ---- what the constructors answer
+-- ---- what the constructors return
 
 pub agrees : (t : ProposedTerms) → CanAgree t.capacity t.a.start t.b.start → can_agree t ≡ true
 agrees t h = and_from (nat_le t.capacity max_value) _ (le-leb t.capacity max_value h.limited) (eq-eqb (t.a.start + t.b.start) (MSAT_PER_SAT * t.capacity) h.whole)

@@ -1,4 +1,4 @@
--- Terms, shares and states are what their parts are, and a test of all parts finds it.
+-- Terms, shares and states with equal parts are equal, and a test of all parts decides it.
 use Rattle.std.proofs.Common.{◌≡◌, ℕ, ◌==◌, ◌&&◌, Bool, List, Some, None, sym, ap, ◌∙◌, subst}
 use Rattle.std.specs.Prelude.{slice_get}
 use Rattle.std.specs.Bool.{Decides}
@@ -59,7 +59,7 @@ party_decides a b =
     (Decides-and _ _ (Decides-eqb a.dust b.dust) (Decides-and _ _ (Decides-eqb a.delay b.delay) (Decides-and _ _ (Decides-eqb a.minimum b.minimum) (Decides-and _ _ (Decides-eqb a.start b.start)
     (bases_decides a.bases b.bases)))))
 
--- with a test of the openers
+-- with a test of the opener
 abbrev pub terms_test : Bool → Terms → Terms → Bool
 terms_test openers t u = outpoint_test t.funding u.funding && (t.capacity == u.capacity && (openers && (t.feerate == u.feerate && (party_test t.a u.a && party_test t.b u.b))))
 
@@ -83,7 +83,7 @@ no_commitment_at s n state none at = none-some at.commitment (sym none ∙ at.si
 pub no_secret_at : (s : State) (n : ℕ) (state : RevokedState) → slice_get s.secrets n ≡ None → IsStateAt s n state → ⊥
 no_secret_at s n state none at = none-some at.secret (sym none ∙ at.revealed)
 
--- by its parts, where the commitment stands at its number and its secret is known
+-- by its parts, if the commitment stands at its number and its secret is known
 pub state_decides : (s : State) (terms : Terms) (side : Side) (many n : ℕ) (cs : List CommitmentState) (c : CommitmentState) (secret : List ℕ) (state : RevokedState) (r : Bool) → AreNumbered terms side many cs
     → slice_get cs n ≡ Some c → slice_get s.signed n ≡ Some c → slice_get s.secrets n ≡ Some secret
     → Decides r (HasParts s.held.terms c.view (other s.held.side) c.number secret state) → Decides r (IsStateAt s n state)

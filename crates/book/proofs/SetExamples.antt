@@ -1,4 +1,4 @@
--- Which claims are on which outputs, and how many a batch may have.
+-- Which claims are on which outputs, and how many claims a batch may have.
 use Rattle.std.proofs.Common.{◌≡◌, ℕ, true, false, List, [], ◌∷◌, length, replicate, None, refl, arith}
 use Rattle.std.proofs.lemmas.Bool.{and_right}
 use Rattle.tx.specs.Parts.{Output}
@@ -22,11 +22,11 @@ hash = replicate 20 9
 abbrev place : ℕ → ℕ → List ℕ → Place
 place index value hash = record { outpoint = record { txid = replicate 32 7; index = index }; value = value; program = 0 ∷ 20 ∷ hash }
 
--- a path of `arity` slots, on which nothing else is asked
+-- a path of `arity` slots without facts
 abbrev path : ℕ → Path
 path arity = record { arity = arity; facts = []; ops = 3; height = 2; lock = None; age = None }
 
--- an output of a key's hash with these paths, of which the first is taken; and a claim on it, which says that its script has others
+-- a key hash output with these paths, of which the first is taken; and a claim on it that lists other paths for its script
 abbrev output : List Path → Claimable
 output paths = record { place = place 1 1000 hash; form = record { ops = key_hash hash; paths = paths }; path = 0; slots = []; shell = Open }
 
@@ -55,7 +55,7 @@ fillings : (same_filling (Signature hash) (Signature hash) ≡ true)
     × (same_fillings (Bytes hash ∷ Bytes hash ∷ []) (Bytes hash ∷ []) ≡ false)
 fillings = (refl, refl, refl, refl, refl, refl, refl, refl, refl, refl, refl, refl, refl)
 
--- a claim is judged by the paths of the output's form, and not by those that it has itself
+-- a claim is judged by the paths of the output's form, not by those that it has itself
 judgements : (is_claim_on (output (path 0 ∷ [])) (claim (path 0 ∷ []) (place 1 1000 hash) 0 Open) ≡ true)
     × (is_claim_on (output (path 0 ∷ [])) (claim [] (place 1 1000 hash) 0 Open) ≡ true)
     × (is_claim_on (output []) (claim (path 0 ∷ []) (place 1 1000 hash) 0 Open) ≡ false)
@@ -65,7 +65,7 @@ judgements : (is_claim_on (output (path 0 ∷ [])) (claim (path 0 ∷ []) (place
 unfolding judgement_of script_hash_program
 judgements = (refl, refl, refl, refl, refl, refl)
 
--- and no transaction may be fixed round it
+-- and its shell may not be fixed
 fixed : (t : Transaction) → is_claim_on (output (path 0 ∷ [])) (claim (path 0 ∷ []) (place 1 1000 hash) 0 (Fixed t)) ≡ false
 fixed t = and_right _ false refl
 

@@ -1,4 +1,4 @@
--- What is found to be a penalty set is one, and each is found.
+-- The test accepts exactly the penalty sets.
 use Rattle.std.proofs.Common.{◌≡◌, ℕ, ◌+◌, ◌==◌, ◌&&◌, not, Bool, true, false, true≢false, List, [], ◌∷◌, ◌++◌, map, drop, length, get_or, ◌<◌, ◌≤◌, All, Result, Ok, refl, sym, ap, ◌∙◌, subst, bytes_eq}
 use Rattle.std.specs.Prelude.{is_ok}
 use Rattle.std.specs.List.{AllByRecursion}
@@ -29,7 +29,7 @@ use Rattle.book.specs.Penalties.{same_outpoint, same_place, same_filling, same_f
 use Rattle.book.proofs.Alike.{nothing_in}
 use Rattle.book.proofs.CheckedForms.{forms_are_checked}
 
--- ---- what is the same is found to be so
+-- ---- equal parts pass the test
 
 bytes_same : (a : List ℕ) → bytes_eq a a ≡ true
 bytes_same a = (bytes_eq-Decides a a).1 refl
@@ -49,7 +49,7 @@ place_same a = and_from _ _ (and_from _ _ (and_from _ _ (bytes_same a.outpoint.t
 claimable_same : (a : Claimable) → same_claimable a a ≡ true
 claimable_same a = and_from _ _ (and_from _ _ (and_from _ _ (place_same a.place) (bytes_same (spelling a.form.ops))) (eq-eqb a.path _ refl)) (fillings_same a.slots)
 
--- ---- and what is found to be the same is so
+-- ---- parts that pass the test are equal
 
 not_so : {P : Type 0} → false ≡ true → P
 not_so e = absurd (true≢false (sym e))
@@ -89,7 +89,7 @@ place_is a b e =
 same_list : {A E : Type 0} (x y : A) (r : Result A E) → r ≡ Ok x → r ≡ Ok y → x ≡ y
 same_list x y r h k = cc
 
--- scripts of the same bytes have the same paths
+-- scripts of equal bytes have equal paths
 pub same_ways : (a b : CheckedScript) → IsChecked a → IsChecked b → bytes_eq (spelling a.ops) (spelling b.ops) ≡ true → a ≡ b
 same_ways a b h k e =
     let ops : a.ops ≡ b.ops = spelling-unique a.ops b.ops h.each k.each ((bytes_eq-Decides (spelling a.ops) (spelling b.ops)).0 e) in
@@ -111,7 +111,7 @@ open_is : (s : Shell) → not (is_fixed s) ≡ true → s ≡ Open
 open_is Open e = refl
 open_is (Fixed t) e = not_so e
 
--- ---- the claims are by transactions of any kind
+-- ---- the claims have open shells
 
 abbrev pub AllOpen : List Claimable → Type 0
 AllOpen os = AllByRecursion (λ o. o.shell ≡ Open) os
@@ -132,7 +132,7 @@ open_from c index (o ∷ os) = open_append _ _ (open_on c index _ o.kind) (open_
 
 -- ---- claims on outputs
 
--- a claim of a checked script, which was accepted on it, is judged on the other's
+-- a claim that was accepted on a checked script of its own is judged on another of equal bytes
 pub judged : (k c : ClaimParts) → IsChecked k.ways → IsChecked c.ways → IsAccepted c → is_claim_on (claimed_by k) c ≡ (same_claimable (claimed_by c) (claimed_by k) && not (is_fixed c.shell))
 judged k c h j accepted = by (same_claimable (claimed_by c) (claimed_by k)) refl
   where
@@ -188,9 +188,9 @@ claims_are (o ∷ os) (c ∷ cs) p h k e =
     let parts = and_parts (is_claim_on o c) (are_claims_on os cs) e in
     (claim_is o c p.0 h.0 k.0 parts.0, claims_are os cs p.1 h.1 k.1 parts.1)
 
--- ---- two lists in step
+-- ---- two lists side by side
 
--- what is left of both being claims on outputs, the whole is
+-- if what is left of both lists is claims on outputs, so are the whole lists
 abbrev pub Onward : List ClaimParts → List ClaimParts → ℕ → List ClaimParts → Type 0
 Onward kept claims i others = All (λ k. k.shell ≡ Open) kept → AreClaimsOn (map claimed_by (drop i kept)) others → AreClaimsOn (map claimed_by kept) claims
 

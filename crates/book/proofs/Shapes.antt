@@ -1,4 +1,4 @@
--- What is read as a dump has the shape of one: no entry of it is refused as BadShape. The first entry that is not taken is refused.
+-- A text that is read as a dump has no entry that is refused as BadShape. The first entry that is not taken is refused.
 use Rattle.std.proofs.Common.{◌≡◌, ◌↔◌, ℕ, suc, ◌+◌, Bool, true, false, true≢false, List, [], ◌∷◌, ◌++◌, length, take, map, reverse, Option, Some, None, Result, Ok, Err, refl, sym, ap, ◌∙◌, subst, codes, arith, append-nil}
 use Rattle.std.specs.Prelude.{if◌then◌else◌, option_map, ⊤, slice_get}
 use Rattle.std.specs.Str.{bytes_eq}
@@ -40,7 +40,7 @@ use Rattle.book.specs.Loaded.{or_refused, dump_in_value, with_entry, history_aft
 use Rattle.book.specs.Refused.{HasBadClaim, HasBadCall, StopsAt, RefusalsComeInOrder}
 use Rattle.book.proofs.Accepted.{onto}
 
--- ---- what is there has a property
+-- ---- properties of an optional value
 
 abbrev Gives : {A : Type 0} → (A → Type 0) → Option A → Type 0
 Gives P (Some x) = P x
@@ -67,7 +67,7 @@ gives_either P false o p h k = k
 abbrev CanAgree : PlainOpening → Type 0
 CanAgree o = can_agree o.terms ≡ true
 
--- the sides can agree on an opening's terms, and one transaction takes what a release has
+-- the sides can agree on an opening's terms, and one transaction can take a release
 abbrev IsShaped : PlainCall → Type 0
 IsShaped (plain.Open o) = CanAgree o
 IsShaped (plain.Step channel step) = ⊤
@@ -168,7 +168,7 @@ shaped_dump d =
     (gives_any (AllByRecursion IsShapedEntry) (get (codes "history") form) _ (λ h. gives_any (AllByRecursion IsShapedEntry) (as_array h) _ shaped_entries))
     (λ history are. gives_if IsShapedDump (is_version version history) _ (λ known. are))))
 
--- ---- what it is taken as
+-- ---- the calls and entries that it stands for
 
 -- there is no fault but a bad claim
 abbrev IsSound : {A : Type 0} → Result A EntryError → Type 0
@@ -194,7 +194,7 @@ sound_batch channel claims outputs preimages within = go (are_within (length cla
     go true h is = tt
     go false h is = absurd (true≢false (sym is))
 
--- as many claims are accepted as there are
+-- the accepted claims have the same number
 same_length : (ps : List PlainClaim) → Gives (λ claims. length claims ≡ length ps) (claims_of ps)
 unfolding claims_of
 same_length [] = refl
@@ -274,7 +274,7 @@ Says tokens_of before p i BadShape = ⊤
 Says tokens_of before p i (BadClaim k) = (k ≡ i) × HasBadClaim before p
 Says tokens_of before p i (BadHistory k) = (k ≡ i) × HasBadCall tokens_of before p
 
--- so many entries are accepted, and the next one is refused
+-- `many` entries are accepted, and the next one is refused
 record Stops (tokens_of : Signing) (i : ℕ) (before : List Entry) (ps : List PlainEntry) (e : LoadError) : Type 0 where
   many : ℕ
   earlier : List Entry
@@ -330,7 +330,7 @@ stops tokens_of i before (p ∷ ps) e ok is = by (entry_of p) refl is (λ x acce
     by (Err entries.BadShape) read is later = at_once tokens_of i before p ps e ok (subst (λ f. Says tokens_of before p i f) (same_Err is) tt)
     by (Err entries.BadClaim) read is later = at_once tokens_of i before p ps e ok (subst (λ f. Says tokens_of before p i f) (same_Err is) (refl, read))
 
--- the same of the history of a dump
+-- the same for the history of a dump
 stops_at : (tokens_of : Signing) (text : List ℕ) (dump : PlainDump) (e : LoadError) (i : ℕ) (Refused : List Entry → PlainEntry → Type 0) → dump_in text ≡ Ok dump
     → history_after_plain tokens_of 0 [] dump.history ≡ Err e → ((before : List Entry) (p : PlainEntry) (k : ℕ) → Says tokens_of before p k e → (i ≡ k) × Refused before p)
     → StopsAt tokens_of text i Refused
@@ -368,7 +368,7 @@ of_value tokens_of (Some d) = go (dump_of d) refl (shaped_dump d)
         let h : IsOfEntries (history_after_plain tokens_of 0 [] dump.history) = of_entries tokens_of 0 [] dump.history are in
         ((λ e. absurd (subst IsOfEntries e h), λ e. absurd (cc)), (λ e. absurd (subst IsOfEntries e h), λ t. absurd (none-some dump (sym t.2 ∙ ap dump_of (sym (same_Some d t.0 t.1)) ∙ is))))
 
--- the refusal of an entry is of a dump's history
+-- the refusal of an entry comes from a dump's history
 of_history : (tokens_of : Signing) (text : List ℕ) (e : LoadError) → IsOfEntries (Err e) → history_in_dump tokens_of (dump_in text) ≡ Err e
     → (dump : PlainDump) × (dump_in text ≡ Ok dump) × (history_after_plain tokens_of 0 [] dump.history ≡ Err e)
 of_history tokens_of text e late is = value (read text) refl is

@@ -45,7 +45,7 @@ first_of false None nothing e h = absurd (none-some e h)
 abbrev waits_of : ChannelBook → Bool
 waits_of ch = ch.state.awaiting || nat_le LAST_NUMBER ch.state.peer_number
 
--- no refusal, one for want of updates, and one that does not ask for updates
+-- no refusal, a refusal for lack of updates, and an earlier one
 pub none_refused : (ch : ChannelBook) → early_sign_refusal ch ≡ None → state_refusal ch.state ≡ None → sign_refusal ch ≡ None
 none_refused ch = none_of (waits_of ch) (first_missing ch) (covers_nothing ch.state.held.own ch.state.held.theirs)
 
@@ -55,7 +55,7 @@ new_refused ch = new_of (waits_of ch) (first_missing ch) (covers_nothing ch.stat
 pub first_refused : (ch : ChannelBook) (e : SignError) → early_sign_refusal ch ≡ Some e → sign_refusal ch ≡ Some e
 first_refused ch = first_of (waits_of ch) (first_missing ch) (covers_nothing ch.state.held.own ch.state.held.theirs)
 
--- what the flags say is missing
+-- the lowest number that the flags say is missing
 pub missing_refused : (ch : ChannelBook) (flags : List Bool) (below : ℕ) → IsBeside ch flags below → waits_of ch ≡ false → below < length flags → early_sign_refusal ch ≡ Some (PenaltiesMissing below)
 missing_refused ch flags below b waits lt =
     let first : first_missing ch ≡ Some below = ap (missing_from ch.kept 0) (sym b.count) ∙ missing_here ch.kept flags below b.are lt in

@@ -1,4 +1,4 @@
--- What `parse`, `check` and `accept` answer, and what the definition of a claim says.
+-- The results of `parse`, `check` and `accept`, against the definition of a loaded claim.
 use Rattle.std.proofs.Common.{◌≡◌, ℕ, List, [], ◌∷◌, ◌++◌, true, Option, Some, None, Result, Ok, Err, refl, sym, ap, ◌∙◌, subst, append_assoc, append-nil}
 use Rattle.std.specs.Prelude.{is_ok, IsTrue}
 use Rattle.script.specs.declared.opcode.Op.{Op}
@@ -26,7 +26,7 @@ use Rattle.book.specs.declared.calls.Entry.{Entry}
 use Rattle.book.specs.Loading.{Answers, Takes, checked_of, claim_of, claims_of, with_claims, with_seat}
 use Rattle.book.proofs.OpcodesRead.{is_read}
 
--- bytes with a fault spell no script
+-- bytes with a fault are not a script
 pub none_read : (bytes : List ℕ) (e : ParseError) → IsFault bytes e → (e ≡ parses.NoMemory → ⊥) → ops_of bytes ≡ None
 none_read bytes e fault other = go (ops_of bytes) refl
   where
@@ -123,7 +123,7 @@ pub all_taken : (whole : List PlainClaim) (done : List ClaimParts) → SoFar who
 unfolding claims_of
 all_taken whole done so_far = so_far ∙ ap Some (append-nil done)
 
--- ---- refusals that are handed on
+-- ---- refusals that are passed on
 
 pub claims_refused : (claims : Option (List ClaimParts)) (call : List ClaimParts → Result Call EntryError) (e : EntryError) → Takes {A = List ClaimParts} (Err e) claims
     → Answers {A = Call} (Err e) (with_claims claims call)

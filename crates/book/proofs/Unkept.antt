@@ -34,7 +34,7 @@ state_is s terms side many n cs c secret (Ok state) numbered there found reveale
 }
 state_is s terms side many n cs c secret (Err e) numbered there found revealed parts = tt
 
--- the claims on what a state lets claim are the penalty set of its number
+-- claims on what a state lets claim are the penalty set of its number
 pub sets_are : (s : State) (n : ℕ) (state : RevokedState) → IsStateAt s n state → (claims : List ClaimParts) → AreClaimsOn (claimable_of state) claims → is_penalty_set s n claims ≡ true
 sets_are s n state is claims full =
     let c = is.commitment in

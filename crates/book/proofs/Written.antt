@@ -1,4 +1,4 @@
--- The form of a history has no number with a fraction, and its values stand eight deep at most.
+-- The JSON of a history has no number with a fraction, and is at most eight levels deep.
 use Rattle.std.proofs.Common.{◌≡◌, ℕ, suc, ◌≤◌, max, false, List, [], ◌∷◌, map, Some, Result, Ok, Err, refl, sym, ap, ◌∙◌, subst, arith}
 use Rattle.std.specs.Prelude.{IfOk}
 use Rattle.serde_json.specs.Data.{Data, depth, items_depth}
@@ -194,7 +194,7 @@ deep_history history = go _ (each_deep history_entry_data 6 deep_entry history)
     go : (d : ℕ) → d ≤ 6 → suc (max (suc d) (max 0 0)) ≤ 8
     go d h = up _ 7 (both _ _ 7 (omega arith) (omega arith))
 
--- ---- what is printed of a value that is the history's form
+-- ---- what is printed of a value that is a history's JSON
 
 pub printed : {S E : Type 0} (bytes : S → List ℕ) (history : List Entry) (d : Data) (r : Result S E) → d ≡ history_data history
     → IfOk r (λ s. has_float d ≡ false → bytes s ≡ compact_text d) → IfOk r (λ s. bytes s ≡ dump_of history)

@@ -1,4 +1,4 @@
--- What a claim, an opening and an entry leave in a dump is taken again as the same.
+-- A claim, an opening and an entry that are dumped come back as the same.
 use Rattle.std.specs.Prelude.{◌≡◌, ◌≤◌, All, Some, Ok, length, ⊤, IsTrue}
 use Rattle.std.specs.List.{AllByRecursion}
 use Rattle.script.specs.Limits.{max_script_size}
@@ -20,7 +20,7 @@ use Rattle.book.specs.Openings.{opening_of}
 use Rattle.book.specs.Loading.{claim_of, entry_of}
 use Rattle.book.specs.Dumping.{plain_opening, plain_tokens, plain_entry, history_entry_data}
 
--- what an accepted claim is
+-- what is true of an accepted claim
 pub record IsWhole (c : ClaimParts) : Type 0 where
   pub ops : All IsOp c.ways.ops
   pub short : length (spelling c.ways.ops) ≤ max_script_size
@@ -36,7 +36,7 @@ HasWholeClaims (Revoke channel secret next_point) = ⊤
 HasWholeClaims (Keep channel number claims) = AllByRecursion IsWhole claims
 HasWholeClaims (Release channel batch) = AllByRecursion IsWhole batch.claims
 
--- what came as tokens has a token's form
+-- received tokens have a token's form
 abbrev pub HasStepTokens : Step → Type 0
 HasStepTokens (Own u) = ⊤
 HasStepTokens (Updated u) = ⊤
@@ -50,18 +50,18 @@ HasTokens (Revoke channel secret next_point) = ⊤
 HasTokens (Keep channel number claims) = ⊤
 HasTokens (Release channel batch) = ⊤
 
--- an accepted claim is taken again as the same
+-- an accepted claim comes back from its plain form as the same
 abbrev pub ClaimsComeBack : Type 0
 ClaimsComeBack = (c : ClaimParts) → IsWhole c → claim_of (plain_claim c) ≡ Some c
 
--- so is an opening, whose own base keys its seed gives
+-- so does an opening, whose own base keys derive from its seed
 abbrev pub OpeningsComeBack : Type 0
 OpeningsComeBack = (o : Opening) → opening_of (plain_opening o) ≡ Some o
 
 abbrev pub EntriesComeBack : Type 0
 EntriesComeBack = (e : Entry) → HasWholeClaims e.call → entry_of (plain_entry e) ≡ Ok e
 
--- an entry whose form is read as its plain one, if its tokens are some, and whose claims were accepted
+-- an entry comes back: its JSON is read as its plain form, if its tokens have their form, and its claims were accepted
 pub record ComesBack (e : Entry) : Type 0 where
   pub read : HasTokens e.call → entry_in (history_entry_data e) ≡ Some (plain_entry e)
   pub whole : HasWholeClaims e.call

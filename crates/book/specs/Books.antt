@@ -1,4 +1,4 @@
--- What a book knows, by its history.
+-- What a book knows, as a function of its history.
 use Rattle.std.specs.Prelude.{ℕ, zero, suc, ◌+◌, ◌==◌, nat_lt, Bool, if◌then◌else◌, List, [], ◌∷◌, ◌++◌, length, map, reverse, Option, Some, None}
 use Rattle.std.specs.List.{list_any}
 use Rattle.tx.specs.declared.input.OutPoint.{OutPoint}
@@ -49,7 +49,7 @@ channels_after (Revoke c secret next_point) chs = at_index (with_state (λ s. af
 channels_after (Keep c n claims) chs = at_index (with_kept n) c chs
 channels_after (Release c batch) chs = chs
 
--- the channels after these accepted calls, the newest first
+-- the channels after these accepted calls, which have the newest first
 abbrev pub replayed : List Entry → Channels
 replayed [] = []
 replayed (e ∷ es) = channels_after e.call (replayed es)
@@ -71,11 +71,11 @@ is_kept kept n = list_any (λ m. m == n) kept
 abbrev pub kept_at : ChannelBook → ℕ → Option Bool
 kept_at ch n = if nat_lt n (length ch.state.secrets) then Some (is_kept ch.kept n) else None
 
--- the least number from n on, of this many, that is not kept
+-- the lowest of `count` numbers from n on that is not kept
 abbrev pub missing_from : List ℕ → ℕ → ℕ → Option ℕ
 missing_from kept n zero = None
 missing_from kept n (suc count) = if is_kept kept n then missing_from kept (n + 1) count else Some n
 
--- the least number of a revoked commitment whose penalties are not kept
+-- the lowest number of a revoked commitment whose penalties are not kept
 abbrev pub first_missing : ChannelBook → Option ℕ
 first_missing ch = missing_from ch.kept 0 (length ch.state.secrets)

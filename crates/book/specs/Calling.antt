@@ -1,4 +1,4 @@
--- What a call of a book may answer, and which history it leaves.
+-- What a call of a book may return, and which history it leaves.
 use Rattle.std.specs.Str.{bytes_eq}
 use Rattle.std.specs.Prelude.{◌≡◌, ◌⊎◌, ℕ, ◌||◌, not, nat_le, List, [], map, Option, Some, None, Result, Ok, Err}
 use Rattle.std.specs.List.{cons_option}
@@ -25,44 +25,44 @@ use Rattle.book.specs.Books.{ChannelBook, first_missing}
 use Rattle.book.specs.declared.errors.StepError.{StepError}
 use Rattle.book.specs.Replies.{Reply, stepped, reply_of, history_after, if_so, if_missing}
 
--- the answer is that memory ran out, and the history is as before; or both are those of the definitions
+-- either memory ran out and the history is as before, or reply and history are those of the definitions
 abbrev pub IsCall : Reply → Reply → List Entry → List Entry → ℕ → Call → Type 0
 IsCall no_memory reply old new seat call =
     ((reply ≡ no_memory) × (new ≡ old)) ⊎ ((reply ≡ reply_of peer_tokens old call) × (new ≡ history_after peer_tokens old seat call))
 
--- a refusal to sign is the first that holds, unless memory ran out
+-- a refusal to sign is the first that applies, or memory ran out
 abbrev pub IsSignRefusal : Option SignError → SignError → Type 0
 IsSignRefusal first NoMemory = Unit {0}
 IsSignRefusal first e = first ≡ Some e
 
--- why a channel does not sign, whatever there is to sign
+-- why a channel does not sign, apart from a lack of updates
 abbrev pub early_sign_refusal : ChannelBook → Option SignError
 early_sign_refusal ch = if_so (ch.state.awaiting || nat_le LAST_NUMBER ch.state.peer_number) AwaitingRevocation (if_missing (first_missing ch) None)
 
--- the answer to a step, of which there is one message or none
+-- the reply to a step, with one message or none
 abbrev pub step_reply : Result (Option Message) StepError → Reply
 step_reply (Ok m) = stepped (Ok (cons_option m []))
 step_reply (Err e) = stepped (Err e)
 
--- a refusal to open is the first that holds, unless memory ran out
+-- a refusal to open is the first that applies, or memory ran out
 abbrev pub IsOpenRefusal : Option OpenError → OpenError → Type 0
 IsOpenRefusal first out_of_memory = Unit {0}
 IsOpenRefusal first e = first ≡ Some e
 
--- BadSignature, where the token is not the peer's on this side's commitment 0
+-- BadSignature, if the token is not the peer's on this side's commitment 0
 abbrev pub token_refusal : Opening → Option OpenError
 token_refusal o = if_so (not (bytes_eq o.token (peer_tokens o.terms (first_of o.terms o.side (point_at o.seed 0))).commitment)) BadSignature None
 
--- a refusal to keep is the first that holds, unless memory ran out
+-- a refusal to keep is the first that applies, or memory ran out
 abbrev pub IsKeepRefusal : Option KeepError → KeepError → Type 0
 IsKeepRefusal first keep_memory = Unit {0}
 IsKeepRefusal first e = first ≡ Some e
 
--- a refusal to release is the first that holds, unless memory ran out
+-- a refusal to release is the first that applies, or memory ran out
 abbrev pub IsFillRefusal : Option FillError → FillError → Type 0
 IsFillRefusal first fill_memory = Unit {0}
 IsFillRefusal first e = first ≡ Some e
 
--- the filling of a batch
+-- the transaction of a batch, with the places that it spends
 abbrev pub filling_by : Batch → Filling
 filling_by b = record { tx = filling_of b.claims b.outputs b.preimages; places = map (λ c. c.place) b.claims }

@@ -1,4 +1,4 @@
--- What openings and batches are made of.
+-- The parts of openings and batches.
 use Rattle.std.specs.Prelude.{◌≡◌, ℕ, List}
 use Rattle.tx.specs.Parts.{Output}
 use Rattle.keys.specs.declared.compressed.Key.{Key}
@@ -17,7 +17,7 @@ pub record IsOpenedBy (terms : Terms) (side : Side) (seed : List ℕ) (first_poi
   pub next_point_is : o.next_point ≡ next_point
   pub token_is : o.token ≡ token
 
--- and a batch
+-- a batch has these values
 pub record IsBatchOf (claims : List ClaimParts) (outputs : List Output) (preimages : List (List ℕ)) (b : Batch) : Type 0 where
   pub claims_is : b.claims ≡ claims
   pub outputs_is : b.outputs ≡ outputs

@@ -1,4 +1,4 @@
--- One call for the six of a book: the reply, and the one where memory ran out.
+-- The six calls of a book as one: the reply, and the reply where memory ran out.
 use Rattle.std.specs.Prelude.{Err}
 use Rattle.updates.specs.declared.errors.ChannelError.TheVariants.{NoMemory as refusal_memory}
 use Rattle.filling.specs.declared.errors.FillError.TheVariants.{NoMemory as fill_memory}
@@ -14,7 +14,7 @@ use Rattle.book.specs.declared.errors.ReleaseError.TheVariants.{Unfilled}
 use Rattle.book.specs.Replies.{Reply, opened, stepped, signed, revoked, kept, released}
 use Rattle.book.specs.Calling.{step_reply}
 
--- the answer that a reply has
+-- a method's result, as a reply
 abbrev pub reply_form : Answer → Reply
 reply_form (Opened r) = opened r
 reply_form (Stepped r) = step_reply r
@@ -23,7 +23,7 @@ reply_form (Revoked r) = revoked r
 reply_form (Kept r) = kept r
 reply_form (Released r) = released r
 
--- the answer that memory ran out
+-- the reply that memory ran out
 abbrev pub no_memory_of : Call → Reply
 no_memory_of (Open o) = opened (Err open_memory)
 no_memory_of (Step c step) = stepped (Err (Refused refusal_memory))

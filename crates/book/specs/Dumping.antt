@@ -1,4 +1,4 @@
--- The dump of a history: its calls in plain forms, and the text that has them.
+-- The dump of a history: its calls in plain form, and their JSON text.
 use Rattle.std.specs.Prelude.{ℕ, List, map}
 use Rattle.serde_json.specs.Data.{Data}
 use Rattle.serde_json.specs.Written.{compact_text}
@@ -35,7 +35,7 @@ plain_party p = record { dust = p.dust; delay = p.delay; minimum = p.minimum; st
 abbrev pub plain_terms : Terms → ProposedTerms
 plain_terms t = record { capacity = t.capacity; opener = t.opener; feerate = t.feerate; a = plain_party t.a; b = plain_party t.b }
 
--- an opening without its own base keys, which its seed gives
+-- an opening without its own base keys, which derive from its seed
 abbrev pub plain_opening : Opening → PlainOpening
 plain_opening o = record {
   terms = plain_terms o.terms;
@@ -59,7 +59,7 @@ plain_step (Own u) = OwnStep u
 plain_step (Updated u) = Receive (UpdateMessage u)
 plain_step (Signed tokens) = Receive (SignatureMessage (plain_tokens tokens))
 
--- a call, of claims with their scripts in place of their paths
+-- a call, whose claims have their scripts in place of their paths
 abbrev pub plain_call : Call → PlainCall
 plain_call (Open o) = plain.Open (plain_opening o)
 plain_call (Stepping channel step) = plain.Step channel (plain_step step)
@@ -71,7 +71,7 @@ plain_call (Release channel batch) = plain.Release channel (map plain_claim batc
 abbrev pub plain_entry : Entry → PlainEntry
 plain_entry e = record { call = plain_call e.call; seat = e.seat }
 
--- ---- the forms that are written
+-- ---- the JSON that is written
 
 abbrev pub step_data : ℕ → Step → Data
 step_data channel (Own u) = own_data channel u
@@ -94,6 +94,6 @@ history_entry_data e = entry_data (call_data e.call) e.seat
 abbrev pub history_data : List Entry → Data
 history_data history = dump_data (map history_entry_data history)
 
--- its text, with no space and with the members of each object in the order of their names
+-- its text, without whitespace, the members of each object in the order of their names
 unfoldable pub dump_of : List Entry → List ℕ
 dump_of history = compact_text (history_data history)

@@ -20,15 +20,15 @@ Preimages = List (List (List ℕ))
 abbrev pub kept_by : Fulfils → Preimages
 kept_by f = map (λ (v : Vec (List ℕ)). v.items) f.channels.items
 
--- one channel more needs no memory
+-- one more channel needs no allocation
 abbrev pub HasRoom : Fulfils → Type 0
 HasRoom f = vec_len f.channels < vec_capacity f.channels
 
--- one preimage more of this channel needs no memory
+-- one more preimage of this channel needs no allocation
 abbrev pub HasRoomAt : ℕ → Fulfils → Type 0
 HasRoomAt c f = (v : Vec (List ℕ)) → slice_get f.channels.items c ≡ Some v → vec_len v < vec_capacity v
 
--- those after an accepted call: a channel is opened with none, and a fulfil adds one to those of its channel
+-- the preimages after an accepted call: a new channel has none, and a fulfil appends one to those of its channel
 abbrev pub preimages_after : Call → Preimages → Preimages
 preimages_after (Open o) ps = ps ++ [] ∷ []
 preimages_after (Stepping c step) ps = at_index (λ own. own ++ cons_option (preimage_in step) []) c ps
@@ -37,16 +37,16 @@ preimages_after (Revoke c secret next_point) ps = ps
 preimages_after (Keep c n claims) ps = ps
 preimages_after (Release c batch) ps = ps
 
--- those after these accepted calls, the newest first
+-- the preimages after these accepted calls, which have the newest first
 abbrev pub preimages_replayed : List Entry → Preimages
 preimages_replayed [] = []
 preimages_replayed (e ∷ es) = preimages_after e.call (preimages_replayed es)
 
--- those after a history, which has the oldest entry first
+-- the preimages after a history, which has the oldest entry first
 abbrev pub preimages_of : List Entry → Preimages
 preimages_of history = preimages_replayed (reverse history)
 
--- beside a history stand the channels that it leaves, and the preimages of each channel's fulfils
+-- what a book keeps beside its history: the channels that it leaves, and the preimages of each channel's fulfils
 pub record AreBeside (history : List Entry) (channels : List (OutPoint × ChannelBook)) (preimages : Preimages) : Type 0 where
   pub left : AreLeft history channels
   pub fulfilled : preimages ≡ preimages_of history

@@ -12,9 +12,9 @@ use Rattle.book.specs.Penalties.{claimable_at, are_claims_on, is_penalty_set, Is
 use Rattle.book.specs.Books.{ChannelBook, Channels, is_kept, replayed}
 use Rattle.book.specs.Accepted.{all_accepted}
 
--- Lists of entries have the newest first here.
+-- In this file lists of entries have the newest first.
 
--- whether a call is a revocation that came in a channel, and whether it signs in it
+-- whether a call is a revocation that came in a channel, and whether it signs in that channel
 abbrev pub is_revocation : ℕ → Call → Bool
 is_revocation c (Open o) = false
 is_revocation c (Step d step) = false
@@ -23,7 +23,7 @@ is_revocation c (Revoke d secret next_point) = d == c
 is_revocation c (Keep d n claims) = false
 is_revocation c (Release d batch) = false
 
--- how many revocations came in a channel; the next one is of the peer's commitment of this number
+-- the number of revocations that came in a channel, which is also the number of the commitment that the next one revokes
 abbrev pub revocations : ℕ → List Entry → ℕ
 revocations c [] = 0
 revocations c (e ∷ es) = if is_revocation c e.call then suc (revocations c es) else revocations c es
@@ -37,8 +37,7 @@ abbrev pub is_set_in : Option ChannelBook → ℕ → List ClaimParts → Bool
 is_set_in None n claims = false
 is_set_in (Some ch) n claims = is_penalty_set ch.state n claims
 
--- the number whose penalties a call keeps in a channel, by the channels before it: its claims are accepted ones, on all that the peer's commitment of
--- this number lets this side claim
+-- the number whose penalties a call keeps in a channel, given the channels before the call: its claims are accepted ones, on all that the peer's commitment of this number lets this side claim
 abbrev pub number_kept : ℕ → Channels → Call → Option ℕ
 number_kept c chs (Open o) = None
 number_kept c chs (Step d step) = None
@@ -51,14 +50,14 @@ abbrev pub joined : Option ℕ → List ℕ → List ℕ
 joined None ns = ns
 joined (Some n) ns = n ∷ ns
 
--- whether each revocation that came in a channel has its penalties kept after it, of which the numbers of some are kept later than these entries
+-- whether each revocation that came in a channel has its penalties kept after it; `later` are the numbers that are kept after these entries
 abbrev pub are_answered : ℕ → List ℕ → List Entry → Bool
 are_answered c later [] = true
 are_answered c later (e ∷ es) =
     (if is_revocation c e.call then is_kept later (revocations c es) else true)
     && are_answered c (joined (number_kept c (replayed es) e.call) later) es
 
--- a signature stands where each revocation that came in its channel has its penalties kept between them
+-- a signature is allowed if, for each earlier revocation in its channel, the penalties were kept between the two
 abbrev pub is_allowed : Call → List Entry → Bool
 is_allowed (Open o) es = true
 is_allowed (Step d step) es = true
@@ -71,20 +70,20 @@ abbrev pub all_allowed : List Entry → Bool
 all_allowed [] = true
 all_allowed (e ∷ es) = is_allowed e.call es && all_allowed es
 
--- a history, which has the oldest entry first, is guarded
+-- a history, which has the oldest entry first, is guarded: each signature in it is allowed
 abbrev pub is_guarded : List Entry → Bool
 is_guarded history = all_allowed (reverse history)
 
 -- ---- the signing gate
 
--- a history of accepted calls is guarded, whatever the peers' messages say
+-- a history of accepted calls is guarded, for all messages of the peers
 abbrev pub AcceptedIsGuarded : Type 0
 AcceptedIsGuarded = (tokens_of : Signing) (history : List Entry) → all_accepted tokens_of history ≡ true → is_guarded history ≡ true
 
 -- ---- the same, entry by entry
 
--- a call keeps the penalties of a number in a channel, by the channels before it: claims that are accepted on all that the peer's commitment of this number lets this side claim, in order; they
--- are exactly the accepted claims on that, where the scripts are checked ones
+-- a call keeps the penalties of a number in a channel, given the channels before the call: its claims are accepted, in order, on all that the peer's commitment of this number lets this side
+-- claim. Where the scripts are checked ones, these are exactly the accepted claims on that
 pub record IsKeeping (c n : ℕ) (chs : Channels) (call : Call) : Type 0 where
   pub claims : List ClaimParts
   pub outputs : List Claimable
@@ -93,7 +92,7 @@ pub record IsKeeping (c n : ℕ) (chs : Channels) (call : Call) : Type 0 where
   pub accepted : are_claims_on outputs claims ≡ true
   pub exact : AllByRecursion (λ o. IsChecked o.form) outputs → AllByRecursion (λ x. IsChecked x.ways) claims → AreClaimsOn outputs claims
 
--- among the entries between a revocation and a signature, the newest first, there is one that keeps the penalties of the commitment that was revoked
+-- one of the entries between a revocation and a signature, which have the newest first, keeps the penalties of the revoked commitment
 pub record IsKeptBetween (c : ℕ) (between : List Entry) (revoking : Entry) (earlier : List Entry) : Type 0 where
   pub front : List Entry
   pub keeping : Entry
@@ -101,7 +100,7 @@ pub record IsKeptBetween (c : ℕ) (between : List Entry) (revoking : Entry) (ea
   pub split : between ≡ front ++ keeping ∷ back
   pub kept : IsKeeping c (revocations c earlier) (replayed (back ++ revoking ∷ earlier)) keeping.call
 
--- wherever a signature stands after a revocation in its channel
+-- this is so wherever a signature stands after a revocation in its channel
 abbrev pub GuardedMeans : Type 0
 GuardedMeans =
     (history later between earlier : List Entry) (c : ℕ) (signing revoking : Entry) → is_guarded history ≡ true

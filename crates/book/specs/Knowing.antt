@@ -1,4 +1,4 @@
--- What a node knows of a channel of its book, for what is due on the chain.
+-- What a node knows of a channel of its book, by which `resolve` finds what is due on the chain.
 use Rattle.std.specs.Prelude.{◌≡◌, ◌↔◌, ℕ, zero, suc, ◌+◌, ◌==◌, Bool, false, List, [], ◌++◌, map, length, Option, Some, None, option_map, unwrap_or, slice_get, if◌then◌else◌}
 use Rattle.std.specs.List.{cons_option, filter_map}
 use Rattle.keys.specs.Rights.{MaySign}
@@ -27,12 +27,12 @@ use Rattle.book.specs.declared.errors.KnowError.TheVariants.{NoMemory, NoSuchCha
 use Rattle.texts.specs.Values.{◌>>=◌}
 use Rattle.book.specs.Books.{ChannelBook, is_kept}
 
--- what stands at the numbers below this one, in order
+-- the values at the numbers below n, in order
 abbrev pub below : {A : Type 0} → (ℕ → Option A) → ℕ → List A
 below at zero = []
 below at (suc n) = below at n ++ cons_option (at n) []
 
--- a flag that is there and set
+-- whether a flag is there and set
 abbrev pub flag_at : List Bool → ℕ → Bool
 flag_at flags n = unwrap_or (slice_get flags n) false
 
@@ -88,18 +88,18 @@ preimage_in (Own (Fulfil id preimage)) = Some preimage
 preimage_in (Updated (Fulfilling id preimage)) = Some preimage
 preimage_in step = None
 
--- where it is one of this channel
+-- the same for a call of this channel
 abbrev pub preimage_of : ℕ → Call → Option (List ℕ)
 preimage_of c (Stepping d step) = if d == c then preimage_in step else None
 preimage_of c call = None
 
--- the preimages of a channel's fulfils in these entries, in their order, each as often as it came
+-- the preimages of a channel's fulfils in these entries, in order, with repeats
 abbrev pub preimages_in : ℕ → List Entry → List (List ℕ)
 preimages_in c entries = filter_map (λ e. preimage_of c e.call) entries
 
 -- ---- all of it
 
--- what a side in this state knows, where these revoked commitments have their penalties kept and these preimages came
+-- what a side in this state knows; `kept` says which revoked commitments have their penalties kept, and `preimages` are those that came
 pub record IsKnownOf (s : State) (kept : ℕ → Bool) (preimages : List (List ℕ)) (k : Known) : Type 0 where
   pub terms_are : k.terms ≡ s.held.terms
   pub side_is : k.side ≡ s.held.side
@@ -112,12 +112,12 @@ pub record IsKnownOf (s : State) (kept : ℕ → Bool) (preimages : List (List �
   pub revoked_are : map revoked_parts k.revoked ≡ below (revoked_at s kept) (length s.secrets)
   pub preimages_are : k.preimages ≡ preimages
 
--- what a book knows of a channel, where it is there
+-- what a book knows of a channel, if the channel is there
 abbrev pub IsKnownIn : List Entry → ℕ → Option ChannelBook → Known → Type 0
 IsKnownIn history c None k = ⊥
 IsKnownIn history c (Some ch) k = IsKnownOf ch.state (is_kept ch.kept) (preimages_in c history) k
 
--- a refusal is that there is no such channel, else that memory ran out
+-- a refusal: there is no such channel, or else memory ran out
 abbrev pub IsKnowRefusal : Option ChannelBook → KnowError → Type 0
 IsKnowRefusal None e = e ≡ NoSuchChannel
 IsKnowRefusal (Some ch) e = e ≡ NoMemory

@@ -1,4 +1,4 @@
--- What the plain forms of a dump stand for: claims are accepted anew.
+-- What the plain forms of a dump stand for. Claims are accepted anew.
 use Rattle.std.specs.Prelude.{◌≡◌, ℕ, is_ok, if◌then◌else◌, List, [], ◌∷◌, Option, Some, None, option_map, Result, Ok, Err}
 use Rattle.std.specs.Result.{result_ok}
 use Rattle.script.specs.declared.opcode.Op.{Op}
@@ -26,34 +26,34 @@ use Rattle.book.specs.declared.calls.Entry.{Entry}
 use Rattle.book.specs.Opcodes.{ops_of}
 use Rattle.book.specs.Openings.{opening_of, batch_of}
 
--- an answer is the one of the definition, unless memory ran out
+-- a result is the defined one, unless memory ran out
 abbrev pub Answers : {A : Type 0} → Result A EntryError → Result A EntryError → Type 0
 Answers (Ok x) answer = answer ≡ Ok x
 Answers (Err NoMemory) answer = Unit {0}
 Answers (Err e) answer = answer ≡ Err e
 
--- the same of what no other fault than a bad claim has
+-- the same where the only other fault is a bad claim
 abbrev pub Takes : {A : Type 0} → Result A EntryError → Option A → Type 0
 Takes (Ok x) taken = taken ≡ Some x
 Takes (Err NoMemory) taken = Unit {0}
 Takes (Err BadClaim) taken = taken ≡ None
 Takes (Err e) taken = ⊥
 
--- the script of these bytes with its paths, where `parse` and `check` take it
+-- the script of these bytes with its paths, if `parse` and `check` take it
 abbrev pub listed : List Op → Option CheckedScript
 listed ops = result_ok (listing ops) >>= (λ paths. Some (record { ops = ops; paths = paths }))
 
 unfoldable pub checked_of : List ℕ → Option CheckedScript
 checked_of bytes = ops_of bytes >>= listed
 
--- the claim, where it is accepted
+-- the claim, if it is accepted
 abbrev pub accepted : ClaimParts → Option ClaimParts
 accepted c = if is_ok (judgement_of c.ways c.index c.slots c.place c.shell) then Some c else None
 
 unfoldable pub claim_of : PlainClaim → Option ClaimParts
 claim_of p = checked_of p.script >>= (λ ways. accepted (record { ways = ways; index = p.path; slots = p.slots; place = p.place; shell = bare_shell p.shell }))
 
--- the claims, where each is accepted
+-- the claims, if each is accepted
 unfoldable pub claims_of : List PlainClaim → Option (List ClaimParts)
 claims_of [] = Some []
 claims_of (p ∷ ps) = claim_of p >>= (λ c. claims_of ps >>= (λ cs. Some (c ∷ cs)))
@@ -68,12 +68,12 @@ step_of (OwnUpdate u) = Own u
 step_of (Receive (UpdateMessage u)) = Updated u
 step_of (Receive (SignatureMessage s)) = Signed (tokens_of s)
 
--- what is there, or has a bad shape
+-- the value, or BadShape if there is none
 abbrev pub shaped : {A : Type 0} → Option A → Result A EntryError
 shaped (Some x) = Ok x
 shaped None = Err BadShape
 
--- the call with these claims, where each is accepted
+-- the call with these claims, if each is accepted
 abbrev pub with_claims : Option (List ClaimParts) → (List ClaimParts → Result Call EntryError) → Result Call EntryError
 with_claims (Some claims) call = call claims
 with_claims None call = Err BadClaim
@@ -81,7 +81,7 @@ with_claims None call = Err BadClaim
 abbrev pub release_of : ℕ → List Output → List (List ℕ) → List ClaimParts → Result Call EntryError
 release_of channel outputs preimages claims = shaped (option_map (Release channel) (batch_of claims outputs preimages))
 
--- the call of a plain one
+-- the call that a plain one stands for
 unfoldable pub call_of : PlainCall → Result Call EntryError
 call_of (plain.Open o) = shaped (option_map Open (opening_of o))
 call_of (plain.Step channel step) = Ok (Stepping channel (step_of step))

@@ -6,24 +6,24 @@ use Rattle.script.specs.Limits.{max_script_size}
 use Rattle.script.specs.Spelling.{code_of, payload_of}
 use Rattle.texts.specs.Values.{◌>>=◌}
 
--- the opcodes without a number or bytes of their own
+-- the opcodes without a payload
 abbrev pub bare_ops : List Op
 bare_ops =
     If ∷ NotIf ∷ Else ∷ EndIf ∷ Drop ∷ Dup ∷ Swap ∷ Size ∷ Equal ∷ EqualVerify ∷ Hash160 ∷ CheckSig ∷ CheckMultiSig ∷ CheckLockTimeVerify ∷ CheckSequenceVerify ∷ []
 
--- the one of this byte
+-- the one with this byte
 abbrev pub with_code : ℕ → List Op → Option Op
 with_code b [] = None
 with_code b (op ∷ ops) = if code_of op == b then Some op else with_code b ops
 
--- the opcode that a byte begins, before these bytes
+-- the opcode that begins with a byte, followed by these bytes
 abbrev pub op_at : ℕ → List ℕ → Option Op
 op_at b rest =
     if nat_le b 75 then (if nat_le b (length rest) then Some (Push (take b rest)) else None)
     else if nat_lt 0x50 b && nat_le b 0x60 then Some (Number (b - 0x50))
     else with_code b bare_ops
 
--- the opcodes of bytes, at most this many
+-- the opcodes that bytes spell, with at most this number of opcodes
 unfoldable pub ops_in : ℕ → List ℕ → Option (List Op)
 ops_in zero [] = Some []
 ops_in zero (b ∷ rest) = None

@@ -1,4 +1,4 @@
--- The openings and batches that plain forms stand for: one's own base keys are those of the seed.
+-- The openings and batches that plain forms stand for. A side's own base keys derive from its seed.
 use Rattle.std.specs.Prelude.{◌≡◌, ℕ, ◌&&◌, nat_le, nat_lt, Bool, true, false, refl, List, length, Option, Some, None}
 use Rattle.std.proofs.lemmas.Bool.{and_parts, leb-true, ltb-true}
 use Rattle.tx.specs.Limits.{max_inputs, max_outputs}
@@ -28,18 +28,18 @@ key_of seed b = point_key (seed_secret seed (number_of b))
 abbrev pub bases_of : List ℕ → BaseKeys
 bases_of seed = record { funding = key_of seed Funding; payment = key_of seed Payment; delayed = key_of seed Delayed; htlc = key_of seed Htlc; revocation = key_of seed Revocation }
 
--- what a side is, by whose opening it is: its own, or its peer's
+-- own where the side is the one whose opening it is, else others
 abbrev pub own_or_others : {X : Type 0} → Side → Side → X → X → X
 own_or_others A A own others = own
 own_or_others A B own others = others
 own_or_others B A own others = others
 own_or_others B B own others = own
 
--- the base keys of a side, by whose opening it is
+-- the base keys of a side in this opening
 abbrev pub bases_at : Side → Side → PlainOpening → BaseKeys
 bases_at whose side o = own_or_others whose side (bases_of o.seed) o.bases
 
--- the terms with both sides' base keys, where the sides can agree on them
+-- the terms with both sides' base keys, if the sides can agree on them
 abbrev pub terms_with : Side → (o : PlainOpening) → can_agree o.terms ≡ true → Terms
 terms_with whose o h = proposed_with o.funding (bases_at whose A o) (bases_at whose B o) o.terms h
 
@@ -58,7 +58,7 @@ opening_if o true h =
     Some (record { terms = terms_with o.side o h; side = o.side; seed = o.seed; first_point = o.first_point; next_point = o.next_point; token = o.token; own = owns o.side o h })
 opening_if o false h = None
 
--- the opening, where the sides can agree on its terms
+-- the opening, if the sides can agree on its terms
 unfoldable pub opening_of : PlainOpening → Option Opening
 opening_of o = opening_if o (can_agree o.terms) refl
 
@@ -78,6 +78,6 @@ batch_if claims outputs preimages true h =
     })
 batch_if claims outputs preimages false h = None
 
--- the batch, where one transaction takes as many claims and outputs
+-- the batch, if one transaction can take this number of claims and outputs
 unfoldable pub batch_of : List ClaimParts → List Output → List (List ℕ) → Option Batch
 batch_of claims outputs preimages = batch_if claims outputs preimages (are_within (length claims) (length outputs)) refl

@@ -1,4 +1,4 @@
--- The penalty set of a revoked commitment, as a book knows it.
+-- The penalty set of a revoked commitment, as a book tests it.
 use Rattle.std.specs.Prelude.{◌≡◌, ℕ, ◌<◌, ◌^◌, ◌==◌, Bool, true, false, ◌&&◌, not, Ok, is_ok, All, List, [], ◌∷◌, Option, Some, None, slice_get}
 use Rattle.std.specs.List.{AllByRecursion}
 use Rattle.std.specs.Str.{bytes_eq}
@@ -30,15 +30,15 @@ use Rattle.texts.specs.Values.{◌>>=◌}
 abbrev pub revoked_contents : State → CommitmentState → List ℕ → Contents
 revoked_contents s c secret = commitment_of s.held.terms c.view (other s.held.side) c.number (point_of secret)
 
--- what a commitment lets its owner's peer claim, once it is revoked
+-- what a revoked commitment lets its owner's peer claim
 unfoldable pub claimable_in : Contents → List Claimable
 claimable_in c = claims_from c 0 c.outputs
 
--- what the peer's revoked commitment of a number lets this side claim, where it is revoked
+-- what the peer's commitment of a number lets this side claim, if it is revoked
 abbrev pub claimable_at : State → ℕ → Option (List Claimable)
 claimable_at s n = slice_get s.signed n >>= (λ c. slice_get s.secrets n >>= (λ secret. Some (claimable_in (revoked_contents s c secret))))
 
--- ---- whether claims are on these outputs, one for each, in order
+-- ---- whether claims are on these outputs: one claim for each output, in order
 
 abbrev pub same_outpoint : OutPoint → OutPoint → Bool
 same_outpoint a b = bytes_eq a.txid b.txid && a.index == b.index
@@ -52,7 +52,7 @@ same_filling (PreimageOf a) (PreimageOf b) = bytes_eq a b
 same_filling (Bytes a) (Bytes b) = bytes_eq a b
 same_filling a b = false
 
--- lists of one length, whose elements match in order
+-- lists of one length, whose elements match pairwise
 abbrev pub all_match : {A B : Type 0} → (A → B → Bool) → List A → List B → Bool
 all_match f [] [] = true
 all_match f (x ∷ xs) (y ∷ ys) = f x y && all_match f xs ys
@@ -62,11 +62,11 @@ all_match f (x ∷ xs) [] = false
 abbrev pub same_fillings : List Filling → List Filling → Bool
 same_fillings xs ys = all_match same_filling xs ys
 
--- the scripts have the same bytes, and so the same paths
+-- two claimable outputs are the same; scripts of equal bytes have equal paths
 abbrev pub same_claimable : Claimable → Claimable → Bool
 same_claimable a b = same_place a.place b.place && bytes_eq (spelling a.form.ops) (spelling b.form.ops) && a.path == b.path && same_fillings a.slots b.slots
 
--- a claim on the output, which any transaction may make, and which is accepted on the output's form
+-- a claim on the output, with an open shell, accepted on the output's form
 abbrev pub is_claim_on : Claimable → ClaimParts → Bool
 is_claim_on o c = same_claimable (claimed_by c) o && is_ok (judgement_of o.form c.index c.slots c.place c.shell) && not (is_fixed c.shell)
 
@@ -83,13 +83,13 @@ is_penalty_set s n claims = are_on (claimable_at s n) claims
 
 -- ---- sets of penalties
 
--- what the type of a checked script keeps: its paths are those of its opcodes
+-- what is true of each checked script: its paths are those of its opcodes
 pub record IsChecked (c : CheckedScript) : Type 0 where
   pub each : All IsOp c.ops
   pub listed : listing c.ops ≡ Ok c.paths
 
--- the claims that are found to be on what a commitment lets claim are the accepted claims on exactly that, in order, where the scripts are checked ones, as the forms of a commitment are that can pay its
--- view; and a revoked state lets claim what its commitment does
+-- claims pass the test exactly if they are the accepted claims, in order, on what the commitment lets be claimed. This is so for checked scripts, which are those of each commitment that can pay its
+-- view. A revoked state lets claim what its commitment does
 pub record PenaltySetsAreExact : Type 0 where
   pub found : (c : Contents) (claims : List ClaimParts) → AreClaimsOn (claimable_in c) claims → are_claims_on (claimable_in c) claims ≡ true
   pub only :

@@ -1,4 +1,4 @@
--- The refusals of a book by their numbers: 0 is that memory ran out, 9 that no such channel is there.
+-- The numbers of a book's refusals: 0 is out of memory, 9 is no such channel.
 use Rattle.std.specs.Prelude.{ℕ}
 use Rattle.updates.specs.Refusals.{refusal_number}
 use Rattle.filling.specs.Refusals.{fill_error_number}

@@ -1,4 +1,4 @@
--- When a text is refused, and as what: the refusals of a whole text come before those of its entries, and these come in the order of the entries.
+-- When a text is refused, and how: refusals of the whole text come before those of its entries, and these in the order of the entries.
 use Rattle.std.specs.Prelude.{◌≡◌, ◌↔◌, ℕ, true, false, List, take, map, reverse, Some, None, Ok, Err, slice_get}
 use Rattle.serde_json.specs.Data.{Data}
 use Rattle.serde_json.specs.Read.{read}
@@ -17,11 +17,11 @@ use Rattle.book.specs.Loaded.{dump_in, loaded}
 abbrev pub HasBadClaim : List Entry → PlainEntry → Type 0
 HasBadClaim before p = entry_of p ≡ Err entries.BadClaim
 
--- the claims of the entry are accepted, and its call is not, after these entries, the newest first
+-- the claims of the entry are accepted, and its call is refused after these entries, which have the newest first
 abbrev pub HasBadCall : Signing → List Entry → PlainEntry → Type 0
 HasBadCall tokens_of before p = (e : Entry) × (entry_of p ≡ Ok e) × (is_taken tokens_of before e ≡ false)
 
--- the text has a dump, whose entries up to an index are each accepted after those before it, and the entry at the index is refused
+-- the text has a dump: its entries before index i are each accepted after those before it, and the entry at i is refused
 pub record StopsAt (tokens_of : Signing) (text : List ℕ) (i : ℕ) (Refused : List Entry → PlainEntry → Type 0) : Type 0 where
   pub dump : PlainDump
   pub earlier : List Entry
@@ -32,7 +32,8 @@ pub record StopsAt (tokens_of : Signing) (text : List ℕ) (i : ℕ) (Refused : 
   pub there : slice_get dump.history i ≡ Some entry
   pub refused : Refused (reverse earlier) entry
 
--- a text is NotJson exactly where it is none, and BadShape exactly where its value is no dump, whatever claims and calls it has; else the first entry that is not taken is refused
+-- a text is NotJson exactly where it is invalid JSON, and BadShape exactly where its value does not have a dump's shape, whatever its claims and calls; else the first entry that
+-- is not taken is refused
 pub record RefusalsComeInOrder : Type 0 where
   pub not_json : (tokens_of : Signing) (text : List ℕ) → (loaded tokens_of text ≡ Err NotJson) ↔ (read text ≡ None)
   pub bad_shape : (tokens_of : Signing) (text : List ℕ) → (loaded tokens_of text ≡ Err BadShape) ↔ ((d : Data) × (read text ≡ Some d) × (dump_of d ≡ None))

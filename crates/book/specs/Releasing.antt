@@ -1,4 +1,4 @@
--- What is kept can be released.
+-- Kept claims can be released.
 use Rattle.std.specs.Prelude.{◌≡◌, ℕ, true, List, Contains, Some, None, Err, slice_get}
 use Rattle.std.specs.List.{AllByRecursion}
 use Rattle.claim.specs.Claims.{ClaimParts}

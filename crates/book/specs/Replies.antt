@@ -1,4 +1,4 @@
--- What a book answers to a call, and which history it has then.
+-- What a book replies to a call, and which history it leaves.
 use Rattle.std.specs.Prelude.{ℕ, Bool, true, false, not, ◌||◌, nat_lt, nat_le, List, [], ◌∷◌, ◌++◌, length, map, Option, Some, None, Result, Ok, Err, is_ok, slice_get}
 use Rattle.std.specs.List.{list_any}
 use Rattle.std.specs.Str.{bytes_eq}
@@ -35,7 +35,7 @@ use Rattle.book.specs.Books.{ChannelBook, Channels, is_kept, first_missing, repl
 use Rattle.channel.specs.Rights.{rights_of}
 use Rattle.book.specs.Signers.{fill_refusal}
 
--- an answer to each of the six calls
+-- a reply to each of the six calls
 pub data Reply : Type 0 where
   opened : Result ℕ OpenError → Reply  -- the channel's index
   stepped : Result (List Message) StepError → Reply  -- the message to send, if there is one
@@ -52,17 +52,17 @@ is_accepted (revoked r) = is_ok r
 is_accepted (kept r) = is_ok r
 is_accepted (released r) = is_ok r
 
--- an answer, unless there is a refusal
+-- the value, unless there is a refusal
 abbrev pub unless : {R A E : Type 0} → (R → E) → Option R → A → Result A E
 unless wrap None x = Ok x
 unless wrap (Some r) x = Err (wrap r)
 
--- the refusal of the first test that holds, else the later one
+-- this refusal if the test holds, else a later one
 abbrev pub if_so : {E : Type 0} → Bool → E → Option E → Option E
 if_so true e later = Some e
 if_so false e later = later
 
--- what the channel of an index answers, where it is there
+-- what the channel of an index replies, if it is there
 abbrev pub asked : {A E : Type 0} → E → Option ChannelBook → (ChannelBook → Result A E) → Result A E
 asked none None answer = Err none
 asked none (Some ch) answer = answer ch
@@ -80,7 +80,7 @@ step_refusal tokens_of s (Own u) = update_refusal s (update_of s u)
 step_refusal tokens_of s (Updated u) = receive_refusal tokens_of s (UpdateMessage u)
 step_refusal tokens_of s (Signed tokens) = receive_refusal tokens_of s (CommitmentSigned tokens)
 
--- the message of an update of one's own, or the answer to a received message
+-- the message of one's own update, or the answer to a received message
 abbrev pub messages_of : State → Step → List Message
 messages_of s (Own u) = UpdateMessage (update_of s u) ∷ []
 messages_of s (Updated u) = answers s (UpdateMessage u)
@@ -90,7 +90,7 @@ abbrev pub if_missing : Option ℕ → Option SignError → Option SignError
 if_missing (Some n) later = Some (PenaltiesMissing n)
 if_missing None later = later
 
--- AwaitingRevocation, PenaltiesMissing with the least number, NoUpdates
+-- AwaitingRevocation, PenaltiesMissing with the lowest number, NoUpdates
 abbrev pub sign_refusal : ChannelBook → Option SignError
 sign_refusal ch =
     if_so (ch.state.awaiting || nat_le LAST_NUMBER ch.state.peer_number) AwaitingRevocation
@@ -108,7 +108,7 @@ abbrev pub fill_answer : State → List ClaimParts → List Output → List (Lis
 fill_answer s claims outputs preimages =
     unless Unfilled (fill_refusal claims outputs (rights_of s) preimages) (record { tx = filling_of claims outputs preimages; places = map (λ c. c.place) claims })
 
--- the answer where these channels are there
+-- the reply to a call, given the channels
 abbrev pub answer_of : Signing → Channels → Call → Reply
 answer_of tokens_of chs (Open o) = opened (unless (λ e. e) (open_refusal tokens_of chs o) (length chs))
 answer_of tokens_of chs (Stepping c step) =
@@ -120,7 +120,7 @@ answer_of tokens_of chs (Revoke c secret next_point) =
 answer_of tokens_of chs (Keep c n claims) = kept (asked NoChannelToKeep (slice_get chs c) (λ ch. unless (λ e. e) (keep_refusal ch n claims) tt))
 answer_of tokens_of chs (Release c batch) = released (asked NoChannelToRelease (slice_get chs c) (λ ch. fill_answer ch.state batch.claims batch.outputs batch.preimages))
 
--- the answer to a call after a history
+-- the reply to a call after a history
 abbrev pub reply_of : Signing → List Entry → Call → Reply
 reply_of tokens_of history call = answer_of tokens_of (replay history) call
 
@@ -128,6 +128,6 @@ abbrev pub extended : Bool → List Entry → ℕ → Call → List Entry
 extended true history seat call = history ++ record { seat = seat; call = call } ∷ []
 extended false history seat call = history
 
--- the history after a call of a seat: one entry more where it is accepted
+-- the history after a seat's call: one more entry if the call is accepted
 abbrev pub history_after : Signing → List Entry → ℕ → Call → List Entry
 history_after tokens_of history seat call = extended (is_accepted (reply_of tokens_of history call)) history seat call

@@ -1,4 +1,4 @@
--- What a book hands out of a revoked commitment, for its penalties to be built.
+-- What a book hands out of a revoked commitment, from which its penalties are built.
 use Rattle.std.specs.Prelude.{◌≡◌, ℕ, true, false, not, nat_lt, List, length, Option, Some, None, slice_get}
 use Rattle.terms.specs.Sides.{other}
 use Rattle.claim.specs.Claims.{ClaimParts}
@@ -14,7 +14,7 @@ use Rattle.book.specs.Penalties.{is_penalty_set}
 use Rattle.book.specs.Books.{ChannelBook, is_kept}
 use Rattle.book.specs.Replies.{if_so}
 
--- why nothing is kept for a commitment of the peer, whatever the claims are: NoSuchChannel, NotRevoked, AlreadyKept
+-- why nothing is kept for a commitment of the peer, for any claims: NoSuchChannel, NotRevoked, AlreadyKept
 abbrev pub early_keep_refusal : ℕ → Option ChannelBook → Option KeepError
 early_keep_refusal n None = Some NoSuchChannel
 early_keep_refusal n (Some ch) = if_so (not (nat_lt n (length ch.state.secrets))) NotRevoked (if_so (is_kept ch.kept n) AlreadyKept None)
@@ -28,7 +28,7 @@ pub record IsStateAt (s : State) (n : ℕ) (state : RevokedState) : Type 0 where
   pub revealed : slice_get s.secrets n ≡ Some secret
   pub parts : HasParts s.held.terms commitment.view (other s.held.side) commitment.number secret state
 
--- the state is that of a number whose penalties are not kept, in a channel that is there; the claims on what it lets claim are the penalty set
+-- the channel is there, and the state is of a number whose penalties are not kept; the claims on what the state lets claim are the penalty set
 pub record IsRevokedIn (n : ℕ) (channel : Option ChannelBook) (state : RevokedState) : Type 0 where
   pub ch : ChannelBook
   pub there : channel ≡ Some ch

@@ -1,4 +1,4 @@
--- What a signer may sign for, and whether claims can be filled by it.
+-- What a signer may sign for, and whether it can fill claims.
 use Rattle.std.specs.Prelude.{◌≡◌, ◌↔◌, ◌⊎◌, ℕ, Bool, true, ◌||◌, List, [], ◌∷◌, Option, Some, None, is_some, if◌then◌else◌}
 use Rattle.tx.specs.Parts.{Output}
 use Rattle.keys.specs.Keys.{base_keys, learnt_keys, is_among}
@@ -11,7 +11,7 @@ use Rattle.filling.specs.declared.errors.FillError.TheVariants.{NoMemory, NoRigh
 use Rattle.filling.specs.Filling.{preimage_of}
 use Rattle.filling.specs.Refusals.{are_mixed, share_outpoint, do_exceed, all_slots, ArePassed, AreFillable, IsFirstRefusal}
 
--- whether a signer may sign for a key: one of its base keys, or of those that it got with what it learnt
+-- whether a signer may sign for a key: a base key of its own, or a key that derives from what it learnt
 unfoldable pub may_sign : Rights → List ℕ → Bool
 may_sign r key = is_among key (base_keys r.seed) || is_among key (learnt_keys r.seed r.points r.secrets)
 
@@ -30,7 +30,7 @@ abbrev pub first_lack : Rights → List (List ℕ) → List Slot → Option Fill
 first_lack r preimages [] = None
 first_lack r preimages (slot ∷ slots) = first_of (lack_of r preimages slot) (first_lack r preimages slots)
 
--- why claims are not filled, the first reason in the order of the tests
+-- why claims are not filled: the first refusal in the order of the tests
 unfoldable pub fill_refusal : List ClaimParts → List Output → Rights → List (List ℕ) → Option FillError
 fill_refusal claims outputs r preimages =
     if are_mixed claims then Some MixedShells
@@ -38,11 +38,11 @@ fill_refusal claims outputs r preimages =
     else if do_exceed claims outputs then Some OutputsExceed
     else first_lack r preimages (all_slots claims)
 
--- the test finds just the keys that a signer may sign for
+-- the test accepts exactly the keys that a signer may sign for
 abbrev pub RightsAreTested : Type 0
 RightsAreTested = (r : Rights) (key : List ℕ) → may_sign r key ≡ true ↔ MaySign r key
 
--- the first reason is the one that `fill` answers, barring out-of-memory
+-- the first refusal is the one that `fill` returns, barring out-of-memory
 pub record RefusalsAreFound : Type 0 where
   pub refused :
       (claims : List ClaimParts) (outputs : List Output) (r : Rights) (preimages : List (List ℕ)) (e : FillError) → IsFirstRefusal claims outputs r preimages e

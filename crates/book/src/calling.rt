@@ -1,4 +1,4 @@
-//! The six calls of a book as one.
+//! The six calls of a book, as one function.
 
 use crate::calls::Call;
 use crate::errors::{KeepError, OpenError, ReleaseError, SignError, StepError};
@@ -6,7 +6,8 @@ use crate::history::Book;
 use channel::Message;
 use filling::Filled;
 
-/// What a book answers to a call: what the method of the call's name answers.
+/// A book's reply to a call: the result of
+/// the method that the call is named after.
 #[derive(Drop)]
 pub enum Reply {
     /// The channel's index.

@@ -1,4 +1,4 @@
-//! The calls of a book, as its history has them.
+//! The calls of a book, as its history holds them.
 
 ghost use Rattle.std.specs.Prelude.{◌≤◌, ◌↔◌, length, IsTrue};
 ghost use Rattle.tx.specs.Limits.{max_inputs, max_outputs};
@@ -15,7 +15,7 @@ use terms::{BaseKeys, Side, Terms};
 use tx::{MAX_INPUTS, MAX_OUTPUTS, TxOut};
 use updates::{OwnUpdate, Update};
 
-/// How a side opens a channel: the terms, in which its own base keys are those of the seed, and what its peer sent before the channel is there.
+/// How a side opens a channel: the terms, in which its own base keys are those of its seed, and what its peer sent before the channel was opened.
 #[derive(Clone, Copy, Debug)]
 pub struct Opening {
     pub terms: Terms,
@@ -25,7 +25,7 @@ pub struct Opening {
     pub seed: [u8; 32],
     /// The peer's per-commitment point for number 0.
     pub first_point: Key,
-    /// And for number 1.
+    /// The peer's per-commitment point for number 1.
     pub next_point: Key,
     /// The peer's token on this side's commitment 0.
     pub token: Token,
@@ -48,7 +48,7 @@ impl Opening {
     ghost use Rattle.std.specs.Prelude.{◌↔◌, ◌≤◌, length, IsSome, IfSome};
     ghost use Rattle.book.specs.Calls.{IsOpenedBy};
 
-    /// How a side opens a channel of these terms; `None` where one of its five base keys in them is not the seed's. It takes no memory.
+    /// How a side opens a channel of these terms. `None` where one of its five base keys in the terms does not derive from the seed. Does not allocate.
     pub fn new(
         alloc: Global,
         terms: Terms,
@@ -75,14 +75,14 @@ impl Opening {
     }
 }
 
-/// Claims that one transaction takes, with what it gives.
+/// Claims that one transaction takes, with its outputs.
 #[derive(Drop)]
 pub struct Batch {
     /// 1 to 4,000 claims.
     pub claims: List<Claim>,
-    /// At most 4,000 outputs; they are not read where a claim has a fixed transaction.
+    /// At most 4,000 outputs. They are ignored where a claim has a fixed transaction.
     pub outputs: List<TxOut>,
-    /// The preimages that the claims want.
+    /// The preimages that the claims need.
     pub preimages: List<[u8; 32]>,
     pub ghost some: { 1 ≤ length claims },
     pub ghost inputs: { length claims ≤ max_inputs },
@@ -94,7 +94,8 @@ impl Batch {
     ghost use Rattle.book.specs.Bounds.{CanRelease};
     ghost use Rattle.book.specs.Calls.{IsBatchOf};
 
-    /// Claims with the outputs of their transaction and the preimages; `None` where there is no claim, or more than 4,000 claims or outputs. It takes no memory.
+    /// Claims with the outputs of their transaction and the preimages. `None` where there
+    /// is no claim, or there are more than 4,000 claims or outputs. Does not allocate.
     pub fn new(
         claims: List<Claim>,
         outputs: List<TxOut>,
@@ -114,7 +115,7 @@ impl Batch {
     }
 }
 
-/// A step of a channel: an update of one's own, or a received message that is no revocation.
+/// A step of a channel: one's own update, or a received message other than a revocation.
 #[derive(Debug, Drop)]
 pub enum Step {
     Own(OwnUpdate),
@@ -138,19 +139,19 @@ pub enum Call {
     Sign {
         channel: u64,
     },
-    /// Receives a `revoke_and_ack`: the secret of the revoked commitment, and the point for the second number after it.
+    /// Receives a `revoke_and_ack` (BOLT 2): the secret of the revoked commitment, and the point for the number two above its.
     Revoke {
         channel: u64,
         secret: [u8; 32],
         next_point: Key,
     },
-    /// Keeps the penalties of the peer's revoked commitment of a number.
+    /// Keeps the penalties of the peer's revoked commitment of this number.
     Keep {
         channel: u64,
         number: u64,
         claims: List<Claim>,
     },
-    /// Fills claims, by the signer of the channel and the preimages.
+    /// Fills claims, with the channel's signer and the preimages.
     Release {
         channel: u64,
         batch: Batch,

@@ -1,4 +1,4 @@
-// Whether a revoked state is that of a commitment of the peer.
+// Whether a revoked state is that of a given commitment of the peer.
 
 ghost use Rattle.std.specs.Prelude.{◌≡◌, ◌↔◌, IsTrue};
 ghost use Rattle.penalty.specs.States.{HasParts};
@@ -26,7 +26,7 @@ fn are_same_terms(a: &Terms, b: &Terms) -> bool
     *a == *b
 }
 
-// Whether a state has the parts of a commitment that this secret revokes.
+// Whether a state has the parts of a commitment and of the secret that revokes it.
 fn has_parts(
     state: &RevokedState,
     terms: &Terms,
@@ -44,7 +44,8 @@ fn has_parts(
         && is_same_view(&state.view, &commitment.view)
 }
 
-/// Whether a state is the peer's commitment of a number, with the secret that revokes it. Nothing is built.
+/// Whether a state is the peer's commitment of a number,
+/// with the secret that revokes it. Builds no commitment.
 pub(crate) fn is_state_at(channel: &Channel, number: u64, state: &RevokedState) -> bool
     ensures { IsTrue result ↔ IsStateAt channel.now number state.now }
 {

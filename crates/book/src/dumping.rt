@@ -1,4 +1,4 @@
-//! The dump of a history: a text of JSON (RFC 8259) from which the same history is loaded.
+//! The dump of a history: a JSON text (RFC 8259) from which the same history is loaded.
 
 ghost use Rattle.std.specs.Prelude.{◌≡◌, true, Some, Ok, IfOk, string_bytes};
 ghost use Rattle.std.specs.List.{AllByRecursion};
@@ -45,7 +45,7 @@ fn plain_terms(terms: &Terms) -> ProposedTerms
     }
 }
 
-// The opening without its own base keys, which its seed gives.
+// An opening without its own base keys, which derive from its seed.
 fn plain_opening(opening: &Opening) -> PlainOpening
     ensures { result ≡ plain_opening opening.now }
 {
@@ -78,7 +78,7 @@ fn step_value(alloc: Global, channel: u64, step: &Step) -> Result<Value, AllocEr
     }
 }
 
-// What the type of a claim keeps, for proofs.
+// Tells the proof what the type of a claim keeps.
 fn keeps(claim: &Claim)
     ensures { IsWhole claim.now }
 {
@@ -91,7 +91,7 @@ fn keeps(claim: &Claim)
     let _ = claim.shell();
 }
 
-// The same of each claim.
+// The same for each claim.
 fn each_keeps(claims: &[Claim])
     ensures { AllByRecursion IsWhole claims.now }
 {
@@ -100,7 +100,7 @@ fn each_keeps(claims: &[Claim])
     }
 }
 
-// The call in its form.
+// Writes a call as JSON.
 fn call_value(alloc: Global, call: &Call) -> Result<Value, AllocError>
     ensures form { IfOk result (λ v. view v ≡ call_data call.now) }
     ensures back { IfOk result (λ _. HasTokens call.now
@@ -143,7 +143,7 @@ fn call_value(alloc: Global, call: &Call) -> Result<Value, AllocError>
     }
 }
 
-// The entry in its form.
+// Writes an entry as JSON.
 fn entry_value(alloc: Global, entry: &Entry) -> Result<Value, AllocError>
     ensures form { IfOk result (λ v. view v ≡ history_entry_data entry.now) }
     ensures back { IfOk result (λ _. ComesBack entry.now) }
@@ -152,7 +152,7 @@ fn entry_value(alloc: Global, entry: &Entry) -> Result<Value, AllocError>
     write_entry(alloc, call, entry.seat)
 }
 
-// The history in its form.
+// Writes a history as JSON.
 fn history_value(alloc: Global, history: &[Entry]) -> Result<Value, AllocError>
     ensures form { IfOk result (λ v. view v ≡ history_data history.now) }
     ensures back { IfOk result (λ _. AllByRecursion ComesBack history.now) }
@@ -164,7 +164,7 @@ fn history_value(alloc: Global, history: &[Entry]) -> Result<Value, AllocError>
     write_dump(alloc, entries)
 }
 
-/// The dump of a history, the oldest entry first: JSON of version 2 with no space, the members of each object in the order of their names. The only
+/// Dumps a history, the oldest entry first: JSON of version 2 without whitespace, the members of each object in the order of their names. The only
 /// error is that memory ran out.
 #[tactic(auto, unfolding(crate::specs::Dumping::dump_of))]
 pub fn dump(alloc: Global, history: &[Entry]) -> Result<String, AllocError>

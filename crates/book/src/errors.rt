@@ -25,33 +25,33 @@ pub enum OpenError {
     BadSignature,
 }
 
-/// Why a step, or a revocation, is not taken.
+/// Why a step, or a revocation, is refused.
 #[derive(Clone, Copy, Debug, PartialEq, Eq, Drop, Error)]
 pub enum StepError {
     /// The channel refuses it, or memory ran out.
     #[error("{0}")]
     Refused(ChannelError),
-    /// The book has no channel of this index.
+    /// The book has no channel with this index.
     #[error("NoSuchChannel")]
     NoSuchChannel,
 }
 
-/// Why the peer's next commitment is not signed.
+/// Why the book does not sign the peer's next commitment.
 #[derive(Clone, Copy, Debug, PartialEq, Eq, Drop, Error)]
 pub enum SignError {
     /// Memory ran out.
     #[error("NoMemory")]
     NoMemory,
-    /// The penalties for this revoked commitment of the peer, the first such one, are not kept.
+    /// The lowest number of a revoked commitment of the peer whose penalties are not kept.
     #[error("PenaltiesMissing {0}")]
     PenaltiesMissing(u64),
-    /// A signature awaits its revocation, or the last number is signed.
+    /// An earlier signature awaits its revocation, or the last commitment number is signed.
     #[error("AwaitingRevocation")]
     AwaitingRevocation,
     /// The signature would cover no new update.
     #[error("NoUpdates")]
     NoUpdates,
-    /// The book has no channel of this index.
+    /// The book has no channel with this index.
     #[error("NoSuchChannel")]
     NoSuchChannel,
 }
@@ -68,32 +68,32 @@ pub enum KeepError {
     /// The claims are not the penalty set of this commitment.
     #[error("OtherState")]
     OtherState,
-    /// Its penalties are kept.
+    /// Its penalties are kept already.
     #[error("AlreadyKept")]
     AlreadyKept,
-    /// The book has no channel of this index.
+    /// The book has no channel with this index.
     #[error("NoSuchChannel")]
     NoSuchChannel,
 }
 
-/// Why claims are not released.
+/// Why claims are not filled and released.
 #[derive(Debug, Drop, Error)]
 pub enum ReleaseError {
-    /// The claims are not filled, or memory ran out.
+    /// The filling is refused, or memory ran out.
     #[error("{0}")]
     Unfilled(FillError),
-    /// The book has no channel of this index.
+    /// The book has no channel with this index.
     #[error("NoSuchChannel")]
     NoSuchChannel,
 }
 
-/// Why it isn't told what is known of a channel.
+/// Why the book does not tell what is known of a channel.
 #[derive(Clone, Copy, Debug, PartialEq, Eq, Drop, Error)]
 pub enum KnowError {
     /// Memory ran out.
     #[error("NoMemory")]
     NoMemory,
-    /// The book has no channel of this index.
+    /// The book has no channel with this index.
     #[error("NoSuchChannel")]
     NoSuchChannel,
 }
@@ -190,13 +190,13 @@ impl KnowError {
     }
 }
 
-/// Why an entry of a dump stands for no call.
+/// Why an entry of a dump is refused before its call is made.
 #[derive(Clone, Copy, Debug, PartialEq, Eq, Drop, Error)]
 pub enum EntryError {
     /// Memory ran out.
     #[error("NoMemory")]
     NoMemory,
-    /// The terms of an opening are none that two sides can agree on, or a release has no claim, or more than 4,000 claims or outputs.
+    /// The two sides cannot agree on the terms of an opening. Or a release has no claim, or more than 4,000 claims or outputs.
     #[error("BadShape")]
     BadShape,
     /// A claim is not accepted, or its script is refused by `parse` or `check`.
@@ -220,7 +220,7 @@ impl<T: Drop> From<AllocFailed<T>> for EntryError {
     }
 }
 
-/// Why a text is not loaded. Entries are counted from 0, the oldest first.
+/// Why a text is not loaded as a book. Entries are counted from 0, the oldest first.
 #[derive(Clone, Copy, Debug, PartialEq, Eq, Drop, Error)]
 pub enum LoadError {
     /// Memory ran out.
@@ -229,13 +229,13 @@ pub enum LoadError {
     /// Invalid JSON.
     #[error("NotJson")]
     NotJson,
-    /// The value is no dump.
+    /// The JSON value does not have the shape of a dump.
     #[error("BadShape")]
     BadShape,
     /// A claim of this entry is not accepted, or its script is refused by `parse` or `check`.
     #[error("BadClaim {0}")]
     BadClaim(usize),
-    /// The call of this entry is refused after those before it.
+    /// The call of this entry is refused, made after the entries before it.
     #[error("BadHistory {0}")]
     BadHistory(usize),
 }

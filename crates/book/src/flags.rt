@@ -1,8 +1,9 @@
-// Flags by number, of which each is set once and stays.
+// Flags by number. A flag is set once and stays set.
 
 ghost use Rattle.std.specs.Prelude.{◌≡◌, ◌<◌, ◌≤◌, ℕ, length, slice_get, Some, true, false};
 
-// The first number from `from` on whose flag is not set, or how many flags there are.
+// The first number from `from` on whose flag is
+// not set, or the number of flags if all are.
 pub(crate) fn first_unset(flags: &[bool], from: usize) -> usize
     requires { from ≤ length flags.now }
     ensures from { from ≤ result }

@@ -1,4 +1,4 @@
-// The preimages of each channel's fulfils, kept as they come.
+// The preimages of each channel's fulfils, in the order in which they came.
 
 ghost use Rattle.std.specs.Prelude.{◌≡◌, ◌<◌, ◌∷◌, ◌++◌, [], length, slice_get, unwrap_or, OnOk};
 ghost use Rattle.std.specs.List.{cons_option};
@@ -10,7 +10,7 @@ use crate::calls::Step;
 use std::alloc::{AllocError, Global};
 use updates::{OwnUpdate, Update};
 
-/// By channel, the preimages of its fulfils in the order in which they came, each as often as it came.
+/// By channel, the preimages of its fulfils in the order in which they came, with repeats.
 #[derive(Drop)]
 pub(crate) struct Fulfils {
     channels: Vec<Vec<[u8; 32]>>,
@@ -28,7 +28,7 @@ fn preimage_in(step: &Step) -> Option<[u8; 32]>
 }
 
 impl Fulfils {
-    /// Of no channel, which takes no memory.
+    /// No channel. Does not allocate.
     pub(crate) fn new(alloc: Global) -> Fulfils
         ensures { kept_by result ≡ [] }
     {
@@ -37,7 +37,7 @@ impl Fulfils {
         }
     }
 
-    /// Makes room for one channel more. The only error is that memory ran out.
+    /// Reserves room for one more channel. The only error is that memory ran out.
     pub(crate) fn reserve_channel(&mut self) -> Result<(), AllocError>
         ensures same { kept_by self.new ≡ kept_by self.old }
         ensures room { OnOk result (HasRoom self.new) }
@@ -45,7 +45,7 @@ impl Fulfils {
         self.channels.reserve(1)
     }
 
-    /// One channel more, of which nothing came.
+    /// Adds a channel without preimages.
     pub(crate) fn add_channel(&mut self, alloc: Global)
         requires { HasRoom self.old }
         ensures { kept_by self.new ≡ kept_by self.old ++ [] ∷ [] }
@@ -53,7 +53,7 @@ impl Fulfils {
         self.channels.push(Vec::new(alloc)).unwrap();
     }
 
-    /// Makes room for one preimage more of a channel. The only error is that memory ran out.
+    /// Reserves room for one more preimage of a channel. The only error is that memory ran out.
     pub(crate) fn reserve_preimage(&mut self, channel: usize) -> Result<(), AllocError>
         requires { channel < length (kept_by self.old) }
         ensures same { kept_by self.new ≡ kept_by self.old }
@@ -62,7 +62,7 @@ impl Fulfils {
         self.channels[channel].reserve(1)
     }
 
-    /// Keeps the preimage of a step that a channel took, if it is a fulfil.
+    /// Appends the preimage of a step that a channel took, if the step is a fulfil.
     pub(crate) fn add_preimage(&mut self, channel: usize, step: &Step)
         requires within { channel < length (kept_by self.old) }
         requires room { HasRoomAt channel self.old }
@@ -75,7 +75,7 @@ impl Fulfils {
         }
     }
 
-    /// The preimages of a channel; none where there is no such channel.
+    /// The preimages of a channel; empty where there is no such channel.
     pub(crate) fn of(&self, channel: u64) -> &[[u8; 32]]
         ensures { result.now ≡ unwrap_or (slice_get (kept_by self.now) channel) [] }
     {

@@ -23,7 +23,7 @@ use updates::ChannelError;
 pub struct Book {
     alloc: Global,
     entries: Vec<Entry>,
-    // what the calls of the history leave, each channel by its funding output
+    // the channels that the history leads to, each by its funding output
     channels: IndexMap<OutPoint, OpenChannel>,
     fulfils: Fulfils,
 }
@@ -54,7 +54,7 @@ impl Book {
     ghost use Rattle.book.specs.Knowing.{preimages_in, IsKnownIn, IsKnowRefusal};
     ghost use Rattle.book.specs.Revoked.{IsRevokedIn, early_keep_refusal};
 
-    /// An empty book, which takes no memory.
+    /// An empty book. Does not allocate.
     pub fn new(alloc: Global) -> Book
         ensures { result ≡ [] }
     {
@@ -66,8 +66,8 @@ impl Book {
         }
     }
 
-    /// The history, the oldest entry first. Each entry is of a call that was accepted after those before it. Between each revocation that came in a channel and the
-    /// next signature in it, the penalties for the revoked commitment were kept.
+    /// The history, the oldest entry first. Each entry's call was accepted after the entries before it. No signature stands after a revocation in its channel
+    /// unless the penalties of the revoked commitment were kept between the two.
     pub fn entries(&self) -> &[Entry]
         ensures value { result.now ≡ self.now }
         ensures accepted { all_accepted peer_tokens self.now ≡ true }
@@ -76,14 +76,14 @@ impl Book {
         &self.entries
     }
 
-    /// How many channels there are.
+    /// The number of channels.
     pub fn channel_count(&self) -> u64
         ensures { result ≡ length (replay self.now) }
     {
         self.channels.len() as u64
     }
 
-    /// The channel of an index, where there is one.
+    /// The channel with this index, if there is one.
     pub fn channel(&self, channel: u64) -> Option<&Channel>
         ensures { option_copied result ≡ option_map (λ ch. ch.state)
             (slice_get (replay self.now) channel) }
@@ -94,7 +94,7 @@ impl Book {
         }
     }
 
-    /// Whether the penalties of the peer's revoked commitment of a number are kept; `None` where there is no such channel, or the commitment is not revoked.
+    /// Whether the penalties of the peer's revoked commitment of this number are kept. `None` where there is no such channel, or the commitment is not revoked.
     pub fn keeps(&self, channel: u64, number: u64) -> Option<bool>
         ensures { result ≡ option_and_then (λ ch. kept_at ch number)
             (slice_get (replay self.now) channel) }
@@ -112,7 +112,7 @@ impl Book {
         Vec::from_slice(alloc, self.channels.keys().as_slice())
     }
 
-    /// Opens a channel, and gives its index: BookFull where there are 65,536, SameFunding where one has the same funding output, BadSignature where the token is not
+    /// Opens a channel and returns its index. Refused, in this order, with `BookFull` at 65,536 channels, `SameFunding` where a channel has the same funding output, and `BadSignature` where the token is not
     /// the peer's on this side's commitment 0. A refusal leaves the book as it was.
     pub fn open(&mut self, seat: u32, opening: Opening) -> Result<u64, OpenError>
         ensures { IsCall (opened (Err OpenError.NoMemory)) (opened result) self.old self.new seat
@@ -150,8 +150,7 @@ impl Book {
         Ok(index)
     }
 
-    /// Takes a step of a channel, and gives the message that it sends or that answers it: NoSuchChannel, else the channel's refusal. A refusal leaves the book as
-    /// it was.
+    /// Takes a step of a channel and returns the message that it sends or that answers it. Refused with `NoSuchChannel`, else with the channel's refusal. A refusal leaves the book as it was.
     pub fn step(
         &mut self,
         seat: u32,
@@ -185,7 +184,7 @@ impl Book {
         Ok(message)
     }
 
-    /// Receives a `revoke_and_ack`, and gives the number of the revoked commitment: NoSuchChannel, else the channel's refusal. A refusal leaves the book as it was.
+    /// Receives a `revoke_and_ack` (BOLT 2) and returns the number of the revoked commitment. Refused with `NoSuchChannel`, else with the channel's refusal. A refusal leaves the book as it was.
     pub fn revoke(
         &mut self,
         seat: u32,
@@ -218,8 +217,8 @@ impl Book {
         Ok(number)
     }
 
-    /// Signs the peer's next commitment, and gives the message: NoSuchChannel, AwaitingRevocation, PenaltiesMissing with the least number of a revoked commitment whose
-    /// penalties are not kept, NoUpdates. A refusal leaves the book as it was.
+    /// Signs the peer's next commitment and returns the message. Refused, in this order, with `NoSuchChannel`, `AwaitingRevocation`, `PenaltiesMissing` and the lowest number of a revoked commitment whose
+    /// penalties are not kept, and `NoUpdates`. A refusal leaves the book as it was.
     pub fn sign(&mut self, seat: u32, channel: u64) -> Result<Message, SignError>
         ensures { IsCall (signed (Err SignError.NoMemory)) (signed result) self.old self.new seat
             (Call.Sign channel) }
@@ -242,8 +241,8 @@ impl Book {
         Ok(message)
     }
 
-    /// Keeps the penalties of the peer's revoked commitment of a number: NoSuchChannel, NotRevoked, AlreadyKept, OtherState where the claims are not its penalty set. A
-    /// refusal leaves the book as it was.
+    /// Keeps the penalties of the peer's revoked commitment of this number. Refused, in this order, with `NoSuchChannel`, `NotRevoked`, `AlreadyKept`, and `OtherState` where the claims are not its penalty
+    /// set. A refusal leaves the book as it was.
     pub fn keep(
         &mut self,
         seat: u32,
@@ -277,7 +276,7 @@ impl Book {
         Ok(())
     }
 
-    /// Keeps a penalty set that was built outside the book, as `keep` does its claims, in the same order of refusals. Where the set is of the book's own revoked state of that number, it isn't built again. A
+    /// Keeps a penalty set that was built outside the book, as `keep` does its claims, with the same refusals in the same order. A set on the book's own revoked state of that number is not built again. A
     /// refusal leaves the book as it was.
     pub fn keep_set(
         &mut self,
@@ -312,7 +311,7 @@ impl Book {
         Ok(())
     }
 
-    /// Fills the claims of a batch by the channel's signer: NoSuchChannel, else the refusal of `fill`. A refusal leaves the book as it was.
+    /// Fills the claims of a batch with the channel's signer. Refused with `NoSuchChannel`, else with the refusal of `fill`. A refusal leaves the book as it was.
     pub fn release(&mut self, seat: u32, channel: u64, batch: Batch) -> Result<Filled, ReleaseError>
         ensures { IsCall (released (Err (ReleaseError.Unfilled fill_memory)))
             (released result) self.old self.new seat (Call.Release channel batch) }
@@ -335,7 +334,7 @@ impl Book {
         Ok(filled)
     }
 
-    /// The state of the peer's revoked commitment of a number whose penalties are not kept, for its penalties to be built: NoSuchChannel, NotRevoked, AlreadyKept.
+    /// The state of the peer's revoked commitment of this number, from which its penalties are built. Refused, in this order, with `NoSuchChannel`, `NotRevoked` and `AlreadyKept`.
     pub fn revoked(&self, channel: u64, number: u64) -> Result<RevokedState, KeepError>
         ensures { let there = slice_get (replay self.now) channel
             in MatchResult result (IsRevokedIn number there)
@@ -348,15 +347,15 @@ impl Book {
         self.channels[index].revoked(number)
     }
 
-    /// The preimages of a channel's fulfils, made or received, in the order of the history, each as often as it came; none where there is no such channel.
+    /// The preimages of a channel's fulfils, made or received, in the order of the history, with repeats. Empty where there is no such channel.
     pub fn preimages(&self, channel: u64) -> &[[u8; 32]]
         ensures { result.now ≡ preimages_in channel self.now }
     {
         self.fulfils.of(channel)
     }
 
-    /// What the book knows of a channel, with the preimages of its fulfils in the order of the history: NoSuchChannel. It takes the time that the channel's own
-    /// commitments and preimages take.
+    /// What the book knows of a channel, with the preimages of its fulfils in the order of the history. Refused with `NoSuchChannel`. Its running time depends on the commitments and preimages of this
+    /// channel, not on the length of the history.
     pub fn known(&self, channel: u64) -> Result<Known, KnowError>
         ensures known { IfOk result (IsKnownIn self.now channel
             (slice_get (replay self.now) channel)) }

@@ -33,7 +33,7 @@ fn penalties_of(
     }
 }
 
-/// Whether the claims are the penalties of a commitment that this secret revokes, in their order. The only error is that memory ran out.
+/// Whether the claims are the penalties, in order, of a commitment that this secret revokes. The only error is that memory ran out.
 pub(crate) fn are_penalties(
     alloc: Global,
     terms: &Terms,

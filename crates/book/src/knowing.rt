@@ -21,7 +21,7 @@ use resolve::{
 use std::alloc::{AllocError, Global};
 use terms::Terms;
 
-// A commitment that a channel recorded.
+// A commitment that the channel recorded.
 fn known_commitment(
     alloc: Global,
     terms: &Terms,
@@ -46,7 +46,7 @@ fn known_commitment(
     }
 }
 
-// A commitment that a channel recorded, with the tokens of its owner's peer.
+// A commitment that the channel recorded, with the tokens of its owner's peer.
 fn signed_by(
     alloc: Global,
     terms: &Terms,
@@ -96,7 +96,7 @@ fn own_commitment(
     }
 }
 
-// This side's commitments before its newest, with the peer's tokens.
+// This side's commitments before its newest one, with the peer's tokens.
 #[tactic(auto, using(crate::proofs::Recorded::one_more))]
 fn older_commitments(alloc: Global, channel: &Channel) -> Result<Vec<SignedCommitment>, AllocError>
     ensures { IfOk result (λ v. map signed_parts v.items ≡ below
@@ -109,7 +109,7 @@ fn older_commitments(alloc: Global, channel: &Channel) -> Result<Vec<SignedCommi
     Ok(older)
 }
 
-// The peer's commitment of a number, where it was signed.
+// The peer's commitment of a number, if it was signed.
 fn peers_commitment(
     alloc: Global,
     channel: &Channel,
@@ -128,7 +128,7 @@ fn peers_commitment(
     }
 }
 
-// A commitment of the peer that this secret revokes.
+// A commitment of the peer, with the secret that revokes it.
 fn revoked_commitment(
     alloc: Global,
     channel: &Channel,
@@ -152,7 +152,7 @@ fn revoked_commitment(
     }
 }
 
-// Whether the penalties of a number are kept.
+// Whether the penalties of this number are kept.
 fn is_kept(flags: &[bool], number: u64) -> bool
     ensures { result ≡ flag_at flags.now number }
 {
@@ -183,7 +183,7 @@ fn revoked_of(
     }
 }
 
-// Puts the next one at the end.
+// Appends the commitment of the next number.
 fn push_next(
     revoked: &mut RevokedCommitments,
     commitment: RevokedCommitment,
@@ -200,7 +200,7 @@ fn push_next(
     }
 }
 
-// The peer's revoked commitments, of which a flag says for each number whether its penalties are kept.
+// The peer's revoked commitments. By number, a flag says whether the penalties are kept.
 fn revoked_commitments(
     alloc: Global,
     channel: &Channel,
@@ -220,7 +220,7 @@ fn revoked_commitments(
     Ok(revoked)
 }
 
-// What the side knows of its own commitments, with what it may sign with.
+// What the side knows of its own commitments, and what it may sign with.
 #[derive(Drop)]
 struct OwnCommitments {
     signer: Signer,
@@ -228,7 +228,7 @@ struct OwnCommitments {
     older: List<SignedCommitment>,
 }
 
-// What it knows of the peer's.
+// What the side knows of the peer's commitments.
 #[derive(Drop)]
 struct PeersCommitments {
     newest: KnownCommitment,
@@ -236,7 +236,7 @@ struct PeersCommitments {
     revoked: RevokedCommitments,
 }
 
-// Its own ones.
+// Gathers what the side knows of its own commitments.
 fn own_of(alloc: Global, channel: &Channel) -> Result<OwnCommitments, AllocError>
     ensures seed { IfOk result (λ o. o.signer.seed ≡ channel.now.seed) }
     ensures rights { IfOk result (λ o. (key : Values ℕ) → MaySign o.signer key
@@ -266,7 +266,7 @@ fn peers_newest(alloc: Global, channel: &Channel) -> Result<KnownCommitment, All
     }
 }
 
-// The peer's ones, where a flag says for each revoked one whether its penalties are kept.
+// Gathers what the side knows of the peer's commitments. By number, a flag says whether the penalties of a revoked one are kept.
 fn peers_of(
     alloc: Global,
     channel: &Channel,
@@ -289,8 +289,8 @@ fn peers_of(
     })
 }
 
-/// What the side knows of its channel, where a flag says for each revoked commitment of the peer whether its penalties are kept, and these preimages came. The only
-/// error is that memory ran out.
+/// What the side knows of its channel. By number, a flag says whether the penalties of a revoked commitment of the peer are kept; `preimages` are those that came.
+/// The only error is that memory ran out.
 pub(crate) fn known_of(
     alloc: Global,
     channel: &Channel,

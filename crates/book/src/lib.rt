@@ -1,18 +1,18 @@
-//! A node's book: the history of the calls that it accepted, and the gate before its signatures.
+//! A node's book: the history of the calls that it accepted, and the gate that guards its signatures.
 //!
-//! [`Book`] has six calls that may change it: `open`, `step`, `sign`, `revoke`, `keep` and `release`; [`Book::call`]
-//! makes any of them. Each answers what `reply_of` says of the history, and leaves the history that `history_after`
-//! says, or memory ran out and the history is as before: an accepted call adds one entry, and a refused one changes
-//! nothing. The signing gate, [`laws::signing_is_guarded`], holds of each history: each signature stands where every
-//! revocation that came in its channel has the penalties of the revoked commitment kept between the two.
-//! [`Book::entries`] hands this out. What [`Book::dump`] gives, [`Book::load`] loads as the same history.
+//! [`Book`] has six calls that may change it: `open`, `step`, `sign`, `revoke`, `keep` and `release`. [`Book::call`]
+//! makes any of them. Each returns what `reply_of` says of the history, and leaves the history that `history_after`
+//! says; if memory runs out, the history stays as it was. An accepted call adds one entry, and a refused one changes
+//! nothing. The signing gate, [`laws::signing_is_guarded`], holds for each history: between each revocation and the
+//! channel's next signature, the penalties of the revoked commitment were kept. [`Book::entries`] hands this out.
+//! [`Book::load`] reads what [`Book::dump`] writes as the same history.
 //!
-//! Long work is done outside the book. [`Book::revoked`] hands out the state for a penalty set, and
-//! [`Book::keep_set`] keeps the set that was built, as `keep` does its claims; [`Book::known`] hands out what the
-//! node knows of a channel, and [`filled`] fills a batch by a signer, as `release` does by the channel's.
+//! Long work is done outside the book. [`Book::revoked`] hands out the state from which a penalty set is built, and
+//! [`Book::keep_set`] keeps the set that was built, as `keep` does its claims. [`Book::known`] hands out what the
+//! node knows of a channel. [`filled`] fills a batch with any signer, as `release` does with the channel's.
 //!
-//! `channel` does what each call says, `texts` has the shapes of a dump, and `filling` makes what a release gives.
-//! `side` stands between the book and the chain, and `world` plays two books.
+//! `channel` does what each call says, `texts` has the JSON shapes of a dump, and `filling` builds the transactions
+//! of a release. `side` stands between the book and the chain, and `world` plays two books.
 //!
 //! ```rust
 //! assert!(rt; a.revoke(0, 0, came.secret, came.next_point).is_ok());
@@ -21,8 +21,8 @@
 //! assert!(rt; a.sign(0, 0).is_ok());
 //! ```
 //!
-//! The test `signs_once_penalties_are_kept` of `book_tests` has these lines; an update of one's own stands before the
-//! first signature.
+//! The test `signs_once_penalties_are_kept` of `book_tests` has
+//! these lines. There, an update comes before the first signature.
 #![tactic(auto)]
 
 pub mod calling;

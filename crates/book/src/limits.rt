@@ -1,4 +1,4 @@
 //! Limits of books.
 
-/// How many channels a book has at most.
+/// The most channels that a book has.
 pub const MAX_CHANNELS: usize = 65_536;

@@ -1,4 +1,4 @@
-//! What the plain forms of a dump stand for. Claims are accepted anew, never trusted.
+//! Turns the plain forms of a dump into calls. Claims are accepted anew, never trusted.
 
 ghost use Rattle.std.specs.Prelude.{◌≡◌};
 ghost use Rattle.book.specs.Opcodes.{ops_of};
@@ -17,7 +17,7 @@ use std::alloc::Global;
 use texts::{PlainCall, PlainClaim, PlainEntry, PlainReceived, PlainStep};
 use tx::TxOut;
 
-// The opcodes of a script.
+// Parses a script.
 fn script_of(alloc: Global, bytes: &[u8]) -> Result<Script, EntryError>
     ensures { Takes result (ops_of bytes.now) }
 {
@@ -30,7 +30,7 @@ fn script_of(alloc: Global, bytes: &[u8]) -> Result<Script, EntryError>
     }
 }
 
-// The script with its paths.
+// Parses a script and lists its paths.
 #[tactic(auto, using(crate::proofs::Taking::none_spelt, crate::proofs::Taking::none_listed, crate::proofs::Taking::is_listed))]
 fn checked_of(alloc: Global, bytes: &[u8]) -> Result<Checked, EntryError>
     ensures { Takes result (checked_of bytes.now) }
@@ -48,8 +48,8 @@ fn checked_of(alloc: Global, bytes: &[u8]) -> Result<Checked, EntryError>
     }
 }
 
-/// The accepted claim of a plain one: its script is read and checked, and the claim accepted anew. `BadClaim` where one of these is refused for
-/// another cause than memory.
+/// Reads and checks the script of a plain claim, and accepts the claim anew.
+/// `BadClaim` where one of these is refused for another reason than memory.
 pub fn claim_of(alloc: Global, plain: PlainClaim) -> Result<Claim, EntryError>
     ensures { Takes result (claim_of plain) }
 {
@@ -73,7 +73,7 @@ pub fn claim_of(alloc: Global, plain: PlainClaim) -> Result<Claim, EntryError>
     }
 }
 
-/// The accepted claims of plain ones, in order: `BadClaim` where one is not accepted.
+/// Accepts plain claims anew, in order: `BadClaim` where one is refused.
 pub fn claims_of(alloc: Global, plains: List<PlainClaim>) -> Result<List<Claim>, EntryError>
     ensures { Takes result (claims_of plains) }
 {
@@ -119,7 +119,7 @@ fn keep_of(
     }
 }
 
-// Claims that one transaction takes, with what it gives.
+// A batch, if one transaction can take this number of claims and outputs.
 fn batch_of(claims: List<Claim>, outputs: List<TxOut>, preimages: List<[u8; 32]>) -> Option<Batch>
     ensures { result ≡ batch_of claims outputs preimages }
 {
@@ -145,8 +145,8 @@ fn release_of(
     }
 }
 
-/// The call of a plain one. `BadClaim` where a claim of it is not accepted; else `BadShape` where the sides can't agree on an opening's terms, or a
-/// release has no claim or more than 4,000 claims or outputs.
+/// The call that a plain one stands for. `BadClaim` where one of its claims is not accepted. Else `BadShape` where the sides can't agree on an
+/// opening's terms, or a release has no claim or more than 4,000 claims or outputs.
 #[tactic(auto, unfolding(crate::specs::Loading::call_of))]
 pub fn call_of(alloc: Global, plain: PlainCall) -> Result<Call, EntryError>
     ensures { Answers result (call_of plain) }
@@ -187,7 +187,7 @@ pub fn call_of(alloc: Global, plain: PlainCall) -> Result<Call, EntryError>
     }
 }
 
-/// The entry of a plain one: its call, of the same seat.
+/// The entry that a plain one stands for: its call, with the same seat.
 #[tactic(auto, unfolding(crate::specs::Loading::entry_of))]
 pub fn entry_of(alloc: Global, plain: PlainEntry) -> Result<Entry, EntryError>
     ensures { Answers result (entry_of plain) }

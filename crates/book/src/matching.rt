@@ -24,7 +24,7 @@ fn same_place(a: &Place, b: &Place) -> bool
     same_outpoint(&a.outpoint, &b.outpoint) && a.value == b.value && a.program.equals(&b.program)
 }
 
-// Whether two slots are filled alike.
+// Whether two slots have equal fillings.
 fn same_slot(a: &Slot, b: &Slot) -> bool
     ensures { result ≡ same_filling (filling_of a.now) (filling_of b.now) }
 {
@@ -52,7 +52,7 @@ fn same_slots(a: &[Slot], b: &[Slot]) -> bool
     others.is_empty()
 }
 
-// What the type of a checked script keeps, for proofs.
+// Tells the proof what the type of a checked script keeps.
 fn keeps(checked: &Checked)
     ensures { IsChecked checked.now }
 {
@@ -60,7 +60,7 @@ fn keeps(checked: &Checked)
     let _ = checked.script().ops();
 }
 
-// Whether a claim that any transaction may make claims what another one does, in the same way.
+// Whether a claim has an open shell, and claims what another claim does, in the same way.
 fn is_alike(kept: &Claim, claim: &Claim) -> bool
     ensures { result ≡ (same_claimable (claimed_by claim.now) (claimed_by kept.now) && not
         (is_fixed claim.now.shell)) }
@@ -72,7 +72,7 @@ fn is_alike(kept: &Claim, claim: &Claim) -> bool
         && matches!(claim.shell(), Shell::Open)
 }
 
-// The same, where both are claims: they were accepted, on checked scripts.
+// The same for claims, which were accepted on checked scripts.
 fn is_claim_on(kept: &Claim, claim: &Claim) -> bool
     ensures value { result ≡ is_claim_on (claimed_by kept.now) claim.now }
     ensures exact { kept.now.shell ≡ Open → IsTrue result
@@ -80,12 +80,12 @@ fn is_claim_on(kept: &Claim, claim: &Claim) -> bool
 {
     keeps(kept.checked());
     keeps(claim.checked());
-    // The proof learns from the path that the claim was judged.
+    // Tells the proof that the claim was judged on this path.
     let _ = claim.path();
     is_alike(kept, claim)
 }
 
-// Whether claims claim what others do, in the same ways, one after another.
+// Whether claims, one by one, claim what others do, in the same ways.
 fn are_claims_on(kept: &[Claim], claims: &[Claim]) -> bool
     ensures value { result ≡ all_match (λ k c. is_claim_on (claimed_by k) c) kept.now claims.now }
     ensures exact { All (λ k. k.shell ≡ Open) kept.now → IsTrue result

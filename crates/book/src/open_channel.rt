@@ -25,7 +25,7 @@ use std::alloc::{AllocError, Global};
 use std::marker::Model;
 use updates::ChannelError;
 
-/// A channel, and which of the peer's revoked commitments have their penalties kept. A contract sees it as its `ChannelBook`.
+/// A channel, and which of the peer's revoked commitments have their penalties kept. Contracts see it as a `ChannelBook`.
 #[derive(Drop)]
 pub(crate) struct OpenChannel {
     channel: Channel,
@@ -33,7 +33,7 @@ pub(crate) struct OpenChannel {
     kept: Vec<u64>,
     // by number, whether its penalties are kept
     flags: Vec<bool>,
-    // the least number whose flag is not set
+    // the lowest number whose flag is not set
     below: usize,
 }
 
@@ -48,14 +48,14 @@ impl Model for OpenChannel {
     ghost invariant = { λ o. IsBeside (record { state = o.channel; kept = o.kept.items }) o.flags.items o.below };
 }
 
-// A step that a channel took, with the message that it sends or that answers it.
+// A step that a channel took, with the message that it sends or that answers the step.
 #[derive(Drop)]
 pub(crate) struct Taken {
     pub(crate) step: Step,
     pub(crate) message: Option<Message>,
 }
 
-// The channel receives tokens. Gives them back, with the message that answers them.
+// Receives tokens, and returns them with the message that answers them.
 fn receive_tokens(channel: &mut Channel, tokens: Tokens) -> Result<Taken, ChannelError>
     ensures step { IfOk result (λ t. t.step ≡ Step.Signed tokens) }
     ensures message { IfOk result (λ t. cons_option t.message [] ≡ messages_of channel.old
@@ -79,7 +79,7 @@ fn receive_tokens(channel: &mut Channel, tokens: Tokens) -> Result<Taken, Channe
     }
 }
 
-// The channel takes a step. Gives it back, with the message that it sends or that answers it.
+// Takes a step, and returns it with the message that it sends or that answers it.
 fn take(channel: &mut Channel, step: Step) -> Result<Taken, ChannelError>
     ensures step { IfOk result (λ t. t.step ≡ step) }
     ensures message { IfOk result (λ t. cons_option t.message [] ≡ messages_of channel.old step) }
@@ -123,7 +123,7 @@ impl OpenChannel {
     ghost use Rattle.channel.specs.Rights.{rights_of};
     ghost use Rattle.book.specs.Signers.{fill_refusal};
 
-    /// The channel, of which no commitment is revoked.
+    /// A channel without revoked commitments.
     pub(crate) fn new(alloc: Global, channel: Channel) -> OpenChannel
         requires { channel.secrets ≡ [] }
         ensures { result ≡ record { state = channel; kept = [] } }
@@ -136,7 +136,7 @@ impl OpenChannel {
         }
     }
 
-    /// The channel of an opening: BadSignature where its token is not the peer's on this side's commitment 0.
+    /// The channel of an opening: `BadSignature` where its token is not the peer's on this side's commitment 0.
     pub(crate) fn open(alloc: Global, opening: &Opening) -> Result<OpenChannel, OpenError>
         ensures ok { IfOk result (λ ch. ch ≡ opened_by opening.now) }
         ensures tested { let first = token_refusal opening.now
@@ -160,7 +160,7 @@ impl OpenChannel {
         }
     }
 
-    /// Takes a step. A refusal leaves all as it was.
+    /// Takes a step. A refusal changes nothing.
     pub(crate) fn step(&mut self, step: Step) -> Result<Taken, ChannelError>
         ensures step { IfOk result (λ t. t.step ≡ step) }
         ensures message { IfOk result (λ t. cons_option t.message []
@@ -173,7 +173,7 @@ impl OpenChannel {
         take(&mut self.channel, step)
     }
 
-    /// Receives a revocation, and gives its number. A refusal leaves all as it was.
+    /// Receives a revocation and returns its number. A refusal changes nothing.
     pub(crate) fn revoke(&mut self, secret: [u8; 32], next_point: Key) -> Result<u64, ChannelError>
         ensures number { IfOk result (λ n. n ≡ length self.old.state.secrets) }
         ensures ok { IfOk result (λ _. self.new ≡ with_state
@@ -199,7 +199,7 @@ impl OpenChannel {
         Ok(number)
     }
 
-    // Whether a signature awaits its revocation, or penalties are missing.
+    // Refuses to sign while a signature awaits its revocation, or while penalties are missing.
     fn check_sign(&self) -> Result<(), SignError>
         ensures { let first = early_sign_refusal self.now
             in MatchResult result (λ _. first ≡ None) (λ e. first ≡ Some e) }
@@ -213,7 +213,7 @@ impl OpenChannel {
         Ok(())
     }
 
-    /// Signs the peer's next commitment, and gives the message. A refusal leaves all as it was.
+    /// Signs the peer's next commitment and returns the message. A refusal changes nothing.
     pub(crate) fn sign(&mut self) -> Result<Message, SignError>
         ensures message { IfOk result (λ m. m ≡ signature_message tokens_of self.old.state) }
         ensures ok { IfOk result (λ _. self.new ≡ with_state after_sign self.old) }
@@ -234,7 +234,7 @@ impl OpenChannel {
         }
     }
 
-    /// Fills the claims of a batch by the channel's signer.
+    /// Fills the claims of a batch with the channel's signer.
     pub(crate) fn release(&self, alloc: Global, batch: &Batch) -> Result<Filled, FillError>
         ensures ok { IfOk result (λ f. f ≡ filling_by batch.now) }
         ensures tested { let first = fill_refusal batch.now.claims batch.now.outputs
@@ -244,7 +244,7 @@ impl OpenChannel {
         filled(alloc, batch, self.channel.signer())
     }
 
-    // Whether the claims are the penalties of the peer's commitment of a number, which is revoked.
+    // Whether the claims are the penalties of the peer's revoked commitment of this number.
     fn are_penalties(
         &self,
         alloc: Global,
@@ -273,7 +273,8 @@ impl OpenChannel {
         )
     }
 
-    // Whether the claims are the penalties of the peer's commitment of a number, which is revoked. Where they are known to be those of a state, nothing is built if it is that of the number.
+    // Whether the claims are the penalties of the peer's revoked commitment of this number. `state` is the one whose penalties they are known to be, if any. If it is this commitment's,
+    // nothing is built.
     fn are_its_own(
         &self,
         alloc: Global,
@@ -292,7 +293,7 @@ impl OpenChannel {
         self.are_penalties(alloc, number, claims)
     }
 
-    // Why the penalties of a number are not kept.
+    // Why the penalties of a number are refused, if they are.
     fn check_keep(
         &self,
         alloc: Global,
@@ -321,7 +322,7 @@ impl OpenChannel {
         Ok(())
     }
 
-    /// Keeps the penalties of the peer's revoked commitment of a number, which may be known to be those of a state. A refusal leaves all as it was.
+    /// Keeps the penalties of the peer's revoked commitment of this number. `state` is the one whose penalties they are known to be, if any. A refusal changes nothing.
     pub(crate) fn keep(
         &mut self,
         alloc: Global,
@@ -349,7 +350,7 @@ impl OpenChannel {
         Ok(())
     }
 
-    /// The state of the peer's revoked commitment of a number whose penalties are not kept: NotRevoked, AlreadyKept.
+    /// The state of the peer's revoked commitment of this number, whose penalties are not kept. Refused with `NotRevoked`, `AlreadyKept`.
     pub(crate) fn revoked(&self, number: u64) -> Result<RevokedState, KeepError>
         ensures { MatchResult result (IsRevokedIn number (Some self.now))
             (IsKeepRefusal (early_keep_refusal number (Some self.now))) }
@@ -366,21 +367,21 @@ impl OpenChannel {
         }
     }
 
-    /// What the side knows of the channel, where these preimages came. The only error is that memory ran out.
+    /// What the side knows of the channel, with the preimages that came. The only error is that memory ran out.
     pub(crate) fn known(&self, alloc: Global, preimages: Vec<[u8; 32]>) -> Result<Known, AllocError>
         ensures { IfOk result (IsKnownOf self.now.state (is_kept self.now.kept) preimages.items) }
     {
         known_of(alloc, &self.channel, &self.flags, preimages)
     }
 
-    /// The channel by itself.
+    /// The channel itself.
     pub(crate) fn channel(&self) -> &Channel
         ensures { result.now ≡ self.now.state }
     {
         &self.channel
     }
 
-    /// Whether the penalties of the peer's revoked commitment of a number are kept; `None` where it is not revoked.
+    /// Whether the penalties of the peer's revoked commitment of this number are kept; `None` where it is not revoked.
     pub(crate) fn keeps(&self, number: u64) -> Option<bool>
         ensures { result ≡ kept_at self.now number }
     {

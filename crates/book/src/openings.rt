@@ -1,4 +1,4 @@
-// Openings from their plain forms.
+// Turns plain openings into openings.
 
 ghost use Rattle.std.specs.Prelude.{◌≡◌};
 ghost use Rattle.book.specs.Openings.{bases_of, own_or_others, terms_of, opening_of};
@@ -17,7 +17,7 @@ fn bases_of(alloc: Global, seed: &[u8; 32]) -> BaseKeys
     BaseKeys::of(&signer)
 }
 
-// The base keys of a side, by whose opening it is.
+// A side's base keys: its own if the opening is this side's, else the peer's.
 fn bases_at(whose: Side, side: Side, own: BaseKeys, others: BaseKeys) -> BaseKeys
     ensures { result ≡ own_or_others whose side own others }
 {
@@ -37,7 +37,8 @@ fn terms_of(alloc: Global, plain: &PlainOpening) -> Option<Terms>
     plain.terms.agreed(plain.funding, a, b)
 }
 
-/// The opening of a plain one, with the base keys of its seed as its own; `None` where the sides can't agree on the terms. It takes no memory.
+/// The opening that a plain one stands for, with the base keys of its seed as
+/// its own. `None` where the sides can't agree on the terms. Does not allocate.
 pub fn opening_of(alloc: Global, plain: &PlainOpening) -> Option<Opening>
     ensures { result ≡ opening_of plain.now }
 {

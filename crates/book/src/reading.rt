@@ -1,4 +1,4 @@
-// The dump that a text has.
+// Reads the dump in a text.
 
 ghost use Rattle.std.specs.Prelude.{◌≡◌};
 ghost use Rattle.serde_json.specs.Read.{read};
@@ -9,7 +9,7 @@ use serde_json::Value;
 use std::alloc::Global;
 use texts::{PlainDump, ReadValue, ShapeError};
 
-// The value that a text is.
+// Parses a text as a JSON value.
 fn value_in(alloc: Global, text: &str) -> Result<Value, LoadError>
     ensures { IsValue result (read text.now) }
 {
@@ -25,7 +25,8 @@ fn value_in(alloc: Global, text: &str) -> Result<Value, LoadError>
     }
 }
 
-/// The dump that a text has: `NotJson`, or `BadShape` where the value has not the form.
+/// Reads the dump in a text: `NotJson`, or `BadShape`
+/// where the value does not have the shape.
 pub(crate) fn dump_in(alloc: Global, text: &str) -> Result<PlainDump, LoadError>
     ensures { Loads result (dump_in text.now) }
 {

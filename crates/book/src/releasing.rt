@@ -1,4 +1,4 @@
-// The transaction that a batch makes.
+// Builds the transaction of a batch.
 
 ghost use Rattle.std.specs.Prelude.{◌≡◌, ◌↔◌, ℕ, List, map, None, IfOk, MatchResult};
 ghost use Rattle.keys.specs.Rights.{Rights, MaySign};
@@ -14,7 +14,7 @@ use keys::Signer;
 use std::alloc::{AllocError, Global};
 use tx::TxOut;
 
-// Equal outputs. The only error is that memory ran out.
+// Clones outputs. The only error is that memory ran out.
 fn copies(alloc: Global, outputs: &[TxOut]) -> Result<Vec<TxOut>, AllocError>
     ensures { IfOk result (λ v. v.items ≡ outputs.now) }
 {
@@ -25,7 +25,7 @@ fn copies(alloc: Global, outputs: &[TxOut]) -> Result<Vec<TxOut>, AllocError>
     Ok(copies)
 }
 
-// The claims, lent.
+// References to the claims. The only error is that memory ran out.
 fn lent(alloc: Global, claims: &[Claim]) -> Result<Vec<&Claim>, AllocError>
     ensures { IfOk result (λ v. map (λ c. c.now) v.items ≡ claims.now) }
 {
@@ -36,8 +36,8 @@ fn lent(alloc: Global, claims: &[Claim]) -> Result<Vec<&Claim>, AllocError>
     Ok(lent)
 }
 
-/// Fills the claims of a batch by a signer, as a book's `release` does by the channel's: MixedShells, SameOutpoint, OutputsExceed, and then by claim and slot NoRight where the signer has no right to
-/// the key, and NoPreimage where the batch has none of the hash. `tested` says so by any rights to the same keys.
+/// Fills the claims of a batch with a signer, as a book's `release` does with the channel's. Refused, in this order, with `MixedShells`, `SameOutpoint` and `OutputsExceed`; then, by claim and slot,
+/// with `NoRight` where the signer has no right to the key, or `NoPreimage` where the batch has none for the hash. `tested` says the same for any rights to the same keys.
 pub fn filled(alloc: Global, batch: &Batch, signer: &Signer) -> Result<Filled, FillError>
     ensures by_signer { MatchResult result
         (IsFillingOf batch.now.claims batch.now.outputs signer.now batch.now.preimages)

@@ -1,4 +1,4 @@
-//! A book from the dump of its history, and back.
+//! Loads a book from the dump of its history, and dumps it.
 
 ghost use Rattle.std.specs.Prelude.{◌≡◌, [], ◌∷◌};
 ghost use Rattle.channel.specs.Tokens.{peer_tokens};
@@ -21,7 +21,7 @@ use std::alloc::{AllocError, Global};
 use texts::PlainEntry;
 use updates::ChannelError;
 
-// Why an entry is not put into a book.
+// Why an entry is not added to a book.
 #[derive(Clone, Copy, Debug, PartialEq, Eq, Drop)]
 enum Stop {
     NoMemory,
@@ -146,7 +146,7 @@ fn enter_release(book: &mut Book, seat: u32, channel: u64, batch: Batch) -> Resu
     }
 }
 
-// Puts an entry into a book.
+// Makes the call of an entry, which adds it to the book.
 fn enter(book: &mut Book, entry: Entry) -> Result<(), Stop>
     ensures { Enters result book.old book.new entry }
 {
@@ -169,7 +169,7 @@ fn enter(book: &mut Book, entry: Entry) -> Result<(), Stop>
     }
 }
 
-// The refusal of an entry at an index.
+// The refusal of the entry at an index.
 fn fault_at(index: usize, error: EntryError) -> LoadError
     ensures { result ≡ fault_at index error }
 {
@@ -180,7 +180,7 @@ fn fault_at(index: usize, error: EntryError) -> LoadError
     }
 }
 
-// Puts the entry that a plain one stands for into a book, behind those that it has.
+// Adds the entry that a plain one stands for after those of the book.
 fn take_one(alloc: Global, book: &mut Book, plain: PlainEntry) -> Result<(), LoadError>
     ensures { TakesOne result book.old book.new plain }
 {
@@ -198,7 +198,7 @@ fn take_one(alloc: Global, book: &mut Book, plain: PlainEntry) -> Result<(), Loa
     }
 }
 
-// The book of plain entries, the oldest first.
+// Replays plain entries, the oldest first.
 fn book_of(alloc: Global, history: List<PlainEntry>) -> Result<Book, LoadError>
     ensures { Loads result (history_after_plain peer_tokens 0 [] history) }
 {
@@ -219,7 +219,7 @@ impl Book {
     ghost use Rattle.book.specs.Dumping.{dump_of, history_data};
     ghost use Rattle.book.specs.Loaded.{Loads, loaded};
 
-    /// The dump of the book's history, which is loaded as this history. The only error is that memory ran out.
+    /// Dumps the book's history, which is loaded as the same. The only error is that memory ran out.
     pub fn dump(&self, alloc: Global) -> Result<String, AllocError>
         ensures text { IfOk result (λ text. string_bytes text ≡ dump_of self.now) }
         ensures reads { IfOk result (λ text. read (string_bytes text) ≡ Some
@@ -231,9 +231,9 @@ impl Book {
         dump(alloc, self.entries())
     }
 
-    /// The book of a dump, of version 1 or 2: its calls are made again, and each claim is accepted anew. Refused are, in this order, invalid JSON
-    /// (`NotJson`), a value that is no dump (`BadShape`), and the first entry that is not taken: an entry's claims come first (`BadClaim`), then its call
-    /// (`BadHistory`).
+    /// Loads a book from a dump of version 1 or 2: its calls are made again, and each claim is accepted anew. Its refusals come in this order: invalid
+    /// JSON (`NotJson`), another shape (`BadShape`), and the first entry that is not taken. Of an entry, the claims are tested first (`BadClaim`), then
+    /// the call (`BadHistory`).
     #[tactic(auto, unfolding(crate::specs::Loaded::loaded))]
     pub fn load(alloc: Global, text: &str) -> Result<Book, LoadError>
         ensures { Loads result (loaded peer_tokens text.now) }

@@ -1,4 +1,4 @@
-// The state of a revoked commitment of the peer.
+// Builds the state of a revoked commitment of the peer.
 
 ghost use Rattle.std.specs.Prelude.{◌≡◌, ◌<◌, None, length, IfOk};
 ghost use Rattle.terms.specs.Sides.{other};
@@ -10,7 +10,8 @@ use channel::{Channel, CommitmentState};
 use penalty::RevokedState;
 use std::alloc::AllocError;
 
-// The state of a commitment of the peer that this secret revokes. The only error is that memory ran out.
+// The state of a commitment of the peer and the secret
+// that revokes it. The only error is that memory ran out.
 fn revoked_by(
     channel: &Channel,
     commitment: &CommitmentState,
@@ -28,7 +29,7 @@ fn revoked_by(
     }
 }
 
-/// The state of the peer's commitment of a number, which is revoked. The only error is that memory ran out.
+/// The state of the peer's revoked commitment of this number. The only error is that memory ran out.
 pub(crate) fn state_at(channel: &Channel, number: u64) -> Result<RevokedState, AllocError>
     requires { number < length channel.now.secrets }
     ensures { IfOk result (IsStateAt channel.now number) }

@@ -1,7 +1,7 @@
 //! Two nodes with a book each, for programs that play with books.
 //!
-//! Beside each channel of a book a node has a second one that takes the same steps: from it come the penalties that
-//! the book keeps. What one node sends waits until the other receives it. No clause says what becomes of a step.
+//! For each channel of its book, a node has a second channel that takes the same steps. From it come the penalties
+//! that the book keeps. What one node sends is queued until the other receives it. No clause says what a step does.
 //!
 //! `parties` has the terms, and `book` the two books. The program `plays` plays them, line by line.
 //!

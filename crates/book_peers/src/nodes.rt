@@ -1,4 +1,4 @@
-//! A node: its book, and beside each channel of the book one that goes along with it.
+//! A node: its book, and for each channel of the book a second one that takes the same steps.
 
 use crate::openings::Opened;
 use crate::releases::batch_with;
@@ -17,7 +17,8 @@ use updates::OwnUpdate;
 /// The seat of all calls.
 pub const SEAT: u32 = 0;
 
-/// A channel that goes along with the book's, and the messages that came for it and are not received yet.
+/// The second channel of a channel in the book, and the
+/// messages that came for it and were not received yet.
 #[derive(Drop)]
 struct Line {
     channel: Channel,
@@ -32,7 +33,7 @@ pub struct Node {
     lines: Vec<Line>,
 }
 
-// What the secret of the peer's commitment of a number revokes.
+// The state of the peer's commitment of a number, which the secret revokes.
 fn revoked_state(channel: &Channel, number: u64, secret: [u8; 32]) -> Result<RevokedState> {
     let commitment = channel.peers_commitment(number).context("no commitment")?;
     let view = commitment.view.copy()?;
@@ -54,7 +55,7 @@ fn claims_by(
     claims_on(alloc, &state)
 }
 
-// The penalties of the peer's commitment of a number; no claim where it is not revoked.
+// The penalties of the peer's commitment of a number; no claims where it is not revoked.
 fn penalties_in(alloc: Global, channel: &Channel, number: u64) -> Result<List<Claim>> {
     match channel.peers_secret(number) {
         Some(secret) => claims_by(alloc, channel, number, secret),
@@ -118,18 +119,18 @@ impl Node {
         self.lines.get_mut(index).context("no such channel")
     }
 
-    /// A message came from the peer.
+    /// Queues a message from the peer.
     pub fn queue(&mut self, index: usize, message: Message) -> Result<()> {
         self.line(index)?.inbox.push_back(message)?;
         Ok(())
     }
 
-    // The channel beside the book's makes an update.
+    // Makes an update in the second channel.
     fn update_along(&mut self, index: usize, own: &OwnUpdate) -> Result<Message> {
         Ok(self.line(index)?.channel.make(own)?)
     }
 
-    /// Makes an update, and gives the message for the peer.
+    /// Makes an update, and returns the message for the peer.
     pub fn update(&mut self, index: usize, own: OwnUpdate) -> Result<Result<Message, StepError>> {
         match self.book.step(SEAT, index as u64, Step::Own(own)) {
             Ok(_) => Ok(Ok(self.update_along(index, &own)?)),
@@ -137,7 +138,7 @@ impl Node {
         }
     }
 
-    /// Signs, and gives the message for the peer.
+    /// Signs, and returns the message for the peer.
     pub fn sign(&mut self, index: usize) -> Result<Result<Message, SignError>> {
         match self.book.sign(SEAT, index as u64) {
             Ok(_) => Ok(Ok(self.sign_along(index)?)),
@@ -145,27 +146,27 @@ impl Node {
         }
     }
 
-    /// The channel beside the book's signs: the message for the peer.
+    /// Signs in the second channel, and returns the message for the peer.
     pub fn sign_along(&mut self, index: usize) -> Result<Message> {
         Ok(self.line(index)?.channel.signed()?)
     }
 
-    /// The penalties of the peer's commitment of a number; no claim where it is not revoked.
+    /// The penalties of the peer's commitment of a number; no claims where it is not revoked.
     pub fn penalties(&mut self, index: usize, number: u64) -> Result<List<Claim>> {
         penalties_in(self.alloc, &self.line(index)?.channel, number)
     }
 
-    /// The oldest message that came.
+    /// Removes the oldest message.
     pub fn oldest(&mut self, index: usize) -> Result<Option<Message>> {
         Ok(self.line(index)?.inbox.pop_front())
     }
 
-    // The channel beside the book's receives a message.
+    // Receives a message in the second channel.
     fn receive_along(&mut self, index: usize, message: &Message) -> Result<Option<Message>> {
         Ok(self.line(index)?.channel.receive(message)?)
     }
 
-    /// Receives a message, and gives the answer for the peer, if there is one.
+    /// Receives a message, and returns the answer for the peer, if there is one.
     pub fn receive(&mut self, index: usize, message: Message) -> Result<Option<Message>> {
         let answer = self.receive_along(index, &message)?;
         receive(&mut self.book, index as u64, message)?;
@@ -184,7 +185,7 @@ impl Node {
         Ok(self.book.keep(SEAT, index as u64, number, claims))
     }
 
-    // The penalties of the peer's commitment of a number, in a transaction of their own.
+    // The penalties of the peer's commitment of a number, as a batch.
     fn batch(&mut self, index: usize, number: u64) -> Result<Batch> {
         let claims = self.penalties(index, number)?;
         batch_with(self.alloc, claims)

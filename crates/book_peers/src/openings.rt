@@ -14,7 +14,7 @@ use std::alloc::Global;
 use terms::{Side, Terms};
 use tx::OutPoint;
 
-/// What a side opens a channel by, and a channel that goes along with the book's.
+/// How a side opens a channel in its book, and the second channel.
 #[derive(Drop)]
 pub struct Opened {
     pub opening: Opening,
@@ -29,7 +29,7 @@ fn channel_seed(byte: u8, number: u32) -> [u8; 32] {
     sha256(&bytes)
 }
 
-// What a side opens a channel by, with its signer and its peer's.
+// How a side opens a channel, with its signer and its peer's.
 fn opening_of(
     alloc: Global,
     terms: Terms,
@@ -48,7 +48,7 @@ fn opening_of(
     )
 }
 
-// A side's opening, and its channel.
+// A side's opening, and its second channel.
 fn open_by(
     alloc: Global,
     terms: Terms,
@@ -66,7 +66,7 @@ fn open_by(
     Ok(Opened { opening, channel })
 }
 
-/// How a side opens the channel of a number.
+/// How a side opens the channel of this number.
 pub fn open_side(alloc: Global, number: u32, side: Side) -> Result<Opened> {
     let seed_a = channel_seed(0x0a, number);
     let seed_b = channel_seed(0x0b, number);

@@ -28,7 +28,7 @@ pub enum Act {
     Release(u64),
 }
 
-/// What came of it.
+/// What an act led to.
 #[derive(Clone, Copy, Debug, Drop)]
 pub enum Reply {
     Done,
@@ -54,7 +54,7 @@ pub fn offer(amount: u64, expiry: u32) -> OwnUpdate {
     }
 }
 
-// The message goes to the peer.
+// Sends a message to the peer.
 fn send(peer: &mut Node, channel: usize, message: Message) -> Result<Reply> {
     peer.queue(channel, message)?;
     Ok(Reply::Done)
@@ -107,7 +107,7 @@ fn release(node: &mut Node, channel: usize, number: u64) -> Result<Reply> {
     Ok(Reply::Done)
 }
 
-// A node does something in a channel with its peer.
+// A node acts in a channel with its peer.
 fn play(node: &mut Node, peer: &mut Node, channel: usize, what: Act) -> Result<Reply> {
     match what {
         Act::Update(own) => update(node, peer, channel, own),
@@ -120,7 +120,7 @@ fn play(node: &mut Node, peer: &mut Node, channel: usize, what: Act) -> Result<R
 }
 
 impl Peers {
-    /// Two nodes with no channel.
+    /// Two nodes without channels.
     pub fn new(alloc: Global) -> Peers {
         Peers {
             a: Node::new(alloc),
@@ -150,7 +150,7 @@ impl Peers {
         }
     }
 
-    /// A side does something in a channel.
+    /// A side acts in a channel.
     pub fn act(&mut self, side: Side, channel: usize, what: Act) -> Result<Reply> {
         match side {
             Side::A => play(&mut self.a, &mut self.b, channel, what),

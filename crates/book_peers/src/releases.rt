@@ -8,7 +8,7 @@ use lists::{ByteString, List};
 use std::alloc::Global;
 use tx::TxOut;
 
-// An output of 1,000 satoshis that anyone may take.
+// An output of 1,000 satoshis that anyone can spend.
 fn output(alloc: Global) -> Result<TxOut> {
     let program = ByteString::from_slice(alloc, &[0x51])?;
     Ok(TxOut::new(1000, program)?)

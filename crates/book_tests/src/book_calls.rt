@@ -35,7 +35,7 @@ fn finds_no_other_channel(rt: HostRuntime) {
     assert_eq!(rt; book.entries().len(), 1);
 }
 
-// A revocation with another secret leaves all as it was; the right one gives the number.
+// A revocation with a wrong secret changes nothing; the right one returns the number.
 #[test]
 fn takes_the_secret_of_the_seed_alone(rt: HostRuntime) {
     let alloc = rt.alloc();
@@ -50,13 +50,14 @@ fn takes_the_secret_of_the_seed_alone(rt: HostRuntime) {
     assert_eq!(rt; b.entries().len(), 3);
 }
 
-// A's book offers an HTLC and signs it to a book of B's. What the answer brings.
+// A's book offers an HTLC and signs it to a new book
+// of B's. Returns the revocation in B's answer.
 pub(crate) fn answered(rt: &impl Abort, alloc: Global, a: &mut Book) -> Revocation {
     let mut b = opened(rt, alloc, Side::B);
     offered(rt, a, &mut b)
 }
 
-// The gate: with a commitment revoked nothing is signed until its penalties are kept.
+// The signing gate: after a revocation nothing is signed until its penalties are kept.
 #[test]
 fn signs_once_penalties_are_kept(rt: HostRuntime) {
     let alloc = rt.alloc();
@@ -97,7 +98,7 @@ fn is_accepted(book: &mut Book, call: Call) -> bool {
     }
 }
 
-// A new book of A's opens the channel, offers, signs, and takes what came.
+// A new book of A's opens the channel, offers, signs, and takes the revocation.
 fn called(rt: &impl Abort, alloc: Global, came: Revocation) -> Book {
     let mut book = Book::new(alloc);
     let open = Call::Open(opening(rt, alloc, Side::A));
@@ -116,7 +117,7 @@ fn called(rt: &impl Abort, alloc: Global, came: Revocation) -> Book {
     book
 }
 
-// Each of the six calls is accepted by way of the one for all.
+// `Book::call` accepts each of the six calls.
 #[test]
 fn makes_each_call(rt: HostRuntime) {
     let alloc = rt.alloc();
@@ -135,7 +136,7 @@ fn makes_each_call(rt: HostRuntime) {
     assert_eq!(rt; book.entries().len(), 6);
 }
 
-// Why a book of A's does not fill these claims.
+// Why A's book does not fill these claims.
 fn release_refusal(
     rt: &impl Abort,
     alloc: Global,
@@ -146,7 +147,8 @@ fn release_refusal(
     book.release(2, 0, batch).err()
 }
 
-// The penalties of a revoked commitment are filled, and no one else's signer fills them.
+// The penalties of a revoked commitment are filled
+// by the channel's signer, and by no other.
 #[test]
 fn releases_penalties(rt: HostRuntime) {
     let alloc = rt.alloc();

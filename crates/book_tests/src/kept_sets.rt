@@ -1,4 +1,4 @@
-// Penalty sets that are built outside a book, and batches that are filled outside it.
+// Penalty sets that are built outside a book, and batches that are filled outside of it.
 
 use crate::book_calls::answered;
 use crate::two_books::{FIRST, opened, penalties_of_first, state_of};
@@ -12,7 +12,7 @@ use std::alloc::Global;
 use std::process::Abort;
 use terms::Side;
 
-// A's book takes B's revocation of its commitment 0. The secret.
+// A's book takes B's revocation of its commitment 0. Returns the secret.
 fn revoked(rt: &impl Abort, alloc: Global, a: &mut Book) -> [u8; 32] {
     let came = answered(rt, alloc, a);
     assert!(rt; a.revoke(0, 0, came.secret, came.next_point).is_ok());
@@ -48,7 +48,8 @@ fn keeps_a_built_set_once(rt: HostRuntime) {
     assert_eq!(rt; a.entries().len(), 5);
 }
 
-// The low 48 bits of a number count: a state with another one beyond them is not the book's own, and its claims are.
+// Only the low 48 bits of a number count (BOLT 3). A state with
+// other bits above them is not the book's own, but its claims are.
 #[test]
 fn keeps_the_same_claims_of_another_state(rt: HostRuntime) {
     let alloc = rt.alloc();
@@ -59,7 +60,7 @@ fn keeps_the_same_claims_of_another_state(rt: HostRuntime) {
     assert_eq!(rt; a.keeps(0, 0), Some(true));
 }
 
-// How many claims of B's commitment 0 a signer fills.
+// The number of claims on B's commitment 0 that a signer fills.
 fn count_filled(
     rt: &impl Abort,
     alloc: Global,
@@ -74,7 +75,7 @@ fn count_filled(
     }
 }
 
-// The channel's signer fills its two outputs, and one that knows the seed alone lacks the secret.
+// The channel's signer fills both outputs. A signer that knows only the seed lacks the secret.
 #[test]
 fn fills_outside_the_book(rt: HostRuntime) {
     let alloc = rt.alloc();

@@ -1,4 +1,4 @@
-// What two books that share a channel know of it.
+// What the two books of a channel know of it.
 
 use crate::two_books::{offered_by, opened, penalties_of_first, revocation_in, step_of};
 use book::errors::{KeepError, KnowError};
@@ -18,7 +18,7 @@ const HASH: [u8; 32] = [
     0x51, 0x83, 0x1c, 0x58, 0x9e, 0xf5, 0x81, 0xd4, 0x12, 0xf2, 0xeb, 0xa4, 0x48, 0x34, 0xe7, 0x7c,
 ];
 
-// Commitments by how many HTLCs they have, and how many there are beside.
+// The numbers of HTLCs in the known commitments, and the counts of what else is known.
 #[derive(Clone, Copy, PartialEq)]
 struct Summary {
     own: usize,
@@ -54,7 +54,7 @@ fn known_to(rt: &impl Abort, book: &Book) -> Summary {
     summary_of(&book.known(0).expect(rt, "memory"))
 }
 
-// The number of the state that is told of a revoked commitment.
+// The number of the state that the book returns for a revoked commitment.
 fn revoked_number(book: &Book, channel: u64, number: u64) -> Result<u64, KeepError> {
     match book.revoked(channel, number) {
         Ok(state) => Ok(state.number),
@@ -62,7 +62,7 @@ fn revoked_number(book: &Book, channel: u64, number: u64) -> Result<u64, KeepErr
     }
 }
 
-// Whether the funding output of the books here is the only one.
+// Whether the book has exactly the funding output of these tests.
 fn has_the_funding(rt: &impl Abort, alloc: Global, book: &Book) -> bool {
     let fundings = book.fundings(alloc).expect(rt, "memory");
     fundings.len() == 1 && fundings[0] == FUNDING
@@ -88,7 +88,8 @@ fn knows_no_other_channel(rt: HostRuntime) {
     assert!(rt; has_the_funding(&rt, rt.alloc(), &book));
 }
 
-// The peer's commitment with the HTLC is its next one until it revokes the first, whose penalties are then kept.
+// The peer's commitment with the HTLC is its next one, until
+// the peer revokes the first, whose penalties are then kept.
 #[test]
 fn knows_what_is_revoked_and_kept(rt: HostRuntime) {
     let alloc = rt.alloc();
@@ -125,7 +126,7 @@ fn knows_what_is_revoked_and_kept(rt: HostRuntime) {
     assert!(rt; known_to(&rt, &a) == kept);
 }
 
-// The HTLC is in the newest commitments of both, and B fulfils it.
+// Brings the HTLC into both sides' newest commitments; then B fulfils it.
 fn fulfilled(rt: &impl Abort, a: &mut Book, b: &mut Book) {
     let came = offered_by(rt, a, b, offer());
     assert!(rt; a.revoke(0, 0, came.secret, came.next_point).is_ok());

@@ -1,7 +1,7 @@
 //! Tests of the libraries `texts`, `scenario` and `book`.
 //!
-//! They stand in a crate of their own, so that each of these libraries is proved once. The examples of the libraries'
-//! pages are among them.
+//! They are in a crate of their own, so that the libraries are not proved again when a test changes. The examples of
+//! the libraries' pages are among them.
 #![tactic(auto)]
 
 #[cfg(test)]

@@ -1,4 +1,4 @@
-// Texts that are no dump of a book, and dumps by hand.
+// Texts that are not a book's dump, and dumps written by hand.
 
 use book::dumping::dump;
 use book::errors::LoadError;
@@ -9,7 +9,8 @@ use std::alloc::Global;
 use std::process::Abort;
 use texts::{PlainDump, ReadValue};
 
-// An entry that keeps a claim on CHECKSIG, whose two slots are a key and its token.
+// An entry that keeps a claim on a script of
+// CHECKSIG, whose two slots are a key and its token.
 const FRONT: &str =
     "{\"history\":[{\"call\":[\"keep\",0,0,[{\"outpoint\":\"0707070707070707070707070707070707070707070707070707070707070707:1\",\"path\":";
 
@@ -24,7 +25,8 @@ fn keeping(rt: &impl Abort, alloc: Global, middle: &str) -> String {
 const GOOD: &str =
     "0,\"program\":\"0020ee6bb86b44339392bae631c8f61dd8f009243c635adab33c0b20923a2794bf22\",\"script\":\"ac\"";
 
-// Path 9, a program of zeros, a byte that is no opcode, and an IF without its ENDIF.
+// Path 9, a program of zeros, a byte that is
+// not an opcode, and an IF without its ENDIF.
 const DAMAGED: [&str; 4] = [
     "9,\"program\":\"0020ee6bb86b44339392bae631c8f61dd8f009243c635adab33c0b20923a2794bf22\",\"script\":\"ac\"",
     "0,\"program\":\"00200000000000000000000000000000000000000000000000000000000000000000\",\"script\":\"ac\"",
@@ -64,7 +66,7 @@ fn refuses_texts_that_are_no_dump(rt: HostRuntime) {
 #[test]
 fn accepts_claims_anew(rt: HostRuntime) {
     let alloc = rt.alloc();
-    // The claim is accepted, and no channel is there.
+    // The claim is accepted, but there is no channel.
     let good = keeping(&rt, alloc, GOOD);
     assert!(rt; refusal(alloc, good.as_str()) == Some(LoadError::BadHistory(0)));
     for damaged in DAMAGED {
@@ -78,7 +80,7 @@ fn dump_in(rt: &impl Abort, alloc: Global, text: &str) -> PlainDump {
     PlainDump::read_value(alloc, &value).expect(rt, "a dump")
 }
 
-// The entries of a dump, each of which is one that a book may have.
+// The entries of a dump, in the form that a book has them.
 fn entries_of(rt: &impl Abort, alloc: Global, dump: PlainDump) -> Vec<Entry> {
     let mut entries = Vec::new(alloc);
     for plain in dump.history.into_vec() {

@@ -1,4 +1,5 @@
-// Plain terms that tests share, and a hash: SHA-256 of 32 zero bytes (Python's hashlib).
+// Proposed terms that tests share, and a hash:
+// SHA-256 of 32 zero bytes (Python's hashlib).
 use terms::{ProposedParty, ProposedTerms, Side};
 
 pub(crate) const HASH: [u8; 32] = [
@@ -15,7 +16,7 @@ pub(crate) fn plain_party(start: u64) -> ProposedParty {
     }
 }
 
-// The terms of 100,000 satoshis, with the millisatoshis that the two sides begin with.
+// Terms of 100,000 satoshis, with the millisatoshis that the two sides begin with.
 pub(crate) fn plain_terms(a: u64, b: u64) -> ProposedTerms {
     ProposedTerms {
         capacity: 100_000,

@@ -1,4 +1,4 @@
-// Calls, entries and dumps as texts, written by hand.
+// Calls, entries and dumps in JSON, written by hand.
 use serde_json::Value;
 use std::alloc::Global;
 use std::process::Abort;
@@ -16,7 +16,7 @@ fn write_step(rt: &impl Abort, alloc: Global, channel: u64, step: &PlainStep) ->
     write_receive(alloc, channel, message.expect(rt, "memory")).expect(rt, "memory")
 }
 
-// The call as it is written, of one without claims.
+// Writes a call that has no claims.
 fn write_call(rt: &impl Abort, alloc: Global, call: &PlainCall) -> Value {
     let written = match call {
         PlainCall::Open(opening) => opening.write_value(alloc),
@@ -46,7 +46,8 @@ fn entry(rt: &impl Abort, alloc: Global, entry: &PlainEntry) -> Value {
     write_entry(alloc, call, entry.seat).expect(rt, "memory")
 }
 
-/// The dump that is written for what a text stands for is that text.
+/// Writes the dump that was read from
+/// a text, and expects the same text.
 fn check_back(rt: &impl Abort, alloc: Global, text: &str) {
     let dump = read_dump(rt, alloc, text).expect(rt, "a dump");
     let mut entries = Vec::new(alloc);

@@ -1,4 +1,4 @@
-// Texts of each form, and texts that are near a form, written by hand.
+// Texts of each shape, and texts that just miss a shape, written by hand.
 use crate::plain::{HASH, plain_terms};
 use claim::{Shell, Slot};
 use lists::{ByteString, List};
@@ -11,13 +11,13 @@ use texts::{FromValue, PlainClaim, ReadValue, ShapeError, WriteValue};
 use tx::{OutPoint, TxOut};
 use updates::{OwnUpdate, Update};
 
-/// What a text stands for.
+/// Reads a value of a text.
 fn read<T: FromValue + Drop>(rt: &impl Abort, alloc: Global, text: &str) -> Option<T> {
     let value = Value::from_str(alloc, text).expect(rt, "the text is JSON");
     T::from_value(&value)
 }
 
-/// What a text stands for, where memory is needed.
+/// Reads a value of a text, with a reader that allocates.
 fn read_all<T: ReadValue + Drop>(
     rt: &impl Abort,
     alloc: Global,
@@ -320,7 +320,7 @@ fn reads_scenarios(rt: HostRuntime) {
     assert!(rt; scenario.events.values()[1] == Event::Look { side: Side::B });
 }
 
-/// The text that is written for what a text stands for is that text.
+/// Writes the value that was read from a text, and expects the same text.
 fn check_back<T: FromValue + WriteValue + Drop>(rt: &impl Abort, alloc: Global, text: &str) {
     let read: T = read(rt, alloc, text).expect(rt, "a value of the form");
     let value = read.write_value(alloc).expect(rt, "memory");

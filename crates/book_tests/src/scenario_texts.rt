@@ -1,4 +1,4 @@
-// The first scenario that a text has whole, and texts on both sides of each limit.
+// The first scenario as a whole text, and texts on both sides of each limit.
 
 use crate::plain::{HASH, plain_terms};
 use scenario::{Event, Scenario, ScenarioError, Seeds};
@@ -13,7 +13,7 @@ const FRONT: &str =
 const TERMS: &str =
     "{\"capacity\":100000,\"opener\":\"A\",\"feerate\":1000,\"dust\":[546,546],\"delay\":[144,144],\"minimum\":[1000,1000],\"start\":[80000000,20000000]}";
 
-// One millisatoshi too many.
+// The sides begin with one millisatoshi too many.
 const OTHER_TERMS: &str =
     "{\"capacity\":100000,\"opener\":\"A\",\"feerate\":1000,\"dust\":[546,546],\"delay\":[144,144],\"minimum\":[1000,1000],\"start\":[80000000,20000001]}";
 
@@ -25,7 +25,7 @@ fn text_of(rt: &impl Abort, alloc: Global, channels: &str, events: &str) -> Stri
     format!(in alloc; "{FRONT}{channels}],\"events\":[{events}]}}").expect(rt, "memory")
 }
 
-// The same text a number of times, with commas between.
+// The same text a number of times, separated by commas.
 fn repeated(rt: &impl Abort, alloc: Global, item: &str, count: usize) -> String {
     let mut list = String::new(alloc);
     for index in 0..count {

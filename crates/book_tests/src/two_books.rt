@@ -1,4 +1,4 @@
-// Two books that share a channel: an offer, a signature, its revocation, and the penalties for it.
+// Two books of one channel: an offer, a signature, its revocation, and the penalties for it.
 
 ghost use Rattle.std.specs.Prelude.{◌≡◌};
 ghost use Rattle.keys.specs.declared.bases.Base.TheVariants.{Funding};
@@ -18,7 +18,7 @@ use std::process::Abort;
 use terms::{Side, Terms};
 use updates::{OwnUpdate, Update};
 
-// The channel of two signers.
+// The terms of the channel of two signers.
 fn terms_of(rt: &impl Abort, a: &Signer, b: &Signer) -> Terms
     ensures a { result.a.bases.funding.bytes ≡ base_key a.now.seed Funding }
     ensures b { result.b.bases.funding.bytes ≡ base_key b.now.seed Funding }
@@ -27,7 +27,7 @@ fn terms_of(rt: &impl Abort, a: &Signer, b: &Signer) -> Terms
     parties::terms_of(FUNDING, 100_000, of_a, of_b).expect(rt, "terms")
 }
 
-// What a side opens the channel with.
+// How a side opens the channel.
 fn opening_of(
     rt: &impl Abort,
     alloc: Global,
@@ -86,7 +86,7 @@ pub(crate) fn step_of(message: Message) -> Option<Step> {
     }
 }
 
-// What a revocation brings.
+// The contents of a revocation.
 #[derive(Clone, Copy)]
 pub(crate) struct Revocation {
     pub(crate) secret: [u8; 32],
@@ -107,7 +107,7 @@ pub(crate) fn offered(rt: &impl Abort, a: &mut Book, b: &mut Book) -> Revocation
     offered_by(rt, a, b, offer(500))
 }
 
-// A's book offers an HTLC and signs it to B's, which answers by a revocation.
+// A's book offers an HTLC and signs it to B's, which answers with a revocation.
 pub(crate) fn offered_by(rt: &impl Abort, a: &mut Book, b: &mut Book, offer: Step) -> Revocation {
     let sent = a.step(0, 0, offer).expect(rt, "an offer");
     let update = update_in(sent).expect(rt, "an update");
@@ -118,7 +118,7 @@ pub(crate) fn offered_by(rt: &impl Abort, a: &mut Book, b: &mut Book, offer: Ste
     revocation_in(b.step(0, 0, step).expect(rt, "taken")).expect(rt, "a revocation")
 }
 
-// A state of B's with these balances and this number, which the secret revokes.
+// A state of B's with these balances and this number, revoked by the secret.
 pub(crate) fn state_of(
     rt: &impl Abort,
     alloc: Global,
@@ -132,7 +132,7 @@ pub(crate) fn state_of(
     RevokedState::new(terms, view, Side::B, number, secret).expect(rt, "a state")
 }
 
-// What the two sides begin with, which B's commitment 0 pays.
+// The millisatoshis that the two sides begin with, which B's commitment 0 pays.
 pub(crate) const FIRST: [u64; 2] = [80_000_000, 20_000_000];
 
 // The penalties of B's commitment 0.

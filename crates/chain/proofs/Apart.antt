@@ -1,4 +1,4 @@
--- Outputs stand at different outpoints where the grants have ids of their own: the id of each transaction was new when it was added.
+-- Outputs have different outpoints where the grants have distinct ids: the id of each transaction was new when it was added.
 use Rattle.std.proofs.Common.{◌≡◌, ℕ, inl, inr, ◌⊎◌, ◌+◌, ◌<◌, ◌≤◌, Bool, true, false, ◌||◌, ◌&&◌, ◌==◌, List, [], ◌∷◌, ◌++◌, length, sym, ap, ◌∙◌, refl, arith, append_assoc, append-nil, ne_eqb}
 use Rattle.std.specs.List.{list_any}
 use Rattle.std.specs.Str.{bytes_eq}
@@ -15,11 +15,11 @@ use Rattle.chain.specs.Conserving.{GrantsAreApart}
 use Rattle.chain.proofs.Noting.{swapped}
 use Rattle.chain.proofs.Passing.{passed, next_passed}
 
--- none of them stands at the outpoint
+-- none of them has the outpoint
 abbrev pub Nobody : OutPoint → List Creation → Type 0
 Nobody o list = list_any (λ d. same_outpoint d.outpoint o) list ≡ false
 
--- none of them stands at the outpoint of a later one
+-- none of them has the outpoint of a later one
 abbrev pub Differ : List Creation → Type 0
 Differ [] = Unit {0}
 Differ (c ∷ cs) = Nobody c.outpoint cs × Differ cs
@@ -59,7 +59,7 @@ more : (a b c : Bool) → a ≡ true → ((a || b) || c) ≡ true
 more true b c e = refl
 more false b c e = absurd (false≢true e)
 
--- one more, where nobody stands yet
+-- one more, at an outpoint that none has yet
 differ_one : (xs : List Creation) (c : Creation) → Differ xs → Nobody c.outpoint xs → Differ (xs ++ c ∷ [])
 differ_one [] c apart new = (refl, tt)
 differ_one (x ∷ xs) c apart new =
@@ -69,7 +69,7 @@ differ_one (x ∷ xs) c apart new =
       differ_one xs c apart.1 parts.1,
     )
 
--- nobody of another id stands there
+-- where none has the id, none has the outpoint
 nobody_of : (id : List ℕ) (o : OutPoint) (xs : List Creation) → o.txid ≡ id → has id xs ≡ false → Nobody o xs
 nobody_of id o [] e none = refl
 nobody_of id o (x ∷ xs) e none =
@@ -79,7 +79,7 @@ nobody_of id o (x ∷ xs) e none =
     (not_both (bytes_eq x.outpoint.txid o.txid) (x.outpoint.index == o.index) (λ s. absurd (false≢true (sym other ∙ s))))
     (nobody_of id o xs e parts.1)
 
--- the outputs of a transaction, where none stands at its id from the first index on
+-- the outputs of a transaction, where none has its id with an index from the first one on
 differ_outputs : (xs : List Creation) (id : List ℕ) (height index : ℕ) (outputs : List Output) → Differ xs → ((q : OutPoint) → q.txid ≡ id → index ≤ q.index → Nobody q xs) → Differ (xs ++ creations_from id height index outputs)
 differ_outputs xs id height index [] apart free = rw (append-nil xs) apart
 differ_outputs xs id height index (o ∷ os) apart free =
@@ -112,7 +112,7 @@ has_transactions id height (t ∷ ts) h =
       | inr here ↦ ap (λ b. b || list_any (λ t. bytes_eq (transaction_id t) id) ts) (has_outputs id (transaction_id t) height 0 t.outputs here)
     ]
 
--- the id of one of so many grants
+-- the id of one of the first n grants
 abbrev IsGrantBelow : ℕ → List ℕ → Type 0
 IsGrantBelow n id = (g : ℕ) × (g < n) × (bytes_eq (grant_id g) id ≡ true)
 
@@ -125,7 +125,7 @@ has_grants id height before (o ∷ os) h =
       | inr here ↦ (before + length os, omega arith, elim (or_cases (bytes_eq (grant_id (before + length os)) id) false here) [ inl s ↦ s | inr n ↦ absurd (false≢true n) ])
     ]
 
--- whoever stands on a chain has the id of a transaction or of a grant
+-- an output on a chain has the id of a transaction or of a grant
 has_created : (id : List ℕ) (blocks : List Contents) → has id (created_of blocks) ≡ true → (has_id blocks id ≡ true) ⊎ IsGrantBelow (grants_in blocks) id
 has_created id [] h = absurd (false≢true h)
 has_created id (b ∷ older) h =
@@ -141,7 +141,7 @@ has_created id (b ∷ older) h =
       ]
     ]
 
--- so many grants have ids of their own, and no transaction of these blocks has one of them
+-- the first n grants have distinct ids, and no transaction of these blocks has one of them
 record Free (n : ℕ) (blocks : List Contents) : Type 0 where
   among : (g h : ℕ) → g < h → h < n → bytes_eq (grant_id g) (grant_id h) ≡ false
   from : (g : ℕ) → g < n → has_id blocks (grant_id g) ≡ false
@@ -155,7 +155,7 @@ behind ts older = record { transactions = ts; granted = [] } ∷ older
 free_older : (n : ℕ) (b : Contents) (older : List Contents) → Free n (b ∷ older) → Free n older
 free_older n b older f = record { among = f.among; from = λ g below. (or_parts (list_any (λ t. bytes_eq (transaction_id t) (grant_id g)) b.transactions) (has_id older (grant_id g)) (f.from g below)).1 }
 
--- a transaction more, of an id that is new
+-- one more transaction, with a new id
 apart_transaction : (n : ℕ) (t : Transaction) (ts : List Transaction) (older : List Contents) → Free n (behind (t ∷ ts) older) → grants_in older ≤ n → has_id (behind ts older) (transaction_id t) ≡ false → Differ (created_of older ++ created_by_all (length older) ts) → Differ (created_of older ++ created_by_all (length older) (t ∷ ts))
 apart_transaction n t ts older free grants new apart =
     let id = transaction_id t in
@@ -176,7 +176,7 @@ apart_transactions n (t ∷ ts) older free grants checked apart =
     let fewer : Free n (behind ts older) = record { among = free.among; from = λ g below. less (bytes_eq (transaction_id t) (grant_id g)) (list_any (λ t. bytes_eq (transaction_id t) (grant_id g)) ts) (has_id older (grant_id g)) (free.from g below) } in
     apart_transaction n t ts older free grants (passed (behind ts older) t passes.0).new_id (apart_transactions n ts older fewer grants passes.1 apart)
 
--- the grants of a block, each of an id of its own
+-- the grants of a block, each with a new id
 apart_grants : (n : ℕ) (ts : List Transaction) (os : List Output) (older : List Contents) → Free n (behind ts older) → grants_in older + length os ≤ n → Differ (created_of older ++ created_by_all (length older) ts) → Differ ((created_of older ++ created_by_all (length older) ts) ++ granted_at (length older) (grants_in older) os)
 apart_grants n ts [] older free below apart = rw (append-nil (created_of older ++ created_by_all (length older) ts)) apart
 apart_grants n ts (o ∷ os) older free below apart =
@@ -208,6 +208,6 @@ apart_all n (b ∷ older) free below checked =
     rw (← append_assoc (created_of older) (created_by_all h b.transactions) (granted_at h (grants_in older) b.granted))
     (apart_grants n b.transactions b.granted older free_behind below second)
 
--- where the grants have ids of their own, no two outputs of a checked chain stand at one outpoint
+-- where the grants have distinct ids, no two outputs of a checked chain have the same outpoint
 pub are_apart : (blocks : List Contents) → is_checked blocks ≡ true → GrantsAreApart blocks → AreApart blocks
 are_apart blocks checked grants = apart_all (grants_in blocks) blocks (record { among = grants.among_grants; from = grants.from_transactions }) (omega arith) checked

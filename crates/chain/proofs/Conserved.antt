@@ -30,7 +30,7 @@ use Rattle.chain.proofs.Apart.{Differ, AreApart, or_parts, both_false, are_apart
 use Rattle.chain.proofs.Noting.{same_is, itself, swapped}
 use Rattle.chain.proofs.Passing.{passed, named_fresh, named_created, next_passed}
 
--- what creations are worth
+-- the sum of the values of creations
 abbrev worth : List Creation → ℕ
 worth list = sum_by (λ c. c.output.value) list
 
@@ -67,7 +67,7 @@ left_same : (P Q : OutPoint → Bool) (list : List Creation) → ((q : OutPoint)
 left_same P Q [] e = refl
 left_same P Q (c ∷ cs) e = ap (λ b. cond (not b) (c ∷ left P cs) (left P cs)) (e c.outpoint) ∙ ap (λ xs. cond (not (Q c.outpoint)) (c ∷ xs) xs) (left_same P Q cs e)
 
--- none of them stands there
+-- none of them has the outpoint
 nobody : (list : List Creation) (Q : OutPoint → Bool) (o : OutPoint) → list_any (λ d. same_outpoint d.outpoint o) list ≡ false → left (λ q. same_outpoint o q || Q q) list ≡ left Q list
 nobody [] Q o none = refl
 nobody (c ∷ cs) Q o none =
@@ -110,7 +110,7 @@ or_true : (a b : Bool) → b ≡ true → (a || b) ≡ true
 or_true true b e = refl
 or_true false b e = e
 
--- the outputs that inputs name are spent
+-- the outputs that inputs refer to are spent
 spend_all : (list : List Creation) (Q : OutPoint → Bool) (inputs : List TxIn) → Differ list → names_twice inputs ≡ false → ((q : OutPoint) → list_any (λ i. same_outpoint i.outpoint q) inputs ≡ true → (is_some (found q list) ≡ true) × (Q q ≡ false)) → worth (left (λ q. list_any (λ i. same_outpoint i.outpoint q) inputs || Q q) list) + sum_by (λ i. worth_at list i.outpoint) inputs ≡ worth (left Q list)
 spend_all list Q [] apart once free = omega arith
 spend_all list Q (i ∷ is) apart once free =
@@ -139,7 +139,7 @@ neither (d ∷ ys) c xs e f =
     (some_found (same_outpoint c.outpoint d.outpoint) c (found d.outpoint xs) (swapped c.outpoint d.outpoint ∙ a.0) b.0)
     (neither ys c xs a.1 b.1)
 
--- no later one stands at the outpoint of an earlier one
+-- no later one has the outpoint of an earlier one
 unlike : (xs ys : List Creation) → Differ (xs ++ ys) → list_any (λ d. is_some (found d.outpoint xs)) ys ≡ false
 unlike [] ys apart = none_at_all ys
 unlike (c ∷ xs) ys apart =
@@ -214,7 +214,7 @@ named_flat : (q : OutPoint) (blocks : List Contents) → list_any (names q) (tra
 named_flat q [] = refl
 named_flat q (b ∷ older) = list_any-append (names q) b.transactions (transactions_of older) ∙ ap (λ x. list_any (names q) b.transactions || x) (named_flat q older)
 
--- the fees of what stands on the chain do not change with what is added
+-- the fees of the transactions on the chain do not change with what is added
 same_fees : (before after : List Contents) (new : List Creation) → Extends before after new → is_checked before ≡ true → sum_by (fee_of after) (transactions_of before) ≡ fees_of before
 same_fees before after new e checked = fees_stay before after new (transactions_of before) e (λ q n. named_created before q checked (sym (named_flat q before) ∙ n))
 

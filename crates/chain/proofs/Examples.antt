@@ -1,4 +1,4 @@
--- The definitions at work on known values.
+-- The definitions on known values.
 use Rattle.std.proofs.Common.{◌≡◌, List, ℕ, [], ◌∷◌, true, false, Option, Some, None, Ok, max, refl, ap, ◌∙◌, replicate, drop}
 use Rattle.tx.specs.declared.input.OutPoint.{OutPoint}
 use Rattle.tx.specs.declared.input.TxIn.{TxIn}
@@ -20,8 +20,8 @@ second = record { txid = replicate 32 7; index = 0 }
 abbrev from : OutPoint → ℕ → TxIn
 from o n = record { outpoint = o; sequence = n; witness = [] }
 
--- a lock time of 500 is a height that block 501 passes and block 500 does not; times up to 0x20ffffff count as passed in any block, those
--- above in none; and none counts where every input is final
+-- a lock time of 500 is reached in block 501 and not in block 500. Times up to 0x20ffffff count as reached in any block, those above in
+-- none. No lock time counts where every input is final
 lock_times : (is_final 501 500 (from first 0 ∷ []) ≡ true)
     × (is_final 500 500 (from first 0 ∷ []) ≡ false)
     × (is_final 499999999 499999999 (from first 0 ∷ []) ≡ false)
@@ -35,7 +35,7 @@ lock_times : (is_final 501 500 (from first 0 ∷ []) ≡ true)
     × (is_final 1 0 (from first 0 ∷ []) ≡ true)
 lock_times = (refl, refl, refl, refl, refl, refl, refl, refl, refl, refl, refl)
 
--- a coin of height 100 and an age of 144: block 244 and not 243; bit 31 and versions below 2 switch the lock off, bit 22 makes it a time
+-- a coin of height 100 and an age of 144: block 244 and not 243; bit 31 and versions below 2 disable the lock, and bit 22 makes it a time
 ages : (is_old_enough 244 2 144 100 ≡ true)
     × (is_old_enough 243 2 144 100 ≡ false)
     × (is_old_enough 243 1 144 100 ≡ true)
@@ -53,7 +53,7 @@ ages : (is_old_enough 244 2 144 100 ≡ true)
     × (is_old_enough 100000 1 0x400000 100 ≡ true)
 ages = (refl, refl, refl, refl, refl, refl, refl, refl, refl, refl, refl, refl, refl, refl, refl)
 
--- outpoints of one id and another index are two
+-- outpoints with the same id and different indices are different
 repeats : (names_twice (from first 0 ∷ from second 0 ∷ []) ≡ false)
     × (names_twice (from first 0 ∷ from second 0 ∷ from first 1 ∷ []) ≡ true)
     × (names_twice (from first 0 ∷ []) ≡ false)
@@ -112,7 +112,7 @@ deep : (is_too_deep (standing three 2) 0 ≡ false)
     × (is_too_deep (standing (replicate 4 empty_block) 8) 2 ≡ true)
 deep = (refl, refl, refl, refl, refl, refl, refl, refl, refl, refl, refl)
 
--- the greatest height ever is not that of the newest block: the chain was at height 8, stands at 2, and gets its next block
+-- the greatest height ever is not that of the newest block: the chain was at height 8, is at 2, and gets its next block
 greatest_stays : (s : Standing) → Connects (standing (replicate 3 empty_block) 8) [] (Ok 3) s → s.greatest ≡ 8
 greatest_stays s c = c.2
 
@@ -125,7 +125,8 @@ greatest_of_some refusals s c = c.2 ∙ ap (λ blocks. max 8 (height_of blocks))
 greatest_of_taken : (txs : List Transaction) (s : Standing) → Disconnects (standing (replicate 9 empty_block) 8) 6 (Ok txs) s → s.greatest ≡ 8
 greatest_of_taken txs s c = ap (λ (x : Standing). x.greatest) c.2
 
--- an outpoint that is named twice is refused as that, though nothing was created there; named once it is unknown, whatever the outputs pay
+-- an outpoint that two inputs spend is refused as Twice, though nothing was created there; spent once it is Unknown, whatever the outputs
+-- pay
 in_turn : (transaction_refusal [] (record spending { inputs = from first 1 ∷ from first 2 ∷ [] }) ≡ Some Twice)
     × (transaction_refusal [] (record spending { inputs = from second 1 ∷ from first 1 ∷ from first 1 ∷ [] }) ≡ Some Twice)
     × (transaction_refusal [] spending ≡ Some Unknown)

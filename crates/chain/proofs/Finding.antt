@@ -21,12 +21,12 @@ map_or f (Some a) y = refl
 pub found_in_both : (o : OutPoint) (xs ys : List Creation) → found_in o (xs ++ ys) ≡ option_or (found_in o xs) (found_in o ys)
 found_in_both o xs ys = ap (option_map spot_of) (find-append (λ c. same_outpoint c.outpoint o) xs ys) ∙ map_or spot_of _ _
 
--- nothing stands at another id
+-- nothing is at another id
 pub none_by_others : (o : OutPoint) (id : List ℕ) (height index : ℕ) (outputs : List Output) → bytes_eq id o.txid ≡ false → found_in o (creations_from id height index outputs) ≡ None
 none_by_others o id height index [] other = refl
 none_by_others o id height index (x ∷ xs) other = rw other (none_by_others o id height (index + 1) xs other)
 
--- the output of an index
+-- the output at an index
 pub found_by_index : (o : OutPoint) (id : List ℕ) (height index k : ℕ) (outputs : List Output) → bytes_eq id o.txid ≡ true → o.index ≡ index + k → found_in o (creations_from id height index outputs) ≡ option_map (λ x. (x, height)) (slice_get outputs k)
 found_by_index o id height index k [] same at = refl
 found_by_index o id height index zero (x ∷ xs) same at = rw (same, eq-eqb index o.index (omega (arith, at))) refl
@@ -89,7 +89,7 @@ newest_block_last (b ∷ bs) =
 pub created_of_order : (bs : List Contents) → created_of (reverse bs) ≡ created_from 0 0 bs
 created_of_order bs = newest_block_last (reverse bs) ∙ ap (created_from 0 0) (reverse-reverse bs)
 
--- a coin, from what stands at its outpoint
+-- a coin, from what is at its outpoint
 abbrev coin_of : Bool → Output × ℕ → Coin
 coin_of named f = record { output = f.0; height = f.1; spent = named }
 
@@ -97,7 +97,7 @@ coin_by_spot : (named : Bool) (c : Option Creation) → option_map (λ c. coin_o
 coin_by_spot named None = refl
 coin_by_spot named (Some c) = refl
 
--- a coin is what stands at an outpoint, with whether an input names it
+-- a coin is what is at an outpoint, with whether an input spends it
 pub coin_from_found : (blocks : List Contents) (o : OutPoint) → coin_at blocks o ≡ option_map (coin_of (is_named blocks o)) (found_in o (created_of blocks))
 coin_from_found blocks o = coin_by_spot (is_named blocks o) (find (λ c. same_outpoint c.outpoint o) (created_of blocks))
 
@@ -116,11 +116,11 @@ drop-past [] (suc i) past = refl
 drop-past (x ∷ xs) zero past = absurd (omega arith)
 drop-past (x ∷ xs) (suc i) past = drop-past xs i (omega arith)
 
--- the first of a list that is left
+-- the first of the rest of a list
 pub head_left : {X : Type 0} (xs : List X) (i : ℕ) (x : X) → x ≡ get_or xs i x → i < length xs → drop i xs ≡ x ∷ drop (i + 1) xs
 head_left xs i x e below = rw (add-one, drop-cons xs i x) (ap (λ y. y ∷ drop (suc i) xs) (sym e))
 
--- where the first of the transactions that are left created nothing there, the others are looked through
+-- where the first of the remaining transactions created nothing there, the others are searched
 pub transactions_later : (o : OutPoint) (height : ℕ) (ts : List Transaction) (i : ℕ) (t : Transaction) → t ≡ get_or ts i t → i < length ts → found_in o (created_by height t) ≡ None → found_in o (flat_map (created_by height) (drop (i + 1) ts)) ≡ found_in o (flat_map (created_by height) (drop i ts))
 transactions_later o height ts i t e below none =
     sym (ap (λ xs. found_in o (flat_map (created_by height) xs)) (head_left ts i t e below) ∙ found_in_both o (created_by height t) (flat_map (created_by height) (drop (i + 1) ts)) ∙ ap (λ f. option_or f (found_in o (flat_map (created_by height) (drop (i + 1) ts)))) none)
@@ -132,7 +132,7 @@ transactions_here o height ts i t f e below here =
 pub transactions_end : (o : OutPoint) (height : ℕ) (ts : List Transaction) (i : ℕ) → length ts ≤ i → found_in o (flat_map (created_by height) (drop i ts)) ≡ None
 transactions_end o height ts i past = ap (λ xs. found_in o (flat_map (created_by height) xs)) (drop-past ts i past)
 
--- the same of grants
+-- the same for grants
 pub grants_later : (o : OutPoint) (height g : ℕ) (os : List Output) (i : ℕ) (x : Output) → x ≡ get_or os i x → i < length os → same_outpoint (grant_outpoint (g + i)) o ≡ false → found_in o (grants_from height (g + (i + 1)) (drop (i + 1) os)) ≡ found_in o (grants_from height (g + i) (drop i os))
 grants_later o height g os i x e below other =
     sym (ap (λ xs. found_in o (grants_from height (g + i) xs)) (head_left os i x e below) ∙ rw other (ap (λ n. found_in o (grants_from height n (drop (i + 1) os))) (omega arith)))
@@ -143,7 +143,7 @@ grants_here o height g os i x e below same = ap (λ xs. found_in o (grants_from 
 pub grants_end : (o : OutPoint) (height g : ℕ) (os : List Output) (i : ℕ) → length os ≤ i → found_in o (grants_from height g (drop i os)) ≡ None
 grants_end o height g os i past = ap (λ xs. found_in o (grants_from height g xs)) (drop-past os i past)
 
--- and of blocks
+-- and for blocks
 pub blocks_step : (o : OutPoint) (height g : ℕ) (bs : List Contents) (i : ℕ) (b : Contents) → b ≡ get_or bs i b → i < length bs → found_in o (created_from height g (drop i bs)) ≡ option_or (option_or (found_in o (created_by_all height b.transactions)) (found_in o (granted_at height g b.granted))) (found_in o (created_from (height + 1) (g + length b.granted) (drop (i + 1) bs)))
 blocks_step o height g bs i b e below =
     ap (λ xs. found_in o (created_from height g xs)) (head_left bs i b e below)

@@ -44,11 +44,11 @@ changes_more first s s' t c e = rw e (record {
   greatest = c.greatest;
 })
 
--- a transaction that passes leaves the others to be added
+-- after a transaction that passes, the others are still to be added
 pub goes_on : (s s' : Standing) (index : ℕ) (t : Transaction) (rest : List Transaction) (whole : Result (List Contents) BlockError) → added index s.blocks (t ∷ rest) ≡ whole → transaction_refusal s.blocks t ≡ None → s' ≡ record s { blocks = with_transaction s.blocks t } → added (index + 1) s'.blocks rest ≡ whole
 goes_on s s' index t rest whole e passes same = rw same (sym (ap (λ r. unless_refused index r (added (index + 1) (with_transaction s.blocks t) rest)) passes) ∙ e)
 
--- one that does not is named
+-- one that does not pass is named in the refusal
 pub stops_at : (s : Standing) (index : ℕ) (t : Transaction) (rest : List Transaction) (whole : Result (List Contents) BlockError) (refusal : ChainError) → added index s.blocks (t ∷ rest) ≡ whole → transaction_refusal s.blocks t ≡ Some refusal → whole ≡ Err (record { index = index; refusal = refusal })
 stops_at s index t rest whole refusal e refused = sym e ∙ ap (λ r. unless_refused index r (added (index + 1) (with_transaction s.blocks t) rest)) refused
 
@@ -88,7 +88,7 @@ pub some_stay : (blocks : List Contents) (o : Output) → length (with_grant blo
 some_stay [] o = refl
 some_stay (b ∷ older) o = refl
 
--- a count that goes on from 2^64 to 0
+-- a count that goes on from 2^64 - 1 to 0
 pub counts_on : (n g k : ℕ) → n ≡ g % 2 ^ 64 → (n + k) % 2 ^ 64 ≡ (g + k) % 2 ^ 64
 counts_on n g k e = ap (λ m. (m + k) % 2 ^ 64) e ∙ mod-add-mod g (2 ^ 64) k
 
@@ -130,7 +130,7 @@ nothing_granted : (outputs : List Output) → not (length outputs == 0) ≡ fals
 nothing_granted [] h = refl
 nothing_granted (o ∷ os) h = absurd (false≢true (sym h ∙ ap not (ne_eqb (length (o ∷ os)) 0 (λ e. omega (arith, e)))))
 
--- each of so many newest blocks may be taken off in its turn
+-- each of the newest k blocks may be taken off in its turn
 pub may_take_off_next : (blocks : List Contents) (k i : ℕ) → list_any has_grant (take k blocks) ≡ false → i < k → k ≤ length blocks → MayTakeOff (drop i blocks)
 may_take_off_next blocks zero i none below enough = absurd (omega arith)
 may_take_off_next [] (suc k) i none below enough = absurd (omega arith)
@@ -140,7 +140,7 @@ may_take_off_next (b ∷ older) (suc k) (suc i) none below enough = may_take_off
 pub more_than_one : (s begun changed : Standing) → begun ≡ record s { blocks = empty_block ∷ s.blocks } → ChangesNewest begun changed → 0 < length s.blocks → 1 < length changed.blocks
 more_than_one s begun changed e c some = let count : length begun.blocks ≡ suc (length s.blocks) = ap (λ (b : Standing). length b.blocks) e in omega (arith, c.count)
 
--- the newest blocks stand last where the oldest is the first
+-- the newest blocks come last where the oldest is first
 pub newest_last : (blocks : List Contents) (k n : ℕ) → k ≤ length blocks → n ≡ length blocks → drop (n - k) (reverse blocks) ≡ reverse (take k blocks)
 newest_last blocks k n enough count =
     let split : reverse blocks ≡ reverse (drop k blocks) ++ reverse (take k blocks) = ap reverse (sym (take-append-drop k blocks)) ∙ reverse-append (take k blocks) (drop k blocks) in
@@ -159,7 +159,7 @@ transactions_of_newest blocks k enough =
 false_above : (a b : ℕ) → nat_lt a b ≡ false → b ≤ a
 false_above a b h = grind (arith, nat_tests)
 
--- what it means that so many blocks may be taken off
+-- what it means that k blocks may be taken off
 pub not_too_deep : (s : Standing) (k : ℕ) → is_too_deep s k ≡ false → (k ≤ height_of s.blocks) × (list_any has_grant (take k s.blocks) ≡ false)
 not_too_deep s k h =
     let first = nat_lt (height_of s.blocks) k in

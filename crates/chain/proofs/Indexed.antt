@@ -1,4 +1,4 @@
--- How what is kept beside the blocks follows them.
+-- How an index follows the blocks.
 use Rattle.std.proofs.Common.{◌≡◌, ℕ, zero, suc, ◌+◌, ◌<◌, ◌≤◌, Bool, true, false, not, ◌&&◌, ◌||◌, cond, List, [], ◌∷◌, ◌++◌, length, Option, Some, None, option_map, sym, ap, ◌∙◌, refl, arith, append_assoc, append-nil, ne_eqb, eq-eqb}
 use Rattle.std.specs.Prelude.{is_some, nat_lt, IfSome, slice_get}
 use Rattle.std.specs.Ordering.{is_eq, nat_cmp}
@@ -58,7 +58,7 @@ none_named : (blocks : List Contents) (q : OutPoint) (named : Bool) → is_check
 none_named blocks q false checked e none = refl
 none_named blocks q true checked e none = absurd (false≢true (sym none ∙ named_created blocks q checked e))
 
--- what one transaction more leaves at an outpoint
+-- what one more transaction leaves at an outpoint
 pub coin_next : (t : Transaction) (ts : List Transaction) (older : List Contents) (q : OutPoint) → is_checked (behind ts older) ≡ true → coin_at (at_end t ts older) q ≡ with_mark (names q t) true (option_or (coin_at (behind ts older) q) (first_new (created_by (length older) t) q))
 coin_next t ts older q checked =
     let p : Creation → Bool = λ c. same_outpoint c.outpoint q in
@@ -76,7 +76,7 @@ checked_next t ts older checked passes = rw passes checked
 plain : (b : Contents) → b.granted ≡ [] → b ≡ record { transactions = b.transactions; granted = [] }
 plain b e = ap (λ g. let c : Contents = record { transactions = b.transactions; granted = g } in c) e
 
--- one transaction more, where what is kept follows it
+-- one more transaction, where the index follows it
 pub follows : (blocks : List Contents) (t : Transaction) (coins coins' : OutPoint → Option Coin) (ids ids' : List ℕ → Bool) (height : ℕ) → MayTakeOff blocks → height ≡ height_of blocks → transaction_refusal blocks t ≡ None
     → ((q : OutPoint) → coins' q ≡ with_mark (names q t) true (option_or (coins q) (first_new (created_by height t) q)))
     → ((id : List ℕ) → ids' id ≡ (bytes_eq (transaction_id t) id || ids id))
@@ -133,7 +133,7 @@ unfolding AreLow
 low_grants height before [] = tt
 low_grants height before (o ∷ os) = low_both (suc height) (granted_at height before os) _ (low_grants height before os) (omega arith, tt)
 
--- what blocks created stands below their number
+-- what blocks created has a height below their number
 low_created : (blocks : List Contents) → AreLow (length blocks) (created_of blocks)
 unfolding AreLow
 low_created [] = tt
@@ -176,7 +176,7 @@ low_coin : (named : Bool) (n : ℕ) (x : Option Creation) → IfSome x (λ c. c.
 low_coin named n None l = tt
 low_coin named n (Some c) l = l
 
--- before a new transaction, what stands at its outpoints was created below
+-- before a new transaction, what is at its outpoints was created at a lower height
 lower_behind : (ts : List Transaction) (older : List Contents) (id : List ℕ) (q : OutPoint) → has_id (behind ts older) id ≡ false → q.txid ≡ id → IfSome (coin_at (behind ts older) q) (λ c. c.height < length older)
 lower_behind ts older id q new e =
     let p : Creation → Bool = λ c. same_outpoint c.outpoint q in
@@ -213,7 +213,7 @@ slice_past (x ∷ xs) (suc k) past = slice_past xs k (omega arith)
 not_below : (k n : ℕ) → nat_lt k n ≡ false → n ≤ k
 not_below k n h = grind (arith, nat_tests)
 
--- the new output at an outpoint of this id
+-- the new output at an outpoint with this id
 new_here : (id : List ℕ) (height : ℕ) (outputs : List Output) (q : OutPoint) → bytes_eq id q.txid ≡ true → first_new (creations_from id height 0 outputs) q ≡ option_map (λ (o : Output). let c : Coin = record { output = o; height = height; spent = false } in c) (slice_get outputs q.index)
 new_here id height outputs q same =
     by_spot (find (λ c. same_outpoint c.outpoint q) (creations_from id height 0 outputs))
@@ -241,7 +241,7 @@ forgotten_by id height outputs x q true true low e m =
     ap (λ y. unless_height height (option_or x y)) (new_here id height outputs q e)
     ∙ forgets_new height x (slice_get outputs q.index) (low (sym ((bytes_eq-Decides id q.txid).0 e)))
 
--- the outputs of a transaction, noted and forgotten again
+-- the outputs of a transaction, recorded and removed again
 pub forgotten : (id : List ℕ) (height : ℕ) (outputs : List Output) (x : Option Coin) (q : OutPoint) → (q.txid ≡ id → IfSome x (λ c. c.height < height)) → without (is_output_below id (length outputs) q) height (option_or x (first_new (creations_from id height 0 outputs) q)) ≡ x
 forgotten id height outputs x q low = forgotten_by id height outputs x q (bytes_eq id q.txid) (nat_lt q.index (length outputs)) low refl refl
 
@@ -264,7 +264,7 @@ unmarked true (Some c) fresh h =
     let same : c ≡ f.0 = cc in
     ap (λ s. let d : Coin = record c { spent = s } in Some d) (sym (ap (λ (d : Coin). d.spent) same ∙ f.2))
 
--- one transaction fewer, where what is kept follows it
+-- one transaction fewer, where the index follows it
 pub follows_back : (blocks : List Contents) (t : Transaction) (coins coins' : OutPoint → Option Coin) (ids ids' : List ℕ → Bool) (height : ℕ) → MayTakeOff blocks → height ≡ height_of blocks
     → ((q : OutPoint) → coins' q ≡ without (is_output_below (transaction_id t) (length t.outputs) q) height (with_mark (names q t) false (coins q)))
     → ((id : List ℕ) → ids' id ≡ cond (is_eq (slice_cmp nat_cmp (transaction_id t) id)) false (ids id))
@@ -315,7 +315,7 @@ spent_by : (named : Bool) (x : Option Creation) (c : Coin) → Some c ≡ option
 spent_by named None c e = absurd cc
 spent_by named (Some x) c e = let same : c ≡ coin named x = cc in ap (λ (d : Coin). d.spent) same
 
--- a coin knows whether an input names it
+-- a coin knows whether an input spends it
 pub spent_named : (blocks : List Contents) (o : OutPoint) (c : Coin) → Some c ≡ coin_at blocks o → c.spent ≡ is_named blocks o
 spent_named blocks o c e = spent_by (is_named blocks o) (created_at blocks o) c e
 
@@ -323,7 +323,7 @@ no_coin : (named : Bool) (x : Option Creation) → None ≡ option_map (coin nam
 no_coin named None e = refl
 no_coin named (Some x) e = absurd cc
 
--- where there is none, no input names it
+-- where there is no coin, no input spends it
 pub none_spent : (blocks : List Contents) (o : OutPoint) → is_checked blocks ≡ true → None ≡ coin_at blocks o → false ≡ is_named blocks o
 none_spent blocks o checked e = sym (none_named blocks o (is_named blocks o) checked refl (no_coin (is_named blocks o) (created_at blocks o) e))
 
@@ -339,7 +339,7 @@ coin_granted b older o q checked =
     ap (option_map (coin (is_named (b ∷ older) q))) (ap (find p) whole ∙ find-append p (created_of (b ∷ older)) one)
     ∙ seen false (is_named (b ∷ older) q) (created_at (b ∷ older) q) (find p one) (none_named (b ∷ older) q (is_named (b ∷ older) q) checked refl)
 
--- one grant more, where what is kept follows it
+-- one more grant, where the index follows it
 pub follows_grant : (blocks blocks' : List Contents) (o : Output) (coins coins' : OutPoint → Option Coin) (ids : List ℕ → Bool) (outpoint : OutPoint) (height : ℕ) → 0 < length blocks → blocks' ≡ with_grant blocks o → outpoint ≡ grant_outpoint (grants_in blocks) → height ≡ height_of blocks
     → ((q : OutPoint) → coins' q ≡ option_or (coins q) (first_new (record { outpoint = outpoint; output = o; height = height } ∷ []) q))
     → IsIndex blocks coins ids → IsIndex blocks' coins' ids
@@ -370,7 +370,7 @@ taken_by f c false q false s e = or_none (f q) None refl
 taken_by f c true q true s e = sym (ap f (sym (same_is c.outpoint q s)) ∙ nothing (f c.outpoint) e)
 taken_by f c false q true s e = something (f q) (Some (new_coin c)) (e ∙ ap (λ o. not (is_some (f o))) (same_is c.outpoint q s))
 
--- a grant that was noted and taken out again
+-- a grant that was recorded and removed again
 pub grant_undone : (blocks : List Contents) (coins coins' coins'' : OutPoint → Option Coin) (ids : List ℕ → Bool) (c : Creation) (added : Bool) → added ≡ not (is_some (coins c.outpoint)) → ((q : OutPoint) → coins' q ≡ option_or (coins q) (first_new (c ∷ []) q)) → ((q : OutPoint) → coins'' q ≡ cond (added && same_outpoint c.outpoint q) None (coins' q)) → IsIndex blocks coins ids → IsIndex blocks coins'' ids
 grant_undone blocks coins coins' coins'' ids c added e more less i =
     same_index blocks coins coins'' ids ids (λ q. less q ∙ ap (cond (added && same_outpoint c.outpoint q) None) (more q) ∙ taken_by coins c added q (same_outpoint c.outpoint q) refl e) (λ id. refl) i

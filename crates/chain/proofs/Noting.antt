@@ -36,7 +36,7 @@ apart x y h = grind (arith, nat_tests)
 equal_numbers : (x y : ℕ) → is_eq (nat_cmp x y) ≡ (x == y)
 equal_numbers x y = by_tests (nat_lt x y) (x == y) (apart x y)
 
--- outpoints tie exactly where they are one
+-- outpoints compare as equal exactly where they are the same
 pub ties : (o p : OutPoint) → is_eq (outpoint_cmp o p) ≡ same_outpoint o p
 ties o p =
     both_equal (slice_cmp nat_cmp o.txid p.txid) (nat_cmp o.index p.index)
@@ -68,7 +68,7 @@ mapped : (t : Bool) (e : IndexedCoin) (x : Option IndexedCoin) → option_map in
 mapped true e x = refl
 mapped false e x = refl
 
--- a map with one entry more, as contracts see it
+-- a map with one more entry, as contracts see it
 pub noted_with : (m n : BTreeMap OutPoint IndexedCoin) (k : OutPoint) (e : IndexedCoin) → ((q : OutPoint) → get outpoint_cmp n q ≡ cond (is_eq (outpoint_cmp k q)) (Some e) (get outpoint_cmp m q)) → (q : OutPoint) → noted n q ≡ cond (same_outpoint k q) (Some (indexed_coin e)) (noted m q)
 noted_with m n k e u q =
     ap (option_map indexed_coin) (u q) ∙ mapped (is_eq (outpoint_cmp k q)) e (get outpoint_cmp m q)
@@ -105,7 +105,7 @@ more_here : (f : OutPoint → Option Coin) (c : Creation) (q : OutPoint) (t : Bo
 more_here f c q true none e = ap (λ x. option_or x (Some (new_coin c))) (sym none ∙ ap f (same_is c.outpoint q e))
 more_here f c q false none e = or_nothing (f q)
 
--- one output more, where none stood
+-- one more output, where there was none
 pub one_more : (f g : OutPoint → Option Coin) (c : Creation) (x : Coin) → f c.outpoint ≡ None → x ≡ new_coin c → ((q : OutPoint) → g q ≡ cond (same_outpoint c.outpoint q) (Some x) (f q)) → (q : OutPoint) → g q ≡ option_or (f q) (first_new (c ∷ []) q)
 one_more f g c x none new u q = u q ∙ ap (λ y. cond (same_outpoint c.outpoint q) (Some y) (f q)) new ∙ more_here f c q (same_outpoint c.outpoint q) none refl
 
@@ -117,7 +117,7 @@ already_here : (f : OutPoint → Option Coin) (c : Creation) (q : OutPoint) (t :
 already_here f c q true some e = or_some (f q) (Some (new_coin c)) (ap (λ o. is_some (f o)) (sym (same_is c.outpoint q e)) ∙ some)
 already_here f c q false some e = or_nothing (f q)
 
--- and where one stands, the first remains
+-- and where there is one already, the first remains
 pub one_already : (f : OutPoint → Option Coin) (c : Creation) → is_some (f c.outpoint) ≡ true → (q : OutPoint) → f q ≡ option_or (f q) (first_new (c ∷ []) q)
 one_already f c some q = already_here f c q (same_outpoint c.outpoint q) some refl
 
@@ -125,7 +125,7 @@ taken : (f : OutPoint → Option Coin) (k : OutPoint) (height : ℕ) (c : Coin) 
 taken f k height c q true e h s = sym (ap (unless_height height) (sym (ap f (same_is k q s)) ∙ e) ∙ ap (λ t. cond t None (Some c)) h)
 taken f k height c q false e h s = refl
 
--- what stands at an outpoint is taken away, where it was created at this height
+-- what is at an outpoint is removed, if it was created at this height
 pub taken_away : (f g : OutPoint → Option Coin) (k : OutPoint) (height : ℕ) (c : Coin) → f k ≡ Some c → (c.height == height) ≡ true → ((q : OutPoint) → g q ≡ cond (same_outpoint k q) None (f q)) → (q : OutPoint) → g q ≡ without (same_outpoint k q) height (f q)
 taken_away f g k height c e h u q = u q ∙ taken f k height c q (same_outpoint k q) e h refl
 
@@ -142,7 +142,7 @@ none_first : (b : Bool) (height : ℕ) (x : Option Coin) → without (b && false
 none_first true height x = refl
 none_first false height x = refl
 
--- nothing is forgotten yet
+-- nothing is removed yet
 pub forget_none : (id : List ℕ) (height : ℕ) (x : Option Coin) (q : OutPoint) → x ≡ without (is_output_below id 0 q) height x
 forget_none id height x q =
     sym (ap (λ t. without (bytes_eq id q.txid && t) height x) (none_below q.index) ∙ none_first (bytes_eq id q.txid) height x)
@@ -154,7 +154,7 @@ one_of_two true true false height x h = refl
 one_of_two true false true height x h = refl
 one_of_two true false false height x h = refl
 
--- one output more is forgotten
+-- one more output is removed
 pub forget_next : (id : List ℕ) (i height : ℕ) (f0 f g : OutPoint → Option Coin) (q : OutPoint) → f q ≡ without (is_output_below id i q) height (f0 q) → g q ≡ without (same_outpoint (record { txid = id; index = i }) q) height (f q) → g q ≡ without (is_output_below id (i + 1) q) height (f0 q)
 forget_next id i height f0 f g q e u =
     let b = bytes_eq id q.txid in
@@ -174,7 +174,7 @@ first_by false c x = refl
 first_cons : (c : Creation) (cs : List Creation) (q : OutPoint) → first_new (c ∷ cs) q ≡ option_or (first_new (c ∷ []) q) (first_new cs q)
 first_cons c cs q = first_by (same_outpoint c.outpoint q) c (find (λ c. same_outpoint c.outpoint q) cs)
 
--- one output more is noted, and those that are left
+-- one more output is recorded, and then the rest
 pub note_next : (id : List ℕ) (height i : ℕ) (outputs : List Output) (x : Output) (f g : OutPoint → Option Coin) (whole : Option Coin) (q : OutPoint) → x ≡ get_or outputs i x → i < length outputs → g q ≡ option_or (f q) (first_new (record { outpoint = record { txid = id; index = i }; output = x; height = height } ∷ []) q) → option_or (f q) (first_new (creations_from id height i (drop i outputs)) q) ≡ whole → option_or (g q) (first_new (creations_from id height (i + 1) (drop (i + 1) outputs)) q) ≡ whole
 note_next id height i outputs x f g whole q e below u w =
     let c : Creation = record { outpoint = record { txid = id; index = i }; output = x; height = height } in
@@ -184,7 +184,7 @@ note_next id height i outputs x f g whole q e below u w =
     ∙ ap (option_or (f q)) (sym (first_cons c rest q) ∙ sym (ap (λ xs. first_new (creations_from id height i xs) q) (head_left outputs i x e below)))
     ∙ w
 
--- all are noted
+-- all are recorded
 pub note_last : (id : List ℕ) (height i : ℕ) (outputs : List Output) (x whole : Option Coin) (q : OutPoint) → length outputs ≤ i → option_or x (first_new (creations_from id height i (drop i outputs)) q) ≡ whole → x ≡ whole
 note_last id height i outputs x whole q past w = or_nothing x ∙ sym (ap (λ xs. option_or x (first_new (creations_from id height i xs) q)) (drop-past outputs i past)) ∙ w
 
@@ -202,7 +202,7 @@ undo_by true false true height c x old h n low p = ap (unless_height height) (sy
 undo_by true false false height c x old h n low p = sym (or_nothing x) ∙ p
 undo_by true true false height c x old h n low p = lower_first height x c n (rw p (low refl)) ∙ p
 
--- what was noted so far would leave what stood there before, were it forgotten again
+-- removing what was recorded so far would leave what was there before
 pub undo_next : (id : List ℕ) (height i : ℕ) (x : Output) (f0 f g : OutPoint → Option Coin) (q : OutPoint) → (q.txid ≡ id → IfSome (f0 q) (λ c. c.height < height)) → g q ≡ option_or (f q) (first_new (record { outpoint = record { txid = id; index = i }; output = x; height = height } ∷ []) q) → without (is_output_below id i q) height (f q) ≡ f0 q → without (is_output_below id (i + 1) q) height (g q) ≡ f0 q
 undo_next id height i x f0 f g q low u p =
     let b = bytes_eq id q.txid in
@@ -225,7 +225,7 @@ marks : (f : OutPoint → Option Coin) (k : OutPoint) (spent : Bool) (c : Coin) 
 marks f k spent c q true e s = sym (ap (option_map (marked spent)) (sym (ap f (same_is k q s)) ∙ e))
 marks f k spent c q false e s = refl
 
--- what stands at an outpoint is marked
+-- what is at an outpoint is marked
 pub marks_one : (f g : OutPoint → Option Coin) (k : OutPoint) (spent : Bool) (c : Coin) → f k ≡ Some c → ((q : OutPoint) → g q ≡ cond (same_outpoint k q) (Some (marked spent c)) (f q)) → (q : OutPoint) → g q ≡ with_mark (same_outpoint k q) spent (f q)
 marks_one f g k spent c e u q = u q ∙ marks f k spent c q (same_outpoint k q) e refl
 
@@ -233,13 +233,13 @@ marks_nothing : (f : OutPoint → Option Coin) (k : OutPoint) (spent : Bool) (q 
 marks_nothing f k spent q true e s = let n : f q ≡ None = sym (ap f (same_is k q s)) ∙ e in n ∙ sym (ap (option_map (marked spent)) n)
 marks_nothing f k spent q false e s = refl
 
--- where nothing stands, nothing is marked
+-- where there is nothing, nothing is marked
 pub marks_none : (f g : OutPoint → Option Coin) (k : OutPoint) (spent : Bool) → f k ≡ None → ((q : OutPoint) → g q ≡ f q) → (q : OutPoint) → g q ≡ with_mark (same_outpoint k q) spent (f q)
 marks_none f g k spent e u q = u q ∙ marks_nothing f k spent q (same_outpoint k q) e refl
 
 abbrev single : List ℕ → ℕ → Output → ℕ → List Creation
 single id index x height = record { outpoint = record { txid = id; index = index }; output = x; height = height } ∷ []
 
--- under another name for the id
+-- the same under an equal id
 pub one_at : (id given : List ℕ) (i height : ℕ) (x : Output) (a b : Option Coin) (q : OutPoint) → given ≡ id → b ≡ option_or a (first_new (single given i x height) q) → b ≡ option_or a (first_new (single id i x height) q)
 one_at id given i height x a b q e u = u ∙ ap (λ t. option_or a (first_new (single t i x height) q)) e

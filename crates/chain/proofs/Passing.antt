@@ -56,7 +56,7 @@ coin_passed : (height : ℕ) (t : Transaction) (input : TxIn) (found : Option Co
 coin_passed height t input None e = absurd cc
 coin_passed height t input (Some c) e = (c, refl, not_true c.spent (test_passed (not c.spent) Spent _ e).0)
 
--- what an input names was there and unspent
+-- what an input spends was there and unspent
 pub named_fresh : (blocks : List Contents) (height : ℕ) (t : Transaction) (inputs : List TxIn) (q : OutPoint) → inputs_refusal blocks height t inputs ≡ None → list_any (λ i. same_outpoint i.outpoint q) inputs ≡ true → IsFresh (coin_at blocks q)
 named_fresh blocks height t [] q e n = absurd (false≢true n)
 named_fresh blocks height t (i ∷ is) q e n =
@@ -81,7 +81,7 @@ none_passes : (r : Option ChainError) → is_none r ≡ true → r ≡ None
 none_passes None e = refl
 none_passes (Some r) e = absurd (false≢true e)
 
--- behind those before it in its block
+-- the next transaction passed after those before it in its block
 pub next_passed : (older : List Contents) (t : Transaction) (ts : List Transaction) → have_passed older (t ∷ ts) ≡ true → (transaction_refusal (record { transactions = ts; granted = [] } ∷ older) t ≡ None) × (have_passed older ts ≡ true)
 next_passed older t ts e =
     let p = and_parts (is_none (transaction_refusal (record { transactions = ts; granted = [] } ∷ older) t)) (have_passed older ts) e in (
@@ -105,7 +105,7 @@ named_in_block older (t ∷ ts) q e n =
     ] in
     ap (λ xs. is_some (find p xs)) (sym whole) ∙ found_stays p (created_of older ++ created_by_all (length older) ts) (created_by (length older) t) earlier
 
--- what an input on the chain names was created
+-- what an input on the chain spends was created
 pub named_created : (blocks : List Contents) (q : OutPoint) → is_checked blocks ≡ true → is_named blocks q ≡ true → is_some (created_at blocks q) ≡ true
 named_created [] q e n = absurd (false≢true n)
 named_created (b ∷ older) q e n =

@@ -1,4 +1,4 @@
--- One call more.
+-- One more call.
 use Rattle.std.proofs.Common.{◌≡◌, ℕ, ◌+◌, ◌-◌, ◌<◌, ◌≤◌, cond, is_ok, OnErr, List, [], ◌∷◌, ◌++◌, length, take, get_or, Result, Ok, Err, sym, ap, ◌∙◌, refl, arith}
 use Rattle.std.proofs.lemmas.List.{take_more}
 use Rattle.chain.specs.declared.commands.Command.{Command}

@@ -1,4 +1,4 @@
--- What the test of an input says, by what stands in the blocks.
+-- What the check of an input says, in terms of the blocks.
 use Rattle.std.proofs.Common.{◌≡◌, ◌↔◌, ◌⊎◌, inl, inr, ℕ, zero, suc, ◌+◌, ◌<◌, Bool, true, false, not, ◌||◌, ◌==◌, cond, List, [], ◌∷◌, ◌++◌, length, slice_get, Option, Some, None, option_map, Result, Ok, Err, sym, ap, subst, ◌∙◌, refl, arith, add-zero}
 use Rattle.std.specs.List.{find, list_any}
 use Rattle.std.proofs.lemmas.Bool.{false≢true}
@@ -131,7 +131,7 @@ first_is : (b : Bool) (x c : Creation) (rest : Option Creation) → cond b (Some
 first_is true x c rest e = inl (refl, let a = e in cc)
 first_is false x c rest e = inr e
 
--- whoever is found is one of them, and stands there
+-- what is found is one of them, and has the outpoint
 found_one : (o : OutPoint) (list : List Creation) (c : Creation) → found o list ≡ Some c → IsOneOf c list × (c.outpoint ≡ o)
 found_one o [] c e = absurd cc
 found_one o (x ∷ xs) c e =
@@ -151,7 +151,7 @@ other_outpoint : (b : Bool) → (b ≡ true → ⊥) → b ≡ false
 other_outpoint true never = absurd (never refl)
 other_outpoint false never = refl
 
--- where none stands at the outpoint of another, whoever stands there is found
+-- where no two have the same outpoint, each is found at its own
 one_found : (o : OutPoint) (list : List Creation) (c : Creation) → Differ list → IsOneOf c list → c.outpoint ≡ o → found o list ≡ Some c
 one_found o [] c apart h e = absurd h
 one_found o (x ∷ xs) c apart (inl same) e =
@@ -161,7 +161,7 @@ one_found o (x ∷ xs) c apart (inr h) e =
     let other = other_outpoint (same_outpoint x.outpoint o) (λ s. nobody_there c x.outpoint xs h (e ∙ sym (same_is x.outpoint o s)) apart.0) in
     rw other (one_found o xs c apart.1 h e)
 
--- an answer with the memory that it wants
+-- an answer, where memory is ample
 abbrev answer_of : Option ChainError → Result (Unit {0}) ChainError
 answer_of None = Ok tt
 answer_of (Some e) = Err e
@@ -171,7 +171,7 @@ answered x (Ok u) h never = sym (ap answer_of h)
 answered x (Err NoMemory) h never = absurd (never refl)
 answered x (Err e) h never = sym (ap answer_of h)
 
--- what is checked of an output that nothing names
+-- what is checked of an output that no input spends
 abbrev late_refusal : Bool → Bool → Option Outcome → Option ChainError
 late_refusal final old run = required final NotFinal (required old TooYoung (run_refusal run))
 

@@ -12,7 +12,7 @@ use Rattle.chain.specs.Scanning.{grants_from, created_from}
 use Rattle.chain.proofs.Lists.{reverse_more}
 use Rattle.chain.proofs.Finding.{head_left, drop-past, created_in_order, granted_in_order, created_of_order}
 
--- the amounts of one block more
+-- the amounts of one more block
 pub amounts_more : (f : Transaction → ℕ) (bs : List Contents) (i : ℕ) (b : Contents) (ts : List Transaction) (amounts more : List ℕ) → b ≡ get_or bs i b → i < length bs → ts ≡ reverse b.transactions → more ≡ amounts ++ map f ts → sum amounts ≡ sum_by f (transactions_of (reverse (take i bs))) → sum more ≡ sum_by f (transactions_of (reverse (take (i + 1) bs)))
 amounts_more f bs i b ts amounts more e below slice added so_far =
     let here : sum (map f ts) ≡ sum_by f b.transactions = sum-map f ts ∙ ap (sum_by f) slice ∙ sum_by-IsPermutation f b.transactions (reverse b.transactions) (IsPermutation-reverse b.transactions) in
@@ -35,7 +35,7 @@ values_both blocks (c ∷ xs) ys =
     ∙ sym (append_assoc (unspent_value blocks c.outpoint c.output.value) (unspent_values blocks xs) (unspent_values blocks ys))
     ∙ ap (λ v. v ++ unspent_values blocks ys) (sym (values_cons blocks c xs))
 
--- values so far and those of what is left
+-- the values so far, and those of the rest
 join : (v v' one rest now whole : List ℕ) → v' ≡ v ++ one → now ≡ one ++ rest → v ++ now ≡ whole → v' ++ rest ≡ whole
 join v v' one rest now whole e n w = ap (λ x. x ++ rest) e ∙ append_assoc v one rest ∙ ap (λ x. v ++ x) (sym n) ∙ w
 

@@ -1,4 +1,5 @@
--- The chain as the list of its blocks, the newest first; so are the transactions of a block, and the outputs that were granted in it.
+-- The chain as the list of its blocks, the newest first. The transactions of a block, and the outputs that were granted in it, are
+-- also listed newest first.
 use Rattle.std.specs.Prelude.{ℕ, ◌+◌, ◌-◌, ◌%◌, ◌^◌, Bool, ◌&&◌, not, ◌==◌, List, [], ◌∷◌, ◌++◌, length, filter, sum_by, Option, option_map, unwrap_or}
 use Rattle.std.specs.List.{find, list_any, flat_map}
 use Rattle.std.specs.Str.{bytes_eq}
@@ -14,12 +15,12 @@ pub record Contents : Type 0 where
   pub transactions : List Transaction
   pub granted : List Output
 
--- the list of blocks as it stands, and the greatest height that it ever had
+-- the list of blocks, and the greatest height that it ever had
 pub record Standing : Type 0 where
   pub blocks : List Contents
   pub greatest : ℕ
 
--- a block with nothing in it
+-- a block with no transaction and no grant
 abbrev pub empty_block : Contents
 empty_block = record { transactions = []; granted = [] }
 
@@ -30,20 +31,20 @@ height_of blocks = length blocks - 1
 abbrev pub same_outpoint : OutPoint → OutPoint → Bool
 same_outpoint o p = bytes_eq o.txid p.txid && o.index == p.index
 
--- the id of the grant that so many came before: SHA-256 twice of "grant" and that number in eight bytes, the lowest first
+-- the id of the grant after g earlier ones: SHA-256 twice of the ASCII bytes "grant" and g in eight bytes, little-endian
 unfoldable pub grant_id : ℕ → List ℕ
 grant_id g = sha256d ((0x67 ∷ 0x72 ∷ 0x61 ∷ 0x6e ∷ 0x74 ∷ []) ++ number 8 (g % 2 ^ 64))
 
 abbrev pub grant_outpoint : ℕ → OutPoint
 grant_outpoint g = record { txid = grant_id g; index = 0 }
 
--- an output on the chain: where it stands, the output, and the height of its block
+-- an output on the chain: its outpoint, the output, and the height of its block
 pub record Creation : Type 0 where
   pub outpoint : OutPoint
   pub output : Output
   pub height : ℕ
 
--- the outputs of a transaction of this id, of which the first has this index
+-- the outputs of a transaction with this id, of which the first has this index
 abbrev pub creations_from : List ℕ → ℕ → ℕ → List Output → List Creation
 creations_from id height index [] = []
 creations_from id height index (o ∷ os) =
@@ -56,7 +57,7 @@ abbrev pub created_by_all : ℕ → List Transaction → List Creation
 created_by_all height [] = []
 created_by_all height (t ∷ ts) = created_by_all height ts ++ created_by height t
 
--- the outputs granted at a height, which so many grants came before
+-- the outputs granted at a height, after this number of earlier grants
 abbrev pub granted_at : ℕ → ℕ → List Output → List Creation
 granted_at height before [] = []
 granted_at height before (o ∷ os) =
@@ -73,15 +74,15 @@ created_of [] = []
 created_of (b ∷ older) =
     created_of older ++ (created_by_all (length older) b.transactions ++ granted_at (length older) (grants_in older) b.granted)
 
--- an input of the transaction names the outpoint
+-- an input of the transaction spends the outpoint
 abbrev pub names : OutPoint → Transaction → Bool
 names o t = list_any (λ i. same_outpoint i.outpoint o) t.inputs
 
--- an input on the chain names the outpoint
+-- an input on the chain spends the outpoint
 abbrev pub is_named : List Contents → OutPoint → Bool
 is_named blocks o = list_any (λ b. list_any (names o) b.transactions) blocks
 
--- the outputs that were created, less those that an input names
+-- the outputs that were created, less those that an input spends
 abbrev pub unspent_of : List Contents → List Creation
 unspent_of blocks = filter (λ c. not (is_named blocks c.outpoint)) (created_of blocks)
 
@@ -98,7 +99,7 @@ pub record Coin : Type 0 where
 abbrev pub coin_at : List Contents → OutPoint → Option Coin
 coin_at blocks o = option_map (λ c. record { output = c.output; height = c.height; spent = is_named blocks o }) (created_at blocks o)
 
--- a transaction of this id stands on the chain
+-- a transaction with this id is on the chain
 abbrev pub has_id : List Contents → List ℕ → Bool
 has_id blocks id = list_any (λ b. list_any (λ t. bytes_eq (transaction_id t) id) b.transactions) blocks
 
@@ -106,24 +107,24 @@ has_id blocks id = list_any (λ b. list_any (λ t. bytes_eq (transaction_id t) i
 abbrev pub transactions_of : List Contents → List Transaction
 transactions_of blocks = flat_map (λ b. b.transactions) blocks
 
--- satoshis of the output at an outpoint, 0 where there is none
+-- the value in satoshis of the output at an outpoint, 0 where there is none
 abbrev pub value_at : List Contents → OutPoint → ℕ
 value_at blocks o = unwrap_or (option_map (λ c. c.output.value) (coin_at blocks o)) 0
 
--- satoshis that the inputs bring, and those of the outputs
+-- the sum of the values that inputs spend, and that of outputs, in satoshis
 abbrev pub paid_in : List Contents → List TxIn → ℕ
 paid_in blocks inputs = sum_by (λ i. value_at blocks i.outpoint) inputs
 
 abbrev pub paid_out : List Output → ℕ
 paid_out outputs = sum_by (λ o. o.value) outputs
 
--- the fee of a transaction in satoshis: what it does not pay out
+-- the fee of a transaction in satoshis: what its inputs bring less what its outputs pay
 abbrev pub fee_of : List Contents → Transaction → ℕ
 fee_of blocks t = paid_in blocks t.inputs - paid_out t.outputs
 
 abbrev pub fees_of : List Contents → ℕ
 fees_of blocks = sum_by (fee_of blocks) (transactions_of blocks)
 
--- satoshis that were granted
+-- the satoshis that were granted
 abbrev pub granted_of : List Contents → ℕ
 granted_of blocks = sum_by (λ b. paid_out b.granted) blocks

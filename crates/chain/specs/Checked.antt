@@ -5,7 +5,7 @@ use Rattle.tx.specs.Fields.{Transaction}
 use Rattle.chain.specs.Blocks.{Contents}
 use Rattle.chain.specs.Checks.{transaction_refusal}
 
--- the transactions of the newest block, each behind those before it
+-- the transactions of the newest block passed, each after those before it
 abbrev pub have_passed : List Contents → List Transaction → Bool
 have_passed older [] = true
 have_passed older (t ∷ ts) = is_none (transaction_refusal (record { transactions = ts; granted = [] } ∷ older) t) && have_passed older ts

@@ -12,22 +12,22 @@ use Rattle.sighash.specs.Programs.{is_key_hash_program, is_script_hash_program}
 use Rattle.chain.specs.Refusals.{UnlessMemory}
 use Rattle.chain.specs.Checks.{transaction_refusal}
 
--- a transaction behind those of the newest block
+-- a transaction added after those of the newest block
 abbrev pub with_transaction : List Contents → Transaction → List Contents
 with_transaction [] t = []
 with_transaction (b ∷ older) t = record b { transactions = t ∷ b.transactions } ∷ older
 
--- an output granted behind those of the newest block
+-- an output granted after those of the newest block
 abbrev pub with_grant : List Contents → Output → List Contents
 with_grant [] o = []
 with_grant (b ∷ older) o = record b { granted = o ∷ b.granted } ∷ older
 
--- the first refusal names the transaction by its index
+-- the first refusal, with the index of its transaction
 abbrev pub unless_refused : ℕ → Option ChainError → Result (List Contents) BlockError → Result (List Contents) BlockError
 unless_refused index None next = next
 unless_refused index (Some refusal) next = Err (record { index = index; refusal = refusal })
 
--- the blocks with these transactions added to the newest, one by one, of which the first has this index
+-- the blocks with these transactions added to the newest, one by one; the first of them has this index
 abbrev pub added : ℕ → List Contents → List Transaction → Result (List Contents) BlockError
 added index blocks [] = Ok blocks
 added index blocks (t ∷ ts) = unless_refused index (transaction_refusal blocks t) (added (index + 1) (with_transaction blocks t) ts)
@@ -46,12 +46,12 @@ abbrev pub unless_refusal : Option ChainError → List Contents → Transaction 
 unless_refusal None blocks t = with_transaction blocks t
 unless_refusal (Some refusal) blocks t = blocks
 
--- the blocks with those of the transactions added to the newest, one by one, that pass behind those added before them
+-- the blocks with those of the transactions added to the newest, one by one, that pass after those added before them
 abbrev pub passing_added : List Contents → List Transaction → List Contents
 passing_added blocks [] = blocks
 passing_added blocks (t ∷ ts) = passing_added (unless_refusal (transaction_refusal blocks t) blocks t) ts
 
--- what each of them gets in its turn
+-- the refusal of each of them, in its turn
 abbrev pub refusals_of : List Contents → List Transaction → List (Option ChainError)
 refusals_of blocks [] = []
 refusals_of blocks (t ∷ ts) = transaction_refusal blocks t ∷ refusals_of (unless_refusal (transaction_refusal blocks t) blocks t) ts
@@ -61,12 +61,12 @@ abbrev pub ConnectsSome : Standing → List Transaction → List (Option ChainEr
 ConnectsSome old txs refusals new =
     (new.blocks ≡ passing_added (empty_block ∷ old.blocks) txs) × (refusals ≡ refusals_of (empty_block ∷ old.blocks) txs) × (new.greatest ≡ max old.greatest (height_of new.blocks))
 
--- outputs were granted in the block
+-- whether outputs were granted in the block
 abbrev pub has_grant : Contents → Bool
 has_grant b = not (length b.granted == 0)
 
--- so many blocks can't be taken off: there are not as many above the first, the height would fall more than 6 below the greatest, or one
--- of them holds a grant
+-- this number of blocks cannot be taken off: fewer are above the first, the height would fall more than 6 below the greatest,
+-- or one of them holds a grant
 abbrev pub is_too_deep : Standing → ℕ → Bool
 is_too_deep s k = nat_lt (height_of s.blocks) k || nat_lt (height_of s.blocks - k + 6) s.greatest || list_any has_grant (take k s.blocks)
 

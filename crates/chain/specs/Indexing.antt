@@ -11,14 +11,14 @@ use Rattle.chain.specs.declared.coin_map.IndexedCoin.{IndexedCoin}
 use Rattle.chain.specs.Blocks.{Contents, Creation, Coin, same_outpoint, coin_at, has_id}
 use Rattle.chain.specs.Checked.{is_checked}
 
--- outpoints by their ids, and then by their indices
+-- the order of outpoints: by their ids, byte by byte, and then by their indices
 abbrev pub outpoint_cmp : OutPoint → OutPoint → Ordering
 outpoint_cmp o p = ordering_then (slice_cmp nat_cmp o.txid p.txid) (nat_cmp o.index p.index)
 
 abbrev pub indexed_coin : IndexedCoin → Coin
 indexed_coin c = record { output = c.output; height = c.height; spent = c.spent }
 
--- the output that a map has at an outpoint
+-- the output that a map holds at an outpoint
 abbrev pub noted : BTreeMap OutPoint IndexedCoin → OutPoint → Option Coin
 noted coins o = option_map indexed_coin (get outpoint_cmp coins o)
 
@@ -30,11 +30,11 @@ new_coin c = record { output = c.output; height = c.height; spent = false }
 abbrev pub first_new : List Creation → OutPoint → Option Coin
 first_new list o = option_map new_coin (find (λ c. same_outpoint c.outpoint o) list)
 
--- the outpoint is that of one of so many first outputs of a transaction
+-- the outpoint is that of one of the first `count` outputs of a transaction
 abbrev pub is_output_below : List ℕ → ℕ → OutPoint → Bool
 is_output_below id count o = bytes_eq id o.txid && nat_lt o.index count
 
--- what was not created at this height
+-- the coin, unless it was created at this height
 abbrev pub unless_height : ℕ → Option Coin → Option Coin
 unless_height height None = None
 unless_height height (Some c) = if c.height == height then None else Some c
@@ -49,8 +49,8 @@ marked spent c = record c { spent = spent }
 abbrev pub with_mark : Bool → Bool → Option Coin → Option Coin
 with_mark here spent found = if here then option_map (marked spent) found else found
 
--- what is kept beside the blocks, as contracts see it: the output at each outpoint, whether each id stands on the chain; and each transaction
--- passed its tests
+-- what an index holds beside the blocks, as contracts see it: the output at each outpoint, and whether each id is on the chain; and each
+-- transaction passed its tests
 pub record IsIndex (blocks : List Contents) (coins : OutPoint → Option Coin) (ids : List ℕ → Bool) : Type 0 where
   pub coins_are : (o : OutPoint) → coins o ≡ coin_at blocks o
   pub ids_are : (id : List ℕ) → ids id ≡ has_id blocks id

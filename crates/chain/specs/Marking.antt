@@ -1,4 +1,4 @@
--- Marks of how a chain stands, to which it can go back.
+-- Marks of a chain's state, to which it can go back.
 use Rattle.std.specs.Prelude.{◌≡◌, ◌+◌, false, List, ◌++◌, length}
 use Rattle.std.specs.List.{list_any}
 use Rattle.chain.specs.declared.index.Mark.{Mark}

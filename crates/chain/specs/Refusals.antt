@@ -15,12 +15,12 @@ number_of OutputsExceed = 7
 number_of Twice = 8
 number_of TooDeep = 9
 
--- where memory ran out, NoMemory may stand in place of any answer
+-- where memory ran out, the result may be NoMemory in place of any answer
 abbrev pub UnlessMemory : ChainError → Type 0 → Type 0
 UnlessMemory NoMemory P = Unit {0}
 UnlessMemory refusal P = P
 
--- the result is that of this refusal, or Ok where there is none
+-- the result is this refusal, or Ok where there is none
 abbrev pub Answers : {A : Type 0} → Option ChainError → Result A ChainError → Type 0
 Answers refusal (Ok x) = refusal ≡ None
 Answers refusal (Err e) = UnlessMemory e (refusal ≡ Some e)

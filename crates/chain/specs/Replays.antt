@@ -10,7 +10,7 @@ use Rattle.chain.specs.Refusals.{Answers}
 use Rattle.chain.specs.Checks.{indexed_refusal}
 use Rattle.chain.specs.Totals.{IsUnspent}
 
--- one call, its answer, and how the list of blocks stands then
+-- one call, its answer, and the list of blocks after it
 abbrev pub Answered : Standing → Command → Answer → Standing → Type 0
 Answered old (command.Grant output) (answer.Grant r) new = Grants old output r new
 Answered old (command.CheckInput t index) (answer.CheckInput r) new = (new ≡ old) × Answers (indexed_refusal old.blocks (length old.blocks) t (slice_get t.inputs index)) r
@@ -22,12 +22,12 @@ Answered old command.Height (answer.Height height) new = (new ≡ old) × (heigh
 Answered old command.Fees (answer.Fees fees) new = (new ≡ old) × (fees ≡ fees_of old.blocks)
 Answered old c a new = ⊥
 
--- calls in their order, their answers, and how the list of blocks stands at the end
+-- calls in their order, their answers, and the list of blocks at the end
 abbrev pub Replays : Standing → List Command → List Answer → Standing → Type 0
 Replays old [] [] new = new ≡ old
 Replays old (c ∷ cs) (a ∷ answers) new = (next : Standing) × Answered old c a next × Replays next cs answers new
 Replays old cs answers new = ⊥
 
--- the calls before one of these were made and answered, and none from there on
+-- the calls before some command were made and answered, and none from that command on
 abbrev pub ReplaysBefore : Standing → List Command → Standing → Type 0
 ReplaysBefore old commands new = (count : ℕ) × (answers : List Answer) × (count ≤ length commands - 1) × Replays old (take count commands) answers new

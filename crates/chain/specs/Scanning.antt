@@ -1,4 +1,4 @@
--- What a scan finds, where blocks, transactions and grants stand with the oldest first.
+-- What a scan finds; blocks, transactions and grants are listed oldest first here.
 use Rattle.std.specs.Prelude.{ℕ, ◌+◌, List, [], ◌∷◌, ◌++◌, length, Option, option_map}
 use Rattle.std.specs.Borrow.{Bor}
 use Rattle.std.specs.List.{find}
@@ -10,7 +10,7 @@ use Rattle.chain.specs.Blocks.{Contents, Creation, same_outpoint, grant_outpoint
 abbrev pub spot_of : Creation → Output × ℕ
 spot_of c = (c.output, c.height)
 
--- the first of these that stands at an outpoint
+-- the first of these at an outpoint
 abbrev pub found_in : OutPoint → List Creation → Option (Output × ℕ)
 found_in o list = option_map spot_of (find (λ c. same_outpoint c.outpoint o) list)
 
@@ -21,12 +21,12 @@ at_height height found = option_map (λ r. (r.now, height)) found
 abbrev pub with_height : Option (Bor Output × ℕ) → Option (Output × ℕ)
 with_height found = option_map (λ f. (f.0.now, f.1)) found
 
--- granted outputs, the first of which so many came before
+-- granted outputs, after this number of earlier grants
 abbrev pub grants_from : ℕ → ℕ → List Output → List Creation
 grants_from height before [] = []
 grants_from height before (o ∷ os) = record { outpoint = grant_outpoint before; output = o; height = height } ∷ grants_from height (before + 1) os
 
--- what blocks created, the first of which has this height, and which so many grants came before
+-- what blocks created; the first of them has this height, and this number of grants came before it
 abbrev pub created_from : ℕ → ℕ → List Contents → List Creation
 created_from height before [] = []
 created_from height before (b ∷ bs) =

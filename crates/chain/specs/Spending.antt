@@ -1,4 +1,4 @@
--- When an input may spend an output, said of what stands in the blocks.
+-- When an input may spend an output, in terms of the blocks.
 use Rattle.std.specs.Prelude.{◌≡◌, ◌↔◌, ◌⊎◌, ℕ, ◌+◌, true, false, List, [], ◌∷◌, ◌++◌, length, slice_get, Some, Result, Ok, Err}
 use Rattle.script.specs.Run.{Clean}
 use Rattle.tx.specs.declared.input.OutPoint.{OutPoint}
@@ -17,11 +17,11 @@ abbrev pub IsOneOf : {A : Type 0} → A → List A → Type 0
 IsOneOf x [] = ⊥
 IsOneOf x (y ∷ ys) = (x ≡ y) ⊎ IsOneOf x ys
 
--- a transaction of the block created the output: the outpoint has its id, and the index at which the output stands there
+-- a transaction of the block created the output: the outpoint has its id, and the index of the output in it
 abbrev pub IsPaid : Contents → OutPoint → Output → Type 0
 IsPaid b o output = (t : Transaction) × IsOneOf t b.transactions × (o.txid ≡ transaction_id t) × (slice_get t.outputs o.index ≡ Some output)
 
--- the output was granted in the block, which so many grants came before: the outpoint is that of its own number
+-- the output was granted in the block, before which `before` grants were made: the outpoint is that of its own number
 abbrev pub IsGranted : ℕ → Contents → OutPoint → Output → Type 0
 IsGranted before b o output = (later earlier : List Output) × (b.granted ≡ later ++ output ∷ earlier) × (o ≡ grant_outpoint (before + length earlier))
 
@@ -31,7 +31,7 @@ IsCreated [] o output height = ⊥
 IsCreated (b ∷ older) o output height =
     ((height ≡ length older) × (IsPaid b o output ⊎ IsGranted (grants_in older) b o output)) ⊎ IsCreated older o output height
 
--- in the next block the input may spend this output, which was created in the block of this height: no input on the chain names it, its locks are
+-- in the next block the input may spend this output, created in the block of this height: no input on the chain spends it, its locks are
 -- reached, and its program runs clean
 pub record MaySpend (blocks : List Contents) (t : Transaction) (input : TxIn) (output : Output) (height : ℕ) : Type 0 where
   pub created : IsCreated blocks input.outpoint output height
@@ -40,7 +40,7 @@ pub record MaySpend (blocks : List Contents) (t : Transaction) (input : TxIn) (o
   pub old_enough : is_old_enough (length blocks) t.version input.sequence height ≡ true
   pub clean : (counted depth : ℕ) × (run_of t input output ≡ Some (Clean counted depth))
 
--- what an answer to the test of an input says of the blocks, and they of it
+-- what the answer to the check of an input means for the blocks, in both directions
 pub record IsExact (blocks : List Contents) (t : Transaction) (input : TxIn) (r : Result (Unit {0}) ChainError) : Type 0 where
   pub passes : (r ≡ Ok tt) ↔ ((output : Output) × (height : ℕ) × MaySpend blocks t input output height)
   pub unknown : (r ≡ Err Unknown) ↔ ((output : Output) (height : ℕ) → IsCreated blocks input.outpoint output height → ⊥)

@@ -1,4 +1,4 @@
--- How a chain is kept.
+-- How a chain is stored.
 use Rattle.std.specs.Prelude.{◌≡◌, List, [], ◌∷◌, length, Result, Ok, Err, Option, None, Some}
 use Rattle.chain.specs.declared.store.Found.{Found}
 use Rattle.tx.specs.Parts.{Output}
@@ -19,7 +19,7 @@ abbrev pub taken_off : List Contents → List Contents
 taken_off [] = []
 taken_off (b ∷ older) = older
 
--- the newest block holds no grant
+-- the newest block holds no grant, so it may be taken off
 abbrev pub MayTakeOff : List Contents → Type 0
 MayTakeOff [] = ⊥
 MayTakeOff (b ∷ older) = b.granted ≡ []
@@ -50,6 +50,6 @@ AddsAll old txs (Err e) new = ChangesNewest old new × UnlessMemory e.refusal (a
 abbrev pub Offers : Standing → Transaction → Option ChainError → Standing → Type 0
 Offers old t refusal new = (refusal ≡ transaction_refusal old.blocks t) × (new ≡ record old { blocks = unless_refusal refusal old.blocks t })
 
--- those of the transactions were added to the newest block that pass behind those before them
+-- those of the transactions were added to the newest block that pass after those before them
 abbrev pub AddsPassing : Standing → List Transaction → List (Option ChainError) → Standing → Type 0
 AddsPassing old txs refusals new = (new.blocks ≡ passing_added old.blocks txs) × (refusals ≡ refusals_of old.blocks txs)

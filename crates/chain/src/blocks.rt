@@ -31,14 +31,14 @@ impl Model for Confirmed {
 }
 
 impl Confirmed {
-    /// The transaction with its id.
+    /// A transaction with its id, which is computed here.
     pub fn new(tx: Tx) -> Self
         ensures { result ≡ tx }
     {
         Confirmed { id: txid(&tx), tx }
     }
 
-    /// An equal transaction with its id. The only error is that memory ran out.
+    /// A copy of the transaction and its id. The only error is that memory ran out.
     pub fn copy(&self) -> Result<Self, AllocError>
         ensures { IfOk result (λ c. c ≡ self.now) }
     {
@@ -48,7 +48,8 @@ impl Confirmed {
         })
     }
 
-    /// The id: SHA-256 twice of the transaction without its witnesses, in the hash's own byte order.
+    /// The id: SHA-256 twice of the transaction without its witnesses (BIP 141, "Transaction ID"),
+    /// in the hash's own byte order.
     pub fn id(&self) -> &[u8; 32]
         ensures { result.now ≡ transaction_id self.now }
     {
@@ -63,7 +64,7 @@ impl Confirmed {
     }
 }
 
-/// A block: its transactions, and the outputs that were granted while it was the newest.
+/// A block: its transactions, and the outputs that were granted while it was the newest block.
 #[derive(Debug, Drop)]
 pub struct Block {
     transactions: Vec<Confirmed>,
@@ -79,7 +80,7 @@ impl Model for Block {
     ghost view = { λ b. record { transactions = reverse b.transactions.items; granted = b.granted } };
 }
 
-/// Equal transactions.
+/// Copies of transactions.
 fn copied_transactions(
     alloc: Global,
     transactions: &[Confirmed],
@@ -93,7 +94,7 @@ fn copied_transactions(
     Ok(copies)
 }
 
-/// A stack of equal outputs, the last of which is the top.
+/// A stack of copies of outputs, the last of which is the top.
 fn copied_outputs(alloc: Global, outputs: &[TxOut]) -> Result<Stack<TxOut>, AllocError>
     ensures { IfOk result (λ copies. copies ≡ reverse outputs.now) }
 {
@@ -140,7 +141,7 @@ impl Block {
         self.granted.values()
     }
 
-    // Adds a transaction at the end; where memory runs out, it is given back.
+    // Appends a transaction; where memory runs out, it is given back.
     pub(crate) fn push(&mut self, confirmed: Confirmed) -> Result<(), AllocFailed<Confirmed>>
         ensures ok { OnOk result (self.new ≡ record self.old {
           transactions = confirmed
@@ -152,7 +153,7 @@ impl Block {
         self.transactions.push(confirmed)
     }
 
-    // Adds a granted output at the end.
+    // Appends a granted output.
     pub(crate) fn grant(&mut self, output: TxOut) -> Result<(), AllocError>
         ensures ok { OnOk result (self.new ≡ record self.old {
           granted = output
@@ -163,7 +164,7 @@ impl Block {
         self.granted.push(output)
     }
 
-    // Takes the last transaction off.
+    // Removes the last transaction and returns it.
     pub(crate) fn pop(&mut self) -> Option<Confirmed>
         ensures { MatchOption result ((self.old.transactions ≡ []) × (self.new ≡ self.old))
             (λ t. self.old ≡ record self.new { transactions = t ∷ self.new.transactions }) }

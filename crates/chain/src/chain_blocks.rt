@@ -9,7 +9,7 @@ use std::alloc::{AllocError, AllocFailed, Global};
 use std::marker::Model;
 use tx::TxOut;
 
-/// At least one block. A contract sees the newest first.
+/// At least one block. A contract sees them with the newest first.
 #[derive(Debug, Drop)]
 pub struct Blocks {
     items: Vec<Block>,
@@ -36,7 +36,7 @@ impl Blocks {
         Ok(Blocks { items })
     }
 
-    /// The allocator that they lie in.
+    /// The allocator that holds them.
     pub fn allocator(&self) -> Global {
         *self.items.allocator()
     }
@@ -50,7 +50,7 @@ impl Blocks {
         self.items.as_slice()
     }
 
-    /// Equal blocks. The only error is that memory ran out.
+    /// A copy of the blocks. The only error is that memory ran out.
     pub fn copy(&self) -> Result<Self, AllocError>
         ensures { IfOk result (λ b. b ≡ self.now) }
     {
@@ -94,7 +94,7 @@ impl Blocks {
         newest.grant(output)
     }
 
-    /// Takes the newest block off.
+    /// Removes the newest block and returns it.
     pub fn pop(&mut self) -> Block
         requires { 1 < length self.old }
         ensures { self.old ≡ result ∷ self.new }

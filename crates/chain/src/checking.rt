@@ -1,4 +1,4 @@
-//! Checks of a transaction that is to stand in a block, each in its order.
+//! Checks of a transaction for a block, each in its order.
 
 ghost use Rattle.std.specs.Prelude.{◌≡◌, ◌≤◌, ◌*◌, ◌||◌, length, Some, None, slice_get, sum_by, IfOk};
 ghost use Rattle.std.specs.List.{list_any};
@@ -19,14 +19,14 @@ use sighash::SighashCache;
 use std::alloc::Global;
 use tx::{OutPoint, Tx, TxIn, TxOut};
 
-/// Whether two outpoints are one.
+/// Whether two outpoints are equal.
 pub(crate) fn same_outpoint(o: &OutPoint, p: &OutPoint) -> bool
     ensures { result ≡ same_outpoint o.now p.now }
 {
     o.txid == p.txid && o.index == p.index
 }
 
-/// Whether an input names the outpoint.
+/// Whether an input spends the outpoint.
 pub(crate) fn some_input_names(inputs: &[TxIn], outpoint: &OutPoint) -> bool
     ensures { result ≡ list_any (λ i. same_outpoint i.outpoint outpoint.now) inputs.now }
 {
@@ -35,7 +35,7 @@ pub(crate) fn some_input_names(inputs: &[TxIn], outpoint: &OutPoint) -> bool
         .any(|input| same_outpoint(&input.outpoint, outpoint))
 }
 
-/// Whether two inputs name one outpoint.
+/// Whether two inputs spend the same outpoint.
 fn names_twice(inputs: &[TxIn]) -> bool
     ensures { result ≡ names_twice inputs.now }
 {
@@ -47,7 +47,7 @@ fn names_twice(inputs: &[TxIn]) -> bool
     false
 }
 
-/// Whether an input may spend the output that it names, in a block of this height: that output's value in satoshis, or the first refusal.
+/// Whether an input may spend this output in a block of this height: the output's value in satoshis, or the first refusal.
 fn check_coin(
     alloc: Global,
     height: u64,
@@ -74,7 +74,7 @@ fn check_coin(
     Ok(())
 }
 
-/// Checks the input of that index for a block of this height: the value in satoshis of the output that it spends, or the first refusal.
+/// Checks the input at this index for a block of this height: the value in satoshis of the output that it spends, or the first refusal.
 fn check_indexed<S: Store>(
     store: &S,
     height: u64,
@@ -98,7 +98,7 @@ fn check_indexed<S: Store>(
     Ok(found.output.value())
 }
 
-/// Checks the input of that index for the next block.
+/// Checks the input at this index for the next block.
 pub(crate) fn check_input<S: Store>(store: &S, tx: &Tx, index: usize) -> Result<(), ChainError>
     ensures { Answers (indexed_refusal (S.standing store.now).blocks
         (length (S.standing store.now).blocks) tx.now (slice_get tx.now.inputs index)) result }
@@ -112,7 +112,7 @@ pub(crate) fn check_input<S: Store>(store: &S, tx: &Tx, index: usize) -> Result<
     Ok(())
 }
 
-/// Checks inputs in their order: what they bring in satoshis, or the first refusal.
+/// Checks inputs in their order: the sum of their values in satoshis, or the first refusal.
 fn check_inputs<S: Store>(
     store: &S,
     height: u64,
@@ -132,7 +132,7 @@ fn check_inputs<S: Store>(
     Ok(paid)
 }
 
-/// What outputs pay in satoshis.
+/// The sum of the values of outputs in satoshis.
 pub(crate) fn paid_out(outputs: &[TxOut]) -> u64
     requires { length outputs.now ≤ max_outputs }
     ensures { result ≡ paid_out outputs.now }
@@ -144,7 +144,7 @@ pub(crate) fn paid_out(outputs: &[TxOut]) -> u64
     paid
 }
 
-/// Checks a transaction that is to follow those of the newest block.
+/// Checks a transaction that is to be added to the newest block.
 #[tactic(auto, unfolding(crate::specs::Checks::transaction_refusal))]
 pub(crate) fn check_transaction<S: Store>(
     store: &S,

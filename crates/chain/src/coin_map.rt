@@ -1,4 +1,4 @@
-//! Outputs by their outpoints, in an order, so that one look-up takes a time logarithmic in their number.
+//! Outputs by their outpoints, in order, so that a look-up takes time logarithmic in their number.
 
 ghost use Rattle.std.specs.Prelude.{◌≡◌, ◌<◌, ◌≤◌, ◌==◌, [], ◌∷◌, length, OnOk, OnErr, IfSome};
 ghost use Rattle.std.specs.List.{list_any};
@@ -20,7 +20,7 @@ pub(crate) struct IndexedCoin {
     pub output: TxOut,
     /// The height of its block.
     pub height: u64,
-    /// An input on the chain names it.
+    /// An input on the chain spends it.
     pub spent: bool,
 }
 
@@ -38,7 +38,7 @@ impl Clone for IndexedCoin {
     }
 }
 
-/// Notes an output at an outpoint where none stands yet.
+/// Records an output at an outpoint that has none yet.
 pub(crate) fn note_output(
     coins: &mut BTreeMap<OutPoint, IndexedCoin>,
     outpoint: OutPoint,
@@ -61,7 +61,7 @@ pub(crate) fn note_output(
     Ok(())
 }
 
-/// Forgets the output at an outpoint, where it was created at this height.
+/// Removes the output at an outpoint, if it was created at this height.
 pub(crate) fn forget_output(
     coins: &mut BTreeMap<OutPoint, IndexedCoin>,
     outpoint: &OutPoint,
@@ -78,7 +78,7 @@ pub(crate) fn forget_output(
     }
 }
 
-/// Forgets this number of outputs of a transaction, from the first on, which were created at this height.
+/// Removes the first `count` outputs of a transaction, if they were created at this height.
 pub(crate) fn forget_outputs(
     coins: &mut BTreeMap<OutPoint, IndexedCoin>,
     id: &[u8; 32],
@@ -98,7 +98,7 @@ pub(crate) fn forget_outputs(
     }
 }
 
-/// Notes the outputs of a transaction, or none of them where memory runs out.
+/// Records the outputs of a transaction, or none of them where memory runs out.
 pub(crate) fn note_outputs(
     coins: &mut BTreeMap<OutPoint, IndexedCoin>,
     confirmed: &Confirmed,
@@ -134,7 +134,7 @@ fn mark(coins: &mut BTreeMap<OutPoint, IndexedCoin>, outpoint: &OutPoint, spent:
     }
 }
 
-/// Marks the outputs that inputs name as spent or not.
+/// Marks the outputs that inputs spend as spent or not.
 pub(crate) fn mark_all(coins: &mut BTreeMap<OutPoint, IndexedCoin>, inputs: &[TxIn], spent: bool)
     ensures { (q : OutPoint) → noted coins.new q ≡ with_mark
         (list_any (λ i. same_outpoint i.outpoint q) inputs.now) spent (noted coins.old q) }

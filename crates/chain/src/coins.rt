@@ -1,4 +1,4 @@
-//! What every chain answers, however it is kept.
+//! What every chain answers, however it is stored.
 
 ghost use Rattle.std.specs.Prelude.{◌≡◌, length, slice_get, reverse, Ok, Err, IfOk, MatchResult};
 ghost use Rattle.chain.specs.Blocks.{Standing, fees_of, height_of};
@@ -20,13 +20,14 @@ pub trait Coins {
     /// The list of blocks, and the greatest height that it ever had.
     ghost standing: { Self → Standing };
 
-    /// Adds an output to the newest block, and gives its outpoint: the id is SHA-256 twice of `grant` and the number of the grants before
-    /// it in eight bytes, the lowest first, and the index 0. `BadProgram` where the script is no program of version 0 (BIP 141).
+    /// Adds an output to the newest block, and gives its outpoint. The id is SHA-256 twice of the ASCII bytes `grant` and the number of
+    /// earlier grants in eight bytes, little-endian; the index is 0. The error is `BadProgram` where the script is not a version 0
+    /// witness program (BIP 141).
     fn grant(&mut self, output: TxOut) -> Result<OutPoint, ChainError>
         ensures { Grants (standing self.old) output result (standing self.new) };
 
-    /// Checks the input of that index for the next block: `Unknown`, `Spent`, `NotFinal`, `TooYoung`, `BadProgram` or `Script`, in this
-    /// order. An index that no input has names no output, and is `Unknown`.
+    /// Checks the input at this index for the next block: `Unknown`, `Spent`, `NotFinal`, `TooYoung`, `BadProgram` or `Script`, in this
+    /// order. An index with no input is `Unknown`.
     fn check_input(&self, tx: &Tx, index: usize) -> Result<(), ChainError>
         ensures { Answers (indexed_refusal (standing self.now).blocks
             (length (standing self.now).blocks) tx.now (slice_get tx.now.inputs index)) result };
@@ -36,18 +37,19 @@ pub trait Coins {
     fn connect(&mut self, txs: Vec<Tx>) -> Result<u64, BlockError>
         ensures { Connects (standing self.old) txs.items result (standing self.new) };
 
-    /// Takes the newest `k` blocks off, and gives their transactions in the order of the chain. `TooDeep` where fewer stand above the
-    /// first, where the height would fall more than 6 below the greatest that the chain ever had, or where one of them holds a grant.
+    /// Takes the newest `k` blocks off, and gives their transactions in the order of the chain. The error is `TooDeep` where fewer than
+    /// `k` blocks are above the first, where one of the `k` holds a grant, or where the height would fall more than 6 below the
+    /// greatest so far.
     fn disconnect(&mut self, k: u64) -> Result<Vec<Tx>, ChainError>
         ensures { MatchResult result (λ txs. Disconnects (standing self.old) k (Ok txs.items)
             (standing self.new)) (λ e. Disconnects (standing self.old) k (Err e)
             (standing self.new)) };
 
-    /// The outputs that no input names.
+    /// The number and value of the unspent outputs, those that no input on the chain spends.
     fn unspent(&self) -> Result<Unspent, AllocError>
         ensures { IfOk result (IsUnspent (standing self.now).blocks) };
 
-    /// The height of the newest block; that of the first is 0.
+    /// The height of the newest block; the first block has height 0.
     fn height(&self) -> u64
         ensures { result ≡ height_of (standing self.now).blocks };
 
@@ -55,7 +57,7 @@ pub trait Coins {
     fn fees(&self) -> Result<u128, AllocError>
         ensures { IfOk result (λ f. f ≡ fees_of (standing self.now).blocks) };
 
-    /// The blocks, the first of which has height 0.
+    /// The blocks, from height 0 up.
     fn blocks(&self) -> &[Block]
         ensures { result.now ≡ reverse (standing self.now).blocks };
 }

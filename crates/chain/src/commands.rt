@@ -18,7 +18,7 @@ pub enum Command {
     CheckInput(Tx, usize),
     /// `connect`: the transactions of the block.
     Connect(Vec<Tx>),
-    /// `disconnect`: how many blocks.
+    /// `disconnect`: the number of blocks.
     Disconnect(u64),
     /// `unspent`.
     Unspent,
@@ -58,7 +58,7 @@ fn copies(alloc: Global, transactions: &[Tx]) -> Result<Vec<Tx>, AllocError>
     Ok(txs)
 }
 
-/// Makes one call. The only error is that no memory was there for its answer or for a copy of what the command holds: then it was not made.
+/// Makes one call. The only error is that memory ran out for its answer or for a copy of what the command holds; then the call was not made.
 fn make_call<C: Coins>(
     alloc: Global,
     chain: &mut C,
@@ -79,8 +79,8 @@ fn make_call<C: Coins>(
     }
 }
 
-/// Makes calls in their order, and gives their answers. The only error is that memory ran out for the answers or for a copy of what a command holds; the chain is then as
-/// after the calls before that command, each of which was made and answered.
+/// Makes calls in their order, and gives their answers. The only error is that memory ran out for the answers or for a copy of what a command holds. The
+/// chain is then as after the calls before that command, each of which was made and answered.
 pub fn replay_commands<C: Coins>(
     alloc: Global,
     chain: &mut C,

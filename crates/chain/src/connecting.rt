@@ -17,7 +17,7 @@ use std::alloc::{AllocError, Global};
 use tx::hashing::absorb_u64;
 use tx::{OutPoint, Tx, TxOut};
 
-/// The outpoint of the grant before which this number of grants came.
+/// The outpoint of the grant that follows this number of earlier grants.
 #[tactic(auto, unfolding(crate::specs::Blocks::grant_id))]
 pub(crate) fn grant_outpoint(before: u64) -> OutPoint
     ensures { (g : ℕ) → before ≡ g % 2 ^ 64 → result ≡ grant_outpoint g }
@@ -43,7 +43,7 @@ pub(crate) fn grant<S: Store>(store: &mut S, output: TxOut) -> Result<OutPoint, 
     Ok(outpoint)
 }
 
-/// Adds one transaction to the newest block, where it passes its tests.
+/// Adds one transaction to the newest block, if it passes its tests.
 fn add_one<S: Store>(store: &mut S, tx: Tx) -> Result<(), ChainError>
     requires { MayTakeOff (S.standing store.old).blocks }
     ensures { AddsOne (S.standing store.old) tx result (S.standing store.new) }
@@ -90,7 +90,8 @@ pub(crate) fn connect<S: Store>(store: &mut S, txs: Vec<Tx>) -> Result<u64, Bloc
     Ok(height)
 }
 
-/// Adds one transaction to the newest block, where it passes its tests, and gives its refusal. The only error is that memory ran out.
+/// Adds one transaction to the newest block if it passes its tests, and gives its refusal otherwise. The only error is that memory ran
+/// out.
 #[tactic(auto, using(crate::proofs::Offering::named))]
 fn offer<S: Store>(store: &mut S, tx: Tx) -> Result<Option<ChainError>, AllocError>
     requires { MayTakeOff (S.standing store.old).blocks }
@@ -107,7 +108,7 @@ fn offer<S: Store>(store: &mut S, tx: Tx) -> Result<Option<ChainError>, AllocErr
     }
 }
 
-/// Adds those of the transactions to the newest block that pass their tests after those before them, and gives each one's refusal.
+/// Adds to the newest block those of the transactions that pass their tests after those before them, and gives the refusal of each.
 fn add_passing<S: Store>(store: &mut S, txs: Vec<Tx>) -> Result<Vec<Option<ChainError>>, AllocError>
     requires { MayTakeOff (S.standing store.old).blocks }
     ensures newest { ChangesNewest (S.standing store.old) (S.standing store.new) }
@@ -121,8 +122,8 @@ fn add_passing<S: Store>(store: &mut S, txs: Vec<Tx>) -> Result<Vec<Option<Chain
     Ok(refusals)
 }
 
-/// Adds the next block, of those of the transactions that pass their tests after those before them, and gives each one's refusal; `None`
-/// where it stands in the block. The only error is that memory ran out, which changes nothing.
+/// Adds the next block, with those of the transactions that pass their tests after those before them. It gives the refusal of each;
+/// `None` for one that is in the block. The only error is that memory ran out, which changes nothing.
 #[tactic(auto, using(crate::proofs::Growing::more_than_one))]
 pub(crate) fn connect_some<S: Store>(
     store: &mut S,
@@ -148,7 +149,7 @@ pub(crate) fn connect_some<S: Store>(
 /// How far the height may fall below the greatest that the chain ever had.
 const MAX_DEPTH: u64 = 6;
 
-/// Whether this number of blocks can't be taken off.
+/// Whether this number of blocks cannot be taken off.
 #[tactic(auto, using(crate::proofs::Growing::grants_among_newest))]
 fn is_too_deep<S: Store>(store: &S, k: u64) -> bool
     ensures { result ≡ is_too_deep (S.standing store.now) k }
@@ -205,7 +206,7 @@ fn copy_onto(transactions: &[Confirmed], txs: &mut Vec<Tx>) -> Result<(), AllocE
     Ok(())
 }
 
-/// Takes this number of the newest blocks off, in which nothing was granted. It takes no memory.
+/// Takes off this number of the newest blocks, in which nothing was granted. It allocates nothing.
 #[tactic(auto, using(crate::proofs::Growing::more_left, crate::proofs::Growing::none_granted_left, crate::proofs::Growing::one_fewer))]
 pub(crate) fn take_off_all<S: Store>(store: &mut S, k: u64)
     requires above_first { k ≤ height_of (S.standing store.old).blocks }
@@ -220,7 +221,7 @@ pub(crate) fn take_off_all<S: Store>(store: &mut S, k: u64)
     }
 }
 
-/// Takes this number of the newest blocks off, and gives their transactions in their order.
+/// Takes off this number of the newest blocks, and gives their transactions in the order of the chain.
 #[tactic(auto, using(crate::proofs::Growing::not_too_deep, crate::proofs::Growing::transactions_of_newest))]
 pub(crate) fn disconnect<S: Store>(store: &mut S, k: u64) -> Result<Vec<Tx>, ChainError>
     ensures { MatchResult result (λ txs. Disconnects (S.standing store.old) k (Ok txs.items)

@@ -13,7 +13,7 @@ pub enum ChainError {
     /// Memory ran out.
     #[error("NoMemory")]
     NoMemory,
-    /// An input on the chain names the output already.
+    /// An input on the chain already spends the output.
     #[error("Spent")]
     Spent,
     /// Nothing on the chain created the output.
@@ -28,16 +28,17 @@ pub enum ChainError {
     /// The script stops for this cause, at the opcode of this index (BIP 141).
     #[error("Script {0} {1}")]
     Script(Cause, usize),
-    /// The program is not one of version 0, or the witness or its script has not the program's form (BIP 141).
+    /// The output's program is not a version 0 one, or the witness or its script does not have the form that
+    /// the program requires (BIP 141).
     #[error("BadProgram")]
     BadProgram,
     /// The outputs are worth more than the inputs.
     #[error("OutputsExceed")]
     OutputsExceed,
-    /// Two inputs name one output, or a transaction of that id stands on the chain.
+    /// Two inputs spend the same output, or a transaction with this id is already on the chain.
     #[error("Twice")]
     Twice,
-    /// So many blocks can't be taken off.
+    /// This number of blocks cannot be taken off.
     #[error("TooDeep")]
     TooDeep,
 }
@@ -70,7 +71,7 @@ impl ChainError {
     ghost use Rattle.std.specs.Prelude.{◌≡◌};
     ghost use Rattle.chain.specs.Refusals.{number_of};
 
-    /// The number of the refusal; 0 where memory ran out.
+    /// The refusal's number; 0 is out of memory.
     pub fn number(&self) -> u8
         ensures { result ≡ number_of self.now }
     {

@@ -15,9 +15,9 @@ use std::collections::{BTreeMap, BTreeSet};
 use std::marker::Model;
 use tx::{OutPoint, Tx, TxOut};
 
-/// A chain that finds outputs and ids by an index, in a time logarithmic in their number. What a block changed are its own transactions:
-/// the outputs that they created, and those that their inputs name; so that connecting a block and taking it off cost the block and not the
-/// chain.
+/// A chain that finds outputs and ids by an index, in time logarithmic in their number. A block changes only the entries of its own
+/// transactions: the outputs that they create, and those that their inputs spend. So the cost of connecting a block or taking it off depends
+/// on the block, not on the chain.
 #[derive(Drop)]
 pub struct Index {
     blocks: Blocks,
@@ -124,7 +124,7 @@ impl Index {
     ghost use Rattle.std.specs.Prelude.{IfOk, ◌≡◌, ◌∷◌, []};
     ghost use Rattle.chain.specs.Blocks.{empty_block};
 
-    /// One empty block, of height 0.
+    /// A chain of one empty block, of height 0.
     pub fn new(alloc: Global) -> Result<Self, AllocError>
         ensures { IfOk result (λ s. s ≡ record { blocks = empty_block ∷ []; greatest = 0 }) }
     {
@@ -138,7 +138,7 @@ impl Index {
     }
 }
 
-/// How a chain stands, to which it can go back.
+/// A state of the chain, to which it can go back.
 #[derive(Clone, Copy, Debug, Drop)]
 pub struct Mark {
     height: u64,
@@ -152,8 +152,8 @@ impl Index {
     ghost use Rattle.chain.specs.Connecting.{ConnectsSome};
     ghost use Rattle.chain.specs.Marking.{IsMark, IsGrown};
 
-    /// Adds the next block, of those of the transactions that pass the tests of `connect` after those before them, in their order, and gives
-    /// each one's refusal; `None` where it stands in the block. The only error is that memory ran out, which changes nothing.
+    /// Adds the next block, with those of the transactions that pass the tests of `connect` after those before them, in their order. It gives
+    /// the refusal of each; `None` for one that is in the block. The only error is that memory ran out, which changes nothing.
     #[tactic(auto, using(crate::proofs::Undoing::grown_by_some, crate::proofs::Undoing::grown_itself))]
     pub fn connect_some(&mut self, txs: Vec<Tx>) -> Result<Vec<Option<ChainError>>, AllocError>
         ensures ok { IfOk result (λ refusals. ConnectsSome self.old txs.items refusals.items
@@ -164,7 +164,7 @@ impl Index {
         connecting::connect_some(self, txs)
     }
 
-    /// Marks how the chain stands, so that `undo` can go back to it.
+    /// Marks the state of the chain, so that `undo` can go back to it.
     pub fn mark(&self) -> Mark
         ensures { IsMark self.now result }
     {
@@ -174,7 +174,7 @@ impl Index {
         }
     }
 
-    /// Goes back to how the chain stood at a mark, where blocks alone were added since, as if these had never been there. It takes no memory.
+    /// Goes back to the state at a mark, where only blocks were added since, as if they had never been there. It allocates nothing.
     pub fn undo(&mut self, mark: Mark)
         requires { (before : Standing) × IsMark before mark × IsGrown before self.old }
         ensures { (before : Standing) → IsMark before mark → IsGrown before self.old
@@ -185,7 +185,7 @@ impl Index {
         self.greatest = mark.greatest;
     }
 
-    /// An equal chain. The only error is that memory ran out.
+    /// A copy of the chain. The only error is that memory ran out.
     pub fn copy(&self) -> Result<Self, AllocError>
         ensures { IfOk result (λ s. s ≡ self.now) }
     {
@@ -198,22 +198,22 @@ impl Index {
         })
     }
 
-    /// The block of a height, where the chain has one.
+    /// The block at a height, if the chain has one.
     pub fn block_at(&self, height: u64) -> Option<&Block>
         ensures { option_map (λ b. b.now) result ≡ slice_get (reverse self.now.blocks) height }
     {
         self.blocks.as_slice().get(height as usize)
     }
 
-    /// Whether a transaction of this id stands on the chain.
+    /// Whether a transaction with this id is on the chain.
     pub fn has_id(&self, id: &[u8; 32]) -> bool
         ensures { result ≡ has_id self.now.blocks id.now }
     {
         Store::has_id(self, id)
     }
 
-    /// Conservation, whatever calls the chain got: what its unspent outputs are worth and its fees together are the satoshis that were
-    /// granted. The premise is that the ids of its grants differ among themselves and from those of its transactions.
+    /// Conservation, whatever calls the chain got: the value of its unspent outputs and its fees together are the satoshis that were granted.
+    /// The premise is that the ids of its grants differ from each other and from those of its transactions.
     pub fn conserves_values(&self)
         ensures { GrantsAreApart self.now.blocks
             → sum_by (λ c. c.output.value) (unspent_of self.now.blocks) + fees_of self.now.blocks

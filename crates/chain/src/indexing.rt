@@ -1,4 +1,4 @@
-//! The outputs and ids of transactions in an index, which follow the blocks transaction by transaction.
+//! The outputs and ids of transactions in an index, which is updated with the blocks, transaction by transaction.
 
 ghost use Rattle.std.specs.Prelude.{◌≡◌, ◌&&◌, if◌then◌else◌, ℕ, [], ◌∷◌, List, length, Some, None, OnOk, OnErr};
 ghost use Rattle.std.specs.Ordering.{nat_cmp};
@@ -17,7 +17,8 @@ use std::alloc::AllocError;
 use std::collections::{BTreeMap, BTreeSet};
 use tx::OutPoint;
 
-/// Adds a transaction that passes its tests after these blocks, whose height this is. Where memory runs out, the index is as it was.
+/// Adds a transaction that passes its tests after these blocks, for a block of this height. Where memory runs out, the index is as
+/// it was.
 pub(crate) fn index_transaction(
     coins: &mut BTreeMap<OutPoint, IndexedCoin>,
     ids: &mut BTreeSet<[u8; 32]>,
@@ -80,7 +81,7 @@ pub(crate) fn unindex_block(
     }
 }
 
-/// Takes the output at an outpoint out again, where it was added.
+/// Removes the output at an outpoint again, if it was added.
 pub(crate) fn forget_added(
     coins: &mut BTreeMap<OutPoint, IndexedCoin>,
     outpoint: &OutPoint,

@@ -1,4 +1,4 @@
-//! What holds of every chain, however it came about.
+//! Laws of every chain, whatever calls built it.
 
 ghost use Rattle.std.specs.Prelude.{◌≡◌, ◌+◌, ℕ, [], ◌∷◌, List, Some, Err, Result, slice_get, sum_by};
 ghost use Rattle.tx.specs.declared.input.TxIn.{TxIn};
@@ -14,9 +14,9 @@ ghost use Rattle.chain.specs.Replays.{Answered, Replays};
 ghost use Rattle.chain.specs.Conserving.{GrantsAreApart};
 ghost use Rattle.chain.specs.Spending.{IsExact};
 
-/// Conservation, whatever calls a new chain got: what its unspent outputs are worth and its fees together are the satoshis that were
-/// granted. The premise is that the ids of its grants differ among themselves and from those of its transactions. It could fail only where SHA-256 gives one id to two
-/// different messages, or after 2^64 grants; that the ids of transactions differ is a test of `connect`.
+/// Conservation, whatever calls a new chain got: the value of its unspent outputs and its fees together are the satoshis that were granted. The premise is
+/// that the ids of its grants differ from each other and from those of its transactions. It could fail only where SHA-256 gives one id to two different
+/// messages, or after 2^64 grants. That the ids of transactions differ is a test of `connect`.
 pub fn values_are_conserved()
     ensures { (commands : List Command) (answers : List Answer) (s : Standing)
         → Replays (record { blocks = empty_block ∷ []; greatest = 0 }) commands answers s
@@ -24,9 +24,10 @@ pub fn values_are_conserved()
         (unspent_of s.blocks) + fees_of s.blocks ≡ granted_of s.blocks }
 {}
 
-/// What `check_input` answers, said of the blocks, whatever calls a new chain got, and barring out-of-memory. It is `Unknown` exactly where nothing on the chain created an
-/// output at the outpoint that the input names, and `Spent` exactly where a transaction or a grant did and an input on the chain names it. It is `Ok` exactly where the output
-/// was created, nothing on the chain names it, its locks are reached and its program runs clean. The premise is that of conservation.
+/// What `check_input` answers, in terms of the blocks, whatever calls a new chain got, and barring out-of-memory. It is `Unknown` exactly where nothing on
+/// the chain created an output at the outpoint of the input. It is `Spent` exactly where a transaction or a grant did, and an input on the chain spends it.
+/// It is `Ok` exactly where the output was created, nothing on the chain spends it, its locks are reached and its program runs clean. The premise is that of
+/// conservation.
 pub fn inputs_are_checked_exactly()
     ensures { (commands : List Command) (answers : List Answer) (s : Standing)
         → Replays (record { blocks = empty_block ∷ []; greatest = 0 }) commands answers s

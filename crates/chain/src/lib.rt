@@ -1,15 +1,15 @@
 //! The simulated chain: blocks of transactions, the outputs that they create and spend, time locks, and blocks taken
 //! off again.
 //!
-//! [`Coins`] has the calls, each of which speaks of the list of blocks as it stands. An input passes exactly where
-//! its output was created and is unspent, its locks are reached (BIP 65, BIP 68), and the output's program runs clean
-//! on its witness (BIP 141), barring out-of-memory. A block is connected exactly where each of its transactions
-//! passes; else the first at fault is named and nothing changes. [`Scan`] looks through its blocks for every answer;
-//! [`Index`], which is the [`Chain`], keeps a map of the outputs and a set of the ids beside them. Both are proved
+//! [`Coins`] has the calls. Each speaks of the list of blocks as it is at the time. Barring out-of-memory, an input
+//! passes exactly where its output was created and is unspent, its locks are reached (BIP 65, BIP 68), and the
+//! output's program runs clean on its witness (BIP 141). A block is connected exactly where each of its transactions
+//! passes; else the first at fault is named and nothing changes. [`Scan`] searches its blocks for every answer.
+//! [`Index`], which is the [`Chain`], keeps a map of the outputs and a set of the ids as well. Both are proved
 //! against the same clauses. [`replay_commands`] makes calls that are values, one after another.
 //!
-//! `filling` and `publish` make the transactions, and `machine` runs their scripts here: the walk of a script ends.
-//! The walk of a block begins: `mempool` makes it of what waits, and `watch` reads it.
+//! `filling` and `publish` make the transactions, and `machine` runs their scripts here. `mempool` makes blocks of
+//! the transactions that wait, and `watch` reads the blocks.
 //!
 //! ```rust
 //! /// Grants an output, and spends it in the next block.
@@ -48,5 +48,5 @@ pub use program::run_program;
 pub use scan::Scan;
 pub use totals::Unspent;
 
-/// The chain that callers want: the one with an index.
+/// The chain for callers: the one with an index.
 pub type Chain = Index;

@@ -7,26 +7,26 @@ ghost use Rattle.chain.specs.Locks.{is_final, is_old_enough};
 use script::limits::LOCKTIME_THRESHOLD;
 use tx::{Tx, TxIn};
 
-/// The greatest time that counts as passed, in every block.
+/// The greatest time that counts as reached, in every block.
 const PASSED_TIME: u64 = 0x20ff_ffff;
 
 /// The sequence of a final input.
 const FINAL: u32 = 0xffff_ffff;
 
-/// The bit of a sequence that switches its relative lock off (BIP 68).
+/// The bit of a sequence that disables its relative lock (BIP 68).
 const DISABLED: u32 = 0x8000_0000;
 
-/// The bit of a sequence that makes its relative lock a time (BIP 68).
+/// The bit of a sequence that makes its relative lock a time, in units of 512 seconds (BIP 68).
 const OF_TIME: u32 = 0x40_0000;
 
-/// Whether every input is final.
+/// Whether every input is final: its sequence is 0xffffffff.
 fn are_final(inputs: &[TxIn]) -> bool
     ensures { result ≡ list_all (λ i. i.sequence == 0xffffffff) inputs.now }
 {
     inputs.iter().all(|input| input.sequence == FINAL)
 }
 
-/// Whether a block of this height may hold the transaction by its lock time.
+/// Whether the lock time allows the transaction in a block of this height.
 pub(crate) fn is_final(height: u64, tx: &Tx) -> bool
     ensures { result ≡ is_final height tx.now.lock_time tx.now.inputs }
 {
@@ -36,7 +36,8 @@ pub(crate) fn is_final(height: u64, tx: &Tx) -> bool
         || are_final(tx.inputs())
 }
 
-/// Whether a block of this height may hold a spend of a coin of that height, by the input's sequence.
+/// Whether the sequence of an input allows it to spend, in a block of this height, a coin of that
+/// height.
 pub(crate) fn is_old_enough(height: u64, version: u32, sequence: u32, coin_height: u64) -> bool
     ensures { result ≡ is_old_enough height version sequence coin_height }
 {

@@ -17,7 +17,7 @@ use sighash::programs::{is_key_hash_program, is_script_hash_program};
 use std::alloc::{AllocError, Global};
 use tx::{Tx, TxIn, TxOut};
 
-/// Whether bytes are a program of version 0 in one of its two forms.
+/// Whether bytes are a version 0 witness program in one of its two forms.
 pub(crate) fn is_program(program: &[u8]) -> bool
     ensures { result ≡ is_program program.now }
 {
@@ -35,7 +35,7 @@ fn key_hash_script(alloc: Global, hash: &[u8]) -> Result<Vec<u8>, AllocError>
     Ok(script)
 }
 
-/// Reads a script; `BadProgram` where the bytes are none.
+/// Reads a script; `BadProgram` where the bytes are not one.
 #[tactic(auto, using(sighash::proofs::Parsing::parsed, sighash::proofs::Parsing::unparsed))]
 fn parse(alloc: Global, bytes: &[u8]) -> Result<Script, ChainError>
     ensures { IsParsed (script_ops bytes.now) result }
@@ -82,9 +82,9 @@ fn run_script(
     }
 }
 
-/// Runs the program of an output on the witness of the input that spends it (BIP 141). `index` is that of the input, and `cache` that of
-/// the transaction, so that what the digests of its inputs share is hashed once. `BadProgram` where the program is not of version 0, or
-/// the witness or its script has not the program's form; `Script` where the script stops.
+/// Runs the program of an output on the witness of the input that spends it (BIP 141). `index` is the index of that input, and `cache`
+/// is the cache of its transaction, so what the digests of its inputs share is hashed once. The error is `BadProgram` where the program
+/// is not of version 0, or the witness or its script does not have the program's form; `Script` where the script stops.
 #[tactic(auto, unfolding(sighash::specs::Programs::run_of, sighash::specs::Programs::given_of))]
 pub fn run_program(
     alloc: Global,

@@ -1,4 +1,4 @@
-//! A chain that looks through its blocks for every answer.
+//! A chain that searches its blocks for every answer.
 
 ghost use Rattle.std.specs.Prelude.{◌≡◌, ℕ, ◌%◌, ◌^◌, reverse, option_map, slice_get};
 ghost use Rattle.std.specs.List.{list_any};
@@ -20,7 +20,7 @@ use std::alloc::{AllocError, Global};
 use std::marker::Model;
 use tx::{OutPoint, Tx, TxOut};
 
-/// A chain that keeps the list of its blocks and nothing else.
+/// A chain that stores the list of its blocks and nothing else.
 #[derive(Drop)]
 pub struct Scan {
     blocks: Blocks,
@@ -39,14 +39,14 @@ impl Model for Scan {
     ghost invariant = { λ s. s.grants ≡ grants_in s.blocks % 2 ^ 64 };
 }
 
-/// Whether an input of one of the transactions names the outpoint.
+/// Whether an input of one of the transactions spends the outpoint.
 fn some_names(transactions: &[Confirmed], outpoint: &OutPoint) -> bool
     ensures { result ≡ list_any (names outpoint.now) transactions.now }
 {
     transactions.iter().any(|confirmed| some_input_names(confirmed.tx().inputs(), outpoint))
 }
 
-/// Whether an input of a transaction of the block names the outpoint.
+/// Whether an input of a transaction of the block spends the outpoint.
 #[tactic(auto, using(crate::proofs::Lists::any_reversed))]
 fn block_names(block: &Block, outpoint: &OutPoint) -> bool
     ensures { result ≡ list_any (names outpoint.now) block.now.transactions }
@@ -54,14 +54,14 @@ fn block_names(block: &Block, outpoint: &OutPoint) -> bool
     some_names(block.transactions(), outpoint)
 }
 
-/// Whether an input of a transaction of one of the blocks names the outpoint.
+/// Whether an input of a transaction of one of the blocks spends the outpoint.
 fn is_named(blocks: &[Block], outpoint: &OutPoint) -> bool
     ensures { result ≡ is_named blocks.now outpoint.now }
 {
     blocks.iter().any(|block| block_names(block, outpoint))
 }
 
-/// Whether two ids are one.
+/// Whether two ids are equal.
 fn same_id(id: &[u8; 32], other: &[u8; 32]) -> bool
     ensures { result ≡ bytes_eq id.now other.now }
 {
@@ -92,7 +92,7 @@ fn has_id(blocks: &[Block], id: &[u8; 32]) -> bool
     blocks.iter().any(|block| block_has_id(block, id))
 }
 
-/// The output of an index.
+/// The output at this index.
 fn output_at(outputs: &[TxOut], index: u32) -> Option<&TxOut>
     ensures { option_map (λ r. r.now) result ≡ slice_get outputs.now index }
 {
@@ -123,7 +123,7 @@ fn find_in_transactions<'a>(transactions: &'a [Confirmed], outpoint: &OutPoint) 
     None
 }
 
-/// The first output that was granted at an outpoint, where this number of grants came before.
+/// The first output that was granted at an outpoint, after this number of earlier grants.
 fn find_in_grants<'a>(granted: &'a [TxOut], before: u64, outpoint: &OutPoint) -> Option<&'a TxOut>
     ensures { (height g : ℕ) → before ≡ g % 2 ^ 64 → at_height height result ≡ found_in outpoint.now
         (granted_at height g (reverse granted.now)) }
@@ -221,7 +221,7 @@ impl Scan {
     ghost use Rattle.std.specs.Prelude.{IfOk, ◌≡◌, ◌∷◌, []};
     ghost use Rattle.chain.specs.Blocks.{empty_block};
 
-    /// One empty block, of height 0.
+    /// A chain of one empty block, of height 0.
     pub fn new(alloc: Global) -> Result<Self, AllocError>
         ensures { IfOk result (λ s. s ≡ record { blocks = empty_block ∷ []; greatest = 0 }) }
     {

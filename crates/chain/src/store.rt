@@ -1,4 +1,5 @@
-//! What the two ways to keep a chain have in common: what they find, and how they grow and shrink by one step.
+//! What the two ways to store a chain have in common: what they find, and how they grow and shrink step by
+//! step.
 
 ghost use Rattle.std.specs.Prelude.{◌≡◌, ◌<◌, ◌≤◌, [], ◌∷◌, length, reverse, OnOk, OnErr, option_map, max, None, ◌%◌, ◌^◌};
 ghost use Rattle.chain.specs.Blocks.{Contents, Standing, Coin, empty_block, height_of, coin_at, has_id, is_named, grants_in};
@@ -16,18 +17,18 @@ pub struct Found<'a> {
     pub output: &'a TxOut,
     /// The height of its block.
     pub height: u64,
-    /// An input on the chain names it.
+    /// An input on the chain spends it.
     pub spent: bool,
 }
 
-/// A way to keep the list of blocks.
+/// A way to store the list of blocks.
 pub trait Store {
     ghost use Rattle.chain.specs.Blocks.{Standing};
 
     /// The list of blocks, and the greatest height that it ever had.
     ghost standing: { Self → Standing };
 
-    /// The allocator that the blocks lie in.
+    /// The allocator that holds the blocks.
     fn allocator(&self) -> Global;
 
     /// The blocks, the first of which has height 0.
@@ -44,11 +45,11 @@ pub trait Store {
     fn find(&self, outpoint: &OutPoint) -> Option<Found<'_>>
         ensures { option_map found_coin result ≡ coin_at (standing self.now).blocks outpoint.now };
 
-    /// Whether an input on the chain names the outpoint.
+    /// Whether an input on the chain spends the outpoint.
     fn is_named(&self, outpoint: &OutPoint) -> bool
         ensures { result ≡ is_named (standing self.now).blocks outpoint.now };
 
-    /// Whether a transaction of this id stands on the chain.
+    /// Whether a transaction with this id is on the chain.
     fn has_id(&self, id: &[u8; 32]) -> bool
         ensures { result ≡ has_id (standing self.now).blocks id.now };
 
@@ -70,7 +71,7 @@ pub trait Store {
             }) }
         ensures err { OnErr result (standing self.new ≡ standing self.old) };
 
-    /// Takes the newest block off, which holds no grant and is not the first.
+    /// Takes off the newest block, which holds no grant and is not the first.
     fn take_off(&mut self)
         requires more { 1 < length (standing self.old).blocks }
         requires no_grant { MayTakeOff (standing self.old).blocks }
@@ -88,11 +89,11 @@ pub trait Store {
             }) }
         ensures err { OnErr result (standing self.new ≡ standing self.old) };
 
-    /// How many outputs were granted, where 2^64 is 0 again.
+    /// The number of outputs granted, modulo 2^64.
     fn grants(&self) -> u64
         ensures { result ≡ grants_in (standing self.now).blocks % 2 ^ 64 };
 
-    /// Notes the height of the chain.
+    /// Updates the greatest height with the height of the chain.
     fn note_height(&mut self)
         ensures { standing self.new ≡ record (standing self.old) {
           greatest = max

@@ -14,12 +14,12 @@ use crate::store::Store;
 use std::alloc::AllocError;
 use tx::{OutPoint, TxIn, TxOut};
 
-/// The outputs that no input names.
+/// The unspent outputs: those that no input on the chain spends.
 #[derive(Clone, Copy, Debug, PartialEq, Eq)]
 pub struct Unspent {
-    /// How many there are.
+    /// Their number.
     pub count: u64,
-    /// What they are worth, in satoshis.
+    /// The sum of their values in satoshis.
     pub value: u128,
 }
 
@@ -34,7 +34,7 @@ fn sum_of(amounts: &[u64]) -> u128
     sum
 }
 
-/// The value in satoshis of the output at an outpoint, 0 where there is none.
+/// The value in satoshis of the output at an outpoint, or 0 if there is none.
 fn value_at<S: Store>(store: &S, outpoint: &OutPoint) -> u64
     ensures value { result ≡ value_at (S.standing store.now).blocks outpoint.now }
     ensures limit { result ≤ max_value }
@@ -45,7 +45,7 @@ fn value_at<S: Store>(store: &S, outpoint: &OutPoint) -> u64
     }
 }
 
-/// What inputs bring in satoshis.
+/// The sum of the values that inputs spend, in satoshis.
 fn paid_in<S: Store>(store: &S, inputs: &[TxIn]) -> u64
     requires { length inputs.now ≤ max_inputs }
     ensures { result ≡ paid_in (S.standing store.now).blocks inputs.now }
@@ -74,7 +74,7 @@ fn push_fees<S: Store>(
     Ok(())
 }
 
-/// The sum of the fees of all transactions in satoshis.
+/// The sum of the fees of all transactions, in satoshis.
 #[tactic(auto, using(crate::proofs::Sums::amounts_more))]
 pub(crate) fn sum_fees<S: Store>(store: &S) -> Result<u128, AllocError>
     ensures { IfOk result (λ f. f ≡ fees_of (S.standing store.now).blocks) }
@@ -86,7 +86,7 @@ pub(crate) fn sum_fees<S: Store>(store: &S) -> Result<u128, AllocError>
     Ok(sum_of(&fees))
 }
 
-/// Adds a value, where no input names its outpoint.
+/// Adds a value, unless an input spends its outpoint.
 fn push_unless_named<S: Store>(
     store: &S,
     outpoint: &OutPoint,
@@ -103,7 +103,7 @@ fn push_unless_named<S: Store>(
     Ok(())
 }
 
-/// Adds the values of a transaction's outputs that no input names.
+/// Adds the values of a transaction's unspent outputs.
 fn push_outputs<S: Store>(
     store: &S,
     confirmed: &Confirmed,
@@ -124,7 +124,7 @@ fn push_outputs<S: Store>(
     Ok(())
 }
 
-/// Adds the values of outputs of transactions that no input names.
+/// Adds the values of the unspent outputs of transactions.
 fn push_transactions<S: Store>(
     store: &S,
     transactions: &[Confirmed],
@@ -140,7 +140,7 @@ fn push_transactions<S: Store>(
     Ok(())
 }
 
-/// Adds the values of granted outputs that no input names, where this number of grants came before.
+/// Adds the values of the unspent granted outputs, after this number of earlier grants.
 fn push_grants<S: Store>(
     store: &S,
     granted: &[TxOut],
@@ -158,7 +158,7 @@ fn push_grants<S: Store>(
     Ok(())
 }
 
-/// The outputs that no input names.
+/// The number and value of the unspent outputs.
 pub(crate) fn sum_unspent<S: Store>(store: &S) -> Result<Unspent, AllocError>
     ensures { IfOk result (IsUnspent (S.standing store.now).blocks) }
 {

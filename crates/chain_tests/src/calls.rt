@@ -1,4 +1,4 @@
-//! Calls as values, and the example of the page of `chain`, over both ways to keep a chain.
+//! Calls as values, and the example in the documentation of `chain`, on both ways to store a chain.
 
 use crate::fixtures::{GRANTED, TRUE_PROGRAM, output, transaction};
 use chain::{Answer, BlockError, Coins, Command, Index, Scan, replay_commands};
@@ -11,14 +11,14 @@ fn spend_of_grant(rt: &impl Abort, alloc: Global) -> Tx {
     transaction(rt, alloc, 2, &[(GRANTED[0], 0)], &[900], 0)
 }
 
-// A block of this transaction alone.
+// A block of this one transaction.
 fn block_of_grant(rt: &impl Abort, alloc: Global) -> Vec<Tx> {
     let mut txs = Vec::new(alloc);
     txs.push(spend_of_grant(rt, alloc)).expect(rt, "memory");
     txs
 }
 
-// Each command once: a grant comes first, and the block that spends it is taken off at the end.
+// Each command once: it begins with a grant, and ends by taking off the block that spends it.
 fn every_command(rt: &impl Abort, alloc: Global) -> Vec<Command> {
     let granted = output(rt, alloc, 1000, &TRUE_PROGRAM);
     let mut commands = Vec::new(alloc);
@@ -36,7 +36,7 @@ fn every_command(rt: &impl Abort, alloc: Global) -> Vec<Command> {
     commands
 }
 
-// What the commands between the first and the last one answer.
+// The answers of the commands between the first and the last one.
 const ANSWERS: [&str; 5] = [
     "CheckInput(Ok(()))",
     "Connect(Ok(1))",
@@ -45,7 +45,7 @@ const ANSWERS: [&str; 5] = [
     "Fees(100)",
 ];
 
-// How many transactions the blocks that were taken off had.
+// The number of transactions in the blocks that were taken off.
 fn count_off(answer: &Answer) -> Option<usize> {
     match answer {
         Answer::Disconnect(Ok(txs)) => Some(txs.len()),
@@ -81,7 +81,7 @@ fn replays_every_command(rt: HostRuntime) {
     replay_on(&rt, alloc, &mut Index::new(alloc).expect(&rt, "memory"));
 }
 
-// The example of the page of `chain`.
+// The example in the documentation of `chain`.
 fn spend<C: Coins>(chain: &mut C, output: TxOut, tx: Vec<Tx>) -> Result<u64, BlockError> {
     let _ = chain.grant(output);
     chain.connect(tx)

@@ -5,7 +5,7 @@ use std::alloc::Global;
 use std::process::Abort;
 use tx::{Inputs, OutPoint, Outputs, Tx, TxIn, TxOut, Witness};
 
-// The script 51, which leaves one true entry, and its program: 00 20 and the SHA-256 of it.
+// The script 51, which leaves one true element, and its program: 00 20 and the SHA-256 of the script.
 pub(crate) const TRUE: [u8; 1] = [0x51];
 
 pub(crate) const TRUE_PROGRAM: [u8; 34] = [
@@ -14,7 +14,7 @@ pub(crate) const TRUE_PROGRAM: [u8; 34] = [
     0x32, 0x60,
 ];
 
-// A key, its program 00 14 and HASH160 of it, and the script that this program runs.
+// A key, its program (00 14 and the key's HASH160), and the script that this program runs.
 pub(crate) const KEY: [u8; 33] = [
     0x02, 0x22, 0x22, 0x22, 0x22, 0x22, 0x22, 0x22, 0x22, 0x22, 0x22, 0x22, 0x22, 0x22, 0x22, 0x22,
     0x22, 0x22, 0x22, 0x22, 0x22, 0x22, 0x22, 0x22, 0x22, 0x22, 0x22, 0x22, 0x22, 0x22, 0x22, 0x22,
@@ -46,7 +46,8 @@ pub(crate) const TO_LOCAL_PROGRAM: [u8; 34] = [
     0x66, 0x29,
 ];
 
-// The outpoints of the first two grants: SHA-256 twice of `grant` and the number 0, and of `grant` and the number 1, in eight bytes.
+// The outpoints of the first two grants. Their ids are SHA-256 twice of `grant` and the number 0, and of `grant` and the number 1,
+// in eight bytes, little-endian.
 pub(crate) const GRANTED: [OutPoint; 2] = [
     OutPoint {
         txid: [
@@ -99,7 +100,7 @@ fn input(rt: &impl Abort, alloc: Global, outpoint: OutPoint, sequence: u32) -> T
     }
 }
 
-// Inputs that name these outpoints with these sequences.
+// Inputs that spend these outpoints with these sequences.
 fn inputs(rt: &impl Abort, alloc: Global, from: &[(OutPoint, u32)]) -> Inputs {
     let mut inputs = Inputs::new(alloc);
     for (outpoint, sequence) in from {
@@ -109,7 +110,7 @@ fn inputs(rt: &impl Abort, alloc: Global, from: &[(OutPoint, u32)]) -> Inputs {
     inputs
 }
 
-// A transaction: its version, what its inputs name and their sequences, its outputs to TRUE_PROGRAM in satoshis, its lock time.
+// A transaction: its version, the outpoints and sequences of its inputs, its outputs to TRUE_PROGRAM in satoshis, and its lock time.
 pub(crate) fn transaction(
     rt: &impl Abort,
     alloc: Global,

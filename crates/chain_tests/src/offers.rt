@@ -1,4 +1,4 @@
-//! What an index does beside the calls that every chain has: blocks of what passes, marks and copies.
+//! What an index does besides the calls that every chain has: blocks of the transactions that pass, marks and copies.
 
 use crate::steps::{Cast, Source, Step, play_with};
 use chain::{ChainError, Index};
@@ -14,7 +14,7 @@ const SPENDS: [Step; 5] = [
     Step::Make(2, &[(Source::Made(0, 0), 0)], &[1], 9),
 ];
 
-// They are offered with the spend first, and once more behind what it spends.
+// They are offered with the spend first, and once more after what it spends.
 const OFFERED: [usize; 5] = [1, 0, 1, 2, 3];
 
 const REFUSALS: [Option<ChainError>; 5] = [
@@ -25,12 +25,12 @@ const REFUSALS: [Option<ChainError>; 5] = [
     Some(ChainError::NotFinal),
 ];
 
-// Whether a transaction stands on a chain, by its id.
+// Whether a transaction is on a chain, by its id.
 fn stands(rt: &impl Abort, cast: &Cast, chain: &Index, place: usize) -> bool {
     chain.has_id(&tx::txid(cast.made(rt, place)))
 }
 
-// How many transactions stand in the block of a height.
+// The number of transactions in the block at a height.
 fn count_at(chain: &Index, height: u64) -> Option<usize> {
     let block = chain.block_at(height)?;
     Some(block.transactions().len())
@@ -51,7 +51,7 @@ fn takes_what_passes(rt: HostRuntime) {
     play_with(&rt, &mut cast, &mut chain, &[Step::Hold(2, 850, 150)]);
 }
 
-// Makes a block of what passes, and goes back to before it.
+// Makes a block of the transactions that pass, and undoes it.
 fn offer_and_undo(rt: &impl Abort, chain: &mut Index, txs: Vec<Tx>) {
     let mark = chain.mark();
     chain.connect_some(txs).expect(rt, "memory");
@@ -87,7 +87,7 @@ const OF_CHAIN: [Step; 2] = [
     Step::Check(0, 0, Err(ChainError::Spent)),
 ];
 
-// A copy goes its own way.
+// A copy is independent of its original.
 #[test]
 fn copies_a_chain(rt: HostRuntime) {
     let mut chain = Index::new(rt.alloc()).expect(&rt, "memory");

@@ -1,11 +1,11 @@
-//! What is asked of every chain, whatever keeps it.
+//! Tables of steps for every chain, however it is stored.
 
 use crate::fixtures::{KEY, KEY_PROGRAM, KEY_SCRIPT, TO_LOCAL, TO_LOCAL_PROGRAM, TRUE};
 use crate::steps::{Source, Step, play_all};
 use chain::{ChainError, Index, Scan};
 use script::{Cause, Kind};
 
-// A lock time of 500 is reached in block 501, not in its own.
+// A lock time of 500 is reached in block 501, not in block 500.
 const LOCK_TIME_500: [Step; 7] = [
     Step::Grant(1000),
     Step::Make(2, &[(Source::Granted(0), 0)], &[900], 500),
@@ -33,7 +33,7 @@ const TIMES: [Step; 13] = [
     Step::Check(1, 0, Err(ChainError::NotFinal)),
 ];
 
-// A coin of height 100 and an age of 144: too young in block 243, old enough in 244. Version 1 is never too young, and its script refuses it.
+// A coin of height 100 and an age of 144: too young in block 243, old enough in 244. Version 1 is never too young, but its script refuses it.
 const AGE_144: [Step; 12] = [
     Step::Raise(100),
     Step::GrantTo(5000, &TO_LOCAL_PROGRAM),
@@ -49,7 +49,7 @@ const AGE_144: [Step; 12] = [
     Step::Connect(&[0], 244),
 ];
 
-// CHECKSEQUENCEVERIFY, the script's fifth opcode, wants version 2 (BIP 112).
+// CHECKSEQUENCEVERIFY, the script's fifth opcode, requires version 2 (BIP 112).
 const VERSION_1_REFUSED: Step = Step::Refuse(
     &[1],
     0,
@@ -73,7 +73,7 @@ const RELATIVE_LOCKS: [Step; 13] = [
     Step::Check(4, 0, Ok(())),
 ];
 
-// Outputs of one block: spent in it in order, not the other way round, and not twice.
+// Outputs created and spent within a block: in order, but not in the reverse order, and not twice.
 const WITHIN_A_BLOCK: [Step; 11] = [
     Step::Grant(1000),
     Step::Make(2, &[(Source::Granted(0), 0)], &[600, 300], 0),
@@ -88,7 +88,7 @@ const WITHIN_A_BLOCK: [Step; 11] = [
     Step::Hold(2, 850, 150),
 ];
 
-// Outputs and inputs that are not there.
+// Outputs and inputs that do not exist.
 const UNKNOWN_OUTPUTS: [Step; 8] = [
     Step::Grant(1000),
     Step::Make(2, &[(Source::Granted(0), 0)], &[600, 300], 0),
@@ -123,7 +123,7 @@ const WHOLE_REFUSALS: [Step; 9] = [
     Step::Hold(2, 1000, 0),
 ];
 
-// An output to the hash of a key, spent with the key and its token, and what other witnesses get.
+// An output to a key hash, spent with the key and its token, and the refusals of other witnesses.
 const KEY_HASH: [Step; 9] = [
     Step::GrantTo(7000, &KEY_PROGRAM),
     Step::Make(2, &[(Source::Granted(0), 0)], &[6000], 0),
@@ -140,7 +140,7 @@ const KEY_HASH: [Step; 9] = [
     Step::Connect(&[0], 1),
 ];
 
-// Witnesses that are not those of the program, and a script that stops.
+// Witnesses that do not have the program's form, and a script that stops.
 const SCRIPT_HASH: [Step; 8] = [
     Step::Grant(1000),
     Step::Make(2, &[(Source::Granted(0), 0)], &[1], 0),
@@ -152,7 +152,7 @@ const SCRIPT_HASH: [Step; 8] = [
     Step::Check(0, 0, Err(ChainError::BadProgram)),
 ];
 
-// Blocks taken off, and what was unspent.
+// Blocks that are taken off, and the outputs that are then unspent.
 const REORGANISED: [Step; 12] = [
     Step::Grant(1000),
     Step::Make(2, &[(Source::Granted(0), 0)], &[600, 300], 0),
@@ -168,7 +168,7 @@ const REORGANISED: [Step; 12] = [
     Step::Hold(2, 850, 150),
 ];
 
-// How deep blocks may be taken off.
+// How many blocks may be taken off.
 const DEPTHS: [Step; 11] = [
     Step::Raise(8),
     Step::Deep(7),

@@ -1,4 +1,4 @@
-//! Values from outside, the blocks as they are shown, and printed text.
+//! Values from outside sources, the blocks of a chain, and printed text.
 
 use crate::fixtures::{GRANTED, KEY_PROGRAM, output};
 use chain::{BlockError, ChainError, Coins, Scan};
@@ -7,14 +7,14 @@ use std::alloc::Global;
 use std::process::Abort;
 use tx::OutPoint;
 
-// Grants an output, which has this outpoint, and adds an empty block.
+// Grants an output, which must have this outpoint, and adds an empty block.
 fn grant(rt: &impl Abort, alloc: Global, chain: &mut Scan, wanted: OutPoint) {
     let outpoint = chain.grant(output(rt, alloc, 1, &KEY_PROGRAM));
     assert_eq!(rt; outpoint, Ok(wanted));
     chain.connect(Vec::new(alloc)).expect(rt, "a block");
 }
 
-// Grants are numbered over the whole chain, and stand in the block that was the newest.
+// Grants are numbered over the whole chain, and stay in the block that was the newest.
 #[test]
 fn grants_have_their_ids(rt: HostRuntime) {
     let mut chain = Scan::new(rt.alloc()).expect(&rt, "memory");

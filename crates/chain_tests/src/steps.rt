@@ -1,4 +1,4 @@
-//! Steps that are played on a chain, each with what the chain answers.
+//! Steps that are run on a chain, each with the chain's answer.
 
 use crate::fixtures::{KEY, TRUE_PROGRAM, output, push_item, transaction};
 use chain::{BlockError, ChainError, Coins};
@@ -14,35 +14,36 @@ pub(crate) enum Source {
     Made(usize, u32),
 }
 
-// A step, and what it answers. Transactions are named by their place among those that were made.
+// A step, and its answer. Transactions are named by their position among those that were made.
 #[derive(Clone, Copy)]
 pub(crate) enum Step {
-    // Grants so many satoshis to TRUE_PROGRAM.
+    // Grants this number of satoshis to TRUE_PROGRAM.
     Grant(u64),
-    // Grants so many satoshis to this script.
+    // Grants this number of satoshis to this script.
     GrantTo(u64, &'static [u8]),
-    // A grant to this script, which is no program.
+    // A grant to this script, which is not a witness program and is refused.
     RefuseGrant(&'static [u8]),
-    // Makes a transaction: its version, what its inputs name and their sequences, its outputs to TRUE_PROGRAM in satoshis, its lock
-    // time. Each witness is TRUE.
+    // Makes a transaction: its version, the sources and sequences of its inputs, its outputs to TRUE_PROGRAM in satoshis, and its lock time.
+    // Each witness is TRUE.
     Make(u32, &'static [(Source, u32)], &'static [u64], u32),
-    // Gives the first input of a transaction these items for a witness.
+    // Sets the witness of a transaction's first input to these items.
     Witness(usize, &'static [&'static [u8]]),
-    // Signs the first input of a transaction with KEY: the script, and the satoshis that it spends. The witness is the token and these items.
+    // Signs the first input of a transaction with KEY, for this script and the value in satoshis that it spends. The witness is the token and
+    // these items.
     Sign(usize, &'static [u8], u64, &'static [&'static [u8]]),
-    // Empty blocks up to a height.
+    // Adds empty blocks up to a height.
     Raise(u64),
-    // A block of these transactions, and its height.
+    // Connects a block of these transactions, which gets this height.
     Connect(&'static [usize], u64),
-    // A block of these transactions, the one at fault, and why.
+    // A block of these transactions is refused: the one at fault, and why.
     Refuse(&'static [usize], usize, ChainError),
-    // What an input of a transaction gets in the next block.
+    // The check of a transaction's input for the next block gives this result.
     Check(usize, usize, Result<(), ChainError>),
-    // Takes so many blocks off, with these transactions.
+    // Takes this number of blocks off, which hold these transactions.
     Disconnect(u64, &'static [usize]),
-    // So many blocks can't be taken off.
+    // This number of blocks cannot be taken off.
     Deep(u64),
-    // How many outputs are unspent, what they are worth, and the fees.
+    // The number of unspent outputs, their value, and the fees of the chain.
     Hold(u64, u128, u128),
 }
 
@@ -100,7 +101,7 @@ impl Cast {
         self.made.push(tx).expect(rt, "memory");
     }
 
-    // Gives the first input of a transaction a witness.
+    // Sets the witness of a transaction's first input.
     fn give(&mut self, rt: &impl Abort, place: usize, witness: Witness) {
         let tx = self.made.get_mut(place).expect(rt, "a transaction");
         assert!(rt; !tx.inputs().is_empty());
@@ -148,7 +149,7 @@ fn refuse_grant<C: Coins>(rt: &impl Abort, cast: &Cast, chain: &mut C, script: &
     assert_eq!(rt; granted, Err(ChainError::BadProgram));
 }
 
-// Empty blocks up to a height.
+// Adds empty blocks up to a height.
 fn raise<C: Coins>(rt: &impl Abort, alloc: Global, chain: &mut C, height: u64) {
     for _ in chain.height()..height {
         chain.connect(Vec::new(alloc)).expect(rt, "a block");
@@ -174,7 +175,7 @@ fn summary_of<C: Coins>(rt: &impl Abort, chain: &C) -> Summary {
     }
 }
 
-// Connects a block, which refuses no memory twice: where it does once, the chain is as before.
+// Connects a block. Where memory runs out, the chain has to be as before, and the call is made once more.
 fn connect<C: Coins>(
     rt: &impl Abort,
     cast: &Cast,
@@ -197,7 +198,7 @@ fn is_out_of_memory(answer: &Result<u64, BlockError>) -> bool {
     }
 }
 
-// Takes blocks off; where memory runs out once, the chain is as before.
+// Takes blocks off. Where memory runs out, the chain has to be as before, and the call is made once more.
 fn disconnect<C: Coins>(rt: &impl Abort, chain: &mut C, k: u64) -> Result<Vec<Tx>, ChainError> {
     let before = summary_of(rt, chain);
     let answer = chain.disconnect(k);

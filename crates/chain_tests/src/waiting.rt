@@ -1,4 +1,4 @@
-//! Blocks that take what waits in a pool, and blocks that give way to others.
+//! Blocks that take what waits in a pool, and blocks that are replaced by others.
 
 use crate::fixtures::{GRANTED, TRUE_PROGRAM, output, transaction};
 use chain::{Coins, Index};
@@ -17,7 +17,7 @@ fn granted_chain(rt: &impl Abort, alloc: Global) -> Index {
     chain
 }
 
-// A transaction that spends an output whole into one of a value, from a lock time on.
+// A transaction that spends an output into one output of this value, with this lock time.
 fn spend(rt: &impl Abort, alloc: Global, outpoint: OutPoint, value: u64, lock_time: u32) -> Tx {
     transaction(rt, alloc, 2, &[(outpoint, 0)], &[value], lock_time)
 }
@@ -27,18 +27,18 @@ fn parent(rt: &impl Abort, alloc: Global) -> Tx {
     spend(rt, alloc, GRANTED[0], 900, 0)
 }
 
-// A spend of what that one creates.
+// A spend of the output that the first one creates.
 fn child(rt: &impl Abort, alloc: Global) -> Tx {
     let txid = txid(&parent(rt, alloc));
     spend(rt, alloc, OutPoint { txid, index: 0 }, 800, 0)
 }
 
-// A spend of the second grant from block 3 on.
+// A spend of the second grant, allowed from block 3 on.
 fn locked(rt: &impl Abort, alloc: Global) -> Tx {
     spend(rt, alloc, GRANTED[1], 600, 2)
 }
 
-// What waits: the child, the parent, a second spend of the first grant, and the locked one.
+// The pool: the child, the parent, a second spend of the first grant, and the locked one.
 fn waiting(rt: &impl Abort, alloc: Global) -> Vec<Tx> {
     let mut pool = Vec::new(alloc);
     pool.push(child(rt, alloc)).expect(rt, "memory");
@@ -49,7 +49,7 @@ fn waiting(rt: &impl Abort, alloc: Global) -> Vec<Tx> {
     pool
 }
 
-// Makes so many blocks of what waits: how many transactions they have, and how many wait then.
+// Makes this number of blocks of the pool; gives how many transactions they have, and how many still wait.
 fn mine_on(
     rt: &impl Abort,
     alloc: Global,
@@ -62,7 +62,8 @@ fn mine_on(
     (mined.txs, pool.len())
 }
 
-// Block 1 has the parent: the child came before it and waits, the second spend is dropped, the locked one waits. Block 2 has the child, block 3 the locked one.
+// Block 1 has the parent: the child comes before it and waits, the second spend is dropped, and the locked one waits. Block 2 has the child, block 3 the
+// locked one.
 #[test]
 fn blocks_take_what_waits(rt: HostRuntime) {
     let alloc = rt.alloc();
@@ -75,7 +76,7 @@ fn blocks_take_what_waits(rt: HostRuntime) {
     assert_eq!(rt; chain.fees().expect(&rt, "memory"), 600);
 }
 
-// How a reorganisation ends: the height, how many transactions the new blocks have, and how many wait then.
+// The result of a reorganisation: the height, the number of transactions in the new blocks, and how many still wait.
 fn ended(
     alloc: Global,
     chain: &Index,
@@ -87,7 +88,7 @@ fn ended(
     Ok((new.chain.height(), new.txs, new.pool.len()))
 }
 
-// How it ends where the last of the transactions that stand in the newest three blocks is forgotten, and was released.
+// The result where the last transaction of the newest three blocks is forgotten, but was released.
 fn ended_with_released(
     rt: &impl Abort,
     alloc: Global,
@@ -98,7 +99,8 @@ fn ended_with_released(
     ended(alloc, chain, &released, 3, 1)
 }
 
-// Three blocks with one transaction each give way to four: with the last one forgotten the others alone come back, and where the last one was released all do.
+// Three blocks with one transaction each are replaced by four. With the last transaction forgotten only the others come back; where it was released too, all
+// do.
 #[test]
 fn blocks_give_way(rt: HostRuntime) {
     let alloc = rt.alloc();
@@ -114,7 +116,7 @@ fn blocks_give_way(rt: HostRuntime) {
     assert_eq!(rt; chain.height(), 3);
 }
 
-// The example of the page of `mempool`.
+// The example in the documentation of `mempool`.
 fn taken_by_the_next(alloc: Global, chain: &mut Index, pool: &[Tx]) -> Result<u64, AllocError> {
     let mined = mine(alloc, chain, pool, 1)?;
     Ok(mined.txs)

@@ -26,7 +26,7 @@ pub record Toward (tokens_of : Signing) (a b : State) (to_a to_b : List Message)
   pub flows : Flows tokens_of to_b b  -- nothing on the way is refused
   pub meets : Meets a (drained to_b b)  -- once all came, they agree
   pub ahead : IsBeginning a.held.theirs.settled b.held.own.settled  -- b knows first what is settled of its own
-  pub one : signatures_in to_b + revocations_in to_a ≡ bit a.awaiting  -- a signature or its revocation is on the way just while it is awaited
+  pub one : signatures_in to_b + revocations_in to_a ≡ bit a.awaiting  -- a signature or its revocation is on the way exactly while it is awaited
 
 pub record Agree (tokens_of : Signing) (a b : State) (to_a to_b : List Message) : Type 0 where
   pub a_kept : IsKept a

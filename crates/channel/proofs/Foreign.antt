@@ -1,4 +1,4 @@
--- A secret is foreign just where the store refuses it.
+-- A secret is foreign exactly where the store refuses it.
 use Rattle.std.proofs.Common.{◌≡◌, ℕ, zero, suc, ◌-◌, ◌/◌, ◌^◌, ◌<◌, Bool, true, false, not, ◌||◌, eqb, nat_lt, List, [], ◌∷◌, length, Some, None, sym, ap, ◌∙◌, subst, refl, arith, inl, inr, slice_get}
 use Rattle.std.specs.Str.{bytes_eq}
 use Rattle.std.specs.Int.Count.{count_trailing_zeros}
@@ -96,7 +96,7 @@ foreign_when secrets secret n = by (leads_to secret (index_of (length secrets)) 
     by true e = absurd (n (leads_when secrets secret (index_of (length secrets)) e))
     by false e = ap not e
 
--- a copy of the store takes a secret just where it isn't foreign
+-- a copy of the store takes a secret exactly where it isn't foreign
 pub taken : (secrets copy : List (List ℕ)) (secret : List ℕ) (n : ℕ) → copy ≡ secrets → length secrets ≡ n → n < 2 ^ 48 → LeadsTo secret (2 ^ 48 - 1 - n) copy → is_foreign secrets secret ≡ false
 unfolding index_of
 taken secrets copy secret n e l h leads =

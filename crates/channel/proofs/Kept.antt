@@ -1,4 +1,4 @@
--- What stays true of a channel as it opens, as it signs, and as a signature or a revocation comes; updates change nothing that it speaks of.
+-- What stays true of a channel as it opens, as it signs, and as a signature or a revocation comes. Updates change nothing of it.
 use Rattle.std.proofs.Common.{◌≡◌, ℕ, ◌<◌, ◌+◌, Bool, true, false, List, [], ◌∷◌, ◌++◌, length, map, sym, ap, ◌∙◌, subst, refl, arith, length-append}
 use Rattle.std.specs.Prelude.{Contains}
 use Rattle.std.proofs.lemmas.List.Elements.{Contains-push}

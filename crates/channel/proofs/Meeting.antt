@@ -77,7 +77,7 @@ meets_made_back a t u m = record {
   mine = m.mine;
 }
 
--- the commitments that the two build are one
+-- the commitments that the two build are the same
 pub one_commitment : (a t : State) → Meets a t → a.awaiting ≡ false → a.next_point ≡ point_at t.seed (t.number + 1) → own_next t ≡ peers_next a
 one_commitment a t m e point =
     let n : t.number + 1 ≡ a.peer_number + 1 = let h = m.number in let g : bit a.awaiting ≡ 0 = ap bit e in omega (arith, h, g) in

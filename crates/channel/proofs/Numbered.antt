@@ -28,7 +28,7 @@ at_push [] c (suc n) d e = absurd (cc)
 at_push (b ∷ bs) c zero d e = inl e
 at_push (b ∷ bs) c (suc n) d e = elim (at_push bs c n d e) [ inl h ↦ inl h | inr h ↦ inr (ap suc h.0, h.1) ]
 
--- it is one of this number
+-- it is the commitment of this number
 is_next : (terms : Terms) (owner : Side) (k n : ℕ) (c d : CommitmentState) → IsNumbered terms owner k c → k ≡ n → c ≡ d → IsNumbered terms owner n d
 is_next terms owner k n c d h e f = subst (λ m. IsNumbered terms owner m d) e (subst (λ x. IsNumbered terms owner k x) f h)
 

@@ -42,7 +42,7 @@ hash = 248 ∷ 73 ∷ 214 ∷ 115 ∷ 37 ∷ 250 ∷ 207 ∷ 4 ∷ 23 ∷ 123 �
 abbrev wrong : List ℕ
 wrong = replicate 32 6
 
--- a commitment in numbers: its number, both balances, how many HTLCs of each side, and the feerate
+-- a commitment in numbers: its number, both balances, the number of HTLCs of each side, and the feerate
 abbrev in_numbers : CommitmentState → List ℕ
 in_numbers c = c.number ∷ c.view.a.balance ∷ c.view.b.balance ∷ length c.view.a.offered ∷ length c.view.b.offered ∷ c.view.feerate ∷ []
 

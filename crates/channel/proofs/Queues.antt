@@ -1,4 +1,4 @@
--- What a state is once all messages of its queue came.
+-- The state after all messages of its queue have come.
 use Rattle.std.proofs.Common.{◌≡◌, ℕ, ◌+◌, true, List, [], ◌∷◌, ◌++◌, sym, ◌∙◌, refl, arith, None, append-nil, append_assoc}
 use Rattle.updates.specs.declared.changes.Update.{Update}
 use Rattle.updates.specs.Stages.{Stages, with_update}
@@ -31,7 +31,7 @@ pub flows-append : (tokens_of : Signing) (queue more : List Message) (s : State)
 flows-append tokens_of [] more s f g = g
 flows-append tokens_of (m ∷ queue) more s f g = (f.0, flows-append tokens_of queue more (after s m) f.1 g)
 
--- how many signatures and revocations stand in a queue
+-- the number of signatures and revocations in a queue
 abbrev pub is_signature : Message → ℕ
 is_signature (Updated u) = 0
 is_signature (CommitmentSigned tokens) = 1

@@ -1,4 +1,4 @@
--- A key is what its bytes are: that they have the form of one has one proof.
+-- A key is determined by its bytes: the proof that they have the form of a key is unique.
 use Rattle.std.proofs.Common.{◌≡◌, List, ℕ}
 use Rattle.std.specs.Prelude.{IsTrue}
 use mathlib.Core.HLevel.{is_prop→PathP}

@@ -37,7 +37,7 @@ pub may_sign_rest : (terms : Terms) (side : Side) (r : Rights) (c : CommitmentSt
 may_sign_rest terms side r c e h l =
     subst (λ o. MaySign r (commitment_of terms c.view o c.number c.point.bytes).keys.remote_htlc) (sym e) (may_sign_htlcs terms side r c.view c.number c.point.bytes h l)
 
--- who knows the same may sign for the same keys
+-- signers that know the same may sign for the same keys
 pub same_rights : (r t : Rights) → r.seed ≡ t.seed → HaveSame r.points t.points → r.secrets ≡ t.secrets → (key : List ℕ) → MaySign r key → MaySign t key
 same_rights r t e h s key (own b k) = MaySign.own b (k ∙ ap (λ d. base_key d b) e)
 same_rights r t e h s key (derived b point c k) = MaySign.derived b point (h.left point c) (k ∙ ap (λ d. derived_key (base_key d b) point) e)

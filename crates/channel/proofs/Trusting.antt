@@ -1,4 +1,4 @@
--- In a play of honest peers no delivery needs a test: so the outcomes of a play compute without a hash.
+-- In a play of honest peers no delivery needs a check, so the outcomes of a play can be computed without a hash.
 use Rattle.std.proofs.Common.{◌≡◌, ℕ, List, [], ◌∷◌, refl, ap, ◌∙◌}
 use Rattle.terms.specs.declared.sides.Side.{Side}
 use Rattle.terms.specs.declared.agreement.Terms.{Terms}

@@ -1,4 +1,4 @@
--- What two honest peers can rely on, and what one side can whatever its peer is.
+-- What two honest peers can rely on, and what one side can rely on, whoever its peer is.
 use Rattle.std.specs.Prelude.{◌≡◌, ℕ, List, ◌∷◌, ◌++◌, None}
 use Rattle.terms.specs.declared.agreement.Terms.{Terms}
 use Rattle.updates.specs.Shares.{IsSoundIn}
@@ -12,7 +12,7 @@ use Rattle.channel.specs.Playing.{IsPlay, AreDelivered}
 
 -- in each view of a state no balance is below 0, and balances and HTLCs sum to 1000 times the capacity
 pub record IsSoundState (s : State) : Type 0 where
-  pub newest : IsSoundIn s.held s.held.own.with_sender s.held.theirs.with_receiver  -- of the own newest commitment
+  pub newest : IsSoundIn s.held s.held.own.with_sender s.held.theirs.with_receiver  -- of this side's newest commitment
   pub next : IsSoundIn s.held s.held.own.past_receiver s.held.theirs.known  -- of the one that the peer's next signature is for
   pub peers : IsSoundIn s.held s.held.own.past_receiver s.held.theirs.settled  -- of the peer's newest
   pub peers_next : IsSoundIn s.held s.held.own.with_receiver s.held.theirs.with_sender  -- of the one after it, where it is signed
@@ -22,7 +22,7 @@ pub record IsSoundState (s : State) : Type 0 where
 abbrev pub FirstOf : List CommitmentState → List CommitmentState → Type 0
 FirstOf accepted signed = (later : List CommitmentState) × (accepted ++ later ≡ signed)
 
--- the two have one value of the terms; the oldest message that is on its way to a side is not refused; each side accepted what the other signed,
+-- the two have one value of the terms. The oldest message on its way to a side is not refused. Each side accepted what the other signed,
 -- commitment for commitment
 pub record AgreesIn (tokens_of : Signing) (w : World) : Type 0 where
   pub same_terms : w.a.held.terms ≡ w.b.held.terms
@@ -33,28 +33,28 @@ pub record AgreesIn (tokens_of : Signing) (w : World) : Type 0 where
   pub a_sound : IsSoundState w.a
   pub b_sound : IsSoundState w.b
 
--- over every interleaving of the steps of two honest peers
+-- two honest peers agree over every interleaving of their steps
 abbrev pub PeersAgree : Type 0
 PeersAgree = (tokens_of : Signing) (terms : Terms) (seed_a seed_b : List ℕ) (w : World) → IsReached tokens_of terms seed_a seed_b w → AgreesIn tokens_of w
 
--- the same of two peers played by any list of steps, of which the refused ones change nothing
+-- the same for two peers played by any list of steps, where refused steps change nothing
 abbrev pub PlaysAgree : Type 0
 PlaysAgree =
     (tokens_of : Signing) (terms : Terms) (seed_a seed_b : List ℕ) (steps : List PairStep) (outcomes : List Outcome) (w : World)
     → IsPlay tokens_of (opened_both terms seed_a seed_b) steps outcomes w → AreDelivered steps outcomes × AgreesIn tokens_of w
 
--- a world that steps of two honest peers led to from a new channel
+-- a world that steps of two honest peers reach from a new channel
 pub record IsPaired (tokens_of : Signing) (w : World) : Type 0 where
   pub terms : Terms
   pub seed_a : List ℕ
   pub seed_b : List ℕ
   pub reached : IsReached tokens_of terms seed_a seed_b w
 
--- at every moment of a play of these steps, as after each beginning of them, the two agree
+-- at every moment of a play of these steps, that is after each first part of them, the two agree
 abbrev pub AgreesThroughout : Signing → World → List PairStep → Type 0
 AgreesThroughout tokens_of w steps =
     (first rest : List PairStep) (outcomes : List Outcome) (v : World) → first ++ rest ≡ steps → IsPlay tokens_of w first outcomes v → IsPaired tokens_of v × AgreesIn tokens_of v
 
--- whatever the peer sends
+-- a side's state is sound, whatever the peer sends
 abbrev pub SidesAreSound : Type 0
 SidesAreSound = (tokens_of : Signing) (s : State) → IsLived tokens_of s → IsSoundState s

@@ -1,4 +1,4 @@
--- What stays true of a channel beside its updates.
+-- What stays true of a channel besides its updates.
 use Rattle.std.specs.Prelude.{◌≡◌, ℕ, ◌+◌, ◌≤◌, Bool, true, false, List, [], length, map, Contains}
 use Rattle.keys.specs.declared.bases.Base.TheVariants.{Funding, Htlc}
 use Rattle.keys.specs.Derivation.{base_key}
@@ -18,7 +18,7 @@ pub record HasBases (terms : Terms) (side : Side) (seed : List ℕ) : Type 0 whe
   pub funding : (party side terms).bases.funding.bytes ≡ base_key seed Funding
   pub htlc : (party side terms).bases.htlc.bytes ≡ base_key seed Htlc
 
--- a signer that learnt nothing yet, with a side's base keys
+-- a signer that has learnt nothing yet, with a side's base keys
 pub record CanOpen (terms : Terms) (side : Side) (signer : Rights) : Type 0 where
   pub bases : HasBases terms side signer.seed
   pub no_points : signer.points ≡ []
@@ -33,13 +33,13 @@ abbrev pub one_if : Bool → ℕ
 one_if true = 1
 one_if false = 0
 
--- a commitment at the point stands among the signed ones, where that is so
+-- if the flag is true, a commitment at the point is among the signed ones
 abbrev pub IsSignedIf : Bool → List ℕ → List CommitmentState → Type 0
 IsSignedIf true point signed = Contains (map (λ c. c.point.bytes) signed) point
 IsSignedIf false point signed = Unit {0}
 
--- the signer knows what the state says, the peer's next commitment is signed while its revocation is awaited, no number passes the last, the store has a
--- secret for each revoked commitment, and the commitments of both sides stand by number
+-- the signer knows what the state says, and the peer's next commitment is signed while its revocation is awaited. No number exceeds the last. The store
+-- has a secret for each revoked commitment, and the commitments of both sides stand by number
 pub record IsChannel (s : State) (r : Rights) : Type 0 where
   pub bases : HasBases s.held.terms s.held.side s.seed
   pub points : HaveSame r.points (rights_of s).points

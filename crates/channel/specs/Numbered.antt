@@ -1,4 +1,4 @@
--- The commitments that a channel records of each side: by number, each with a view that shares out the capacity.
+-- The commitments of each side that a channel records: by number, each with a view that shares out the capacity.
 use Rattle.std.specs.Prelude.{◌≡◌, ℕ, ◌*◌, ◌≤◌, List, length, slice_get, Some, IsTrue}
 use Rattle.terms.specs.declared.sides.Side.{Side}
 use Rattle.terms.specs.declared.agreement.Terms.{Terms}
@@ -9,7 +9,7 @@ use Rattle.updates.specs.Views.{expire_at_heights}
 use Rattle.commit.specs.Sums.{total_of}
 use Rattle.channel.specs.declared.commitments.CommitmentState.{CommitmentState}
 
--- balances and HTLCs are together the capacity, no more HTLCs of a side stand than may, and each expires at a height
+-- balances and HTLCs together are the capacity, no side has more HTLCs than allowed, and each expires at a height
 pub record SharesOut (terms : Terms) (view : View) : Type 0 where
   pub few_of_a : length view.a.offered ≤ MAX_HTLCS
   pub few_of_b : length view.b.offered ≤ MAX_HTLCS
@@ -23,7 +23,7 @@ pub record IsNumbered (terms : Terms) (side : Side) (n : ℕ) (c : CommitmentSta
   pub number : c.number ≡ n
   pub shares : SharesOut terms c.view
 
--- so many commitments of a side, by number
+-- this many commitments of a side, by number
 pub record AreNumbered (terms : Terms) (side : Side) (many : ℕ) (cs : List CommitmentState) : Type 0 where
   pub count : length cs ≡ many
   pub each : (n : ℕ) (c : CommitmentState) → slice_get cs n ≡ Some c → IsNumbered terms side n c

@@ -33,7 +33,7 @@ pub record AreOpened (a b : State) : Type 0 where
   pub a_is : a ≡ (opened_both terms seed_a seed_b).a
   pub b_is : b ≡ (opened_both terms seed_a seed_b).b
 
--- one step of a peer `me` that isn't refused: what it is then, what it has sent, and what is left of its queue
+-- one step of a peer `me` that isn't refused: its state after the step, what it has sent, and what is left of its queue
 pub data Acts (tokens_of : Signing) (me : State) (queue : List Message) : State → List Message → List Message → Type 0 where
   updates : (u : Update) → update_refusal me u ≡ None → Acts tokens_of me queue (after_update u me) (Updated u ∷ []) queue
   signs : sign_refusal me ≡ None → Acts tokens_of me queue (after_sign me) (signature_message tokens_of me ∷ []) queue
@@ -44,12 +44,12 @@ pub data Steps (tokens_of : Signing) (w : World) : World → Type 0 where
   by_a : {me : State} {sent rest : List Message} → Acts tokens_of w.a w.to_a me sent rest → Steps tokens_of w (record { a = me; b = w.b; to_a = rest; to_b = w.to_b ++ sent })
   by_b : {me : State} {sent rest : List Message} → Acts tokens_of w.b w.to_b me sent rest → Steps tokens_of w (record { a = w.a; b = me; to_a = w.to_a ++ sent; to_b = rest })
 
--- the worlds that any interleaving of steps leads to from a new channel
+-- the worlds that any interleaving of steps reaches from a new channel
 pub data IsReached (tokens_of : Signing) (terms : Terms) (seed_a seed_b : List ℕ) : World → Type 0 where
   at_opening : IsReached tokens_of terms seed_a seed_b (opened_both terms seed_a seed_b)
   then : {w v : World} → IsReached tokens_of terms seed_a seed_b w → Steps tokens_of w v → IsReached tokens_of terms seed_a seed_b v
 
--- the states of one side that its own calls and any messages lead to, whoever sent them
+-- the states of one side that its own calls and any messages lead to, whoever sent the messages
 pub data IsLived (tokens_of : Signing) : State → Type 0 where
   starts : (terms : Terms) (side : Side) (seed : List ℕ) (point next_point : Key) → IsLived tokens_of (state_at_opening terms side seed point next_point)
   updated_once : {s : State} (u : Update) → update_refusal s u ≡ None → IsLived tokens_of s → IsLived tokens_of (after_update u s)

@@ -33,7 +33,7 @@ abbrev pub moved : Side → World → State → List Message → List Message �
 moved A w me rest sent = record { a = me; b = w.b; to_a = rest; to_b = w.to_b ++ sent }
 moved B w me rest sent = record { a = w.a; b = me; to_a = w.to_a ++ sent; to_b = rest }
 
--- the second world, where nothing refuses
+-- the second world, if nothing refuses it
 abbrev pub unless : Option ChannelError → World → World → Played
 unless None w v = record { world = v; outcome = Done }
 unless (Some r) w v = record { world = w; outcome = Refused r }
@@ -69,8 +69,8 @@ abbrev pub placed : Side → State → State → List Message → List Message �
 placed A me peer to_me to_peer = record { a = me; b = peer; to_a = to_me; to_b = to_peer }
 placed B me peer to_me to_peer = record { a = peer; b = me; to_a = to_peer; to_b = to_me }
 
--- what one side does in its step: the outcome, and what is then its state, the queue to it and the one to its peer. It is either side, and its peer stays as
--- it is
+-- what one side does in its step: the outcome, and then its state, the queue to it and the one to its peer. The side may be either one, and its peer stays
+-- as it is
 abbrev pub IsTurn : Signing → Action → State → List Message → List Message → Outcome → State → List Message → List Message → Type 0
 IsTurn tokens_of action me to_me to_peer o new_me new_to_me new_to_peer =
     (side : Side) (peer : State) → IsStep tokens_of (placed side me peer to_me to_peer) (record { side = side; action = action }) o (placed side new_me peer new_to_me new_to_peer)

@@ -27,18 +27,18 @@ point_key secret = record { bytes = point_of secret; form = point_form secret }
 abbrev pub point_at : List ℕ → ℕ → Key
 point_at seed n = point_key (secret_at seed n)
 
--- whether a secret of index i leads to one of index j: the index j begins with the leading bits of i, those above its trailing zeros, so the secret
--- of j has to derive from it
+-- whether a secret of index i is consistent with one of index j (BOLT 3, "Efficient Per-commitment Secret Storage"). If j begins with the leading
+-- bits of i, those above its trailing zeros, the secret of j has to derive from that of i
 abbrev pub leads_to_one : List ℕ → ℕ → List ℕ → ℕ → Bool
 leads_to_one secret i other j =
     let b = count_trailing_zeros 48 i in
     not (j / 2 ^ b == i / 2 ^ b) || bytes_eq other (derived_secret secret b j)
 
--- whether it leads to all of a list, of which the first has the index j, the second the one below, and so on
+-- whether it is consistent with each secret of a list: the first has the index j, the second j - 1, and so on
 abbrev pub leads_to : List ℕ → ℕ → List (List ℕ) → ℕ → Bool
 leads_to secret i [] j = true
 leads_to secret i (other ∷ others) j = leads_to_one secret i other j && leads_to secret i others (j - 1)
 
--- whether a secret comes from another seed than those that came before it, by number
+-- whether a secret is of another seed than the secrets before it, which stand by number
 unfoldable pub is_foreign : List (List ℕ) → List ℕ → Bool
 is_foreign secrets secret = not (leads_to secret (index_of (length secrets)) secrets (2 ^ 48 - 1))

@@ -1,4 +1,4 @@
--- Which view each commitment has that a state records: of the sender's updates and the receiver's at the stage that the commitment stands for.
+-- The view of each commitment that a state records: that of the sender's and the receiver's updates, at the stage that the commitment stands for.
 use Rattle.std.specs.Prelude.{◌≡◌, ◌+◌, Bool, true, false, List, [], ◌∷◌, ◌++◌, length}
 use Rattle.terms.specs.Sides.{other}
 use Rattle.updates.specs.Views.{view_by}
@@ -29,6 +29,6 @@ pub record IsRecorded (s : State) : Type 0 where
   pub signed : s.signed ≡ past ++ peers_newest s ∷ peers_signed s s.awaiting
   pub past_count : length past ≡ s.peer_number
 
--- whatever the peer sends
+-- the state has these records, whatever the peer sends
 abbrev pub SidesRecord : Type 0
 SidesRecord = (tokens_of : Signing) (s : State) → IsLived tokens_of s → IsRecorded s

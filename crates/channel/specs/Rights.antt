@@ -4,7 +4,7 @@ use Rattle.keys.specs.Rights.{Rights}
 use Rattle.channel.specs.Points.{point_at}
 use Rattle.channel.specs.States.{State}
 
--- the signer of a side knows its own points up to that of its newest commitment's next, every point that came, and every secret that came
+-- the signer of a side knows its own points up to the one after its newest commitment's, and every point and every secret received
 abbrev pub rights_of : State → Rights
 rights_of s = record {
   seed = s.seed;

@@ -1,4 +1,4 @@
--- The state of one side of a channel, what it refuses and in which order, and what its calls and received messages make of it (BOLT 2, "Normal Operation").
+-- The state of one side of a channel, its refusals in their order, and the state after its calls and received messages (BOLT 2, "Normal Operation").
 use Rattle.std.specs.Prelude.{ℕ, ◌+◌, Bool, true, false, not, ◌&&◌, ◌||◌, nat_le, List, [], ◌∷◌, ◌++◌, Option}
 use Rattle.std.specs.Str.{bytes_eq}
 use Rattle.keys.specs.declared.compressed.Key.{Key}
@@ -32,15 +32,15 @@ pub record State : Type 0 where
   pub held : Held  -- the terms, which side it is, and the updates
   pub seed : List ℕ  -- of its signer
   pub awaiting : Bool  -- a signature given out awaits its revocation
-  pub number : ℕ  -- of the own newest commitment
+  pub number : ℕ  -- of this side's newest commitment
   pub peer_number : ℕ  -- of the peer's newest commitment that revoked the one before
   pub point : Key  -- the peer's point for that number
   pub next_point : Key  -- and for the number after it
   pub secrets : List (List ℕ)  -- the peer's, by number
-  pub mine : List CommitmentState  -- own commitments that the peer signed, by number
+  pub mine : List CommitmentState  -- this side's commitments that the peer signed, by number
   pub signed : List CommitmentState  -- the peer's commitments that were signed, by number
 
--- commitment 0, which pays what the two sides begin with
+-- commitment 0, which pays the balances at the start
 abbrev pub first_of : Terms → Side → Key → CommitmentState
 first_of terms owner point = record { view = view_by terms owner [] []; owner = owner; number = 0; point = point }
 
@@ -59,7 +59,7 @@ state_at_opening terms side seed point next_point = record {
   signed = first_of terms (other side) point ∷ [];
 }
 
--- the commitment that a signature of `by` is for: it has all of the signer's updates, and of the other side's those that the signer's revocation acknowledged
+-- the commitment that a signature of `by` is for: it has all of the signer's updates, and those of the other side that the signer's revocation acknowledged
 abbrev pub next_commitment : Terms → Side → Stages → Stages → ℕ → Key → CommitmentState
 next_commitment terms by sender others number point = record { view = view_by terms by sender.known others.past_receiver; owner = other by; number = number; point = point }
 
@@ -77,7 +77,7 @@ all_eq (x ∷ xs) (y ∷ ys) = bytes_eq x y && all_eq xs ys
 all_eq [] (y ∷ ys) = false
 all_eq (x ∷ xs) [] = false
 
--- the same token for the commitment, and as many for HTLC transactions, the same in order
+-- the same token for the commitment, and the same number of tokens for HTLC transactions, the same ones in order
 abbrev pub same_tokens : Tokens → Tokens → Bool
 same_tokens s t = bytes_eq s.commitment t.commitment && all_eq s.htlcs t.htlcs
 

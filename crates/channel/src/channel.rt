@@ -16,9 +16,9 @@ use updates::{ChannelError, Ledger, OwnUpdate, Update};
 /// One side of a channel: its updates, the numbers of both sides' commitments, the peer's points and secrets, and every commitment that was signed. A
 /// contract sees it as its `State`.
 ///
-/// It keeps every update, some 64 bytes each. A signature, given or received, costs some 120 bytes and 56 for each HTLC that stands in its commitment; a
-/// signature received costs the signer some 300 bytes, and at most some 520, and a revocation received twice as much. The time of a call depends on the
-/// HTLCs that stand, and on no number but the logarithm of how many revocations there were.
+/// It keeps every update, about 64 bytes each. A signature, given or received, takes about 120 bytes, and 56 for each HTLC in its commitment. In the signer, a
+/// received signature takes about 300 bytes, at most about 520, and a received revocation twice as much. The time of a call depends on the HTLCs that stand and
+/// on the logarithm of the number of revocations, and on nothing else.
 #[derive(Drop)]
 pub struct Channel {
     ledger: Ledger,
@@ -85,8 +85,8 @@ impl Channel {
     ghost use Rattle.channel.specs.Tokens.{IsBuilt, opening_tests, peer_tokens as tokens_of};
     ghost use Rattle.channel.specs.States.{state_at_opening, peers_next, own_next, update_of, update_refusal, sign_refusal, receive_refusal, receive_tests, after_update, after_sign, after, answers, signature_message};
 
-    /// A side of a new channel, with the peer's points for 0 and 1, and the peer's token on this side's commitment 0: BadSignature where it is
-    /// another. The signer learnt nothing yet, and its funding and HTLC base keys stand in the terms.
+    /// A side of a new channel, with the peer's per-commitment points for 0 and 1, and the peer's token on this side's commitment 0. Any other token is refused
+    /// as BadSignature. The signer has learnt nothing yet, and its funding and HTLC base keys stand in the terms.
     pub fn new(
         alloc: Global,
         terms: Terms,
@@ -142,7 +142,7 @@ impl Channel {
         self.awaiting
     }
 
-    /// Whether this side may not sign now, whatever there is to sign: a signature given out awaits its revocation, or the last number is signed.
+    /// True while signing is blocked: a signature given out awaits its revocation, or the last number is signed.
     pub fn waits_to_sign(&self) -> bool
         ensures { result ≡ (self.now.awaiting || nat_le last_number self.now.peer_number) }
     {
@@ -157,7 +157,7 @@ impl Channel {
         self.number
     }
 
-    /// The number of the peer's newest commitment that revoked the one before, which is how many revocations came.
+    /// The number of the peer's newest commitment that revoked the one before. It is also the number of revocations received.
     pub fn peer_number(&self) -> u64
         ensures number { result ≡ self.now.peer_number }
         ensures bound { result ≤ last_number }
@@ -175,7 +175,7 @@ impl Channel {
         self.mine.as_slice()
     }
 
-    /// The peer's commitments that were signed, by number: the revoked ones, the newest, and the one after it where its revocation is awaited.
+    /// The peer's commitments that were signed, by number: the revoked ones, the newest, and the one after it while its revocation is awaited.
     pub fn peers_commitments(&self) -> &[CommitmentState]
         ensures commitments { result.now ≡ self.now.signed }
         ensures numbered { AreNumbered self.now.held.terms (other self.now.held.side)
@@ -184,14 +184,14 @@ impl Channel {
         self.signed.as_slice()
     }
 
-    /// This side's commitment of a number, where the peer signed it.
+    /// This side's commitment of a number, if the peer signed it.
     pub fn own_commitment(&self, number: u64) -> Option<&CommitmentState>
         ensures { option_map (λ c. c.now) result ≡ slice_get self.now.mine number }
     {
         self.mine.get(number as usize)
     }
 
-    /// The peer's tokens on this side's commitment of a number, where the peer signed it: those that came with its signature. The only error is that
+    /// The peer's tokens on this side's commitment of a number, as they came with its signature. `None` if the peer did not sign it. The only error is that
     /// memory ran out.
     pub fn own_tokens(&self, number: u64) -> Result<Option<Tokens>, AllocError>
         ensures { IfOk result (λ t. t ≡ option_map (tokens_of self.now.held.terms)
@@ -207,14 +207,14 @@ impl Channel {
         }
     }
 
-    /// The peer's commitment of a number, where it was signed.
+    /// The peer's commitment of a number, if it was signed.
     pub fn peers_commitment(&self, number: u64) -> Option<&CommitmentState>
         ensures { option_map (λ c. c.now) result ≡ slice_get self.now.signed number }
     {
         self.signed.get(number as usize)
     }
 
-    /// The secret of the peer's commitment of a number, where it is revoked. It takes at most 48 hashes.
+    /// The per-commitment secret of the peer's commitment of a number, if it is revoked. It takes at most 48 hashes.
     pub fn peers_secret(&self, number: u64) -> Option<[u8; 32]>
         ensures { result ≡ slice_get self.now.secrets number }
     {
@@ -224,8 +224,8 @@ impl Channel {
         self.secrets.get(FIRST_INDEX - number)
     }
 
-    /// The side's signer, whose funding and HTLC base keys stand in the terms. It knows its own points up to that of its newest commitment's next. It knows each
-    /// point and each secret of the peer that came, so that it may sign for what the peer's revoked commitments pay.
+    /// The side's signer, whose funding and HTLC base keys stand in the terms. It knows its own points up to the one after its newest commitment's. It knows each
+    /// point and each secret received from the peer, so it may sign for what the peer's revoked commitments pay.
     pub fn signer(&self) -> &Signer
         ensures seed { result.now.seed ≡ self.now.seed }
         ensures bases { HasBases self.now.held.terms self.now.held.side self.now.seed }
@@ -235,8 +235,8 @@ impl Channel {
         &self.signer
     }
 
-    /// Offers an HTLC of `amount` millisatoshis, and gives the message. It is tested for AmountZero, BelowMinimum, ExpiryTooLarge, TooManyHtlcs and
-    /// OverBalance, in this order. A refusal leaves the channel as it was.
+    /// Offers an HTLC of `amount` millisatoshis for the payment hash `hash`, which expires at the block height `expiry` (BOLT 2, `update_add_htlc`), and returns
+    /// the message. Checked in this order: AmountZero, BelowMinimum, ExpiryTooLarge, TooManyHtlcs, OverBalance. A refusal leaves the channel as it was.
     pub fn offer(
         &mut self,
         amount: u64,
@@ -258,8 +258,8 @@ impl Channel {
         }
     }
 
-    /// Fulfils an HTLC of the peer, and gives the message: UnknownHtlc where the peer has none of this id that passed all stages and that nobody
-    /// removed, else WrongPreimage. A refusal leaves the channel as it was.
+    /// Fulfils an HTLC of the peer (BOLT 2, `update_fulfill_htlc`), and returns the message. UnknownHtlc if the peer has no HTLC of this id that passed all
+    /// stages and that nobody removed, else WrongPreimage if the preimage is not that of its hash. A refusal leaves the channel as it was.
     pub fn fulfil(&mut self, id: u64, preimage: [u8; 32]) -> Result<Message, ChannelError>
         ensures message { IfOk result (λ m. m ≡ Updated (Fulfil id preimage)) }
         ensures ok { IfOk result (λ _. self.new ≡ after_update (Fulfil id preimage) self.old) }
@@ -273,7 +273,7 @@ impl Channel {
         }
     }
 
-    /// Fails an HTLC of the peer, and gives the message: UnknownHtlc as of `fulfil`. A refusal leaves the channel as it was.
+    /// Fails an HTLC of the peer (BOLT 2, `update_fail_htlc`), and returns the message: UnknownHtlc as for `fulfil`. A refusal leaves the channel as it was.
     pub fn fail(&mut self, id: u64) -> Result<Message, ChannelError>
         ensures message { IfOk result (λ m. m ≡ Updated (Fail id)) }
         ensures ok { IfOk result (λ _. self.new ≡ after_update (Fail id) self.old) }
@@ -287,7 +287,8 @@ impl Channel {
         }
     }
 
-    /// Changes the feerate, and gives the message: NotOpener where this side did not open the channel. A refusal leaves the channel as it was.
+    /// Changes the feerate, in satoshis per 1,000 weight units (BOLT 2, `update_fee`), and returns the message. NotOpener if this side did not open the channel.
+    /// A refusal leaves the channel as it was.
     pub fn set_fee(&mut self, rate: u32) -> Result<Message, ChannelError>
         ensures message { IfOk result (λ m. m ≡ Updated (Fee rate)) }
         ensures ok { IfOk result (λ _. self.new ≡ after_update (Fee rate) self.old) }
@@ -301,7 +302,7 @@ impl Channel {
         }
     }
 
-    /// Makes an update, and gives the message: refused as [`offer`](Channel::offer), [`fulfil`](Channel::fulfil), [`fail`](Channel::fail) and
+    /// Makes an update, and returns the message: refused as by [`offer`](Channel::offer), [`fulfil`](Channel::fulfil), [`fail`](Channel::fail) and
     /// [`set_fee`](Channel::set_fee). A refusal leaves the channel as it was.
     pub fn make(&mut self, update: &OwnUpdate) -> Result<Message, ChannelError>
         ensures message { IfOk result (λ m. m ≡ Updated (update_of self.old update.now)) }
@@ -383,8 +384,8 @@ impl Channel {
         Ok(())
     }
 
-    /// The peer's next commitment, which [`signed`](Channel::signed) would sign: NotYourTurn while a signature awaits its revocation, and past the last
-    /// number, else NoUpdates where it would cover no new update.
+    /// The peer's next commitment, which [`signed`](Channel::signed) would sign. NotYourTurn while a signature awaits its revocation, and after the last number;
+    /// else NoUpdates if it would cover no new update.
     pub fn ready(&self) -> Result<CommitmentState, ChannelError>
         ensures ok { IfOk result (λ c. c ≡ peers_next self.now) }
         ensures built { IfOk result (λ c. IsBuilt self.now.held.terms c) }
@@ -399,7 +400,8 @@ impl Channel {
         }
     }
 
-    /// Signs the peer's next commitment, and gives the message: refused as [`ready`](Channel::ready). A refusal leaves the channel as it was.
+    /// Signs the peer's next commitment (BOLT 2, `commitment_signed`), and returns the message: refused as by [`ready`](Channel::ready). A refusal leaves the
+    /// channel as it was.
     pub fn signed(&mut self) -> Result<Message, ChannelError>
         ensures message { IfOk result (λ m. m ≡ signature_message tokens_of self.old) }
         ensures ok { IfOk result (λ _. self.new ≡ after_sign self.old) }
@@ -429,7 +431,7 @@ impl Channel {
         Ok(Message::CommitmentSigned(tokens))
     }
 
-    // The peer's secrets with one more, where it is of their seed.
+    // The peer's secrets with one more, if it is of their seed.
     fn with_secret(&self, secret: &[u8; 32]) -> Option<Store>
         requires { self.now.peer_number < last_number }
         ensures some { IfSome result (λ s. s ≡ self.now.secrets ++ secret.now ∷ []) }
@@ -443,7 +445,7 @@ impl Channel {
         }
     }
 
-    // This side's next commitment, where the peer's tokens are for it.
+    // This side's next commitment, if the peer's tokens are for it.
     fn check_signature(&self, tokens: &Tokens) -> Result<CommitmentState, ChannelError>
         ensures ok { IfOk result (λ c. c ≡ own_next self.now) }
         ensures tested { let first = receive_refusal tokens_of self.now
@@ -474,7 +476,7 @@ impl Channel {
         Ok(next)
     }
 
-    // A signature came. It is answered at once.
+    // Receives a signature, and returns the revocation that answers it.
     fn receive_signature(&mut self, tokens: &Tokens) -> Result<Message, ChannelError>
         ensures answer { IfOk result (λ m. m ∷ [] ≡ answers self.old
             (CommitmentSigned tokens.now)) }
@@ -504,7 +506,7 @@ impl Channel {
         Ok(Message::RevokeAndAck { secret, next_point })
     }
 
-    // A revocation came.
+    // Receives a revocation.
     fn receive_revocation(
         &mut self,
         secret: &[u8; 32],
@@ -539,13 +541,14 @@ impl Channel {
         Ok(())
     }
 
-    /// Receives a message of the peer, and gives the answer: a `commitment_signed` is answered by a `revoke_and_ack`. An update is tested as one of one's
-    /// own, a `commitment_signed` for NotYourTurn, NoUpdates and BadSignature, a `revoke_and_ack` for NotYourTurn and WrongSecret, in these orders. A refusal
-    /// leaves the channel as it was.
+    /// Receives a message of the peer, and returns the answer: a `commitment_signed` is answered by a `revoke_and_ack`. An update is checked as one of one's own
+    /// is. A `commitment_signed` is checked for NotYourTurn, NoUpdates and BadSignature, and a `revoke_and_ack` for NotYourTurn and WrongSecret, in these orders.
+    /// A refusal leaves the channel as it was.
     ///
-    /// The channel has moved on by the time this returns. Before a caller sends the answer, it has to store what it received, where a restart finds it: a
-    /// `revoke_and_ack` gives up the commitment before and can't be taken back (BOLT 2, "Message Retransmission"). What the tests leave open is for the caller to
-    /// screen beforehand: whether a received feerate is one that it would pay or that still confirms, and whether the sender keeps a reserve.
+    /// The channel has moved on by the time this returns. Before a caller sends the answer, it has to store what it received where a restart finds it. A
+    /// `revoke_and_ack` gives up the commitment before and can't be taken back (BOLT 2, "Message Retransmission"). Two things are not checked here, and the
+    /// caller has to screen them beforehand. One is whether a received feerate is one that it would pay or that still confirms. The other is whether the sender
+    /// keeps a reserve.
     pub fn receive(&mut self, message: &Message) -> Result<Option<Message>, ChannelError>
         ensures answer { IfOk result (λ m. cons_option m [] ≡ answers self.old message.now) }
         ensures ok { IfOk result (λ _. self.new ≡ after self.old message.now) }

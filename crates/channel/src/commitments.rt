@@ -3,7 +3,8 @@
 use keys::Key;
 use terms::{Side, View};
 
-/// What a commitment transaction depends on beside the terms of its channel (BOLT 3).
+/// What a commitment transaction depends on besides the terms of its channel (BOLT
+/// 3).
 #[derive(Debug, Drop)]
 pub struct CommitmentState {
     pub view: View,

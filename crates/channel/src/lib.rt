@@ -1,14 +1,13 @@
 //! The states of a payment channel, and two peers that always agree (BOLT 2, "Normal Operation").
 //!
-//! A [`Channel`] is one side. The definitions say of each call and each message when it is refused, what it makes of
-//! the side's state, what is sent and what answers it; each call of a channel does exactly that, barring
-//! out-of-memory, and a refusal leaves the channel as it was. [`laws::peers_agree`] proves of the definitions that
-//! two honest peers agree over every interleaving of their steps, and [`laws::sides_are_sound`] what one side can
-//! rely on whatever its peer sends. A [`Pair`] plays two channels with a queue each way, so that what it plays is
-//! such an interleaving.
+//! A [`Channel`] is one side. For each call and each message, the definitions say when it is refused, the side's state after it, what is
+//! sent and what answers it. Each call of a channel does exactly that, barring out-of-memory, and a refusal leaves the channel as it
+//! was. Over these definitions, [`laws::peers_agree`] proves that two honest peers agree over every interleaving of their steps.
+//! [`laws::sides_are_sound`] proves what one side can rely on, whatever its peer sends. A [`Pair`] plays two channels with a queue each
+//! way, so that what it plays is such an interleaving.
 //!
-//! The walk of a message begins here: `updates` and `secrets` say what it may do, `commit` what its tokens sign.
-//! `book` takes it by a call of the channel, `side` turns it into that call, and `world` brings it to the peer.
+//! To follow a message, begin here. `updates` and `secrets` say what it may do, and `commit` what its tokens sign. `book` takes it by a
+//! call of the channel, `side` turns it into that call, and `world` delivers it to the peer.
 //!
 //! ```rust
 //! /// Offers an HTLC of `amount` millisatoshis, and signs the peer's commitment with it. Both messages are to be sent, the offer first.

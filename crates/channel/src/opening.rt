@@ -1,4 +1,4 @@
-//! What a side hands to its peer as a channel opens.
+//! What a side gives its peer when a channel opens.
 
 ghost use Rattle.std.specs.Prelude.{◌≡◌, ◌^◌, ◌<◌, [], ◌∷◌, None, IfOk, IfErr, MatchResult, not};
 ghost use Rattle.std.specs.Str.{bytes_eq};
@@ -44,7 +44,7 @@ pub fn opening_points(signer: &Signer) -> OpeningPoints
     }
 }
 
-/// A new signer with the points that it knows as a channel opens: the peer's two, and its own.
+/// A new signer with the points that it knows when a channel opens: the peer's two, and its own.
 pub(crate) fn with_opening_points(
     signer: Signer,
     first: &Key,
@@ -103,7 +103,7 @@ pub(crate) fn own_point(signer: &Signer, number: u64) -> Key
     point(&own_secret(signer, number))
 }
 
-// Commitment 0 of an owner, which pays what the two sides begin with.
+// Commitment 0 of an owner, which pays the balances at the start.
 #[tactic(auto, using(crate::proofs::Built::built_view))]
 pub(crate) fn first_commitment(
     alloc: Global,
@@ -133,7 +133,7 @@ pub(crate) struct FirstCommitments {
     pub(crate) signed: Vec<CommitmentState>,
 }
 
-// Tests a token on a commitment: BadSignature where it is not its owner's peer's.
+// Checks a token on a commitment: BadSignature unless it is that of the owner's peer.
 fn test_token(
     alloc: Global,
     terms: &Terms,
@@ -157,7 +157,7 @@ fn test_token(
     }
 }
 
-// A list of this commitment alone.
+// A list with only this commitment.
 fn alone(alloc: Global, commitment: CommitmentState) -> Result<Vec<CommitmentState>, AllocError>
     ensures { IfOk result (λ v. v.items ≡ commitment ∷ []) }
 {
@@ -166,7 +166,7 @@ fn alone(alloc: Global, commitment: CommitmentState) -> Result<Vec<CommitmentSta
     Ok(list)
 }
 
-// The list of a side's own commitment 0, on which the token has to be the peer's.
+// The list of a side's own commitment 0, on which the token must be the peer's.
 fn first_of_own(
     alloc: Global,
     terms: Terms,
@@ -204,7 +204,7 @@ fn first_of_peer(
     }
 }
 
-/// Commitment 0 of the signer's side, and of the peer by its point, where the token is the peer's on the first: BadSignature where it is another.
+/// Commitment 0 of the signer's side, and of the peer by its point. BadSignature unless the token is the peer's on the first.
 pub(crate) fn first_commitments(
     alloc: Global,
     terms: Terms,

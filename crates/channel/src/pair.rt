@@ -18,7 +18,7 @@ use terms::Side;
 use updates::ChannelError;
 
 /// Two channels of one value of the terms, each with a queue of messages that are on their way to it. A contract sees it as a `World`: one that steps of two
-/// honest peers led to from a new channel.
+/// honest peers reach from a new channel.
 #[derive(Drop)]
 pub struct Pair {
     a: Channel,
@@ -49,7 +49,7 @@ impl Pair {
     ghost use Rattle.channel.specs.Tokens.{peer_tokens as tokens_of};
 
     /// The two sides of a channel as [`Channel::new`] gave them, of the same terms and each with the other's points for 0 and 1. No message is on its way. It
-    /// takes no memory.
+    /// allocates nothing.
     pub fn new(alloc: Global, a: Channel, b: Channel) -> Pair
         requires { AreOpened a b }
         ensures { result ≡ record { a = a; b = b; to_a = []; to_b = [] } }
@@ -72,8 +72,8 @@ impl Pair {
         }
     }
 
-    /// Plays steps in turn, and gives the outcome of each; a refused step changes nothing, and the next one is played. No delivery is refused unless memory ran
-    /// out, and the two agree at every moment. The only error is that no memory was there for the outcomes: then no step was played.
+    /// Plays steps in turn, and returns the outcome of each. A refused step changes nothing, and the next one is played. No delivery is refused unless memory
+    /// ran out, and the two agree at every moment. The only error is that there is no memory for the outcomes: then no step is played.
     pub fn play(&mut self, steps: &[PairStep]) -> Result<Vec<Outcome>, ChannelError>
         ensures played { IfOk result (λ outcomes. IsPlay tokens_of self.old steps.now outcomes.items
             self.new) }
@@ -105,7 +105,7 @@ impl Pair {
     }
 }
 
-// A side's turn, with the queue to it and the one to its peer. The place of a message that it sends is there before anything changes.
+// A side's turn, with the queue to it and the one to its peer. Room for a message that it sends is reserved before anything changes.
 fn turn(
     me: &mut Channel,
     to_me: &mut VecDeque<Message>,
@@ -125,7 +125,7 @@ fn turn(
     }
 }
 
-// The message of a call of one's own is sent.
+// Sends the message of a call of one's own.
 fn send(to_peer: &mut VecDeque<Message>, sent: Result<Message, ChannelError>) -> Outcome
     requires { deque_len to_peer.old < deque_capacity to_peer.old }
     ensures { MatchResult sent (λ m. (result ≡ Done)
@@ -141,7 +141,7 @@ fn send(to_peer: &mut VecDeque<Message>, sent: Result<Message, ChannelError>) ->
     }
 }
 
-// The oldest message comes, and its answer is sent.
+// Receives the oldest message, and sends its answer.
 fn deliver(
     me: &mut Channel,
     to_me: &mut VecDeque<Message>,
@@ -164,7 +164,7 @@ fn deliver(
     }
 }
 
-// The answer to a message is sent, where there is one.
+// Sends the answer to a message, if there is one.
 fn send_answer(to_peer: &mut VecDeque<Message>, answer: Option<Message>)
     requires { deque_len to_peer.old < deque_capacity to_peer.old }
     ensures { to_peer.new.items ≡ to_peer.old.items ++ cons_option answer [] }

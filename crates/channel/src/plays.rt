@@ -21,7 +21,7 @@ pub struct PairStep {
     pub action: Action,
 }
 
-/// What became of a step.
+/// The outcome of a step.
 #[derive(Clone, Copy, Debug, PartialEq, Eq, Drop)]
 pub enum Outcome {
     Done,

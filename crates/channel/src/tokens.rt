@@ -26,7 +26,7 @@ struct Signable {
     htlc_key: Key,
 }
 
-// The commitment, whose transaction keeps the limits.
+// The commitment, whose transaction is within the limits.
 fn build_whole(
     alloc: Global,
     terms: &Terms,
@@ -115,7 +115,7 @@ pub(crate) fn peer_tokens(
     }
 }
 
-// The signer's tokens on a digest.
+// The signer's token on a digest.
 fn sign_one(signer: &Signer, key: &Key, digest: &[u8; 32]) -> Token
     requires { MaySign signer.now key.now.bytes }
     ensures { result ≡ token_of key.now.bytes digest.now }
@@ -203,7 +203,7 @@ fn same_list(first: &[Token], second: &[Token]) -> bool
     true
 }
 
-/// Whether the tokens are the same, and as many.
+/// Whether the tokens are the same, and the same number of them.
 pub(crate) fn same_tokens(first: &Tokens, second: &Tokens) -> bool
     ensures { result ≡ same_tokens first.now second.now }
 {

@@ -1,7 +1,6 @@
 //! The two sides of a new channel, for programs that play with it.
 //!
-//! [`open_sides`] makes both from one value of the terms, each with the other's points and token; a contract says so
-//! by `AreOpened`.
+//! [`open_sides`] makes both from one value of the terms, each with the other's points and token. Its contract says so by `AreOpened`.
 //!
 //! `parties` has the keys and the terms, and `channel` the two ends. The program `vectors` plays them as a `Pair`.
 //!
@@ -13,7 +12,7 @@
 //! }
 //! ```
 //!
-//! The part `== channel` of `vectors` opens its channels so.
+//! The part `== channel` of `vectors` opens its channels this way.
 #![tactic(auto)]
 
 ghost use Rattle.std.specs.Prelude.{◌≡◌, IfOk};
@@ -73,9 +72,8 @@ fn open_side(
     Ok(opened)
 }
 
-/// The sides of a new channel that A opened, by its capacity in satoshis and the millisatoshis that A and B have at the start. Its other terms are those of a
-/// channel of Bitcoin: dust limits of 546 satoshis, delays of 144 blocks, HTLCs of at least 1,000 millisatoshis and 1,000 satoshis for 1,000 units
-/// of weight.
+/// The sides of a new channel that A opened, by its capacity in satoshis and the millisatoshis that A and B have at the start. Its other terms are common
+/// ones. The dust limits are 546 satoshis, the delays 144 blocks, the least HTLC 1,000 millisatoshis, and the feerate 1,000 satoshis per 1,000 weight units.
 pub fn open_sides(alloc: Global, capacity: u64, starts: [u64; 2]) -> Result<Sides>
     ensures { IfOk result (λ s. AreOpened s.a s.b) }
 {

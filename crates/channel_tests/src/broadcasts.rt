@@ -1,4 +1,4 @@
-//! What a side can broadcast. The transactions themselves stand with the plays of a channel.
+//! What a side can broadcast. The transactions themselves are tested with the plays of a channel.
 
 use crate::opening::{deliver, offered, opened};
 use channel::Channel;
@@ -25,7 +25,7 @@ fn side_with_an_offer(rt: &impl Abort, alloc: Global) -> Channel {
     a
 }
 
-// How many outputs a transaction has, 0 where there is none.
+// The number of outputs of a transaction; 0 if there is none.
 fn outputs(tx: Option<Tx>) -> usize {
     match tx {
         None => 0,
@@ -33,7 +33,7 @@ fn outputs(tx: Option<Tx>) -> usize {
     }
 }
 
-// To both sides and to the HTLC; the HTLC's timeout has one output, and there is no second HTLC.
+// Pays both sides and the HTLC. The HTLC's timeout has one output, and there is no second HTLC.
 #[test]
 fn closes_with_its_newest_commitment(rt: HostRuntime) {
     let side = side_with_an_offer(&rt, rt.alloc());
@@ -89,7 +89,8 @@ fn known(rt: &impl Abort, alloc: Global, side: &Channel) -> Known {
     }
 }
 
-// As by the channel: the newest commitment has an output more than the one before it, and the HTLC's timeout has one.
+// As the channel does: the newest commitment has one output more than the one before it, and the HTLC's timeout has
+// one.
 #[test]
 fn closes_by_what_is_known(rt: HostRuntime) {
     let side = side_with_an_offer(&rt, rt.alloc());

@@ -24,7 +24,7 @@ fn share(rt: &impl Abort, alloc: Global, balance: u64, count: usize) -> Share {
     }
 }
 
-// Asserts the amounts of B's commitment with so many HTLCs that A offered, and twelve times as many of B.
+// Asserts the amounts of B's commitment with `count` HTLCs that A offered, and twelve times as many of B.
 fn has_amounts(rt: &impl Abort, alloc: Global, terms: &Terms, count: usize)
     requires { count ≤ 40 }
 {
@@ -96,7 +96,7 @@ fn hash(rt: &impl Abort, text: &str) -> [u8; 32] {
     <[u8; 32] as FromHex>::from_hex(text).expect(rt, "64 hex digits")
 }
 
-// The value and the expiry of the output at an index, 0 where it has none.
+// The value and the expiry of the output at an index; 0 where it has none.
 fn output(commitment: &Commitment, index: usize) -> (u64, u32) {
     match commitment.outputs().get(index) {
         None => (0, 0),
@@ -115,7 +115,7 @@ fn second_stage_id(rt: &impl Abort, alloc: Global, commitment: &Commitment, k: u
     }
 }
 
-// Equal scripts and values stand by expiry.
+// HTLC outputs of equal scripts and values are sorted by expiry.
 #[test]
 fn equal_htlcs_stand_by_expiry(rt: HostRuntime) {
     let commitment = built(&rt, rt.alloc(), Side::A, 42, false);

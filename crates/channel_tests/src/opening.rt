@@ -1,4 +1,4 @@
-//! The sides of a new channel, and how messages come from one to the other.
+//! The sides of a new channel, and the delivery of messages from one to the other.
 
 ghost use Rattle.terms.specs.Sides.{other};
 ghost use Rattle.channel.specs.Keeping.{HasBases, CanOpen};
@@ -71,7 +71,7 @@ fn offer_and_sign(
     Ok((offer, signature))
 }
 
-/// Messages that one side sends are received by the other, with what answers them.
+/// Delivers a message, and its answer if there is one.
 pub fn deliver(rt: &impl Abort, from: &mut Channel, to: &mut Channel, message: &Message) {
     let answer = to.receive(message).expect(rt, "a message");
     if let Some(answer) = answer {

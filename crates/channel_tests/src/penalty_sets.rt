@@ -1,4 +1,4 @@
-//! The penalty set of a small state. What sets have in them stands with the vectors of penalties.
+//! The penalty set of a small state. The contents of sets are tested with the vectors of penalties.
 
 use crate::fixtures::{key, one_key_party};
 use parties::{FUNDING, htlc, terms_of, view};
@@ -26,7 +26,7 @@ fn set_of_a(rt: &impl Abort, alloc: Global) -> PenaltySet {
     penalties(alloc, &state).expect(rt, "memory")
 }
 
-// How many outputs that commitment has.
+// The number of outputs of that commitment.
 fn outputs_of_a(rt: &impl Abort, alloc: Global) -> usize {
     let (terms, view) = (terms(rt), offered(rt, alloc));
     assert!(rt; refusal(&terms, &view).is_none());

@@ -1,4 +1,4 @@
-//! The calls of a channel on their happy path, where memory that is there must be found; what each refuses is said by its contract.
+//! The calls of a channel on their happy path, with memory to spare. Their contracts say what each refuses.
 
 use crate::opening::{deliver, offered, open, opened};
 use channel::{Channel, Message, Tokens, opening_points};
@@ -7,7 +7,7 @@ use std::process::Abort;
 use terms::Side;
 use updates::{ChannelError, OwnUpdate};
 
-// A new channel wants the peer's token on its commitment 0.
+// A new channel needs the peer's token on its commitment 0.
 #[test]
 fn opens_with_the_peers_token(rt: HostRuntime) {
     assert!(rt; open(&rt, rt.alloc(), Side::A, 0).is_ok());
@@ -15,7 +15,7 @@ fn opens_with_the_peers_token(rt: HostRuntime) {
     assert!(rt; matches!(&refusal, Some(ChannelError::BadSignature)));
 }
 
-// How many tokens on HTLC transactions a message has, where it is a `commitment_signed`.
+// The number of tokens on HTLC transactions in a message, if it is a `commitment_signed`.
 fn htlc_tokens(message: &Message) -> Option<usize> {
     match message {
         Message::CommitmentSigned(tokens) => Some(tokens.htlcs.values().len()),
@@ -23,7 +23,7 @@ fn htlc_tokens(message: &Message) -> Option<usize> {
     }
 }
 
-// A side that has nothing to sign, and not so much to offer, is refused both.
+// A side with nothing to sign, and with less than the offer in its balance, is refused both.
 fn refuses(rt: &impl Abort, channel: &mut Channel) {
     assert_eq!(rt; channel.signed().err(), Some(ChannelError::NoUpdates));
     let refusal = channel.offer(80_000_001, [9; 32], 500).err();
@@ -43,7 +43,7 @@ fn offers_and_signs(rt: HostRuntime) {
     assert_eq!(rt; channel.signed().err(), Some(ChannelError::NotYourTurn));
 }
 
-// Each other update of one's own finds memory.
+// Each other update of one's own succeeds while memory lasts.
 #[test]
 fn changes_the_feerate(rt: HostRuntime) {
     let mut channel = opened(&rt, rt.alloc(), Side::A);
@@ -52,7 +52,7 @@ fn changes_the_feerate(rt: HostRuntime) {
     assert_eq!(rt; next.view.feerate, 2000);
 }
 
-// An own update is the call of its kind.
+// An own update is the same as the call of its kind.
 #[test]
 fn makes_its_own_updates(rt: HostRuntime) {
     let mut channel = opened(&rt, rt.alloc(), Side::A);
@@ -93,7 +93,7 @@ fn two_sides_agree(rt: HostRuntime) {
     assert!(rt; b.signed().is_ok());
 }
 
-// A sets a feerate and signs it, upon which B revokes its commitment 0.
+// A sets a feerate and signs it, and B then revokes its commitment 0.
 fn set_a_feerate(rt: &impl Abort, a: &mut Channel, b: &mut Channel) {
     let rate = a.set_fee(2000).expect(rt, "a feerate");
     let tokens = a.signed().expect(rt, "tokens");
@@ -126,7 +126,7 @@ fn has_tokens(message: &Message, tokens: &Tokens) -> bool {
     }
 }
 
-// The tokens on an own commitment are those that came.
+// The tokens on an own commitment are those that were received.
 #[test]
 fn finds_the_tokens_on_its_own_commitment(rt: HostRuntime) {
     let mut a = opened(&rt, rt.alloc(), Side::A);

@@ -22,7 +22,7 @@ pub all-mono : {X : Type 0} (p q : X → Bool) → ((x : X) → p x ≡ true →
 all-mono p q h [] e = e
 all-mono p q h (x ∷ xs) e = let w = and_parts (p x) (list_all p xs) e in and_from (q x) (list_all q xs) (h x w.0) (all-mono p q h xs w.1)
 
--- one more key never hurts, nor one slot fewer
+-- one more key keeps a choice, and so does one slot fewer
 pub more : (p : Test) (is : List ℕ) (k : KeySource) (keys : List KeySource) → exists_choice p is keys ≡ true → exists_choice p is (k ∷ keys) ≡ true
 more p [] k keys e = refl
 more p (i ∷ is) k keys e = or_right (p i k && exists_choice p is keys) (exists_choice p (i ∷ is) keys) e
@@ -50,7 +50,7 @@ taken true a true h = or_right a true refl ∙ sym (h refl)
 taken true a false h = or_false a
 taken false a c h = refl
 
--- the greedy choice is a choice wherever there is one
+-- the greedy choice finds a choice wherever one exists
 pub greedy-choice : (p : Test) (is : List ℕ) (keys : List KeySource) → greedy p is keys ≡ exists_choice p is keys
 greedy-choice p [] keys = refl
 greedy-choice p (i ∷ is) [] = refl

@@ -64,19 +64,19 @@ no_slot = refl
 hashes : (h : List ℕ) → (evidence_of None slots (Hash 0 h) ≡ None) × (evidence_of None slots (Hash 1 h) ≡ Some (bytes_eq (ripemd160 (replicate 32 5)) h)) × (evidence_of None slots (Hash 2 h) ≡ Some (bytes_eq (hash160 (1 ∷ [])) h))
 hashes h = (refl, refl, refl)
 
--- a token has 66 bytes, what a hash is of has 32
+-- a token has 66 bytes, a preimage has 32
 sizes : shows (Size 0 66 ∷ Size 0 65 ∷ Size 0 32 ∷ Size 0 0 ∷ Size 1 32 ∷ Size 1 33 ∷ Size 1 66 ∷ Size 2 1 ∷ Size 2 0 ∷ Size 3 0 ∷ Size 4 33 ∷ []) ≡ yes ∷ no ∷ no ∷ no ∷ yes ∷ no ∷ no ∷ yes ∷ no ∷ yes ∷ yes ∷ []
 sizes = refl
 
 truths : shows (Truth 0 ∷ Truth 1 ∷ Truth 2 ∷ Truth 3 ∷ []) ≡ yes ∷ None ∷ yes ∷ no ∷ []
 truths = refl
 
--- a token is not these bytes where they are no token of its key, whatever the digest is
+-- a token is not these bytes unless they are a token of its key, whatever the digest is
 token_is : shows (Is 0 (token 1) ∷ Is 0 (2 ∷ (replicate 32 1 ++ (replicate 32 9 ++ 1 ∷ []))) ∷ Is 0 (token 2) ∷ Is 0 [] ∷ Is 0 (2 ∷ (replicate 32 1 ++ replicate 32 7)) ∷ Is 0 (2 ∷ (replicate 32 1 ++ (replicate 33 7 ++ 1 ∷ []))) ∷ Is 0 (2 ∷ (replicate 32 1 ++ (replicate 32 7 ++ 2 ∷ []))) ∷ Is 0 (2 ∷ (replicate 32 1 ++ (replicate 32 7 ++ 0 ∷ []))) ∷ []) ≡
     None ∷ None ∷ no ∷ no ∷ no ∷ no ∷ no ∷ no ∷ []
 token_is = refl
 
--- what a hash is of is not these bytes where they are not 32 of that hash
+-- a preimage is not these bytes unless they are 32 bytes of that hash
 preimage_is : shows (Is 1 [] ∷ Is 1 (replicate 31 5) ∷ Is 1 (replicate 33 5) ∷ []) ≡ no ∷ no ∷ no ∷ []
 preimage_is = refl
 
@@ -134,7 +134,7 @@ known_chosen : map {A = List ℕ} (λ is. evidence_of known slots (Assigned is (
 unfolding token_of
 known_chosen = refl
 
--- the form of a token does not hang on its digest
+-- the form of a token does not depend on its digest
 known_forms : shows_known (Size 0 66 ∷ Size 0 65 ∷ Truth 0 ∷ Form 0 ∷ KeyForm 0 ∷ Truth 1 ∷ []) ≡ shows (Size 0 66 ∷ Size 0 65 ∷ Truth 0 ∷ Form 0 ∷ KeyForm 0 ∷ Truth 1 ∷ [])
 known_forms = refl
 

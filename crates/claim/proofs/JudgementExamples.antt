@@ -184,7 +184,7 @@ no_item_missing h = unfilled h.items (sym h.witness) h.filled
 top_first : Fits script locked (one ∷ empty ∷ []) (at (0x00 ∷ 0x20 ∷ hash)) Open (spends 2 500 (input_of 7 0 144 ([] ∷ (1 ∷ []) ∷ script ∷ []))) (input_of 7 0 144 ([] ∷ (1 ∷ []) ∷ script ∷ []))
 top_first = record { among = (1, lit< tt, refl); outpoint = refl; sequence = refl; stands = (refl, lit≤ tt, lit< tt); items = [] ∷ (1 ∷ []) ∷ []; witness = refl; filled = (refl, (refl, tt)) }
 
--- round a fixed claim stands the fixed transaction, whatever its witness, and no other
+-- the fixed transaction, whatever its witness, may stand round a fixed claim, and no other may
 fixed_stands : StandsRound locked (Fixed (tx 2 500 only 999)) (tx 2 500 (input_of 7 0 144 ((1 ∷ []) ∷ []) ∷ []) 999)
 fixed_stands = refl
 

@@ -1,4 +1,4 @@
--- The script of a key's hash runs clean on two items alone.
+-- The script of a key hash runs clean only on two items.
 use Rattle.std.proofs.Common.{◌≡◌, ℕ, ◌≤◌, ◌+◌, max, nat_le, Bool, true, false, List, [], ◌∷◌, ◌++◌, length, drop, reverse, Option, Some, Result, Ok, Err, sym, ap, subst, ◌∙◌, refl, arith}
 use Rattle.std.specs.Prelude.{All, if◌then◌else◌}
 use Rattle.std.specs.List.{list_any}
@@ -78,7 +78,7 @@ step spend at op rest s t counted height n k o l e =
 signed : (a b : Bool) (c d : Cause) (x : List ℕ) (s : Elements) → Leaves (result_if a c (result_if b d (Ok (record { jump = Next; stack = x ∷ s; keys = 0 })))) (x ∷ s)
 signed a b c d x s e f = inner _ e (ok_if b d _ e (ok_if a c _ e f))
 
--- CHECKSIG at the end wants two elements
+-- CHECKSIG at the end needs two elements
 two_left : (spend : Spend) (s : Elements) (counted height n k : ℕ) → outcome_from spend 4 (CheckSig ∷ []) (at_state s counted height) ≡ Clean n k → length s ≡ 2
 unfolding effect
 two_left spend [] counted height n k e = absurd (no_stop 5 NotOneValue n k ((step spend 4 CheckSig [] [] [] counted height n k refl (λ d f. absurd (no_error _ d f)) e).2))
@@ -118,7 +118,7 @@ key_valid hash l =
 same_ops : (o : Option (List Op)) (some others : List Op) → o ≡ Some some → o ≡ Some others → some ≡ others
 same_ops o some others e f = cc
 
--- opcodes that are spelt as the script of a key's hash are these
+-- opcodes with the bytes of a key hash's script are these
 key_opcodes : (ops : List Op) (hash : List ℕ) → All IsOp ops → length (spelling ops) ≤ 10000 → length hash ≡ 20 → spelling ops ≡ key_hash_script hash → ops ≡ key_ops hash
 key_opcodes ops hash valid short l e =
     let spelt : key_hash_script hash ≡ spelling (key_ops hash) = ap (λ n. 0x76 ∷ 0xa9 ∷ n ∷ (hash ++ 0x88 ∷ 0xac ∷ [])) (sym l) in

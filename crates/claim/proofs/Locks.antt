@@ -16,7 +16,7 @@ abbrev pub LockWithin : ℕ → Fact → Type 0
 LockWithin h (Lock n) = n ≤ h
 LockWithin h fact = Unit {0}
 
--- so is its age
+-- the age of a fact is at most this
 abbrev pub AgeWithin : ℕ → Fact → Type 0
 AgeWithin a (Age n) = bit_at 22 n ≡ false → n % 2 ^ 16 ≤ a
 AgeWithin a fact = Unit {0}

@@ -25,7 +25,7 @@ pub record IsRound (p : Path) (place : Place) (shell : Shell) (script : List ℕ
   pub height : t.lock_time < 500000000
   pub known : Known (known_digest script place shell) (sha256d (signed_list t input script place.value))
 
--- two inputs that are one but for the witness
+-- two inputs that differ only in the witness
 record AreAlike (xs ys : List TxIn) (x : TxIn) : Type 0 where
   y : TxIn
   first : xs ≡ x ∷ []
@@ -46,7 +46,7 @@ alike (w ∷ []) (y ∷ []) o s x a e c =
     let one : signed_input w [] ≡ signed_input y [] = cc in
     record { y = y; first = ap (λ i. i ∷ []) here; second = refl; same = ap (λ i. signed_input i []) (sym here) ∙ one }
 
--- the lists that are signed are one
+-- the signed fields are the same
 signed_by : (version lock_time : ℕ) (outputs : List Output) (x y : TxIn) (script : List ℕ) (value : ℕ) → x.outpoint ≡ y.outpoint → x.sequence ≡ y.sequence →
     signed_list (record { version = version; inputs = x ∷ []; outputs = outputs; lock_time = lock_time }) x script value ≡ signed_list (record { version = version; inputs = y ∷ []; outputs = outputs; lock_time = lock_time }) y script value
 unfolding signed_list all_outpoints all_sequences
@@ -94,7 +94,7 @@ round_of p place (Fixed u) script t input e c s =
       known = known_by u a.y script place.value (signed_list t input script place.value) a.second (signed_alike t u input script place.value a s);
     }
 
--- what has lost its witness has none to lose
+-- a shell without witness items stays as it is
 pub bare_twice : (s : Shell) → IsBare (bare_shell s)
 bare_twice Open = refl
 bare_twice (Fixed t) = ap (λ is. Fixed (record t { inputs = is })) (sym (unsigned_twice t.inputs))

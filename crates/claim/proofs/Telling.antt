@@ -16,12 +16,12 @@ use Rattle.claim.specs.Evidence.{is_token_with, hash_evidence, size_evidence, tr
 use Rattle.claim.specs.Fitting.{FillsSlot}
 use Rattle.claim.proofs.TokenForms.{token-length, token_with, token-injective, key-length, token-signature, token-no_key, token-true, token-apart}
 
--- what is known of bytes is so
+-- bytes that are known are the right ones
 abbrev pub Known : Option (List ℕ) → List ℕ → Type 0
 Known None key = Unit {0}
 Known (Some b) key = key ≡ b
 
--- what is shown is so
+-- what is shown is true
 abbrev pub Tells : Option Bool → Bool → Type 0
 Tells None t = Unit {0}
 Tells (Some b) t = t ≡ b

@@ -15,7 +15,7 @@ pub token-length : (k d : List ℕ) → length d ≡ 32 → length (token_of k d
 unfolding token_of
 token-length k d e = simp length-append (omega arith)
 
--- the last byte
+-- the last byte of a token
 token-last : (k d : List ℕ) → length d ≡ 32 → get_or (token_of k d) (length k + 32) 0 ≡ 1
 unfolding token_of
 token-last k d e = get_or-append-add k (d ++ 1 ∷ []) 32 0 ∙ ap (λ n. get_or (d ++ 1 ∷ []) n 0) (sym e) ∙ get_or-append_seam d 1 [] 0
@@ -32,7 +32,7 @@ token-first k d h = get_or-append k (d ++ 1 ∷ []) 0 0 h
 pub token_with : (k d : List ℕ) → length d ≡ 32 → is_token_with k (token_of k d) ≡ true
 token_with k d e = and_from _ _ (and_from _ _ (eq-eqb _ _ (token-length k d e)) ((bytes_eq-Decides _ _).1 (token-front k d))) (eq-eqb _ _ (token-last k d e))
 
--- the tokens of two keys are one where the keys are
+-- two keys have the same token exactly where the keys are the same
 pub token-injective : (k j d : List ℕ) → bytes_eq (token_of k d) (token_of j d) ≡ bytes_eq k j
 unfolding token_of
 token-injective k j d = same_from_decides (bytes_eq (token_of k d) (token_of j d)) (bytes_eq k j)
@@ -69,6 +69,6 @@ token-true [] d h = absurd (let l = key-length [] h in omega arith)
 token-true (b ∷ []) d h = absurd (let l = key-length (b ∷ []) h in omega arith)
 token-true (b ∷ c ∷ k) d h = rw (start-true b (key-start (b ∷ c ∷ k) h)) refl
 
--- what is no token of a key, is not the one over this digest
+-- bytes that are no token of a key are not its token over this digest
 pub token-apart : (k d c : List ℕ) → length d ≡ 32 → is_token_with k c ≡ false → bytes_eq (token_of k d) c ≡ false
 token-apart k d c e h = false_from_ne_true _ (λ t. let same = (bytes_eq-Decides (token_of k d) c).0 t in let yes = ap (is_token_with k) same in cc (token_with k d e))

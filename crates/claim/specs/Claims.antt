@@ -16,8 +16,8 @@ use Rattle.claim.specs.Fitting.{Fits, Spends}
 abbrev pub IsBare : Shell → Type 0
 IsBare shell = shell ≡ bare_shell shell
 
--- a claim: the checked script of the claimed output, the index of the path that it takes, the slots, the top first, where the output stands,
--- and the transaction round it, which has no witness item where it is fixed
+-- a claim: the checked script of the claimed output, the index of the path that it takes, and the slots, the top first. Its place is that of the output.
+-- Its shell is the transaction round it, which has no witness item if it is fixed
 pub record ClaimParts : Type 0 where
   pub ways : CheckedScript
   pub index : ℕ
@@ -44,7 +44,7 @@ lock_time_of c = unwrap_or (option_map (λ p. needed_height p c.shell) (path_of 
 abbrev pub IsAccepted : ClaimParts → Type 0
 IsAccepted c = IsTrue (is_ok (judgement_of c.ways c.index c.slots c.place c.shell))
 
--- the claim is the one of these parts, of which a fixed transaction has lost its witness, and was accepted
+-- the claim has these parts, with the witness items of a fixed transaction removed, and was accepted
 pub record IsAcceptedOf (ways : CheckedScript) (index : ℕ) (slots : List Slot) (place : Place) (shell : Shell) (c : ClaimParts) : Type 0 where
   pub same : c ≡ record { ways = ways; index = index; slots = slots; place = place; shell = bare_shell shell }
   pub accepted : IsAccepted c
@@ -59,8 +59,8 @@ pub record FitsClaim (c : ClaimParts) (t : Transaction) (input : TxIn) : Type 0 
 abbrev pub IsSpending : ClaimParts → Type 0
 IsSpending c = (p : Path) → TakesPath c p → Spends c.ways.ops p c.slots c.place c.shell
 
--- what every claim is: its script is opcodes that are at most 10,000 bytes, with the paths that are listed for them; a path was accepted for it; and its
--- shell is bare
+-- what every claim is. Its script is opcodes of at most 10,000 bytes together, with the paths that are listed for them. A path was accepted for it, and
+-- its shell is bare
 pub record IsWhole (c : ClaimParts) : Type 0 where
   pub ops : All IsOp c.ways.ops
   pub short : length (spelling c.ways.ops) ≤ max_script_size

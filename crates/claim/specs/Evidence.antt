@@ -1,5 +1,6 @@
 -- What slots show of a fact: that it holds (Some true), that it does not (Some false), or neither (None). Where the transaction is fixed, the digest
--- is known, and a signature slot counts as the exact bytes of its token; what is said of one below without the digest is so of each token.
+-- is known, and a signature slot counts as the exact bytes of its token. Without the digest, what is shown of a signature slot holds for each token
+-- of its key.
 use Rattle.std.specs.Prelude.{ℕ, ◌+◌, Bool, true, false, ◌&&◌, ◌||◌, not, ◌==◌, nat_lt, if◌then◌else◌, List, [], ◌∷◌, length, take, Option, Some, None, is_some, slice_get, slice_index}
 use Rattle.std.specs.Str.{bytes_eq}
 use Rattle.std.specs.List.{list_any, list_all}
@@ -39,12 +40,12 @@ truth_evidence (Sig k) = Some true
 truth_evidence (Preimage ph) = None
 truth_evidence (Exact b) = Some (truth b.item)
 
--- no, where a test fails; else it stays open
+-- Some false if a test fails, else None
 abbrev pub no_unless : Bool → Option Bool
 no_unless true = None
 no_unless false = Some false
 
--- these bytes are 32 of this SHA-256
+-- these are 32 bytes with this SHA-256
 abbrev pub is_preimage : List ℕ → List ℕ → Bool
 is_preimage c ph = length c == 32 && bytes_eq (sha256 c) ph
 
@@ -66,7 +67,7 @@ abbrev pub key_form_evidence : Slot → Option Bool
 key_form_evidence (Exact b) = Some (is_key b.item)
 key_form_evidence slot = Some false
 
--- the slot is the token of a key, whose bytes are known
+-- the slot is the token of a key whose bytes are known
 abbrev pub token_of_evidence : Option (List ℕ) → List ℕ → Slot → Option Bool
 token_of_evidence known key (Sig k) = Some (bytes_eq k.bytes key)
 token_of_evidence known key (Preimage ph) = Some false
@@ -113,7 +114,7 @@ exists_choice fits [] keys = true
 exists_choice fits (i ∷ is) [] = false
 exists_choice fits (i ∷ is) (key ∷ keys) = (fits i key && exists_choice fits is keys) || exists_choice fits (i ∷ is) keys
 
--- whether a choice of keys is shown; that there is none is shown where a slot has no key, or where every token is decided
+-- whether a choice of keys is shown to exist; that there is none is shown where a slot has no key, or where every token is decided
 abbrev pub assigned_evidence : Option (List ℕ) → List Slot → List ℕ → List KeySource → Option Bool
 assigned_evidence known slots is keys =
     if exists_choice (λ i key. is_yes (token_evidence known slots i key)) is keys
@@ -121,7 +122,7 @@ assigned_evidence known slots is keys =
     else (if list_any (λ i. list_all (λ key. is_no (token_evidence known slots i key)) keys) is || list_all (λ i. list_all (λ key. is_some (token_evidence known slots i key)) keys) is
     then Some false else None)
 
--- what the slots show of a fact, under the digest where it is known
+-- what the slots show of a fact, under the digest if it is known
 abbrev pub evidence_of : Option (List ℕ) → List Slot → Fact → Option Bool
 evidence_of known slots (Hash i h) = at_slot (hash_evidence known h) (slice_get slots i)
 evidence_of known slots (Size i n) = at_slot (size_evidence n) (slice_get slots i)

@@ -35,8 +35,8 @@ FillsSlots spend [] [] = Unit {0}
 FillsSlots spend (slot ∷ slots) (x ∷ xs) = FillsSlot spend slot x × FillsSlots spend slots xs
 FillsSlots spend slots xs = ⊥
 
--- a transaction may stand round a claim on a path: any of version 2 whose lock time is a height that the path allows, or the fixed one,
--- whatever its witness
+-- a transaction may stand round a claim on a path. In an open shell it is any of version 2 whose lock time is a height that the path allows.
+-- In a fixed shell it is the fixed transaction, whatever its witness
 abbrev pub StandsRound : Path → Shell → Transaction → Type 0
 StandsRound p Open t = (t.version ≡ 2) × (height_of p ≤ t.lock_time) × (t.lock_time < locktime_threshold)
 StandsRound p (Fixed fixed) t = unsigned_transaction t ≡ unsigned_transaction fixed
@@ -45,8 +45,8 @@ StandsRound p (Fixed fixed) t = unsigned_transaction t ≡ unsigned_transaction 
 abbrev pub witness_for : List ℕ → List ℕ → List (List ℕ) → List (List ℕ)
 witness_for program script items = if is_script_hash_program program then items ++ script ∷ [] else items
 
--- an input of a transaction fits a claim on a path of a script: it spends the place's outpoint with the path's age as its sequence, the
--- transaction may stand round the claim, and the items of its witness, the last of which is the top, fill the slots
+-- an input of a transaction fits a claim on a path of a script. It spends the place's outpoint with the path's age as its sequence, and the
+-- transaction may stand round the claim. The items of its witness, the last of which is the top, fill the slots
 pub record Fits (script : List ℕ) (p : Path) (slots : List Slot) (place : Place) (shell : Shell) (t : Transaction) (input : TxIn) : Type 0 where
   pub among : Contains t.inputs input
   pub outpoint : input.outpoint ≡ place.outpoint
@@ -56,12 +56,12 @@ pub record Fits (script : List ℕ) (p : Path) (slots : List Slot) (place : Plac
   pub witness : input.witness ≡ witness_for place.program script items
   pub filled : FillsSlots (spend_of t input script place.value) slots (reverse items)
 
--- the output that stands at the place
+-- the output at the place
 abbrev pub output_at : Place → Output
 output_at place = record { value = place.value; script = place.program }
 
--- whatever fits the claim meets its path, and spends the output: run as BIP 141 runs the place's program on the input's whole witness, under
--- the place's value, it is clean, with the path's counted opcodes and height; and its items are at most 1,000
+-- whatever fits the claim meets its path, and spends the output. Run as BIP 141 runs the place's program on the input's whole witness, under
+-- the place's value, it is clean, with the path's counted opcodes and height. Its items are at most 1,000
 pub record Spends (ops : List Op) (p : Path) (slots : List Slot) (place : Place) (shell : Shell) : Type 0 where
   pub meets : (t : Transaction) (input : TxIn) (fits : Fits (spelling ops) p slots place shell t input) → Meets (spend_of t input (spelling ops) place.value) fits.items p.arity p.facts
   pub clean : (t : Transaction) (input : TxIn) → Fits (spelling ops) p slots place shell t input → run_of t input (output_at place) ≡ Some (Clean p.ops p.height)
@@ -74,7 +74,7 @@ abbrev pub IsUnmet : Result Path AcceptError → Type 0
 IsUnmet (Err (Unmet s)) = Unit {0}
 IsUnmet judgement = ⊥
 
--- the refusal is the first that holds; memory can run out only where a fact that is not met is to be named
+-- the refusal is the first that holds; memory can run out only while the fact that is not met is copied
 abbrev pub IsRefusal : Result Path AcceptError → AcceptError → Type 0
 IsRefusal judgement NoMemory = IsUnmet judgement
 IsRefusal judgement e = judgement ≡ Err e

@@ -21,11 +21,11 @@ use Rattle.claim.specs.declared.errors.AcceptError.{AcceptError}
 use Rattle.claim.specs.declared.errors.AcceptError.TheVariants.{NoSuchPath, WrongArity, Unmet, Contradiction, WrongProgram, WrongShell}
 use Rattle.claim.specs.Evidence.{evidence_of}
 
--- the program is that of the key hash whose script this is
+-- the program is P2WPKH, and the script is the one that it stands for (BIP 141)
 abbrev pub is_key_program : List ℕ → List ℕ → Bool
 is_key_program script program = is_key_hash_program program && bytes_eq script (key_hash_script (drop 2 program))
 
--- the program stands for the script
+-- the program stands for the script, as P2WSH or P2WPKH
 abbrev pub is_program : List ℕ → List ℕ → Bool
 is_program script program = bytes_eq program (script_hash_program script) || is_key_program script program
 
@@ -36,19 +36,19 @@ height_of p = unwrap_or p.lock 0
 abbrev pub age_of : Path → ℕ
 age_of p = unwrap_or p.age 0
 
--- there is one input, which has this outpoint and this sequence
+-- there is exactly one input, with this outpoint and this sequence
 abbrev pub is_only_input : List TxIn → OutPoint → ℕ → Bool
 is_only_input (i ∷ []) o sequence = bytes_eq i.outpoint.txid o.txid && i.outpoint.index == o.index && i.sequence == sequence
 is_only_input inputs o sequence = false
 
--- a fixed transaction fits the path and the place: version 2, one input, a lock time that is a height and that the path allows, and outputs
+-- a fixed transaction fits the path and the place. It has version 2, one input, a lock time that is a height and that the path allows, and outputs
 -- within the place's value
 abbrev pub is_shell : Path → Place → Shell → Bool
 is_shell p place Open = true
 is_shell p place (Fixed t) =
     t.version == 2 && is_only_input t.inputs place.outpoint (age_of p) && nat_lt t.lock_time locktime_threshold && nat_le (height_of p) t.lock_time && nat_le (total_value t.outputs) place.value
 
--- the shell, of which a fixed transaction has no witness item
+-- the shell, with the witness items of a fixed transaction removed
 abbrev pub bare_shell : Shell → Shell
 bare_shell Open = Open
 bare_shell (Fixed t) = Fixed (unsigned_transaction t)
@@ -66,7 +66,7 @@ has_polarity holds (Some b) = if b then holds else not holds
 abbrev pub is_met : Option (List ℕ) → List Slot → Stated → Bool
 is_met known slots s = has_polarity s.holds (evidence_of known slots s.fact)
 
--- the facts are met, or the first is named that is not
+-- the facts are met, or the refusal names the first that is not
 abbrev pub first_unmet_or : Option (List ℕ) → List Slot → List Stated → Path → Result Path AcceptError
 first_unmet_or known slots [] p = Ok p
 first_unmet_or known slots (s ∷ facts) p = if is_met known slots s then first_unmet_or known slots facts p else Err (Unmet s)
@@ -83,7 +83,8 @@ judgement_of_path script slots place shell p =
     (result_if (not (contradicts p.facts)) Contradiction
     (first_unmet_or (known_digest script place shell) slots p.facts p))))
 
--- the path that a claim takes, or the first refusal: of a checked script, the index of a path, the slots, the top first, the place and the shell
+-- the path that a claim takes, or the first refusal. It is judged by a checked script, the index of a path, the slots with the top first, the place
+-- and the shell
 unfoldable pub judgement_of : CheckedScript → ℕ → List Slot → Place → Shell → Result Path AcceptError
 judgement_of ways index slots place shell = path_or_refusal (slice_get ways.paths index) >>= judgement_of_path (spelling ways.ops) slots place shell
 

@@ -13,7 +13,7 @@ use lists::List;
 use paths::Checked;
 use std::alloc::Global;
 
-// The shell, of which a fixed transaction has no witness item.
+// The shell, with the witness items of a fixed transaction removed.
 fn bare(shell: Shell) -> Shell
     ensures { result ≡ bare_shell shell }
 {
@@ -26,11 +26,11 @@ fn bare(shell: Shell) -> Shell
     }
 }
 
-/// Accepts a claim on a path of a checked script, in whose program the output stands: the slots are filled as they say, the top of the
-/// stack first. Whatever fits the claim spends the output. A claim keeps a fixed transaction without its witness.
+/// Accepts a claim by one path of a checked script, on an output whose program is the script's. `slots` fill the path's slots, the top of the stack
+/// first. Whatever fits the claim spends the output. A claim keeps a fixed transaction without its witness.
 ///
-/// It is refused, in this order, as `NoSuchPath`, `WrongArity`, `WrongProgram`, `WrongShell`, `Contradiction` and `Unmet` with the first fact of the
-/// path that the slots do not show; `NoMemory` where that fact cannot be copied.
+/// Checked in this order: `NoSuchPath`, `WrongArity`, `WrongProgram`, `WrongShell`, `Contradiction`, and `Unmet` with the first fact of the path
+/// that the slots do not show. `NoMemory` means that this fact could not be copied.
 #[tactic(auto, using(crate::proofs::Shells::bare_twice))]
 pub fn accept(
     alloc: Global,

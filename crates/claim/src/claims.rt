@@ -11,8 +11,8 @@ use std::alloc::AllocError;
 use std::marker::Model;
 use tx::OutPoint;
 
-/// A claim on an output: a path through its script, with a filling of each of the path's slots, and the transaction round it. `accept` alone
-/// makes one. A contract sees it as these parts.
+/// A claim on an output: a path through its script, with a filling of each of the path's slots, and the transaction round it. Only `accept` makes
+/// one. A contract sees it as these parts.
 #[derive(Drop)]
 pub struct Claim {
     checked: Checked,
@@ -48,7 +48,7 @@ impl Claim {
     ghost use Rattle.claim.specs.Claims.{IsBare, IsSpending, IsWhole, TakesPath, path_of, sequence_of, lock_time_of};
     ghost use Rattle.paths.specs.Sound.{IsSound};
 
-    // A claim that was judged, round which a fixed transaction is bare.
+    // A claim that was judged. A fixed transaction in its shell has no witness items.
     pub(crate) fn new(
         checked: Checked,
         index: usize,
@@ -75,7 +75,7 @@ impl Claim {
         }
     }
 
-    /// An equal claim, which counts as made by the call that made this one. The only error is that memory ran out.
+    /// A copy, which counts as made by the call that made this claim. The only error is that memory ran out.
     pub fn copy(&self) -> Result<Self, AllocError>
         ensures { IfOk result (λ c. c ≡ self.now) }
     {
@@ -105,7 +105,7 @@ impl Claim {
         self.index
     }
 
-    /// The path that the claim takes. Whatever meets it runs clean, and whatever fits the claim meets it and spends the output.
+    /// The path that the claim takes. Whatever meets the path runs clean. Whatever fits the claim meets the path and spends the output.
     pub fn path(&self) -> &Path
         ensures value { TakesPath self.now result.now }
         ensures at { path_of self.now ≡ Some result.now }
@@ -127,14 +127,14 @@ impl Claim {
         self.slots.values()
     }
 
-    /// Where the claimed output stands.
+    /// The place of the claimed output.
     pub fn place(&self) -> &Place
         ensures { result.now ≡ self.now.place }
     {
         &self.place
     }
 
-    /// The transaction round the claim. Where it is fixed, it has no witness item.
+    /// The transaction round the claim. If it is fixed, it has no witness item.
     pub fn shell(&self) -> &Shell
         ensures value { result.now ≡ self.now.shell }
         ensures bare { IsBare result.now }
@@ -149,8 +149,8 @@ impl Claim {
         self.place.outpoint
     }
 
-    /// The lock time that a transaction with this claim needs, a height (BIP 65): at least that of the path, 0 where the path checks none; or that
-    /// of the fixed transaction.
+    /// The lock time that a transaction with this claim needs, as a height (BIP 65). In an open shell it is the path's, or 0 if the path checks
+    /// none. Otherwise it is that of the fixed transaction.
     pub fn needs_height(&self) -> u64
         ensures value { result ≡ lock_time_of self.now }
         ensures below { result < LOCKTIME_THRESHOLD }
@@ -162,7 +162,7 @@ impl Claim {
         }
     }
 
-    /// How many blocks the claimed output has to be old; 0 where the path checks no age (BIP 68, 112).
+    /// The age in blocks that the claimed output needs; 0 if the path checks none (BIP 68, 112).
     pub fn needs_age(&self) -> u16
         ensures { result ≡ sequence_of self.now }
     {

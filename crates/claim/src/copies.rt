@@ -1,4 +1,4 @@
-// Equal values, for what is kept twice.
+// Copies of what a claim is made of.
 
 ghost use Rattle.std.specs.Prelude.{◌≡◌, IfOk};
 
@@ -6,7 +6,8 @@ use crate::parts::{Place, Shell, Slot, WitnessItem};
 use std::alloc::{AllocError, Global};
 
 impl WitnessItem {
-    /// An equal item. The only error is that memory ran out.
+    /// A copy of an item. The only error is that memory ran
+    /// out.
     pub fn copy(&self) -> Result<Self, AllocError>
         ensures { IfOk result (λ w. w ≡ self.now) }
     {
@@ -17,7 +18,8 @@ impl WitnessItem {
 }
 
 impl Slot {
-    /// An equal slot. The only error is that memory ran out.
+    /// A copy of a slot. The only error is that memory ran
+    /// out.
     pub fn copy(&self) -> Result<Self, AllocError>
         ensures { IfOk result (λ s. s ≡ self.now) }
     {
@@ -30,7 +32,8 @@ impl Slot {
 }
 
 impl Place {
-    /// An equal place. The only error is that memory ran out.
+    /// A copy of a place. The only error is that memory ran
+    /// out.
     pub fn copy(&self) -> Result<Self, AllocError>
         ensures { IfOk result (λ p. p ≡ self.now) }
     {
@@ -43,7 +46,8 @@ impl Place {
 }
 
 impl Shell {
-    /// An equal shell. The only error is that memory ran out.
+    /// A copy of a shell. The only error is that memory ran
+    /// out.
     pub fn copy(&self) -> Result<Self, AllocError>
         ensures { IfOk result (λ s. s ≡ self.now) }
     {
@@ -54,7 +58,7 @@ impl Shell {
     }
 }
 
-// Equal slots.
+// Copies of slots.
 pub(crate) fn copied_slots(alloc: Global, slots: &[Slot]) -> Result<Vec<Slot>, AllocError>
     ensures { IfOk result (λ s. s.items ≡ slots.now) }
 {

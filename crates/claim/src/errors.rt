@@ -8,8 +8,7 @@ use facts::Stated;
 use std::alloc::{AllocError, AllocFailed};
 use thiserror::Error;
 
-/// Why a claim is not accepted. It is tested for `NoSuchPath`, `WrongArity`, `WrongProgram`, `WrongShell`, `Contradiction` and `Unmet`, in this
-/// order.
+/// Why a claim is not accepted. Checked in this order: `NoSuchPath`, `WrongArity`, `WrongProgram`, `WrongShell`, `Contradiction`, `Unmet`.
 #[derive(Debug, Drop, Error)]
 pub enum AcceptError {
     /// Memory ran out.
@@ -18,13 +17,13 @@ pub enum AcceptError {
     /// The script has no path of this index.
     #[error("NoSuchPath")]
     NoSuchPath,
-    /// The path has another number of slots.
+    /// The number of slots is not that of the path.
     #[error("WrongArity")]
     WrongArity,
     /// The first fact of the path that the slots do not show.
     #[error("Unmet {0}")]
     Unmet(Stated),
-    /// The path has one fact with both polarities.
+    /// The path asks for one fact with both polarities.
     #[error("Contradiction")]
     Contradiction,
     /// The program is not that of the script.

@@ -1,5 +1,5 @@
-// What slots show of a fact, in three answers: that it holds (`Some(true)`), that it does not (`Some(false)`), or neither (`None`). `known` is the
-// digest that signatures are over, where the transaction is fixed.
+// What slots show of a fact: that it holds (`Some(true)`), that it does not (`Some(false)`), or neither (`None`). `known` is the digest that
+// signatures are over, if the transaction is fixed.
 
 ghost use Rattle.std.specs.Prelude.{◌≡◌, None, Some, is_some};
 ghost use Rattle.std.specs.List.{list_any, list_all};
@@ -13,17 +13,17 @@ use script::tokens::{has_key_form, has_signature_form, is_token_of};
 use script::truths::is_true;
 use sighash::Token;
 
-/// The bit of a relative lock that makes it one of time (BIP 112).
+/// The type flag of a relative lock: with bit 22 set, the lock is in units of 512 seconds (BIP 68, 112).
 const TIME_BIT: u32 = 22;
 
-// Whether bytes are a key, 32 bytes and the hash type ALL.
+// Whether bytes are this key, 32 bytes, and the hash type ALL.
 fn is_token_with(key: &[u8], bytes: &[u8]) -> bool
     ensures { result ≡ is_token_with key.now bytes.now }
 {
     bytes.len() == key.len() + 33 && &bytes[..key.len()] == key && bytes[key.len() + 32] == 1
 }
 
-// That it does not hold, where a test fails; else it stays open.
+// `Some(false)` if a test fails, else `None`.
 fn no_unless(passes: bool) -> Option<bool>
     ensures { result ≡ no_unless passes }
 {
@@ -68,7 +68,7 @@ fn truth_evidence(slot: &Slot) -> Option<bool>
     }
 }
 
-// Whether bytes are a preimage: 32 of this SHA-256.
+// Whether bytes are a preimage: 32 bytes with this SHA-256.
 fn is_preimage(bytes: &[u8], image: &[u8; 32]) -> bool
     ensures { result ≡ is_preimage bytes.now image.now }
 {
@@ -111,7 +111,7 @@ fn key_form_evidence(slot: &Slot) -> Option<bool>
     }
 }
 
-// Whether the slot is the token of a key, whose bytes are known.
+// Whether the slot is the token of a key whose bytes are known.
 fn token_of_evidence(known: Option<[u8; 32]>, key: &[u8], slot: &Slot) -> Option<bool>
     ensures { result ≡ token_of_evidence known key.now slot.now }
 {
@@ -125,7 +125,7 @@ fn token_of_evidence(known: Option<[u8; 32]>, key: &[u8], slot: &Slot) -> Option
     }
 }
 
-// Whether the slot is the token of a key, whose bytes are not known.
+// Whether the slot is the token of a key whose bytes are not known.
 fn some_token_evidence(known: Option<[u8; 32]>, slot: &Slot) -> Option<bool>
     ensures { result ≡ slot_token_evidence known None slot.now }
 {
@@ -136,7 +136,7 @@ fn some_token_evidence(known: Option<[u8; 32]>, slot: &Slot) -> Option<bool>
     }
 }
 
-// Whether the slot is the token of a key that stands in another slot, whose bytes may be known.
+// Whether the slot is the token of a key in another slot, whose bytes may be known.
 fn keyed_token_evidence(known: Option<[u8; 32]>, key: &Slot, slot: &Slot) -> Option<bool>
     ensures { result ≡ slot_token_evidence known (known_bytes known (Some key.now)) slot.now }
 {
@@ -154,7 +154,7 @@ fn keyed_token_evidence(known: Option<[u8; 32]>, key: &Slot, slot: &Slot) -> Opt
     }
 }
 
-// Whether a slot is the token of a key. A key that is a slot is known where that slot's bytes are.
+// Whether a slot is the token of a key. A key in a slot is known if that slot's bytes are known.
 fn token_evidence(
     known: Option<[u8; 32]>,
     slots: &[Slot],
@@ -193,7 +193,7 @@ fn is_no(answer: Option<bool>) -> bool
     }
 }
 
-// Whether tokens of an increasing choice of the keys are shown, one for each slot: each key in turn is taken for the first slot that is left.
+// Whether tokens of an increasing choice of the keys are shown, one for each slot. Each key in turn is matched with the first slot that is left.
 fn has_choice(known: Option<[u8; 32]>, slots: &[Slot], places: &[usize], keys: &[KeySource]) -> bool
     ensures { result ≡ exists_choice (λ i key. is_yes (token_evidence known slots.now i key))
         places.now keys.now }
@@ -233,7 +233,7 @@ fn has_refused(
         .any(|place| is_refused(known, slots, *place, keys))
 }
 
-// Whether of each key it is shown that the slot is its token, or that it is not.
+// Whether it is shown, for each key, that the slot is its token or that it is not.
 fn is_decided(known: Option<[u8; 32]>, slots: &[Slot], place: usize, keys: &[KeySource]) -> bool
     ensures { result ≡ list_all (λ key. is_some (token_evidence known slots.now place key))
         keys.now }
@@ -242,7 +242,7 @@ fn is_decided(known: Option<[u8; 32]>, slots: &[Slot], place: usize, keys: &[Key
         .all(|key| token_evidence(known, slots, place, key).is_some())
 }
 
-// Whether that is so of each slot.
+// Whether `is_decided` holds for each slot.
 fn are_decided(
     known: Option<[u8; 32]>,
     slots: &[Slot],

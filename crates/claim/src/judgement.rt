@@ -1,4 +1,4 @@
-// Whether a claim is accepted: or the first refusal.
+// Whether a claim is accepted; if not, the first refusal.
 
 ghost use Rattle.std.specs.Prelude.{◌≡◌, ◌&&◌, not, ◌++◌, [], ◌∷◌, All, IsTrue, is_ok, Ok, Err, MatchOption, MatchResult, if◌then◌else◌};
 ghost use Rattle.std.specs.Str.{bytes_eq};
@@ -21,7 +21,8 @@ use sighash::programs::is_key_hash_program;
 use std::alloc::Global;
 use tx::{OutPoint, TxIn, total_value};
 
-// Whether the program is that of the script by its SHA-256 (BIP 141).
+// Whether the program is P2WSH of the script: version 0 and the script's SHA-256
+// (BIP 141).
 #[tactic(auto, unfolding(sighash::specs::Programs::script_hash_program), using(crate::proofs::Programs::program_by, crate::proofs::Programs::program_short))]
 fn is_script_program(script: &[u8], program: &[u8]) -> bool
     ensures { result ≡ bytes_eq program.now (script_hash_program script.now) }
@@ -62,21 +63,22 @@ fn is_key_script(script: &[u8], hash: &[u8]) -> bool
         && ends_key_script(&script[3..], hash)
 }
 
-// Whether the program is that of the key hash whose script this is (BIP 141).
+// Whether the program is P2WPKH and the script is the one that it stands for (BIP
+// 141).
 fn is_key_program(script: &[u8], program: &[u8]) -> bool
     ensures { result ≡ is_key_program script.now program.now }
 {
     is_key_hash_program(program) && is_key_script(script, &program[2..])
 }
 
-// Whether the program stands for the script.
+// Whether the program stands for the script, as P2WSH or P2WPKH.
 pub(crate) fn is_program(script: &[u8], program: &[u8]) -> bool
     ensures { result ≡ is_program script.now program.now }
 {
     is_script_program(script, program) || is_key_program(script, program)
 }
 
-// Whether the two are one fact with both polarities.
+// Whether the two state one fact with opposite polarities.
 fn denies(stated: &Stated, other: &Stated) -> bool
     ensures { result ≡ (same_fact stated.now.fact other.now.fact
         && (if stated.now.holds then not other.now.holds else other.now.holds)) }
@@ -89,14 +91,14 @@ fn denies(stated: &Stated, other: &Stated) -> bool
         })
 }
 
-// Whether a fact stands among others with the other polarity.
+// Whether the others state this fact with the opposite polarity.
 fn is_denied(stated: &Stated, others: &[Stated]) -> bool
     ensures { result ≡ is_denied stated.now others.now }
 {
     others.iter().any(|other| denies(stated, other))
 }
 
-// Whether some fact stands there with both polarities.
+// Whether some fact is stated with both polarities.
 fn contradicts(facts: &[Stated]) -> bool
     ensures { result ≡ contradicts facts.now }
 {
@@ -155,7 +157,7 @@ fn meet(
     }
 }
 
-// Whether there is one input, which has this outpoint and this sequence.
+// Whether there is exactly one input, with this outpoint and this sequence.
 fn is_only_input(inputs: &[TxIn], outpoint: &OutPoint, sequence: u16) -> bool
     ensures { result ≡ is_only_input inputs.now outpoint.now sequence }
 {
@@ -225,7 +227,7 @@ fn judge_path(
     )
 }
 
-/// Whether a claim is accepted, or the first refusal.
+/// Whether a claim is accepted; if not, the first refusal.
 pub(crate) fn judge(
     alloc: Global,
     checked: &Checked,

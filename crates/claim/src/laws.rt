@@ -5,9 +5,9 @@ ghost use Rattle.claim.specs.Laws.{AcceptedSpend, FittingRunsClean, FittingIsTim
 use paths::laws::listed_paths_are_sound;
 use script::laws::runs_are_exact;
 
-/// Whatever fits a claim that was accepted, on a script with its listed paths, meets the claim's path and spends the output; step by step, the script runs clean on
-/// the items of its witness. Its transaction has version 2 and a lock time that is a height, at least the claim's, and its input the claim's age in
-/// blocks as its sequence. So it is of every claim by what a claim is, whoever made it and however long ago.
+/// Whatever fits an accepted claim, on a script with its listed paths, meets the claim's path and spends the output. Step by step, the script runs clean on the
+/// items of its witness. Its transaction has version 2 and a lock time that is a height, at least the claim's. Its input has the claim's age in blocks as its
+/// sequence. This follows from what a claim is, so it holds of every claim, whoever made it and however long ago.
 pub fn accepted_claims_spend()
     ensures spends { AcceptedSpend }
     ensures clean { FittingRunsClean }

@@ -1,10 +1,10 @@
 //! Claims on outputs, accepted before use.
 //!
-//! A [`Claim`] is a path through a checked script on an output (its [`Place`]), with what each slot of the path is
-//! filled with: a signature, a preimage, or given bytes ([`Slot`]). Its [`Shell`] is open, for any transaction of
-//! version 2 with a lock time that the claim asks for, or is one fixed transaction. [`accept`] alone makes a claim,
-//! and refuses it unless the place's program is the script's and the slots meet the path. Whatever fits an accepted
-//! claim meets its path, and so runs the script clean.
+//! A [`Claim`] is a path through a checked script on an output (its [`Place`]), with what fills each slot of the
+//! path. That is a signature, a preimage, or given bytes ([`Slot`]). Its [`Shell`] is either open, for any
+//! transaction of version 2 with a lock time that the claim allows, or one fixed transaction. Only [`accept`] makes
+//! a claim. It refuses one unless the place's program is the script's and the slots meet the path. Whatever fits an
+//! accepted claim meets its path, and so runs the script clean.
 //!
 //! `paths` hands it the checked script; `penalty` and `resolve` accept their claims with the slots of `forms`.
 //! `filling` makes the transaction that spends the outputs.
@@ -32,7 +32,7 @@ pub mod parts;
 pub use accepting::accept;
 pub use claims::Claim;
 pub use errors::AcceptError;
-/// A compressed public key. It stands in the crate `keys`.
+/// A compressed public key, from the crate `keys`.
 pub use keys::Key;
 pub use parts::{Place, Shell, Slot, WitnessItem};
 pub use tx::OutPoint;

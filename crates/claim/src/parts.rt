@@ -20,13 +20,13 @@ pub struct WitnessItem {
 pub enum Slot {
     /// The token of this key over the spend's digest.
     Sig(Key),
-    /// 32 bytes whose SHA-256 is this.
+    /// 32 bytes whose SHA-256 is this hash.
     Preimage([u8; 32]),
     /// These bytes.
     Exact(WitnessItem),
 }
 
-/// Where the claimed output stands, its value in satoshis, and its program.
+/// The outpoint of the claimed output, its value in satoshis, and its program.
 #[derive(Debug, Drop)]
 pub struct Place {
     pub outpoint: OutPoint,
@@ -37,14 +37,15 @@ pub struct Place {
 /// The transaction round a claim.
 #[derive(Debug, Drop)]
 pub enum Shell {
-    /// Any transaction of version 2, with a lock time that the claim asks for.
+    /// Any transaction of version 2, with a lock time that the claim allows.
     Open,
     /// This transaction, whatever its witness.
     Fixed(Tx),
 }
 
 impl WitnessItem {
-    /// The item, or back again where it has more than 520 bytes.
+    /// The item. If it has more than 520 bytes, it is handed back as the
+    /// error.
     pub fn new(item: ByteString) -> Result<Self, ByteString>
         ensures { MatchResult result (λ w. w.item ≡ item)
             (λ i. (i ≡ item) × (MAX_SCRIPT_ELEMENT_SIZE < length item)) }

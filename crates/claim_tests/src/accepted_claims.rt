@@ -24,7 +24,8 @@ fn claims_a_checksig(rt: HostRuntime) {
     assert_eq!(rt; copy.needs_height(), 0);
 }
 
-// The number of the refusal of a claim on a script that wants nothing, in whose program an output stands; `None` where it is accepted.
+// The number of the refusal of a claim without slots by this script, on an output whose program is `start` and then `hash`. `None` if
+// the claim is accepted.
 fn refusal_of(
     rt: &impl Abort,
     alloc: Global,
@@ -40,7 +41,7 @@ fn refusal_of(
     }
 }
 
-// SHA-256 of the witness script 51, which is known from outside.
+// SHA-256 of the witness script 51, as computed elsewhere.
 const HASH_OF_51: [u8; 32] = [
     0x4a, 0xe8, 0x15, 0x72, 0xf0, 0x6e, 0x1b, 0x88, 0xfd, 0x5c, 0xed, 0x7a, 0x1a, 0x00, 0x09, 0x45,
     0x43, 0x2e, 0x83, 0xe1, 0x55, 0x1e, 0x6f, 0x72, 0x1e, 0xe9, 0xc0, 0x0b, 0x8c, 0xc3, 0x32, 0x60,
@@ -70,7 +71,7 @@ fn shows(rt: &impl Abort, alloc: Global, refusal: AcceptError, text: &str, numbe
     assert_eq!(rt; refusal.number(), number);
 }
 
-// The refusal where it is not shown that a slot is, or is not, a token of a key.
+// The refusal where the slots do not show that a slot is, or is not, a token of a key.
 fn unmet(slot: usize, key: KeySource, holds: bool) -> AcceptError {
     AcceptError::Unmet(Stated {
         fact: Fact::Token(slot, key),

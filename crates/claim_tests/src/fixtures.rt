@@ -1,4 +1,4 @@
-//! Keys, scripts, places and slots, with which several modules test.
+//! Keys, scripts, places and slots that several modules test with.
 
 use claim::{OutPoint, Place, Slot, WitnessItem};
 use keys::Key;
@@ -20,7 +20,7 @@ pub fn key(rt: &impl Abort, byte: u8) -> Key {
     Key::read(&key_bytes(byte)).expect(rt, "a key")
 }
 
-/// The bytes of a few pieces.
+/// The bytes of these pieces, one after another.
 pub fn joined(rt: &impl Abort, alloc: Global, pieces: &[&[u8]]) -> Vec<u8> {
     let mut bytes = Vec::new(alloc);
     for piece in pieces {
@@ -35,7 +35,7 @@ pub fn checked_script(rt: &impl Abort, alloc: Global, bytes: &[u8]) -> Checked {
     check(alloc, script).expect(rt, "paths")
 }
 
-/// Where an output with a program stands.
+/// The place of an output with this program.
 pub fn place(program: ByteString) -> Place {
     Place {
         outpoint: OutPoint {

@@ -97,7 +97,7 @@ fn lists_up_to_the_limits(rt: HostRuntime) {
     lists(&rt, alloc, &splits, &[free(7, 7, 18, 7); 64]);
 }
 
-// The number of the refusal of a script of these parts; `None` where it is listed.
+// The number of the refusal of a script of these parts; `None` if it is listed.
 fn refusal_of(rt: &impl Abort, alloc: Global, parts: &[(&[u8], usize)]) -> Option<u8> {
     let script = script_of(alloc, parts).expect(rt, "a script");
     match check(alloc, script) {

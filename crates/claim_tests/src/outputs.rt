@@ -1,5 +1,5 @@
-//! Scripts of outputs (BOLT 3) and claims on them: that memory is all that they want. The bytes of the scripts of BOLT 3, Appendix C, and what
-//! fills the slots, stand as facts in the proofs of `forms`.
+//! Scripts of outputs (BOLT 3) and claims on them: they fail only where memory runs out. The bytes of the scripts of BOLT 3, Appendix C, and
+//! what fills the slots, stand as facts in the proofs of `forms`.
 
 use crate::fixtures::{key, place};
 use claim::{Claim, Shell, accept};
@@ -13,14 +13,14 @@ use sighash::programs::script_hash_program;
 use std::alloc::Global;
 use std::process::Abort;
 
-// Whether the scripts without a number are there.
+// Whether the scripts without a number are built.
 fn are_built(alloc: Global, patterns: &Patterns, keys: &HtlcKeys) -> bool {
     funding(alloc, patterns, &keys.local, &keys.remote).is_ok()
         && key_hash(alloc, patterns, &keys.remote).is_ok()
         && offered(alloc, patterns, keys, &[7; 32]).is_ok()
 }
 
-// Whether the scripts with a number are there.
+// Whether the scripts with a number are built.
 fn are_numbered(alloc: Global, patterns: &Patterns, keys: &HtlcKeys, delay: u16) -> bool {
     match Expiry::new(u32::from(delay) * 7629) {
         Some(expiry) => {
@@ -40,7 +40,7 @@ fn htlc_keys(rt: &impl Abort) -> HtlcKeys {
     }
 }
 
-// No delay and no expiry is refused where memory is there.
+// No delay and no expiry is refused while memory lasts.
 #[test]
 fn builds_every_shape_of_number(rt: HostRuntime) {
     let alloc = rt.alloc();
@@ -62,7 +62,7 @@ fn claim(rt: &impl Abort, alloc: Global, checked: Checked, kind: &ClaimKind) -> 
     accept(alloc, checked, kind.path(), slots, place, Shell::Open).expect(rt, "accepted")
 }
 
-// A claim on to_local after so many blocks.
+// A claim on to_local after this delay in blocks.
 fn delayed_claim(rt: &impl Abort, alloc: Global, delay: u16) -> Claim {
     let patterns = patterns(alloc).expect(rt, "memory");
     let delayed = key(rt, 2);
@@ -98,7 +98,7 @@ fn claims_from_a_height_on(rt: HostRuntime) {
     assert_eq!(rt; claim.sequence(), 0);
 }
 
-// How many slots a claim of a kind has.
+// The number of slots of a claim of a kind.
 fn count(alloc: Global, kind: &ClaimKind) -> Option<usize> {
     match accepted_slots(alloc, kind) {
         Ok(slots) => Some(slots.len()),

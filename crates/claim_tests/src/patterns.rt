@@ -1,4 +1,5 @@
-//! Patterns beside what `check` gives for the bytes of their instances, and the printed names of refusals.
+//! Patterns compared with what `check` gives for the bytes of their instances, and the printed names of
+//! refusals.
 
 use crate::fixtures::key_bytes;
 use crate::wanted::checked_parts;
@@ -51,7 +52,7 @@ fn to_local(rt: &impl Abort, alloc: Global) -> CheckedPattern {
     check_pattern(alloc, pieces.expect(rt, "memory")).expect(rt, "listed")
 }
 
-// The same with this delay.
+// The script of to_local with this delay.
 fn filled_to_local(
     rt: &impl Abort,
     alloc: Global,
@@ -66,7 +67,7 @@ fn filled_to_local(
     pattern.instance(alloc, &fills).expect(rt, "an instance")
 }
 
-// The same with this spelling of the delay, checked as bytes.
+// The script of to_local with these bytes of the delay, checked as bytes.
 fn checked_to_local(rt: &impl Abort, alloc: Global, delay: &[u8]) -> Checked {
     let parts: [(&[u8], usize); 7] = [
         (&[0x63, 0x21, 0x02], 1),

@@ -5,7 +5,7 @@ use paths::CheckError;
 use std::alloc::Global;
 use std::process::Abort;
 
-// Each opcode alone, on slots.
+// Each opcode by itself, on slots.
 #[test]
 fn lists_every_opcode(rt: HostRuntime) {
     let alloc = rt.alloc();

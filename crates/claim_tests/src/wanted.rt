@@ -1,11 +1,11 @@
-//! What is wanted of the paths of a script, which is written as parts.
+//! The expected paths of a script that is given in parts.
 
 use paths::{Checked, Path, check};
 use script::{ParseError, Script};
 use std::alloc::Global;
 use std::process::Abort;
 
-/// The script of these bytes, each part so many times.
+/// The script of these parts, each repeated the given number of times.
 pub fn script_of(alloc: Global, parts: &[(&[u8], usize)]) -> Result<Script, ParseError> {
     let mut bytes = Vec::new(alloc);
     for (part, times) in parts {
@@ -16,7 +16,7 @@ pub fn script_of(alloc: Global, parts: &[(&[u8], usize)]) -> Result<Script, Pars
     Script::parse(alloc, &bytes)
 }
 
-/// What is wanted of a path.
+/// The expected numbers of a path.
 #[derive(Clone, Copy)]
 pub struct Wanted {
     pub arity: usize,
@@ -48,7 +48,7 @@ fn is_wanted(path: &Path, wanted: &Wanted) -> bool {
         && path.age == wanted.age
 }
 
-// Whether the paths are as wanted, in this order.
+// Whether the paths are the expected ones, in this order.
 fn has_paths(checked: &Checked, wanted: &[Wanted]) -> bool {
     let paths = checked.paths();
     paths.len() == wanted.len()
@@ -58,13 +58,15 @@ fn has_paths(checked: &Checked, wanted: &[Wanted]) -> bool {
             .all(|(path, numbers)| is_wanted(path, numbers))
 }
 
-/// The paths of a script of these parts, each so many times.
+/// The paths of a script of these parts, each repeated the given
+/// number of times.
 pub fn checked_parts(rt: &impl Abort, alloc: Global, parts: &[(&[u8], usize)]) -> Checked {
     let script = script_of(alloc, parts).expect(rt, "a script");
     check(alloc, script).expect(rt, "paths")
 }
 
-/// Asserts the paths of a script of these parts, each so many times.
+/// Asserts the paths of a script of these parts, each repeated the
+/// given number of times.
 pub fn lists(rt: &impl Abort, alloc: Global, parts: &[(&[u8], usize)], wanted: &[Wanted]) {
     let checked = checked_parts(rt, alloc, parts);
     assert!(rt; has_paths(&checked, wanted), "{parts:?}");

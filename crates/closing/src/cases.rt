@@ -1,8 +1,9 @@
-// What is claimed, what is wrong with it, and in which block.
+// The output that is claimed, the one thing that is wrong, and the
+// height of the block.
 
 use std::fmt;
 
-/// An output of a form, and the way on which it is claimed.
+/// An output of a form, and the way in which it is claimed.
 #[derive(Clone, Copy)]
 pub enum Claimed {
     Penalty,
@@ -14,7 +15,8 @@ pub enum Claimed {
     KeyHash,
     HtlcTimeout,
     HtlcSuccess,
-    /// The funding output, by the commitment that both sides signed.
+    /// The funding output, spent by the
+    /// commitment that both sides signed.
     Funding,
 }
 
@@ -22,36 +24,36 @@ pub enum Claimed {
 #[derive(Clone, Copy)]
 pub enum Slip {
     None,
-    /// The signer of the other side.
+    /// The claim is filled by the signer of the other side.
     OtherSigner,
     /// Another preimage is given.
     OtherPreimage,
-    /// The witness has other bytes in place of the item on top.
+    /// The top item of the witness has other bytes.
     OtherTop,
     /// The witness has the claimant's token over another digest.
     OtherToken,
     /// The other side's token is over another digest.
     OtherRemoteToken,
-    /// A path that the script has not.
+    /// The script does not have this path.
     OtherPath,
-    /// A slot too few.
+    /// One slot is missing.
     OtherSlots,
     /// The place has the program of another script.
     OtherProgram,
-    /// The item on top is empty.
+    /// The top item is empty.
     OtherFlag,
-    /// The fixed transaction has a time for a lock time.
+    /// The lock time of the fixed transaction is a time.
     TimeLock,
     /// The fixed transaction pays a satoshi more than the place has.
     GreaterOutputs,
 }
 
-/// A claim that is tried.
+/// One claim to try.
 #[derive(Clone, Copy)]
 pub struct Case {
     pub claimed: Claimed,
     pub slip: Slip,
-    /// The height of the block that is to take it.
+    /// The height of the block that is to take the transaction.
     pub height: u64,
 }
 

@@ -14,10 +14,11 @@ use sighash::programs::{key_hash_program, script_hash_program};
 use std::alloc::{AllocError, Global};
 use tx::TxOut;
 
-/// What the output is worth in satoshis.
+/// The value of the output, in satoshis.
 pub const VALUE: u64 = 100_000;
 
-/// The preimage of the HTLCs, their expiry, and the delay of to_local.
+/// The preimage of the HTLCs, their expiry (a height), and the delay of
+/// to_local in blocks.
 pub const PREIMAGE: [u8; 32] = [5; 32];
 
 pub const EXPIRY: u32 = 500;
@@ -66,7 +67,7 @@ fn funding_script(alloc: Global, parties: &Parties) -> Result<Checked, AllocErro
     )
 }
 
-/// The script of what is claimed.
+/// The script of the claimed output.
 pub fn script_of(alloc: Global, parties: &Parties, claimed: Claimed) -> Result<Checked> {
     match claimed {
         Claimed::Penalty | Claimed::Delayed => Ok(to_local_script(alloc, parties)?),
@@ -81,7 +82,8 @@ pub fn script_of(alloc: Global, parties: &Parties, claimed: Claimed) -> Result<C
     }
 }
 
-/// The program of what is claimed (BIP 141): that of the key, or of the script.
+/// The program of the claimed output (BIP
+/// 141): that of the key, or of the script.
 fn program_of(
     alloc: Global,
     parties: &Parties,
@@ -94,7 +96,7 @@ fn program_of(
     }
 }
 
-/// Grants the output to a chain, and says where it stands.
+/// Grants the output on a chain, and returns its place.
 pub fn grant(
     alloc: Global,
     parties: &Parties,

@@ -1,11 +1,11 @@
 //! Claims on outputs of a chain, from the form of the script to the block that takes the claim's transaction.
 //!
-//! It makes the eight kinds of claims on the forms of BOLT 3, and the funding output with both signatures. A line
-//! says what comes of each, first with nothing wrong, and then with one thing wrong. So it goes the whole walk of a
-//! script: `paths`, `forms`, `claim`, `filling`, `chain`. Nothing stands on it.
+//! It makes the eight kinds of claims on the forms of BOLT 3, and the funding output with both signatures. For each,
+//! one line prints the result with nothing wrong, and further lines the results with one thing wrong. So it runs all
+//! that happens to a script: `paths`, `forms`, `claim`, `filling`, `chain`. No crate depends on it.
 //!
-//! What must be printed is what an independent model of BOLT 3 and of BIP 65, 68, 112, 141 and 143 prints, with keys,
-//! tokens, facts and refusals as `docs/` has them.
+//! The expected output is from an independent model of BOLT 3 and of BIP 65, 68, 112, 141 and 143, with keys, tokens,
+//! facts and refusals as `docs/` has them.
 #![tactic(auto)]
 
 mod cases;
@@ -21,7 +21,7 @@ mod together;
 use anyhow::Result;
 use parties::Parties;
 
-/// Prints what comes of all claims.
+/// Prints the results of all claims.
 fn show_all<R: Print + AllocGlobal>(rt: &R, parties: &Parties) -> Result<()> {
     tables::show_all(rt, parties)?;
     together::show_all(rt, parties)?;

@@ -1,17 +1,18 @@
-// What comes of a claim.
+// The outcome of a claim.
 
 use chain::ChainError;
 use claim::AcceptError;
 use filling::FillError;
 use std::fmt;
 
-/// What comes of a claim.
+/// The outcome of a claim.
 #[derive(Drop)]
 pub enum Outcome {
     NotAccepted(AcceptError),
     NotFilled(FillError),
     NotConnected(ChainError),
-    /// A block took the transaction: the age and the height that the claim asked for.
+    /// A block took the transaction. The numbers are
+    /// the claim's age, in blocks, and its height.
     Connected(u16, u64),
 }
 

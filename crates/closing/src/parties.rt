@@ -8,7 +8,8 @@ use std::alloc::Global;
 /// The per-commitment secret of the commitment, which its owner revoked.
 const SECRET: [u8; 32] = [9; 32];
 
-/// The owner of a commitment, and its peer, who learnt the commitment's secret.
+/// The owner of a commitment, and its peer,
+/// which learnt the commitment's secret.
 #[derive(Drop)]
 pub struct Parties {
     pub owner: Signer,

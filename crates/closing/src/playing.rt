@@ -1,4 +1,4 @@
-// A claim from the script to the block.
+// Plays a claim from its script to the block.
 
 use crate::cases::{Case, Claimed, Slip};
 use crate::funded::{EXPIRY, PREIMAGE, VALUE, grant, script_of};
@@ -18,7 +18,7 @@ use sighash::{Token, digest_of};
 use std::alloc::Global;
 use tx::{Inputs, MAX_OUTPUTS, OutPoint, Outputs, Tx, TxIn, TxOut, Witness};
 
-/// One output of this value, to a program that nobody claims here.
+/// One output of this value, in satoshis, to a program that is not claimed here.
 pub fn outputs(alloc: Global, value: u64) -> Result<Vec<TxOut>> {
     let mut program = Vec::from_slice(alloc, &[0x00, 0x14])?;
     program.extend_from_slice(&[7; 20])?;
@@ -27,7 +27,7 @@ pub fn outputs(alloc: Global, value: u64) -> Result<Vec<TxOut>> {
     Ok(outputs)
 }
 
-/// An input of sequence 0, which comes with a witness item.
+/// An input of sequence 0 with one witness item.
 fn signed_input(alloc: Global, outpoint: OutPoint) -> Result<TxIn> {
     let mut witness = Witness::new(alloc);
     witness.push(ByteString::from_slice(alloc, &[1])?)?;
@@ -38,14 +38,14 @@ fn signed_input(alloc: Global, outpoint: OutPoint) -> Result<TxIn> {
     })
 }
 
-/// That input alone.
+/// A list of that one input.
 fn signed_inputs(alloc: Global, outpoint: OutPoint) -> Result<Inputs> {
     let mut inputs = Inputs::new(alloc);
     inputs.push(signed_input(alloc, outpoint)?)?;
     Ok(inputs)
 }
 
-/// The transaction that both sides signed: of one input, with this lock time and an output of this value.
+/// The transaction that both sides signed: one input, this lock time, and one output of this value.
 fn fixed(alloc: Global, outpoint: OutPoint, lock_time: u32, value: u64) -> Result<Tx> {
     let inputs = signed_inputs(alloc, outpoint)?;
     let outputs = Outputs::from_vec(outputs(alloc, value)?)?;
@@ -68,7 +68,7 @@ fn shell(alloc: Global, case: &Case, place: &Place) -> Result<Shell> {
     Ok(Shell::Fixed(tx))
 }
 
-/// The other side's token over the fixed transaction, or over another digest; over nothing where the shell is open.
+/// The other side's token over the fixed transaction, or over another digest. It is over zeros if the shell is open.
 fn remote_token(key: &Key, script: &[u8], shell: &Shell, slip: Slip) -> Result<Token> {
     let Shell::Fixed(tx) = shell else {
         return Ok(Token::new(&key.bytes, &[0; 32]));
@@ -80,7 +80,7 @@ fn remote_token(key: &Key, script: &[u8], shell: &Shell, slip: Slip) -> Result<T
     Ok(Token::new(&key.bytes, &digest))
 }
 
-/// The kind of the claim; none of the funding output.
+/// The kind of the claim; `None` for the funding output.
 fn kind_of(parties: &Parties, claimed: Claimed, remote_token: Token) -> Option<ClaimKind> {
     let keys = parties.htlc_keys();
     let payment_hash = sha256(&PREIMAGE);
@@ -120,7 +120,8 @@ fn exact(alloc: Global, bytes: &[u8]) -> Result<Slot> {
     }
 }
 
-/// The slots of the funding output, the top first: the signature of the greater key, that of the lesser, and the empty item.
+/// The slots of the funding output, from the top of the stack: the
+/// signature of the greater key, that of the lesser, and the empty item.
 fn funding_slots(alloc: Global, parties: &Parties, token: &Token) -> Result<Vec<Slot>> {
     let local = parties.owner.base(Base::Funding);
     let mut slots = Vec::new(alloc);
@@ -133,7 +134,7 @@ fn funding_slots(alloc: Global, parties: &Parties, token: &Token) -> Result<Vec<
     Ok(slots)
 }
 
-/// The key of the other side's token.
+/// The key that makes the other side's token.
 fn remote_key(parties: &Parties, claimed: Claimed) -> Key {
     match claimed {
         Claimed::Funding => parties.peer.base(Base::Funding),
@@ -141,7 +142,7 @@ fn remote_key(parties: &Parties, claimed: Claimed) -> Key {
     }
 }
 
-/// The slots of what is claimed, the top first, and the path that they are for.
+/// The slots of a claim, from the top of the stack, and the path that they are for.
 fn wanted_slots(
     alloc: Global,
     parties: &Parties,
@@ -157,7 +158,7 @@ fn wanted_slots(
     }
 }
 
-/// Those slots and that path, with what is wrong in them.
+/// Those slots and that path, with the slip applied.
 fn slots_of(
     alloc: Global,
     parties: &Parties,
@@ -177,7 +178,8 @@ fn slots_of(
     Ok((slots, path))
 }
 
-/// What is claimed: the path of the script, the slots, the top first, where the output stands, and the transaction round the claim.
+/// A claim that is tried: the path of the script, the slots from the top of
+/// the stack, the place of the output, and the transaction round the claim.
 #[derive(Drop)]
 struct Attempt {
     path: usize,
@@ -186,7 +188,7 @@ struct Attempt {
     shell: Shell,
 }
 
-/// Grants the output to the chain, with the program of the script, or of another one.
+/// Grants the output on the chain, with the program of the script or of another one.
 fn granted(
     alloc: Global,
     parties: &Parties,
@@ -201,7 +203,7 @@ fn granted(
     grant(alloc, parties, case.claimed, granted, chain)
 }
 
-/// What is claimed of a script.
+/// The attempt to claim an output with this script.
 fn attempt_of(
     alloc: Global,
     parties: &Parties,
@@ -220,7 +222,7 @@ fn attempt_of(
     })
 }
 
-/// The claim, or why it is not accepted.
+/// The accepted claim, or why it is refused.
 pub fn claim_of(
     alloc: Global,
     parties: &Parties,
@@ -238,7 +240,7 @@ pub fn claim_of(
     Ok(accept(alloc, checked, path, slots, place, shell))
 }
 
-/// Who claims: the owner of the commitment, or its peer.
+/// The signer of the claimant: the owner of the commitment, or its peer.
 fn signer_of<'a>(parties: &'a Parties, case: &Case) -> &'a Signer {
     match (case.claimed, case.slip) {
         (_, Slip::OtherSigner) => &parties.owner,
@@ -249,7 +251,7 @@ fn signer_of<'a>(parties: &'a Parties, case: &Case) -> &'a Signer {
     }
 }
 
-/// The claim, filled, or why it is not.
+/// The claim's filling, or why it is refused.
 fn fill_of(
     alloc: Global,
     parties: &Parties,
@@ -268,7 +270,7 @@ fn fill_of(
     Ok(fill(alloc, &[claim], outputs, signer, &[preimage]))
 }
 
-/// Empty blocks, so that the next one has this height.
+/// Adds empty blocks, until the next block has this height.
 fn raise(alloc: Global, chain: &mut Chain, height: u64) -> Result<()> {
     for _ in chain.height()..height.saturating_sub(1) {
         chain.connect(Vec::new(alloc))?;
@@ -276,7 +278,7 @@ fn raise(alloc: Global, chain: &mut Chain, height: u64) -> Result<()> {
     Ok(())
 }
 
-/// Connects a claim's transaction in a block of this height.
+/// Connects the transaction of a claim in a block at this height.
 pub fn connect(
     alloc: Global,
     height: u64,
@@ -293,7 +295,7 @@ pub fn connect(
     }
 }
 
-/// What comes of a claim's transaction.
+/// The outcome of a claim's transaction.
 fn play_filled(
     alloc: Global,
     case: &Case,
@@ -305,7 +307,7 @@ fn play_filled(
     connect(alloc, case.height, claim, tx, chain)
 }
 
-/// What comes of an accepted claim.
+/// The outcome of an accepted claim.
 fn play_accepted(
     alloc: Global,
     parties: &Parties,
@@ -319,7 +321,7 @@ fn play_accepted(
     }
 }
 
-/// What comes of a case on a chain.
+/// The outcome of a case on a chain.
 fn play_on(alloc: Global, parties: &Parties, case: &Case, chain: &mut Chain) -> Result<Outcome> {
     match claim_of(alloc, parties, case, chain)? {
         Ok(claim) => play_accepted(alloc, parties, case, &claim, chain),
@@ -327,7 +329,7 @@ fn play_on(alloc: Global, parties: &Parties, case: &Case, chain: &mut Chain) -> 
     }
 }
 
-/// What comes of a case, on a new chain.
+/// The outcome of a case on a new chain.
 pub fn play(alloc: Global, parties: &Parties, case: &Case) -> Result<Outcome> {
     let mut chain = Chain::new(alloc)?;
     play_on(alloc, parties, case, &mut chain)

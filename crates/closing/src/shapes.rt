@@ -1,4 +1,4 @@
-// Claims of many shapes, on scripts of their own.
+// Claims of many shapes, on scripts made for them.
 
 ghost use Rattle.std.specs.Prelude.{◌≤◌};
 
@@ -13,7 +13,7 @@ use script::Script;
 use sighash::programs::script_hash_program;
 use std::alloc::{AllocError, Global};
 
-/// A slot of exactly these bytes; none where they are too long for an item.
+/// A slot of exactly these bytes; `None` if they are more than 520.
 pub fn exact(alloc: Global, bytes: &[u8]) -> Result<Option<Slot>> {
     match WitnessItem::new(ByteString::from_slice(alloc, bytes)?) {
         Ok(item) => Ok(Some(Slot::Exact(item))),
@@ -28,7 +28,7 @@ fn one(alloc: Global, slot: Slot) -> Result<Vec<Slot>, AllocError> {
     Ok(slots)
 }
 
-/// Where an output to the script's hash stands.
+/// The place of an output to the script's hash.
 fn place(alloc: Global, script: &[u8]) -> Result<Place, AllocError> {
     Ok(Place {
         outpoint: OutPoint {
@@ -55,7 +55,8 @@ fn refusal_on(alloc: Global, script: &[u8], slots: Vec<Slot>) -> Result<Option<u
     }
 }
 
-/// Whether an item of `len` bytes is taken by DROP and 1, which takes any; `None` where it is too long.
+/// Whether DROP and 1, which take any item, take one of
+/// `len` bytes; `None` if it is too long for an item.
 fn takes_any(alloc: Global, len: usize) -> Result<Option<bool>> {
     let Some(slot) = exact(alloc, &vec![in alloc; 9u8; len]?)? else {
         return Ok(None);
@@ -78,7 +79,7 @@ fn show_items<R: Print + AllocGlobal>(rt: &R) -> Result<()> {
     Ok(())
 }
 
-/// The number of the refusal of a claim with one exact item; `None` where it is accepted.
+/// The number of the refusal of a claim with one exact item; `None` if it is accepted.
 fn refusal_of(alloc: Global, script: &[u8], item: &[u8]) -> Result<Option<u8>> {
     let Some(slot) = exact(alloc, item)? else {
         bail!("an item has at most 520 bytes");
@@ -86,7 +87,7 @@ fn refusal_of(alloc: Global, script: &[u8], item: &[u8]) -> Result<Option<u8>> {
     refusal_on(alloc, script, one(alloc, slot)?)
 }
 
-/// The script that takes just this item, of `len` bytes: its push and EQUAL.
+/// The script that takes only this item, of `len` bytes: its push and EQUAL.
 fn push_script(alloc: Global, len: u8, item: &[u8]) -> Result<Vec<u8>, AllocError> {
     let mut script = Vec::from_slice(alloc, &[len])?;
     script.extend_from_slice(item)?;
@@ -94,7 +95,7 @@ fn push_script(alloc: Global, len: u8, item: &[u8]) -> Result<Vec<u8>, AllocErro
     Ok(script)
 }
 
-/// Whether a push of `len` bytes and EQUAL takes just these: another item is Unmet.
+/// Whether a push of `len` bytes and EQUAL take exactly these bytes: another item is `Unmet`.
 fn takes_these(alloc: Global, len: u8) -> Result<bool> {
     let item = vec![in alloc; 9u8; len as usize]?;
     let script = push_script(alloc, len, &item)?;
@@ -139,7 +140,7 @@ fn signatures_script(
     Ok(script)
 }
 
-/// The slots of `signatures` signatures of one key, and below them the empty item.
+/// The slots of `signatures` signatures of one key, and the empty item below them (BIP 147).
 fn signature_slots(alloc: Global, key: &Key, signatures: u8) -> Result<Vec<Slot>> {
     let mut slots = Vec::new(alloc);
     for _signature in 0..signatures {
@@ -190,7 +191,7 @@ fn takes_preimage(alloc: Global, hash: [u8; 32]) -> Result<bool> {
     Ok(refusal_on(alloc, &script, slots)?.is_none())
 }
 
-/// Prints what comes of claims of many shapes.
+/// Prints the results of claims of many shapes.
 pub fn show_all<R: Print + AllocGlobal>(rt: &R, parties: &Parties) -> Result<()> {
     show_items(rt)?;
     show_pushes(rt)?;

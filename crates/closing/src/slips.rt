@@ -1,4 +1,4 @@
-// Witnesses in which one item is another.
+// Witnesses with one item replaced.
 
 use crate::cases::Slip;
 use anyhow::Result;
@@ -6,7 +6,7 @@ use lists::ByteString;
 use std::alloc::Global;
 use tx::{Tx, Witness};
 
-/// The bytes of a token over another digest: the last bit of the digest is turned.
+/// The bytes of a token over another digest: the last bit of the digest is flipped.
 fn other_digest(alloc: Global, token: &[u8]) -> Result<ByteString> {
     let mut bytes = Vec::from_slice(alloc, token)?;
     if let Some(last) = bytes.get_mut(64) {
@@ -15,7 +15,8 @@ fn other_digest(alloc: Global, token: &[u8]) -> Result<ByteString> {
     Ok(ByteString::from_vec(bytes))
 }
 
-/// The place in a witness of the first item that is a token, or of the item on top, which stands before the script.
+/// The index in a witness of the item to replace: the topmost
+/// token, or the top item, which stands before the script.
 fn place_of(slip: Slip, items: &[ByteString]) -> Option<usize> {
     match slip {
         Slip::OtherToken => items.iter().rposition(|item| item.len() == 66),
@@ -24,7 +25,7 @@ fn place_of(slip: Slip, items: &[ByteString]) -> Option<usize> {
     }
 }
 
-/// The items, of which the one at this place is another.
+/// The items, with the one at this index replaced.
 fn spoilt(alloc: Global, items: &[ByteString], place: usize) -> Result<Witness> {
     let mut witness = Witness::new(alloc);
     for (index, item) in items.iter().enumerate() {
@@ -38,7 +39,7 @@ fn spoilt(alloc: Global, items: &[ByteString], place: usize) -> Result<Witness> 
     Ok(witness)
 }
 
-/// The transaction, with what is wrong in its witness.
+/// The transaction, with the slip applied to its witness.
 pub fn spoil(alloc: Global, slip: Slip, mut tx: Tx) -> Result<Tx> {
     let Some(input) = tx.inputs().first() else {
         return Ok(tx);

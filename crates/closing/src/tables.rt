@@ -5,7 +5,7 @@ use crate::parties::Parties;
 use crate::playing::play;
 use anyhow::Result;
 
-/// What is claimed.
+/// The outputs that are claimed, in order.
 const CLAIMED: [Claimed; 10] = [
     Claimed::Penalty,
     Claimed::Delayed,
@@ -19,7 +19,7 @@ const CLAIMED: [Claimed; 10] = [
     Claimed::Funding,
 ];
 
-/// What is wrong with a claim in turn, and the height of the block that is to take it.
+/// The slips of each claim in turn, with the height of the block that is to take it.
 const PENALTY: [(Slip, u64); 7] = [
     (Slip::None, 1),
     (Slip::OtherToken, 1),
@@ -73,7 +73,7 @@ const FUNDING: [(Slip, u64); 4] = [
     (Slip::GreaterOutputs, 1),
 ];
 
-/// The tries of a claim.
+/// The slips and heights of a claim.
 fn tries_of(claimed: Claimed) -> &'static [(Slip, u64)] {
     match claimed {
         Claimed::Penalty => &PENALTY,
@@ -87,7 +87,7 @@ fn tries_of(claimed: Claimed) -> &'static [(Slip, u64)] {
     }
 }
 
-/// Prints what comes of each try of a claim.
+/// Prints the result of each try of a claim.
 fn show<R: Print + AllocGlobal>(rt: &R, parties: &Parties, claimed: Claimed) -> Result<()> {
     for (slip, height) in tries_of(claimed) {
         let case = Case {
@@ -101,7 +101,7 @@ fn show<R: Print + AllocGlobal>(rt: &R, parties: &Parties, claimed: Claimed) -> 
     Ok(())
 }
 
-/// Prints what comes of every claim.
+/// Prints the results of all claims.
 pub fn show_all<R: Print + AllocGlobal>(rt: &R, parties: &Parties) -> Result<()> {
     for claimed in &CLAIMED {
         show(rt, parties, *claimed)?;

@@ -12,7 +12,7 @@ use keys::Signer;
 use std::alloc::Global;
 use tx::{MAX_INPUTS, MAX_OUTPUTS, Tx};
 
-/// What is claimed together, each accepted by itself.
+/// The claims that are taken together. Each is accepted by itself.
 const KINDS: [Claimed; 4] = [
     Claimed::Penalty,
     Claimed::DirectTimeout,
@@ -49,7 +49,7 @@ fn accept_all(
     Ok(claims)
 }
 
-/// What `fill` answers, of one output of this value.
+/// The result of `fill`, with one output of this value.
 fn answer(
     alloc: Global,
     claims: &[&Claim],
@@ -64,7 +64,7 @@ fn answer(
     Ok(fill(alloc, claims, outputs, signer, preimages))
 }
 
-/// Why claims are not filled; nothing where they are.
+/// Why claims are not filled; `None` if they are.
 fn refusal_of(
     alloc: Global,
     claims: &[&Claim],
@@ -89,7 +89,7 @@ fn show<R: Print + AllocGlobal>(
     Ok(())
 }
 
-/// Prints the refusals in their order: what is wrong with a line is right in those that follow it.
+/// Prints the refusals in order: each line mends what was wrong in the line before it.
 fn show_refusals<R: Print + AllocGlobal>(
     rt: &R,
     owner: &Signer,
@@ -141,14 +141,14 @@ fn fill_three(alloc: Global, parties: &Parties, claims: &[&Claim]) -> Result<Tx>
     Ok(filled.into_tx())
 }
 
-/// Prints what a transaction of three claims has.
+/// Prints the parts of a transaction of three claims.
 fn show_transaction<R: Print>(rt: &R, tx: &Tx) -> Result<()> {
     let (inputs, lock_time) = (tx.inputs().len(), tx.lock_time());
     println!(rt; "three claims: {inputs} inputs, lock time {lock_time}")?;
     Ok(())
 }
 
-/// Prints what comes of a transaction of three claims.
+/// Prints the result of connecting a transaction of three claims.
 fn show_connected<R: Print + AllocGlobal>(
     rt: &R,
     timeout: &Claim,
@@ -160,7 +160,7 @@ fn show_connected<R: Print + AllocGlobal>(
     Ok(())
 }
 
-/// Prints what comes of three claims in one transaction.
+/// Prints the results of three claims in one transaction.
 fn show_three<R: Print + AllocGlobal>(
     rt: &R,
     parties: &Parties,
@@ -173,7 +173,7 @@ fn show_three<R: Print + AllocGlobal>(
     show_connected(rt, timeout, tx, chain)
 }
 
-/// Prints what comes of a claim of each of those kinds, on outputs of a chain.
+/// Prints the results of claims of each of those kinds, on outputs of a chain.
 fn show_claims<R: Print + AllocGlobal>(
     rt: &R,
     parties: &Parties,
@@ -188,7 +188,7 @@ fn show_claims<R: Print + AllocGlobal>(
     show_three(rt, parties, &three, timeout, chain)
 }
 
-/// Prints what comes of several claims.
+/// Prints the results of several claims in one transaction.
 pub fn show_all<R: Print + AllocGlobal>(rt: &R, parties: &Parties) -> Result<()> {
     let mut chain = Chain::new(rt.alloc())?;
     let claims = accept_all(rt.alloc(), parties, &KINDS, &mut chain)?;

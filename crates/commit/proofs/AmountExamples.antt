@@ -33,7 +33,7 @@ module _ (funding : OutPoint) (bases : BaseKeys) where
     feerate = feerate;
   }
 
-  -- the amounts, with the HTLCs' millisatoshis alone
+  -- the amounts, with only the millisatoshis of the HTLCs
   abbrev summary : Terms → View → Side → List ℕ × List ℕ × ℕ × Option ℕ × Option ℕ
   summary terms view owner = let a = amounts_of terms view owner in (map (λ h. h.amount) a.offered, map (λ h. h.amount) a.received, a.fee, a.to_local, a.to_remote)
 
@@ -67,7 +67,7 @@ module _ (funding : OutPoint) (bases : BaseKeys) where
   below_the_limit : summary (opened_by_a 546 546) (view 5000 76140000 (3860000 ∷ []) 20000000 []) A ≡ ([], [], 3620, Some 72520, Some 20000)
   below_the_limit = refl
 
-  -- equal HTLCs are two
+  -- two equal HTLCs count twice
   twice : summary (opened_by_a 546 546) (view 1000 60000000 (10000000 ∷ 10000000 ∷ []) 20000000 []) A ≡ (10000000 ∷ 10000000 ∷ [], [], 1068, Some 58932, Some 20000)
   twice = refl
 

@@ -64,7 +64,7 @@ all_collected delay k a =
 in_order_too : (delay : ℕ) (k : KeyBytes) (a : Amounts) → All (IsCollected k) (in_order (outputs_of delay k a))
 in_order_too delay k a = All-permutation (IsCollected k) _ _ (there_is_one (outputs_of delay k a)).0.same (all_collected delay k a)
 
--- where nothing is refused, all is within its limits
+-- if nothing is refused, everything is within its limits
 some_none : {A : Type 0} (x : A) → Some x ≡ None → ⊥
 some_none x e = cc
 
@@ -76,7 +76,7 @@ low (o ∷ os) e = All-cons (λ (o : CommitmentOutput). o.value ≤ max_value) _
     neither true b e = absurd (true≢false e)
     neither false b e = (refl, e)
 
--- the two tests that nothing failed
+-- the two checks pass
 passed : (few low : Bool) → cond few (Some TooManyOutputs) (cond low (Some ValueTooLarge) None) ≡ None → (few ≡ false) × (low ≡ false)
 passed true low e = absurd (some_none TooManyOutputs e)
 passed false true e = absurd (some_none ValueTooLarge e)

@@ -33,6 +33,6 @@ offered = refl
 received : map (λ amount. is_trimmed_by 546 5000 Received (of_amount amount)) (3861000 ∷ 4060999 ∷ 4061000 ∷ []) ≡ true ∷ true ∷ false ∷ []
 received = refl
 
--- sums that pass 64 bits
+-- sums that exceed 64 bits
 wide : (is_trimmed_by 18446744073709551615 5000 Offered (of_amount 18446744073709551615) ≡ true) × (is_trimmed_by 0 0 Received (of_amount 0) ≡ false)
 wide = (refl, refl)

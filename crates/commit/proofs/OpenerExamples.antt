@@ -63,7 +63,7 @@ module _ (funding : OutPoint) (any : Key) where
   unfolding commitment_of mask_of sha256 digest_bytes hash_after compress rounds schedule first_words
   numbers point = (refl, refl, refl, refl)
 
-  -- what to_local and to_remote get of A's commitment and of B's: the opener alone pays the 724 satoshis
+  -- what to_local and to_remote get of A's commitment and of B's: only the opener pays the 724 satoshis
   abbrev paid : Side → Side → Option ℕ × Option ℕ
   paid opener owner = let amounts = amounts_of (opened_by opener) view owner in (amounts.to_local, amounts.to_remote)
 

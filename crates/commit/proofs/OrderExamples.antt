@@ -18,7 +18,8 @@ output value program kind = record { value = value; script = []; program = progr
 abbrev htlc : ℕ → List ℕ → ℕ → ℕ → CommitmentOutput
 htlc value program expiry id = output value program (ToHtlc Offered (record { id = id; amount = 0; hash = []; expiry = expiry }))
 
--- by value, then by program as bytes stand in a dictionary, then by expiry; those alike in all three as they stood
+-- by value, then by the bytes of the program in lexicographic order, then by expiry; outputs equal in all three stay as
+-- they stood
 ordered : in_order (htlc 2 (9 ∷ []) 5 0 ∷ htlc 1 (2 ∷ []) 7 1 ∷ htlc 1 (2 ∷ 0 ∷ []) 1 2 ∷ htlc 1 (1 ∷ 255 ∷ []) 9 3 ∷ htlc 1 (2 ∷ []) 6 5 ∷ htlc 1 (2 ∷ []) 6 4 ∷ output 1 (2 ∷ []) ToLocal ∷ [])
     ≡ htlc 1 (1 ∷ 255 ∷ []) 9 3 ∷ output 1 (2 ∷ []) ToLocal ∷ htlc 1 (2 ∷ []) 6 5 ∷ htlc 1 (2 ∷ []) 6 4 ∷ htlc 1 (2 ∷ []) 7 1 ∷ htlc 1 (2 ∷ 0 ∷ []) 1 2 ∷ htlc 2 (9 ∷ []) 5 0 ∷ []
 unfolding in_order output_cmp
@@ -29,7 +30,7 @@ places : map (λ (h : HtlcOutput). h.index) (htlcs_from 0 (output 1 [] ToRemote 
 unfolding htlcs_from
 places = refl
 
--- HTLC-timeout waits for the expiry, HTLC-success for nothing
+-- HTLC-timeout has the expiry as its lock time, HTLC-success has 0
 waits : map (λ d. lock_time_of d (record { id = 0; amount = 0; hash = []; expiry = 500 })) (Offered ∷ Received ∷ []) ≡ 500 ∷ 0 ∷ []
 waits = refl
 

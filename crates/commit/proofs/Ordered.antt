@@ -86,7 +86,7 @@ ties_back x y = and_comm (not (stands_before x y)) (not (stands_before y x))
 tied : (x y : Output) → stands_before x y ≡ false → stands_before y x ≡ false → ties stands_before x y ≡ true
 tied x y a b = rw (a, b) refl
 
--- two lists that ascend, and that have for each output the same ones that tie with it, are one
+-- two ascending lists with the same ties for each output are equal
 kept : (b : Bool) (y : Output) (ys : List Output) → b ≡ true → cond b (y ∷ ys) ys ≡ y ∷ ys
 kept b y ys e = rw e refl
 

@@ -30,7 +30,7 @@ use Rattle.commit.proofs.Ordered.{there_is_one}
 use Rattle.commit.proofs.Funds.{nothing_is_created}
 use Rattle.commit.proofs.Values.{values, of_all}
 
--- none is above their sum
+-- no value is above their sum
 each_below : (xs : List Output) (top : ℕ) → values xs ≤ top → All (λ o. o.value ≤ top) xs
 each_below [] top l = All-nil (λ (o : Output). o.value ≤ top)
 each_below (x ∷ xs) top l =
@@ -43,7 +43,7 @@ not_above v l = le-ltb max_value v l
 none_above : (xs : List Output) → All (λ o. o.value ≤ max_value) xs → list_any (λ o. ltb max_value o.value) xs ≡ false
 none_above xs a = list_any_none (λ (o : Output). ltb max_value o.value) xs (λ i d l. not_above _ (a i d l))
 
--- how many there are
+-- the number of HTLCs that are kept
 kept_fewer : (p : Htlc → Bool) (hs : List Htlc) → length (filter p hs) ≤ length hs
 kept_fewer p [] = omega arith
 kept_fewer p (h ∷ hs) = by (p h) (kept_fewer p hs)

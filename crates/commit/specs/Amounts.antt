@@ -18,14 +18,14 @@ use Rattle.commit.specs.Fees.{satoshis_of, fee_of, commitment_weight, is_trimmed
 abbrev pub untrimmed : ℕ → ℕ → Direction → List Htlc → List Htlc
 untrimmed dust feerate direction htlcs = filter (λ htlc. not (is_trimmed_by dust feerate direction htlc)) htlcs
 
--- of a fee, what a side owes: the opener pays all of it
+-- what a side owes of a fee: the opener pays all of it
 abbrev pub owed_by : Side → Side → ℕ → ℕ
 owed_by A A fee = fee
 owed_by B B fee = fee
 owed_by A B fee = 0
 owed_by B A fee = 0
 
--- what a side's balance is in satoshis, less what it owes of the fee; nothing where that is more
+-- a side's balance in satoshis, less what it owes of the fee; 0 if it owes more than that
 abbrev pub left_to : Side → Side → ℕ → View → ℕ
 left_to side opener fee view = satoshis_of (share side view).balance - owed_by side opener fee
 

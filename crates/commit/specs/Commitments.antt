@@ -51,7 +51,7 @@ commitment_of terms view owner n point = record {
   outputs = in_order (outputs_of (party owner terms).delay (keys_of terms owner point) (amounts_of terms view owner));
 }
 
--- a transaction of version 2 with one input, which is not signed
+-- an unsigned transaction of version 2 with one input
 abbrev pub spending : OutPoint → ℕ → List Output → ℕ → Transaction
 spending outpoint sequence outputs lock_time = record {
   version = 2;
@@ -70,7 +70,7 @@ transaction_of c = spending c.funding c.hidden.sequence (map tx_output c.outputs
 abbrev pub id_of : Contents → List ℕ
 id_of c = transaction_id (transaction_of c)
 
--- the outputs to HTLCs, with the indices at which they stand
+-- the HTLC outputs, with their indices
 abbrev pub htlc_at : ℕ → OutputKind → Option HtlcOutput
 htlc_at index ToLocal = None
 htlc_at index ToRemote = None
@@ -83,7 +83,7 @@ htlcs_from index (o ∷ os) = cons_option (htlc_at index o.kind) (htlcs_from (in
 abbrev pub htlcs_of : Contents → List HtlcOutput
 htlcs_of c = htlcs_from 0 c.outputs
 
--- HTLC-timeout waits for the expiry, HTLC-success for nothing
+-- HTLC-timeout has the expiry as its lock time, HTLC-success has 0
 abbrev pub lock_time_of : Direction → Htlc → ℕ
 lock_time_of Offered h = h.expiry
 lock_time_of Received h = 0
@@ -99,11 +99,11 @@ second_stage_output c h = record {
 unfoldable pub second_stage_of : Contents → HtlcOutput → Transaction
 second_stage_of c h = spending (record { txid = id_of c; index = h.index }) 0 (second_stage_output c h ∷ []) (lock_time_of h.direction h.htlc)
 
--- the HTLC transaction of the k-th untrimmed HTLC in the order of outputs, from 0, where there is one
+-- the HTLC transaction of the k-th untrimmed HTLC in the order of outputs, from 0, if there is one
 unfoldable pub htlc_transaction_of : Contents → ℕ → Option Transaction
 htlc_transaction_of c k = option_map (second_stage_of c) (slice_get (htlcs_of c) k)
 
--- an output to an HTLC has its satoshis and its script
+-- an HTLC output has the HTLC's satoshis and its script
 abbrev pub IsHtlcOf : KeyBytes → CommitmentOutput → OutputKind → Type 0
 IsHtlcOf k o ToLocal = Unit {0}
 IsHtlcOf k o ToRemote = Unit {0}
@@ -118,7 +118,7 @@ pub record IsOutputOf (k : KeyBytes) (o : CommitmentOutput) : Type 0 where
   pub limits : IsTxOutput o
   pub htlc : IsHtlcOf k o o.kind
 
--- what a commitment keeps beside its contents: its transaction and id, its HTLCs, and the program of their second stage
+-- what a commitment keeps besides its contents: its transaction and id, its HTLCs, and the program of their second stage
 pub record Keeps (c : Contents) (transaction : Transaction) (id : List ℕ) (htlcs : List HtlcOutput) (second_stage_program : List ℕ) : Type 0 where
   pub transaction_is : transaction ≡ transaction_of c
   pub id_is : id ≡ id_of c

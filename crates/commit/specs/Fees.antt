@@ -1,4 +1,4 @@
--- What the transactions of a commitment cost, and which HTLCs are worth an output (BOLT 3, "Fees" and "Trimmed Outputs").
+-- The fees of a commitment's transactions, and which HTLCs get an output (BOLT 3, "Fees" and "Trimmed Outputs").
 use Rattle.std.specs.Prelude.{ℕ, ◌+◌, ◌*◌, ◌/◌, Bool, nat_lt}
 use Rattle.terms.specs.declared.amounts.TheConstants.{MSAT_PER_SAT}
 use Rattle.terms.specs.declared.htlcs.Htlc.{Htlc}
@@ -10,19 +10,19 @@ use Rattle.commit.specs.declared.fees.TheConstants.{WEIGHT_PER_FEERATE}
 abbrev pub satoshis_of : ℕ → ℕ
 satoshis_of amount = amount / MSAT_PER_SAT
 
--- what a transaction of a weight costs, in satoshis, rounded down
+-- the fee of a transaction of a weight, in satoshis, rounded down
 abbrev pub fee_of : ℕ → ℕ → ℕ
 fee_of weight feerate = weight * feerate / WEIGHT_PER_FEERATE
 
--- of a commitment with so many untrimmed HTLCs
+-- the weight of a commitment with this number of untrimmed HTLCs
 abbrev pub commitment_weight : ℕ → ℕ
 commitment_weight htlcs = 724 + 172 * htlcs
 
--- of the owner's second-stage transaction: HTLC-timeout, HTLC-success
+-- the weight of the owner's second-stage transaction: HTLC-timeout, HTLC-success
 abbrev pub htlc_weight : Direction → ℕ
 htlc_weight Offered = 663
 htlc_weight Received = 703
 
--- an HTLC is trimmed where it is worth less than the dust limit and its second-stage transaction
+-- an HTLC is trimmed if it is worth less than the dust limit and the fee of its second-stage transaction together
 abbrev pub is_trimmed_by : ℕ → ℕ → Direction → Htlc → Bool
 is_trimmed_by dust feerate direction htlc = nat_lt (satoshis_of htlc.amount) (dust + fee_of (htlc_weight direction) feerate)

@@ -7,7 +7,8 @@ use Rattle.terms.specs.Agreement.{party}
 use Rattle.terms.specs.Sides.{other}
 use Rattle.commit.specs.declared.derived.CommitmentKeys.{CommitmentKeys}
 
--- of the owner's commitment with a per-commitment point: the owner's keys derive from its own bases, the others from its peer's
+-- the keys of the owner's commitment with a per-commitment point: the owner's keys derive from its own bases, the others from
+-- its peer's
 pub record AreKeysOf (terms : Terms) (owner : Side) (point : List ℕ) (k : CommitmentKeys) : Type 0 where
   pub revocation : k.revocation.bytes ≡ revocation_key (party (other owner) terms).bases.revocation.bytes point
   pub delayed : k.delayed.bytes ≡ derived_key (party owner terms).bases.delayed.bytes point

@@ -8,7 +8,7 @@ use Rattle.commit.specs.declared.outputs.OutputKind.{OutputKind}
 use Rattle.commit.specs.declared.outputs.OutputKind.TheVariants.{ToLocal, ToRemote, ToHtlc}
 use Rattle.commit.specs.declared.outputs.CommitmentOutput.{CommitmentOutput}
 
--- the height by which outputs of one value and one program stand: an HTLC's expiry
+-- the expiry by which outputs of equal value and program are sorted
 abbrev pub expiry_of : OutputKind → ℕ
 expiry_of ToLocal = 0
 expiry_of ToRemote = 0
@@ -21,13 +21,13 @@ output_cmp = then_cmp (on (λ o. o.value) nat_cmp) (then_cmp (on (λ o. o.progra
 abbrev pub stands_before : CommitmentOutput → CommitmentOutput → Bool
 stands_before x y = is_lt (output_cmp x y)
 
--- a list has the outputs of another in their order. Those that the order does not tell apart stand as they did.
+-- a list has the outputs of another, sorted. Outputs that are equal in the order keep their relative places.
 pub record IsInOrder (outputs ordered : List CommitmentOutput) : Type 0 where
   pub same : IsPermutation outputs ordered
   pub sorted : IsSortedBy stands_before ordered
   pub stable : IsStableBy stands_before outputs ordered
 
--- the one list that is so (`laws::there_is_one_order`)
+-- the one list that is sorted so (`laws::there_is_one_order`)
 abbrev pub put_in : CommitmentOutput → List CommitmentOutput → List CommitmentOutput
 put_in x [] = x ∷ []
 put_in x (y ∷ ys) = if stands_before y x then y ∷ put_in x ys else x ∷ y ∷ ys

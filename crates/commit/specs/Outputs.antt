@@ -30,7 +30,7 @@ unfoldable pub htlc_script : KeyBytes → Direction → Htlc → List ℕ
 htlc_script k Offered h = spelling (offered (hash160 k.revocation) k.remote_htlc k.local_htlc (ripemd160 h.hash))
 htlc_script k Received h = spelling (received (hash160 k.revocation) k.remote_htlc k.local_htlc (ripemd160 h.hash) h.expiry)
 
--- the output of a script
+-- the output with a script
 abbrev pub script_output : ℕ → List ℕ → OutputKind → CommitmentOutput
 script_output value script kind = record { value = value; script = script; program = script_hash_program script; kind = kind }
 
@@ -43,12 +43,12 @@ to_remote_output k value = record { value = value; script = to_remote_script k; 
 abbrev pub htlc_output : KeyBytes → Direction → Htlc → CommitmentOutput
 htlc_output k direction h = script_output (satoshis_of h.amount) (htlc_script k direction h) (ToHtlc direction h)
 
--- an output, where there is one
+-- an output, if there is one
 abbrev pub where_paid : (ℕ → CommitmentOutput) → Option ℕ → List CommitmentOutput
 where_paid output None = []
 where_paid output (Some value) = output value ∷ []
 
--- the outputs of amounts: the HTLCs of each direction as they stand in the view, to_local and to_remote
+-- the outputs of amounts, not sorted yet: the HTLCs of each direction in the view's order, to_local and to_remote
 unfoldable pub outputs_of : ℕ → KeyBytes → Amounts → List CommitmentOutput
 outputs_of delay k a =
     map (htlc_output k Offered) a.offered ++ map (htlc_output k Received) a.received

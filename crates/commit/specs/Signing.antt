@@ -24,11 +24,11 @@ funding_script terms = spelling (funding terms.a.bases.funding.bytes terms.b.bas
 abbrev pub input_of : OutPoint → ℕ → TxIn
 input_of outpoint sequence = record { outpoint = outpoint; sequence = sequence; witness = [] }
 
--- the digest of the commitment: for the funding script and the capacity
+-- the digest of the commitment, over the funding script and the capacity
 unfoldable pub commitment_digest : Terms → Contents → List ℕ
 commitment_digest terms c = sha256d (signed_list (transaction_of c) (input_of c.funding c.hidden.sequence) (funding_script terms) terms.capacity)
 
--- the digest of an HTLC transaction: for the script and the value of the output that it spends
+-- the digest of an HTLC transaction, over the script and the value of the output that it spends
 unfoldable pub htlc_digest : Contents → HtlcOutput → List ℕ
 htlc_digest c h =
     sha256d (signed_list (second_stage_of c h) (input_of (record { txid = id_of c; index = h.index }) 0)
@@ -37,7 +37,7 @@ htlc_digest c h =
 abbrev pub htlc_digests : Contents → List (List ℕ)
 htlc_digests c = map (htlc_digest c) (htlcs_of c)
 
--- the tokens of the owner's peer: by its funding key on the commitment, and by its HTLC key on each HTLC transaction in the order of outputs
+-- the tokens of the owner's peer: of its funding key on the commitment, and of its HTLC key on each HTLC transaction in the order of outputs
 unfoldable pub tokens_of : Terms → Side → Contents → List (List ℕ)
 tokens_of terms owner c =
     token_of (party (other owner) terms).bases.funding.bytes (commitment_digest terms c)

@@ -48,7 +48,7 @@ left_out terms view owner =
     + (dust_worth (party owner terms).dust (left_to owner terms.opener (amounts_of terms view owner).fee view)
     + dust_worth (party owner terms).dust (left_to (other owner) terms.opener (amounts_of terms view owner).fee view))
 
--- the millisatoshis that rounding down leaves
+-- the millisatoshis that are lost by rounding down
 abbrev pub rests_of : List Htlc → ℕ
 rests_of htlcs = sum_by (λ htlc. htlc.amount % MSAT_PER_SAT) htlcs
 
@@ -61,7 +61,7 @@ EachIsPlaced =
     (terms : Terms) (view : View) (owner : Side)
     → MSAT_PER_SAT * (paid_out (amounts_of terms view owner) + fee_paid terms view owner + left_out terms view owner) + rounded_off view ≡ total_of view
 
--- outputs and fee are at most the capacity, of a view that shares it out
+-- the outputs and the fee of a view that shares out the capacity are at most the capacity
 abbrev pub NothingIsCreated : Type 0
 NothingIsCreated =
     (terms : Terms) (view : View) (owner : Side) → total_of view ≡ MSAT_PER_SAT * terms.capacity

@@ -8,18 +8,18 @@ use lists::List;
 use std::alloc::{AllocError, Global};
 use terms::{Htlc, Side, Terms, View};
 
-/// The amounts of one side's commitment, before its outputs are put in order.
+/// The amounts of one side's commitment, before its outputs are sorted.
 #[derive(Debug, Drop)]
 pub struct Amounts {
     /// The HTLCs with an output that the owner offered, in the view's order.
     pub offered: List<Htlc>,
-    /// The HTLCs with an output that were offered to the owner, in the view's order.
+    /// The HTLCs with an output that the owner's peer offered, in the view's order.
     pub received: List<Htlc>,
-    /// Satoshis that the opener owes for the transaction. It pays them as far as its balance goes.
+    /// The fee of the transaction in satoshis. The opener pays it as far as its balance goes.
     pub fee: u128,
-    /// Satoshis of the output to the owner, where there is one.
+    /// Satoshis of the output to the owner, if there is one.
     pub to_local: Option<u64>,
-    /// Satoshis of the output to the owner's peer, where there is one.
+    /// Satoshis of the output to the owner's peer, if there is one.
     pub to_remote: Option<u64>,
 }
 
@@ -49,7 +49,7 @@ fn owed_by(side: Side, opener: Side, fee: u128) -> u128
     if side == opener { fee } else { 0 }
 }
 
-// What a side has left in satoshis, once it paid its part of the fee.
+// What a side has left in satoshis after paying its part of the fee.
 fn left_to(side: Side, opener: Side, fee: u128, view: &View) -> u64
     ensures { result ≡ left_to side opener fee view.now }
 {
@@ -60,14 +60,14 @@ fn left_to(side: Side, opener: Side, fee: u128, view: &View) -> u64
     }
 }
 
-// An output's value, where the dust limit doesn't leave it out.
+// An output's value, or `None` if it is below the dust limit.
 fn unless_dust(dust: u64, value: u64) -> Option<u64>
     ensures { result ≡ unless_dust dust value }
 {
     if value < dust { None } else { Some(value) }
 }
 
-/// The amounts of the owner's commitment of a view (BOLT 3, "Commitment Transaction Outputs" and "Fees"): the dust limit is the owner's, and
+/// The amounts of the owner's commitment of a view (BOLT 3, "Commitment Transaction Outputs" and "Fees"). The dust limit is the owner's, and
 /// the opener pays the fee. The only error is that memory ran out.
 pub fn commitment_amounts(
     alloc: Global,

@@ -23,7 +23,7 @@ use std::alloc::{AllocError, Global};
 use terms::{Side, Terms, View, mask, obscure};
 use tx::{MAX_OUTPUTS, MAX_VALUE};
 
-// Whether the value of an output is above the limit.
+// Whether the value of an output is above 21,000,000 bitcoins.
 fn has_large_value(outputs: &[CommitmentOutput]) -> bool
     ensures { result ≡ list_any (λ o. nat_lt max_value o.value) outputs.now }
 {
@@ -44,7 +44,7 @@ fn refusal(outputs: &[CommitmentOutput]) -> Option<BuildError>
     None
 }
 
-// The outputs of the owner's commitment in their order.
+// The outputs of the owner's commitment, sorted.
 fn outputs_in_order(
     alloc: Global,
     terms: &Terms,
@@ -62,10 +62,10 @@ fn outputs_in_order(
     Ok(outputs)
 }
 
-/// The owner's commitment of a view (BOLT 3, "Commitment Transaction"), with its number and the owner's per-commitment point for it. Of the number the
-/// low 48 bits count.
+/// The owner's commitment of a view (BOLT 3, "Commitment Transaction"), with its number and the owner's per-commitment point for it. Only the low 48
+/// bits of the number count.
 ///
-/// TooManyOutputs where there are more than 4,000, else ValueTooLarge where one is above 21,000,000 bitcoins. A view that shares out the capacity of
+/// TooManyOutputs if there are more than 4,000 outputs, else ValueTooLarge if one is above 21,000,000 bitcoins. A view that shares out the capacity of
 /// the terms, with at most 966 HTLCs, is not refused.
 pub fn build(
     alloc: Global,

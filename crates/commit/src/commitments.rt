@@ -20,7 +20,7 @@ use terms::{Htlc, Obscured};
 use tx::hashing::txid;
 use tx::{Inputs, OutPoint, Outputs, Tx, TxIn, TxOut, Witness};
 
-/// The version of all transactions here, which makes sequence numbers relative locks (BIP 68).
+/// The version of all transactions here. From version 2 on, sequence numbers are relative locks (BIP 68).
 const VERSION: u32 = 2;
 
 /// One side's commitment transaction, with what its outputs are and what their HTLC transactions need.
@@ -83,7 +83,7 @@ fn tx_outputs(alloc: Global, outputs: &[CommitmentOutput]) -> Result<Outputs, Al
     }
 }
 
-// The transaction with one input, which is not signed.
+// An unsigned transaction with one input.
 fn spending(
     alloc: Global,
     outpoint: OutPoint,
@@ -105,7 +105,7 @@ fn spending(
     }
 }
 
-// The transaction of a commitment, which is not signed.
+// The unsigned transaction of a commitment.
 fn commitment_tx(
     alloc: Global,
     funding: OutPoint,
@@ -126,7 +126,7 @@ fn commitment_tx(
     )
 }
 
-// The program of each HTLC transaction's output, which its owner waits for as for to_local.
+// The program of each HTLC transaction's output, whose owner waits for it as for to_local.
 fn delayed_program(
     alloc: Global,
     delay: u16,
@@ -139,7 +139,7 @@ fn delayed_program(
     script_hash_program(alloc, script.bytes())
 }
 
-// The HTLC of an output, where it is to one.
+// The HTLC of an output, if it is an HTLC output.
 pub(crate) fn htlc_at(index: u32, kind: &OutputKind) -> Option<HtlcOutput>
     ensures { result ≡ htlc_at index kind.now }
 {
@@ -154,7 +154,7 @@ pub(crate) fn htlc_at(index: u32, kind: &OutputKind) -> Option<HtlcOutput>
     }
 }
 
-// Puts the HTLC of an output at the end, where it is to one.
+// Appends the HTLC of an output, if it is an HTLC output.
 fn push_htlc(htlcs: &mut Vec<HtlcOutput>, index: u32, kind: &OutputKind) -> Result<(), AllocError>
     ensures { OnOk result (htlcs.new.items ≡ htlcs.old.items ++ cons_option
         (htlc_at index kind.now) []) }
@@ -165,7 +165,7 @@ fn push_htlc(htlcs: &mut Vec<HtlcOutput>, index: u32, kind: &OutputKind) -> Resu
     Ok(())
 }
 
-// The outputs to HTLCs, in their order.
+// The HTLC outputs, in order.
 fn htlc_outputs(alloc: Global, outputs: &[CommitmentOutput]) -> Result<List<HtlcOutput>, AllocError>
     requires { length outputs.now ≤ max_outputs }
     ensures { IfOk result (λ hs. hs ≡ htlcs_from 0 outputs.now) }
@@ -177,7 +177,7 @@ fn htlc_outputs(alloc: Global, outputs: &[CommitmentOutput]) -> Result<List<Htlc
     Ok(List::from_vec(htlcs))
 }
 
-// Equal outputs.
+// Copies of outputs.
 fn copied_outputs(
     alloc: Global,
     outputs: &[CommitmentOutput],
@@ -199,7 +199,7 @@ impl Commitment {
     ghost use Rattle.commit.specs.Keys.{bytes_of};
     ghost use Rattle.commit.specs.Fees.{satoshis_of};
 
-    // The commitment of these contents.
+    // The commitment with these contents.
     pub(crate) fn new(
         alloc: Global,
         funding: OutPoint,
@@ -238,7 +238,7 @@ impl Commitment {
         })
     }
 
-    /// An equal commitment, for which nothing is hashed again. The only error is that memory ran out.
+    /// A copy, made without hashing again. The only error is that memory ran out.
     pub fn copy(&self) -> Result<Self, AllocError>
         ensures { IfOk result (λ c. c ≡ self.now) }
     {
@@ -259,14 +259,14 @@ impl Commitment {
         })
     }
 
-    /// The transaction, which is not signed.
+    /// The unsigned transaction.
     pub fn tx(&self) -> &Tx
         ensures { result.now ≡ transaction_of self.now }
     {
         &self.tx
     }
 
-    /// The transaction's id, in the hash's own byte order.
+    /// The transaction's id, in the byte order of the hash (not reversed as for display).
     pub fn id(&self) -> &[u8; 32]
         ensures { result.now ≡ id_of self.now }
     {
@@ -282,7 +282,7 @@ impl Commitment {
         self.outputs.values()
     }
 
-    /// The outputs to HTLCs, in the transaction's order.
+    /// The HTLC outputs, in the transaction's order.
     pub fn htlcs(&self) -> &[HtlcOutput]
         ensures value { result.now ≡ htlcs_of self.now }
         ensures low { All (λ h. satoshis_of h.htlc.amount ≤ max_value) result.now }
@@ -290,14 +290,14 @@ impl Commitment {
         self.htlcs.values()
     }
 
-    /// The keys that the outputs stand under.
+    /// The keys of the outputs' scripts.
     pub fn keys(&self) -> &CommitmentKeys
         ensures { bytes_of result.now ≡ self.now.keys }
     {
         &self.keys
     }
 
-    /// Blocks that the owner waits for its delayed outputs.
+    /// The delay in blocks of the owner's delayed outputs.
     pub fn delay(&self) -> u16
         ensures { result ≡ self.now.delay }
     {
@@ -341,8 +341,8 @@ fn lock_time(direction: Direction, htlc: &Htlc) -> u32
     }
 }
 
-/// The HTLC transaction of the commitment's `k`-th HTLC in the order of outputs, from 0 (BOLT 3, "HTLC-Timeout and HTLC-Success Transactions"), not
-/// signed. `None` where there is no such HTLC. The only error is that memory ran out.
+/// The unsigned HTLC transaction of the commitment's `k`-th HTLC in the order of outputs, from 0 (BOLT 3, "HTLC-Timeout and HTLC-Success
+/// Transactions"). `None` if there is no such HTLC. The only error is that memory ran out.
 #[tactic(auto, unfolding(crate::specs::Commitments::htlc_transaction_of))]
 pub fn htlc_tx(alloc: Global, commitment: &Commitment, k: usize) -> Result<Option<Tx>, AllocError>
     ensures { IfOk result (λ t. t ≡ htlc_transaction_of commitment.now k) }

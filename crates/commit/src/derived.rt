@@ -5,7 +5,7 @@ ghost use Rattle.commit.specs.Keys.{AreKeysOf};
 use keys::{Key, derive, revocation};
 use terms::{Side, Terms};
 
-/// The keys of one commitment (BOLT 3, "Key Derivation"), under which its outputs stand.
+/// The keys of one commitment's outputs (BOLT 3, "Key Derivation").
 #[derive(Clone, Copy, Debug, PartialEq, Eq)]
 pub struct CommitmentKeys {
     /// `revocationpubkey`: of the peer, once the commitment is revoked.
@@ -20,7 +20,7 @@ pub struct CommitmentKeys {
     pub remote: Key,
 }
 
-/// The keys of the owner's commitment with a per-commitment point.
+/// The keys of the owner's commitment with this per-commitment point.
 pub fn commitment_keys(terms: &Terms, owner: Side, point: &Key) -> CommitmentKeys
     ensures { AreKeysOf terms.now owner point.now.bytes result }
 {

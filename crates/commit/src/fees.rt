@@ -1,11 +1,11 @@
-//! What the transactions of a commitment cost, and which HTLCs are worth an output.
+//! The fees of a commitment's transactions, and which HTLCs get an output.
 
 ghost use Rattle.std.specs.Prelude.{◌≡◌};
 ghost use Rattle.commit.specs.Fees.{satoshis_of, fee_of, commitment_weight, htlc_weight, is_trimmed_by};
 
 use terms::{Htlc, MSAT_PER_SAT};
 
-/// The weight that a feerate is for.
+/// A feerate is in satoshis per this many weight units.
 const WEIGHT_PER_FEERATE: u32 = 1000;
 
 /// Weight of a commitment without HTLCs.
@@ -20,12 +20,12 @@ const TIMEOUT_WEIGHT: u64 = 663;
 /// Weight of an HTLC-success transaction.
 const SUCCESS_WEIGHT: u64 = 703;
 
-/// Which way an HTLC goes, as the owner of a commitment sees it.
+/// The direction of an HTLC, as the owner of a commitment sees it.
 #[derive(Clone, Copy, Debug, PartialEq, Eq, Drop)]
 pub enum Direction {
     /// The owner offered it, and takes it back by an HTLC-timeout transaction.
     Offered,
-    /// It was offered to the owner, who takes it by an HTLC-success transaction.
+    /// The owner's peer offered it, and the owner takes it by an HTLC-success transaction.
     Received,
 }
 
@@ -36,8 +36,8 @@ pub fn satoshis(amount: u64) -> u64
     amount / MSAT_PER_SAT
 }
 
-/// What a commitment with this number of untrimmed HTLCs costs at a feerate in satoshis for 1,000 units of weight: satoshis, rounded down (BOLT 3, "Fee
-/// Calculation for Commitment Transactions").
+/// The fee of a commitment with this number of untrimmed HTLCs, in satoshis, rounded down. The feerate is in satoshis per 1,000 weight units (BOLT 3,
+/// "Fee Calculation for Commitment Transactions").
 pub fn commitment_fee(htlcs: usize, feerate: u32) -> u128
     ensures { result ≡ fee_of (commitment_weight htlcs) feerate }
 {
@@ -45,7 +45,7 @@ pub fn commitment_fee(htlcs: usize, feerate: u32) -> u128
     weight * u128::from(feerate) / u128::from(WEIGHT_PER_FEERATE)
 }
 
-/// What the owner's second-stage transaction costs: satoshis, rounded down (BOLT 3, "Fee Calculation for HTLC-Timeout and HTLC-Success
+/// The fee of the owner's second-stage transaction, in satoshis, rounded down (BOLT 3, "Fee Calculation for HTLC-Timeout and HTLC-Success
 /// Transactions").
 pub fn htlc_fee(direction: Direction, feerate: u32) -> u64
     ensures { result ≡ fee_of (htlc_weight direction) feerate }
@@ -57,8 +57,8 @@ pub fn htlc_fee(direction: Direction, feerate: u32) -> u64
     weight * u64::from(feerate) / u64::from(WEIGHT_PER_FEERATE)
 }
 
-/// Whether an HTLC has no output: its satoshis are below the owner's dust limit and the fee of its second-stage transaction (BOLT 3, "Trimmed
-/// Outputs").
+/// Whether an HTLC has no output: its satoshis are below the sum of the owner's dust limit and the fee of its second-stage transaction (BOLT 3,
+/// "Trimmed Outputs").
 pub fn is_trimmed(dust: u64, feerate: u32, direction: Direction, htlc: &Htlc) -> bool
     ensures { result ≡ is_trimmed_by dust feerate direction htlc.now }
 {

@@ -1,9 +1,10 @@
 //! Commitments, and the transactions that spend their HTLCs (BOLT 3).
 //!
 //! A commitment belongs to one of the two sides, its owner. Barring out-of-memory, [`build`] gives the owner's
-//! commitment of a view, exactly that of the definition `commitment_of`: its outputs with their scripts in their
-//! order, its transaction and its id. [`htlc_tx`] gives the HTLC transaction of each HTLC, and [`signing_digests`]
-//! what the owner's peer signs. [`commitment_amounts`] is what the commitment pays, before any script.
+//! commitment of a view, exactly that of the definition `commitment_of`. It has the sorted outputs with their
+//! scripts, the transaction and its id. [`htlc_tx`] gives the HTLC transaction of each HTLC, and
+//! [`signing_digests`] gives what the owner's peer signs. [`commitment_amounts`] is what the commitment pays,
+//! before any script.
 //!
 //! `terms` has the view and what the sides agreed on, `keys` derives the commitment's keys. `channel` signs what is
 //! built here, `penalty` and `resolve` claim its outputs, and `publish` adds both signatures.

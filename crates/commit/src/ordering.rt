@@ -7,7 +7,7 @@ use crate::outputs::{CommitmentOutput, OutputKind};
 use std::alloc::AllocError;
 use std::cmp::Ordering;
 
-// The height by which outputs of one value and one program stand.
+// The expiry by which outputs of equal value and program are sorted.
 fn expiry(kind: &OutputKind) -> u32
     ensures { result ≡ expiry_of kind.now }
 {
@@ -32,7 +32,7 @@ fn compare(x: &CommitmentOutput, y: &CommitmentOutput) -> Ordering
     }
 }
 
-/// Puts outputs in their order. The only error is that memory ran out.
+/// Sorts outputs. The only error is that memory ran out.
 pub(crate) fn put_in_order(outputs: &mut Vec<CommitmentOutput>) -> Result<(), AllocError>
     ensures { OnOk result (outputs.new.items ≡ in_order outputs.old.items) }
 {

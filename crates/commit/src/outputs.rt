@@ -29,7 +29,8 @@ pub enum OutputKind {
 pub struct CommitmentOutput {
     /// Satoshis.
     pub value: u64,
-    /// What a spend of it runs, and its signatures are for (BIP 143): the witness script, and of to_remote the script of its key's hash.
+    /// The script that a spend of it runs and that its signatures commit to (BIP 143): the witness script, or for to_remote the script
+    /// that P2WPKH stands for.
     pub script: ByteString,
     /// The output's own script: the witness program (BIP 141).
     pub program: ByteString,
@@ -39,7 +40,7 @@ pub struct CommitmentOutput {
 impl CommitmentOutput {
     ghost use Rattle.std.specs.Prelude.{◌≡◌, IfOk};
 
-    /// An equal output. The only error is that memory ran out.
+    /// A copy of an output. The only error is that memory ran out.
     pub fn copy(&self) -> Result<Self, AllocError>
         ensures { IfOk result (λ o. o ≡ self.now) }
     {
@@ -52,16 +53,16 @@ impl CommitmentOutput {
     }
 }
 
-/// An output of a commitment to an HTLC.
+/// An HTLC output of a commitment.
 #[derive(Clone, Copy, Debug, PartialEq, Eq, Drop)]
 pub struct HtlcOutput {
-    /// Which of the commitment's outputs it is, from 0.
+    /// The index of the output in the commitment, from 0.
     pub index: u32,
     pub direction: Direction,
     pub htlc: Htlc,
 }
 
-// The output of a script.
+// The output with a script.
 fn script_output(
     alloc: Global,
     value: u64,
@@ -79,7 +80,7 @@ fn script_output(
     })
 }
 
-// The output to_local, where the amounts have one, goes to the end.
+// Appends the output to_local, if the amounts have one.
 fn push_to_local(
     alloc: Global,
     delay: u16,
@@ -97,7 +98,7 @@ fn push_to_local(
     Ok(())
 }
 
-// The output to_remote, where the amounts have one, goes to the end.
+// Appends the output to_remote, if the amounts have one.
 fn push_to_remote(
     alloc: Global,
     keys: &CommitmentKeys,
@@ -119,7 +120,7 @@ fn push_to_remote(
     Ok(())
 }
 
-// The output to an HTLC.
+// The output of an HTLC.
 fn htlc_output(
     alloc: Global,
     scripts: &HtlcScripts,
@@ -133,7 +134,7 @@ fn htlc_output(
     script_output(alloc, satoshis(htlc.amount), script, kind)
 }
 
-// The outputs to HTLCs go to the end.
+// Appends the HTLC outputs.
 fn push_htlcs(
     alloc: Global,
     scripts: &HtlcScripts,
@@ -150,7 +151,7 @@ fn push_htlcs(
     Ok(())
 }
 
-/// The outputs of amounts, as they come. The only error is that memory ran out.
+/// The outputs of amounts, not sorted yet. The only error is that memory ran out.
 #[tactic(auto, unfolding(crate::specs::Outputs::outputs_of))]
 pub(crate) fn collect_outputs(
     alloc: Global,

@@ -1,4 +1,4 @@
-// The scripts behind a commitment's outputs, as bytes.
+// The scripts of a commitment's outputs, as bytes.
 
 ghost use Rattle.std.specs.Prelude.{◌≡◌, ◌≤◌, ◌++◌, ◌∷◌, [], length, IfOk, OnOk};
 ghost use Rattle.digest.specs.Hash.{hash160 as hash160_of};
@@ -71,10 +71,10 @@ const OR_TIMEOUT: [u8; 4] = [0x52, 0xae, 0x67, 0x75];
 /// CHECKLOCKTIMEVERIFY DROP CHECKSIG ENDIF ENDIF.
 const RECEIVED_END: [u8; 5] = [0xb1, 0x75, 0xac, 0x68, 0x68];
 
-/// The most bytes of an HTLC's script: of a received one whose expiry takes five.
+/// The greatest length of an HTLC's script in bytes: that of a received HTLC whose expiry takes five bytes.
 const HTLC_SCRIPT_SIZE: usize = 141;
 
-// Puts the push of an item at the end.
+// Appends the push of an item.
 fn push_item(bytes: &mut Vec<u8>, item: &[u8]) -> Result<(), AllocError>
     requires { length item.now ≤ 75 }
     ensures { OnOk result (bytes.new.items ≡ bytes.old.items ++ spelling (Push item.now ∷ [])) }
@@ -84,7 +84,7 @@ fn push_item(bytes: &mut Vec<u8>, item: &[u8]) -> Result<(), AllocError>
     Ok(())
 }
 
-// Puts the push of a number at the end, minimally encoded.
+// Appends the push of a number, minimally encoded.
 #[tactic(auto, using(crate::proofs::Pushes::push_of_zero, crate::proofs::Pushes::push_of_small, crate::proofs::Pushes::push_of_great, crate::proofs::Pushes::short_push))]
 fn push_number(alloc: Global, bytes: &mut Vec<u8>, n: u32) -> Result<(), AllocError>
     ensures { OnOk result (bytes.new.items ≡ bytes.old.items ++ spelling (number_push n ∷ [])) }
@@ -100,7 +100,7 @@ fn push_number(alloc: Global, bytes: &mut Vec<u8>, n: u32) -> Result<(), AllocEr
     push_item(bytes, item.bytes())
 }
 
-/// The bytes of the script that both keys sign, the first one's signature first. The only error is that memory ran out.
+/// The bytes of the 2-of-2 script of both keys, in this order. The only error is that memory ran out.
 pub(crate) fn two_of_two(alloc: Global, first: &Key, second: &Key) -> Result<Vec<u8>, AllocError>
     ensures { IfOk result (λ v. v.items ≡ spelling (two_of_two first.now.bytes second.now.bytes)) }
 {
@@ -147,7 +147,7 @@ pub(crate) fn to_local_script(
     Ok(ByteString::from_vec(bytes))
 }
 
-// The bytes of the script of a key's hash.
+// The bytes of the script of a key hash.
 fn key_hash_bytes(alloc: Global, hash: &[u8; 20]) -> Result<Vec<u8>, AllocError>
     ensures { IfOk result (λ v. v.items ≡ spelling (key_hash hash.now)) }
 {

@@ -77,7 +77,7 @@ fn htlc_digest(
     }
 }
 
-// Puts the digest of an output's HTLC transaction at the end, where it is to an HTLC.
+// Appends the digest of an output's HTLC transaction, if it is an HTLC output.
 fn push_digest(
     alloc: Global,
     commitment: &Commitment,
@@ -107,8 +107,8 @@ fn htlc_digests(alloc: Global, commitment: &Commitment) -> Result<List<[u8; 32]>
     Ok(List::from_vec(digests))
 }
 
-/// What a `commitment_signed` for the owner's commitment covers: the owner's peer signs the first digest by its funding key, and the others by the
-/// HTLC key that derives at the commitment's point. The only error is that memory ran out.
+/// What a `commitment_signed` for the owner's commitment covers. The owner's peer signs the first digest with its funding key. It signs the others
+/// with its HTLC key, derived at the commitment's per-commitment point. The only error is that memory ran out.
 pub fn signing_digests(
     alloc: Global,
     terms: &Terms,

@@ -1,4 +1,4 @@
--- The words at chosen values, and what the rule and the clauses do not admit: an entry in the name of a number that no seat has, and a reply that the book did not give.
+-- The words at chosen values, and what the rule and the clauses exclude: an entry with a number that no seat has, and a reply that the book did not give.
 use Rattle.std.proofs.Common.{◌≡◌, ◌≢◌, ℕ, Bool, true, false, List, [], ◌∷◌, Err, refl, sym, ap, ◌∙◌, ⊎_elim, ◌⊎◌}
 use Rattle.channel.specs.Tokens.{peer_tokens}
 use Rattle.book.specs.declared.calls.Entry.{Entry}
@@ -24,7 +24,7 @@ in_order = (refl, refl)
 one_entry : (e : Entry) → e ∷ [] ≢ []
 one_entry e same = cc
 
--- at a desk that was made with an empty history, and whose one seat has the number 0, no entry stands in the name of 3
+-- at a desk made with an empty history, whose one seat has number 0, there is no entry with number 3
 no_stranger : (v : SeatView) → v ≡ opened [] → IsSeated ((by 3 0 ∷ []) ∷ []) (v ∷ []) → ⊥
 no_stranger v is s = ⊎_elim
     (λ (q : InQueue ((by 3 0 ∷ []) ∷ []) (v ∷ []) s.history).
@@ -35,13 +35,13 @@ no_stranger v is s = ⊎_elim
     (λ (o : IsOut ((by 3 0 ∷ []) ∷ []) (v ∷ []) s.history). let e = o.empty in cc)
     s.place
 
--- a history that a call leaves empty was empty
+-- if a call leaves a history empty, it was empty before
 was_empty : (h : History) (b : Bool) → [] ≡ extended b h 0 (Sign 0) → h ≡ []
 was_empty [] b e = refl
 was_empty (x ∷ h) true e = cc
 was_empty (x ∷ h) false e = cc
 
--- a book without a channel refuses to sign for want of the channel, or of memory, and for nothing else
+-- a book without channels refuses to sign only for lack of the channel or of memory
 not_invented : IsAnswered 0 [] [] (Sign 0) (signed (Err NoUpdates)) [] [] → ⊥
 not_invented a = ⊎_elim
     (λ m. let e = m.0 in cc)

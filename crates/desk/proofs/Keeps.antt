@@ -34,14 +34,14 @@ push_cases (x ∷ xs) a b (suc j) e = ⊎_elim (λ t. inl t) (λ t. inr (ap suc 
 
 -- ---- facts of each view
 
--- after one view was set
+-- a fact of each view, after one view changed
 set_each : (F : ℕ → SeatView → Type 0) (views : List SeatView) (p : ℕ) (w : SeatView) → F p w → ((j : ℕ) (u : SeatView) → j ≢ p → At views j u → F j u) → (j : ℕ) (u : SeatView) → At (set views p w) j u → F j u
 set_each F views p w mine others j u e = ⊎_elim
     (λ (is : (j ≡ p) × (w ≡ u)). subst (λ (y : ℕ × SeatView). F y.0 y.1) (λ i. (sym is.0 i, is.1 i)) mine)
     (λ (is : (j ≢ p) × At views j u). others j u is.0 is.1)
     (at_set views p j w u e)
 
--- after one more came
+-- a fact of each view, after one more view came
 push_each : (F : ℕ → SeatView → Type 0) (views : List SeatView) (w : SeatView) → F (length views) w → ((j : ℕ) (u : SeatView) → At views j u → F j u) → (j : ℕ) (u : SeatView) → At (views ++ w ∷ []) j u → F j u
 push_each F views w new others j u e = ⊎_elim
     (λ (is : At views j u). others j u is)
@@ -74,14 +74,14 @@ stands (x ∷ xs) (suc p) (suc j) v w u at same e = stands xs p j v w u at same 
 pub begins : IsOneBook [] (fresh ∷ [])
 begins = inl (refl, refl)
 
--- a seat that isn't new belongs to an opened desk
+-- a seat that is not new belongs to a desk with its book put in
 seated : (items : List History) (views : List SeatView) (p : ℕ) (v : SeatView) → IsOneBook items views → At views p v → v.is_new ≡ false → IsSeated items views
 seated items views p v h at old = ⊎_elim
     (λ (u : IsUnopened items views). absurd (true≢false (ap (λ (x : SeatView). x.is_new) (at_one p v fresh (subst (λ l. At l p v) u.1 at)) ∙ old)))
     (λ (s : IsSeated items views). s)
     h
 
--- what a seat's view becomes in a step that leaves its number: of the history, only that seat's part may be another
+-- the view after a step that keeps the seat's number: only that seat's part of the history may change
 record Step (v w : SeatView) (before after : History) : Type 0 where
   number : w.number ≡ v.number
   last : w.is_last ≡ v.is_last

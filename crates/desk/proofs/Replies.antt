@@ -1,4 +1,4 @@
--- A reply is that of the book at the end of its history.
+-- A reply is the book's, at the end of its history.
 use Rattle.std.proofs.Common.{◌≡◌, ℕ, Bool, true, false, List, refl, sym, subst, ap, ◌∙◌, ⊎_elim, ◌⊎◌, inl, inr}
 use Rattle.channel.specs.Tokens.{peer_tokens}
 use Rattle.book.specs.declared.calls.Entry.{Entry}

@@ -1,4 +1,4 @@
--- A list of seats that is one longer.
+-- A list of seats with one more seat.
 use Rattle.std.proofs.Common.{◌≡◌, ℕ, ◌+◌, List, [], ◌∷◌, ◌++◌, Option, Some, IfSome, refl, sym, subst, ap, ◌∙◌, arith, length-append, add-one}
 use Rattle.std.specs.List.{range_with_len, last_or}
 use Rattle.std.proofs.lemmas.List.{map-append}

@@ -5,7 +5,7 @@ use Rattle.book.specs.declared.calls.Entry.{Entry}
 abbrev pub History : Type 0
 History = List Entry
 
--- a history goes on from another, which stands at its beginning
+-- a history extends another one, which is its beginning
 abbrev pub GoesOn : History → History → Type 0
 GoesOn before after = (later : List Entry) × (after ≡ before ++ later)
 
@@ -13,7 +13,7 @@ GoesOn before after = (later : List Entry) × (after ≡ before ++ later)
 abbrev pub calls_of : ℕ → History → List Entry
 calls_of seat history = filter (λ e. e.seat == seat) history
 
--- the number after the greatest, or 0
+-- the number after the greatest one, or 0
 abbrev pub first_seat : History → ℕ
 first_seat [] = 0
 first_seat (e ∷ es) = max (e.seat + 1) (first_seat es)

@@ -1,4 +1,4 @@
--- The rule of the desk's queue: one book, whose history is the one that the desk was made with and then just the calls of the seats.
+-- The rule of the desk's queue: one book, whose history is the one that the desk was made with, followed by exactly the calls of the seats.
 use Rattle.std.specs.Prelude.{◌≡◌, ◌≢◌, ℕ, ◌+◌, ◌≤◌, ◌⊎◌, true, false, List, [], ◌∷◌, ◌++◌, Option, Some, None}
 use mathlib.Core.Option.{some}
 use lib.ListN.{get_elem?}
@@ -11,35 +11,35 @@ use Rattle.desk.specs.Histories.{History, GoesOn, calls_of, first_seat}
 
 -- ---- what a seat knows
 
--- the last seat, which has made no call at a desk that was made with this history
+-- the view of the last seat, which has made no call, at a desk made with this history
 abbrev pub last_view : ℕ → History → SeatView
 last_view number opening =
     record { is_new = false; is_last = true; number = number; opening = opening; calls = []; last = opening; book = None }
 
--- before the book was put in
+-- the view before the book is put in
 abbrev pub fresh : SeatView
 fresh = record { is_new = true; is_last = true; number = 0; opening = []; calls = []; last = []; book = None }
 
--- after it was put in
+-- the view after it is put in
 abbrev pub opened : History → SeatView
 opened history = last_view (first_seat history) history
 
--- after it was taken
+-- the view after it is taken
 abbrev pub taken : SeatView → History → SeatView
 taken v history = record v { book = Some history }
 
--- after it was put back
+-- the view after it is put back
 abbrev pub returned : SeatView → History → SeatView
 returned v history = record v { calls = calls_of v.number history; last = history; book = None }
 
--- the last seat leaves its number to a new one, and takes the next
+-- the last seat gives its number to a new seat, and takes the next one
 abbrev pub moved_on : SeatView → SeatView
 moved_on v = record v { number = v.number + 1; calls = [] }
 
 abbrev pub left_behind : SeatView → SeatView
 left_behind v = record v { is_last = false }
 
--- ---- the rule, over what the queue holds and the views of all passes, by the number of the pass
+-- ---- the rule, over what the queue holds and the views of all passes, indexed by the number of the pass
 
 abbrev pub At : List SeatView → ℕ → SeatView → Type 0
 At views pass v = get_elem? views pass ≡ some v
@@ -56,7 +56,7 @@ pub record IsOut (items : List History) (views : List SeatView) (history : Histo
   pub held : (v : SeatView) × At views holder v × (v.book ≡ Some history)
   pub only : (pass : ℕ) (v : SeatView) → At views pass v → (v.book ≡ None) ⊎ ((pass ≡ holder) × (v.book ≡ Some history))
 
--- the book was put in: its history, or the one with which it was taken out
+-- the book was put in; it is in the queue, or out with the history that it had when it was taken
 pub record IsSeated (items : List History) (views : List SeatView) : Type 0 where
   pub opening : History
   pub history : History
@@ -65,14 +65,14 @@ pub record IsSeated (items : List History) (views : List SeatView) : Type 0 wher
   pub guarded : is_guarded history ≡ true
   -- all seats know the history with which the desk was made
   pub made_with : (pass : ℕ) (v : SeatView) → At views pass v → v.opening ≡ opening
-  -- the history goes on from it, and from what each seat put back last
+  -- the history extends it, and what each seat last put back
   pub began : GoesOn opening history
   pub since : (pass : ℕ) (v : SeatView) → At views pass v → GoesOn v.last history
   -- the entries of each seat are its calls, each once and in order
   pub parts : (pass : ℕ) (v : SeatView) → At views pass v → v.calls ≡ calls_of v.number history
-  -- and those of a number that no seat has are as they were
+  -- the entries of a number that no seat has do not change
   pub others : (n : ℕ) → ((pass : ℕ) (v : SeatView) → At views pass v → v.number ≢ n) → calls_of n history ≡ calls_of n opening
-  -- seats have numbers of their own, which stand nowhere in the history with which the desk was made, and the last seat has the greatest
+  -- seats have distinct numbers, which do not stand in the history that the desk was made with; the last seat has the greatest
   pub apart : (p q : ℕ) (v w : SeatView) → At views p v → At views q w → v.number ≡ w.number → p ≡ q
   pub later : (pass : ℕ) (v : SeatView) → At views pass v → first_seat opening ≤ v.number
   pub greatest : (p q : ℕ) (v w : SeatView) → At views p v → v.is_last ≡ true → At views q w → w.number ≤ v.number
@@ -85,9 +85,9 @@ IsUnopened items views = (items ≡ []) × (views ≡ fresh ∷ [])
 abbrev pub IsOneBook : List History → List SeatView → Type 0
 IsOneBook items views = IsUnopened items views ⊎ IsSeated items views
 
--- ---- its two kinds of step
+-- ---- two kinds of step
 
--- the book was taken: an accepted and guarded history, in which the seat's entries are its calls, and which goes on from the one that the seat put back last
+-- the book was taken: its history is accepted and guarded, the seat's entries in it are the seat's calls, and it extends the one that the seat last put back
 pub record IsTaken (v : SeatView) (history : History) (w : SeatView) : Type 0 where
   pub accepted : all_accepted peer_tokens history ≡ true
   pub guarded : is_guarded history ≡ true
@@ -95,6 +95,6 @@ pub record IsTaken (v : SeatView) (history : History) (w : SeatView) : Type 0 wh
   pub since : GoesOn v.last history
   pub out : w ≡ taken v history
 
--- the book may be put back: its history is as it was, or has one call more, of this seat
+-- the book may be put back: its history is as it was, or has one more call, of this seat
 abbrev pub Follows : ℕ → History → History → Type 0
 Follows seat before after = (after ≡ before) ⊎ ((e : Entry) × (e.seat ≡ seat) × (after ≡ before ++ e ∷ []))

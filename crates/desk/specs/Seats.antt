@@ -27,20 +27,20 @@ last_in seat = (view seat.pass).last
 abbrev pub out_with : Seat → Option History
 out_with seat = (view seat.pass).book
 
--- the queue has one place, and the pass is one of its passes
+-- the queue has capacity one, and the pass is one of its passes
 pub record IsPassOf (desk : Desk) (pass : DeskPass) : Type 0 where
   pub at : IsSeatAt (sends_on desk.sender) pass
   pub ends : receives_on desk.taker ≡ sends_on desk.sender
   pub one : ruled_capacity (sends_on desk.sender) ≡ 1
 
--- the seat belongs to the desk, and the book isn't out with it
+-- the seat belongs to the desk, and the book is not out with it
 pub record IsSeatOf (desk : Desk) (seat : Seat) : Type 0 where
   pub pass : IsPassOf desk seat.pass
   pub old : (view seat.pass).is_new ≡ false
   pub idle : (view seat.pass).book ≡ None
   pub number : (view seat.pass).number ≡ seat.number
 
--- what a seat of this number knows before its first call, at a desk that was made with this history
+-- the view of a seat with this number before its first call, at a desk made with this history
 pub record IsIdle (v : SeatView) (number : ℕ) (opening : History) : Type 0 where
   pub old : v.is_new ≡ false
   pub idle : v.book ≡ None
@@ -49,19 +49,19 @@ pub record IsIdle (v : SeatView) (number : ℕ) (opening : History) : Type 0 whe
   pub none : v.calls ≡ []
   pub seen : v.last ≡ opening
 
--- a seat that has made no call, at a desk that was made with this history
+-- a seat that has made no call, at a desk made with this history
 pub record IsNewSeatOf (desk : Desk) (opening : History) (seat : Seat) : Type 0 where
   pub seat_of : IsSeatOf desk seat
   pub calls : calls_in seat ≡ []
   pub last : last_in seat ≡ opening
 
--- so many seats, which have made no call, numbered from `first` on
+-- `count` seats that have made no call, numbered from `first` on
 pub record AreSeats (desk : Desk) (opening : History) (first count : ℕ) (seats : List Seat) : Type 0 where
   pub each : All (IsNewSeatOf desk opening) seats
   pub numbers : map (λ (s : Seat). s.number) seats ≡ range_with_len first count
   pub many : length seats ≡ count
 
--- the last of these seats is the desk's last, so that no seat of the desk has a greater number
+-- the last of these seats is the desk's last: no seat of the desk has a greater number
 abbrev pub EndsWithLast : List Seat → Type 0
 EndsWithLast seats = IfSome (last_or None seats) (λ s. (view s.pass).is_last ≡ true)
 

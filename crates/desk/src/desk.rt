@@ -1,4 +1,4 @@
-// The desk and its seats.
+// The desk, which shares a book among threads, and its seats.
 
 ghost use Rattle.std.specs.Prelude.{◌≡◌, ◌+◌, ◌<◌, ◌≤◌, ◌^◌, ◌↔◌, List, [], true, None, Some, Err, slice_get, IfSome, IfOk, OnOk, IfErr, MatchResult};
 ghost use Rattle.std.specs.List.{last_or};
@@ -28,7 +28,7 @@ use std::alloc::Global;
 use std::sync::Wait;
 use thiserror::Error;
 
-/// Why there is no desk.
+/// Why a desk is not made.
 #[derive(Clone, Copy, Debug, Drop, Error, PartialEq, Eq)]
 pub enum DeskError {
     /// Memory ran out.
@@ -53,9 +53,9 @@ impl DeskError {
     }
 }
 
-/// A thread's place at one desk. Its number stands in the entries of its calls.
+/// A thread's seat at one desk. Its number stands in the entries of its calls.
 ///
-/// Contracts see in it the calls that it made, and the book's history as it last saw it. At least one seat has to be kept to close the desk.
+/// Contracts see the calls that it made, and the book's history as it last saw it. Keep at least one seat: without one the desk cannot be closed.
 #[derive(Drop)]
 pub struct Seat {
     number: u32,
@@ -94,7 +94,7 @@ fn first_number(entries: &[Entry]) -> u64
 }
 
 impl Desk {
-    // Puts the book in for the first time.
+    // Puts the book into the queue for the first time.
     fn put_first<R: Wait>(&self, rt: &R, pass: &mut Pass<Book, SeatView>, mut book: Book)
         requires { IsPassOf self.now pass.old × (view pass.old ≡ fresh) }
         ensures pass { IsPassOf self.now pass.new }
@@ -150,8 +150,8 @@ impl Desk {
         self.seat(list, first, count - 1, pass)
     }
 
-    /// A desk over a book, and the number of seats asked for, at least one: SeatsExhausted if a number would pass 2^32 - 1. The numbers go on
-    /// from the greatest in the history, or begin at 0. A refusal gives the book back.
+    /// A desk over a book, with the number of seats asked for, at least one. `SeatsExhausted` if a seat's number would exceed 2^32 - 1. The numbers
+    /// continue after the greatest one in the history, or begin at 0. A refusal returns the book.
     pub fn new<R: Wait>(
         rt: &R,
         alloc: Global,
@@ -182,7 +182,7 @@ impl Desk {
         Ok((desk, list))
     }
 
-    // Takes the book out. Waits while another seat has it.
+    // Takes the book out. Blocks while another seat has it.
     fn take<R: Wait>(&self, rt: &R, pass: &mut Pass<Book, SeatView>) -> Book
         requires { IsPassOf self.now pass.old }
         ensures pass { IsPassOf self.now pass.new }
@@ -196,7 +196,7 @@ impl Desk {
         unreachable!()
     }
 
-    // Puts the book back, with at most one new entry, this seat's.
+    // Puts the book back, with at most one new entry, which is this seat's.
     fn put_back<R: Wait>(&self, rt: &R, pass: &mut Pass<Book, SeatView>, mut book: Book)
         requires pass { IsPassOf self.now pass.old }
         requires follows { (history : List HistoryEntry)
@@ -215,7 +215,7 @@ impl Desk {
         unreachable!()
     }
 
-    /// Makes a call on the book. Waits while another seat has the book. After a refusal the claims or the batch of the call are gone.
+    /// Makes a call on the book. Blocks while another seat has the book. A refused call drops its claims or its batch.
     pub fn call<R: Wait>(&self, rt: &R, seat: &mut Seat, call: Call) -> Reply
         requires { IsSeatOf self.now seat.old }
         ensures seat { IsSeatOf self.now seat.new × (number_in seat.new ≡ number_in seat.old) }
@@ -228,8 +228,8 @@ impl Desk {
         reply
     }
 
-    /// Keeps a penalty set that was built outside the book. It does what `call` does for a `Call::Keep` of the set's claims, but a set of the book's own
-    /// revoked state of that number is not built again. Waits while another seat has the book. A refused set is dropped.
+    /// Keeps a penalty set that was built outside the book. It does what `call` does for a `Call::Keep` of the set's claims, but a set on the book's own
+    /// revoked state of that number is not built again. Blocks while another seat has the book. A refused set is dropped.
     pub fn keep_set<R: Wait>(
         &self,
         rt: &R,
@@ -249,7 +249,7 @@ impl Desk {
         reply
     }
 
-    /// What the book knows of a channel: NoSuchChannel. Waits while another seat has the book.
+    /// What the book knows of a channel. Refused with `NoSuchChannel`. Blocks while another seat has the book.
     pub fn known<R: Wait>(&self, rt: &R, seat: &mut Seat, channel: u64) -> Result<Known, KnowError>
         requires { IsSeatOf self.now seat.old }
         ensures seat { HasSameCalls self.now seat.old seat.new }
@@ -266,8 +266,8 @@ impl Desk {
         known
     }
 
-    /// The state of the peer's revoked commitment of a number, for its penalties to be built: NoSuchChannel, NotRevoked, AlreadyKept.
-    /// Waits while another seat has the book.
+    /// The state of the peer's revoked commitment of this number, from which its penalties are built. Refused, in this order, with `NoSuchChannel`,
+    /// `NotRevoked` and `AlreadyKept`. Blocks while another seat has the book.
     pub fn revoked<R: Wait>(
         &self,
         rt: &R,
@@ -289,7 +289,7 @@ impl Desk {
         state
     }
 
-    /// Takes the book out for good. Waits while another seat has the book.
+    /// Takes the book out for good and returns it. Blocks while another seat has the book.
     pub fn close<R: Wait>(self, rt: &R, seat: &mut Seat) -> Book
         requires { IsSeatOf self seat.old }
         ensures history { IsHistoryFor (number_in seat.old) (calls_in seat.old)

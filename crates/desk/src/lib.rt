@@ -1,15 +1,15 @@
 //! The desk: a node's book behind a lock, for the threads that share it.
 //!
-//! [`Desk::new`] puts a book into a queue of one place, which is the lock: whoever takes the book out has it alone,
-//! until he puts it back. Each thread has a [`Seat`] of its own, whose number stands in the entries of its calls.
-//! `call` makes any of the book's six calls, `keep_set` keeps a set that was built outside the lock, `known` and
-//! `revoked` ask, and `close` gives the book back.
+//! [`Desk::new`] puts a book into a queue of capacity one, which acts as the lock: the thread that takes the book out
+//! has it alone until it puts the book back. Each thread has a [`Seat`] of its own, whose number stands in the entries
+//! of its calls. `call` makes any of the book's six calls, `keep_set` keeps a set that was built outside the lock,
+//! `known` and `revoked` ask, and `close` returns the book.
 //!
-//! Whenever the lock is free, the queue holds one book. Its history is accepted and guarded. It begins with the history
-//! that the desk was made with, and then has just the calls of the seats, each once and each seat's in order
-//! (`IsOneBook` of `specs/Rule.antt`). Each reply is the book's own at the end of such a history, which goes on from
-//! the one that the seat last put back, barring out-of-memory (`IsAnswered` of `specs/Answers.antt`). So no reply is
-//! made up, and no entry of another seat is lost. That a call returns is not proved: it may wait for another thread.
+//! While the lock is free, the queue holds one book, whose history is accepted and guarded. The history begins with the
+//! one that the desk was made with, followed by exactly the calls of the seats, each once and each seat's in order
+//! (`IsOneBook` of `specs/Rule.antt`). Each reply is the book's own at the end of such a history, which extends the one
+//! that the seat last put back, barring out-of-memory (`IsAnswered` of `specs/Answers.antt`). So no reply is made up,
+//! and no entry of another seat is lost. Termination of a call is not proved: it may wait for another thread.
 //!
 //! It stands on `book`, and on the library `crossbeam_channel`. It is for a node's threads: channels, watchers and
 //! workers call one book.
@@ -24,7 +24,7 @@
 //! let book = desk.close(&rt, &mut seat);
 //! ```
 //!
-//! These calls stand in no crate that is proved yet.
+//! No proved crate makes these calls yet.
 #![tactic(auto)]
 
 mod desk;

@@ -1,14 +1,14 @@
-// The rule of the queue of one place that holds the book, and its kinds of step.
+// The rule of the queue of capacity one that holds the book, and its kinds of step.
 
 use book::{Book, Entry};
 use crossbeam_channel::protocol::{Lesson, Outcome, Protocol, Split};
 use std::collections::LinkedList;
 
-/// What a seat knows, for contracts alone: no value of it is made.
+/// What a seat knows. Only contracts use it; no program makes a value of it.
 pub struct SeatView {
-    /// The book was not put in for the first time yet.
+    /// The book was not put in yet.
     pub is_new: bool,
-    /// No seat has a greater number, and this one may make the next.
+    /// No seat has a greater number, and this one may make the next seat.
     pub is_last: bool,
     pub number: u32,
     /// The history with which the desk was made.
@@ -73,7 +73,7 @@ impl Lesson<Book, SeatView> for PutBack {
     ghost fact = { λ v items. Unit {0} };
 }
 
-// the last seat leaves its number to a new one, and takes the next
+// the last seat gives its number to a new seat, and takes the next one
 pub struct Next;
 
 impl Split<SeatView> for Next {

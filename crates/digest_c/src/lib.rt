@@ -1,7 +1,7 @@
 //! RIPEMD-160 for programs in C, as a static library.
 //!
-//! Its one function writes what `digest::ripemd160` gives. `bench/ripemd160.sh` times it beside OpenSSL's. No crate
-//! stands on it.
+//! Its one function writes what `digest::ripemd160` returns. `bench/ripemd160.sh` compares its speed with
+//! OpenSSL's. No crate depends on it.
 #![tactic(auto)]
 
 ghost use Rattle.std.specs.Prelude.{◌≡◌};

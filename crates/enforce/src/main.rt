@@ -1,9 +1,9 @@
 //! The program of a node operator: `enforce ripemd HEX` hashes a message, `enforce paths HEX` lists the ways through
 //! a script, and `enforce run` plays the scenario on standard input.
 //!
-//! `enforce_words::run_words` does what the words say, and answers a status of at most 2. Here stand the streams and
-//! the arguments alone. After it, `enforce_notes` has notes for standard error, on refusals and on rules that are
-//! stricter than consensus: they change no status.
+//! `enforce_words::run_words` does what the words say, and returns a status of at most 2. This file has only the
+//! streams and the arguments. After that, `enforce_notes` writes notes on standard error, about refusals and about
+//! rules that are stricter than consensus. They change no status.
 #![tactic(auto)]
 
 use enforce_notes::{Kept, notes_of};
@@ -12,14 +12,14 @@ use std::io::Write;
 use std::process::ExitCode;
 use std::{env, io};
 
-// Writes the notes on a call. One that can't be made or written is left out.
+// Writes the notes on a call. Notes that can't be made or written are left out.
 fn write_notes(rt: &HostRuntime, words: &[String], status: u8, input: Option<&[u8]>) {
     if let Ok(notes) = notes_of(rt.alloc(), words, status, input) {
         let _ = rt.stderr().write_all(notes.as_bytes());
     }
 }
 
-/// Runs the words that the program was called with. Words that are no text are wrong words.
+/// Runs the words that the program was called with. Arguments that are not UTF-8 are wrong words.
 fn main(rt: HostRuntime) -> ExitCode {
     let mut words = Vec::new(rt.alloc());
     let all = match env::args(&rt) {

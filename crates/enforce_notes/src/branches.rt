@@ -1,6 +1,6 @@
-// The branches that end by a rule which is stricter than consensus.
+// Finds the branches that end by a rule which is stricter than consensus.
 //
-// The walk goes the ways of `paths::check`, and keeps no facts: of a script that is listed, it begins the same branches.
+// The walk follows the same branches as `paths::check`, but keeps no facts. In a script that is listed, it begins the same branches.
 
 use crate::entries::{Bytes, Entry, pop, push};
 use crate::signatures::{is_der, is_lax_number};
@@ -9,7 +9,7 @@ use script::num::{Limit, read};
 use script::tokens::{has_key_form, has_signature_form};
 use std::alloc::{AllocError, Global};
 
-// The most branches that a script which is listed begins.
+// The most branches that a listed script begins.
 const MAX_BRANCHES: usize = 64;
 
 /// A rule that is stricter than consensus.
@@ -17,13 +17,13 @@ const MAX_BRANCHES: usize = 64;
 pub enum Rule {
     /// A key has 33 bytes, and begins with 02 or 03.
     Key,
-    /// A signature is a token.
+    /// A signature is a token, or empty.
     Signature,
     /// A number is minimally encoded.
     Number,
 }
 
-/// Where a branch ended by a rule that is stricter than consensus: at which opcode, counted from 0, and by what bytes of the script.
+/// Where a branch ended by a rule that is stricter than consensus: the opcode, counted from 0, and the bytes of the script that break the rule.
 #[derive(Clone, Copy)]
 pub struct StrictEnd {
     pub op: usize,
@@ -48,14 +48,14 @@ enum Turn {
     EndsStrictly(Rule, Bytes),
 }
 
-// A branch that is to be followed from an opcode on.
+// A branch that is yet to be followed from an opcode on.
 #[derive(Drop)]
 struct Branch {
     at: usize,
     stack: Vec<Entry>,
 }
 
-/// Where the branches of a script that is listed ended by a rule which is stricter than consensus; each opcode and rule once. The only error is that memory ran out.
+/// Where the branches of a listed script ended by a rule that is stricter than consensus; each opcode and rule once. The only error is that memory ran out.
 pub fn strict_ends(alloc: Global, ops: &[Op]) -> Result<Vec<StrictEnd>, AllocError> {
     let mut ends = Vec::new(alloc);
     let mut waiting = Vec::new(alloc);
@@ -72,7 +72,7 @@ pub fn strict_ends(alloc: Global, ops: &[Op]) -> Result<Vec<StrictEnd>, AllocErr
     Ok(ends)
 }
 
-// Follows a branch to its end. Those that split from it wait.
+// Follows a branch to its end. Branches that split off are queued.
 fn follow(
     ops: &[Op],
     branch: Branch,
@@ -111,14 +111,14 @@ fn follow(
     Ok(())
 }
 
-// A branch waits, with a copy of this stack.
+// Queues a branch, with a copy of this stack.
 fn wait(waiting: &mut Vec<Branch>, at: usize, stack: &Vec<Entry>) -> Result<(), AllocError> {
     let stack = Vec::from_slice(*stack.allocator(), stack.as_slice())?;
     waiting.push(Branch { at, stack })?;
     Ok(())
 }
 
-// Keeps an end, unless one at the same opcode by the same rule is kept.
+// Records an end, unless one at the same opcode by the same rule is recorded.
 fn keep(ends: &mut Vec<StrictEnd>, end: StrictEnd) -> Result<(), AllocError> {
     for other in &*ends {
         if other.op == end.op && other.rule == end.rule {
@@ -129,7 +129,7 @@ fn keep(ends: &mut Vec<StrictEnd>, end: StrictEnd) -> Result<(), AllocError> {
     Ok(())
 }
 
-// The position after the branch that `rest` is in, which begins after `at`; where `stop`, that after its ELSE.
+// The position after the branch that `rest` is in, which begins after `at`. With `stop`, the position after its ELSE.
 fn after(at: usize, rest: &[Op], stop: bool) -> usize {
     let mut depth: usize = 0;
     let mut next = at.saturating_add(1);
@@ -146,7 +146,7 @@ fn after(at: usize, rest: &[Op], stop: bool) -> usize {
     next
 }
 
-// What an opcode does to a stack, and where the branch goes.
+// Applies an opcode to a stack, and returns where the branch goes.
 fn make_turn(op: &Op, stack: &mut Vec<Entry>) -> Result<Turn, AllocError> {
     match op {
         Op::Push(item) => push(stack, Entry::known(item.bytes()))?,
@@ -193,7 +193,7 @@ fn move_entries(op: &Op, stack: &mut Vec<Entry>) -> Result<(), AllocError> {
     }
 }
 
-// Where a branch that runs where the condition is `runs` goes.
+// Where a branch goes at an IF (`runs` is true) or a NOTIF (`runs` is false).
 fn branched(runs: bool, condition: &Entry) -> Turn {
     match condition.truth() {
         Some(holds) if holds == runs => Turn::Next,
@@ -202,7 +202,7 @@ fn branched(runs: bool, condition: &Entry) -> Turn {
     }
 }
 
-// Goes on only where the condition holds.
+// The branch goes on only if the condition holds.
 fn insisted(condition: &Entry) -> Turn {
     match condition.truth() {
         Some(false) => Turn::Ends,
@@ -210,7 +210,7 @@ fn insisted(condition: &Entry) -> Turn {
     }
 }
 
-// Whether an entry is a signature that consensus refuses, whatever the key.
+// Whether an entry is a signature that consensus refuses for every key.
 fn is_refused_signature(entry: &Entry) -> bool {
     match entry {
         Entry::Known(bytes) => {
@@ -221,7 +221,7 @@ fn is_refused_signature(entry: &Entry) -> bool {
     }
 }
 
-// The end by a key that the script pushes and that is none here.
+// The end by a key in the script that does not have the form of a key.
 fn bad_key(key: &Entry) -> Option<Turn> {
     match key {
         Entry::Known(bytes) if !has_key_form(bytes.as_slice()) => {
@@ -262,7 +262,7 @@ enum Count {
     Ends(Turn),
 }
 
-// The count from 0 to a limit that an entry is.
+// The count that an entry encodes, from 0 to `limit`.
 fn count_of(limit: usize, entry: &Entry) -> Count {
     let Entry::Known(bytes) = entry else {
         return Count::Ends(Turn::Ends);
@@ -276,7 +276,7 @@ fn count_of(limit: usize, entry: &Entry) -> Count {
     }
 }
 
-// The end by bytes that are no minimal number.
+// The end by bytes that are not a minimally encoded number.
 fn lax_number(bytes: &Bytes, limit: usize, most: u64) -> Turn {
     if is_lax_number(bytes.as_slice(), limit, most) {
         Turn::EndsStrictly(Rule::Number, *bytes)
@@ -285,7 +285,7 @@ fn lax_number(bytes: &Bytes, limit: usize, most: u64) -> Turn {
     }
 }
 
-// Takes keys, and gives the end by the first of them that is none here.
+// Pops keys, and returns the end by the first that does not have the form of a key.
 fn pop_keys(stack: &mut Vec<Entry>, count: usize) -> Option<Turn> {
     let mut end = None;
     for _ in 0..count {
@@ -297,7 +297,7 @@ fn pop_keys(stack: &mut Vec<Entry>, count: usize) -> Option<Turn> {
     end
 }
 
-// Takes signatures, and tells whether consensus refuses the first of them, with which it begins.
+// Pops signatures, and returns whether consensus refuses the topmost, which it checks first.
 fn pop_signatures(stack: &mut Vec<Entry>, count: usize) -> bool {
     let mut is_refused = false;
     for index in 0..count {

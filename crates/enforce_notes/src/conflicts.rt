@@ -1,22 +1,22 @@
-// Facts of a path that no witness meets together.
+// Finds facts of a path that no witness meets together.
 
 use digest::hash160;
 use facts::{Fact, KeySource, Stated};
 use script::tokens::{has_key_form, has_signature_form};
 use script::truths::is_true;
 
-// The bytes of a key, and of a token.
+// The numbers of bytes of a key and of a token.
 const KEY_SIZE: u64 = 33;
 
 const TOKEN_SIZE: u64 = 66;
 
-// Lock times from here on are times (BIP 65).
+// Lock times from this number on are times (BIP 65).
 const FIRST_TIME: u64 = 500_000_000;
 
-// The bit of a relative lock that makes it a time (BIP 68).
+// The bit of a relative lock that selects units of 512 seconds (BIP 68).
 const TIME_BIT: u32 = 1 << 22;
 
-/// The first fact of a path with one before it, such that no witness meets both.
+/// The first fact of a path that conflicts with an earlier one: no witness meets both.
 pub fn conflict_in(facts: &[Stated]) -> Option<(&Stated, &Stated)> {
     for (count, fact) in facts.iter().enumerate() {
         if let Some(other) = conflict_with(fact, &facts[..count]) {
@@ -26,14 +26,14 @@ pub fn conflict_in(facts: &[Stated]) -> Option<(&Stated, &Stated)> {
     None
 }
 
-// The first of these facts that no witness meets together with a further one.
+// The first of `others` that no witness meets together with a fact.
 fn conflict_with<'a>(fact: &Stated, others: &'a [Stated]) -> Option<&'a Stated> {
     others
         .iter()
         .find(|other| denies(fact, other) || denies(other, fact))
 }
 
-// Whether a fact denies another one.
+// Whether a fact rules out another one.
 fn denies(fact: &Stated, other: &Stated) -> bool {
     if fact.fact.equals(&other.fact) {
         return fact.holds != other.holds;
@@ -41,7 +41,7 @@ fn denies(fact: &Stated, other: &Stated) -> bool {
     fact.holds && denies_by_value(&fact.fact, other)
 }
 
-// Whether a fact that holds denies another one, which is not the same.
+// Whether a fact that holds rules out a different one.
 fn denies_by_value(fact: &Fact, other: &Stated) -> bool {
     match fact {
         Fact::Is(slot, bytes) => is_refused(other, *slot, bytes.bytes()),
@@ -66,7 +66,7 @@ fn denies_by_value(fact: &Fact, other: &Stated) -> bool {
     }
 }
 
-// Whether a slot of these bytes does not meet a fact.
+// Whether a slot with these bytes fails a fact.
 fn is_refused(fact: &Stated, slot: usize, bytes: &[u8]) -> bool {
     let holds = match &fact.fact {
         Fact::Hash(place, hash) if *place == slot => hash160(bytes).as_slice() == hash.bytes(),
@@ -79,7 +79,7 @@ fn is_refused(fact: &Stated, slot: usize, bytes: &[u8]) -> bool {
     holds != fact.holds
 }
 
-// Whether a slot of `size` bytes does not meet a fact.
+// Whether a slot of `size` bytes fails a fact.
 fn is_size_refused(fact: &Stated, slot: usize, size: u64) -> bool {
     match &fact.fact {
         Fact::Size(place, n) if *place == slot => (u64::from(*n) == size) != fact.holds,
@@ -97,7 +97,7 @@ fn is_size_refused(fact: &Stated, slot: usize, size: u64) -> bool {
     }
 }
 
-// Whether a slot of `size` bytes that is a key or a token does not meet a fact: it begins with 02 or 03, and so is true.
+// Whether a slot of `size` bytes that is a key or a token fails a fact. Such a slot begins with 02 or 03, so it is true.
 fn is_form_refused(fact: &Stated, slot: usize, size: u64) -> bool {
     match &fact.fact {
         Fact::Truth(place) if *place == slot => !fact.holds,
@@ -105,7 +105,7 @@ fn is_form_refused(fact: &Stated, slot: usize, size: u64) -> bool {
     }
 }
 
-// Whether a fact asks for the token of another key that the script pushes.
+// Whether a fact asks for a token of another key in the script.
 fn is_other_token(fact: &Stated, slot: usize, key: &KeySource) -> bool {
     match (&fact.fact, key) {
         (Fact::Token(place, KeySource::Const(bytes)), KeySource::Const(other)) => {

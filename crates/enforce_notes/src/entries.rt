@@ -1,4 +1,5 @@
-// What stands on the stack of a branch, as far as it decides where the branch goes.
+// The entries on the stack of a branch, as
+// far as they decide where the branch goes.
 
 ghost use Rattle.std.specs.Prelude.{◌≤◌, length};
 
@@ -37,28 +38,28 @@ impl Bytes {
     }
 }
 
-/// What stands on the stack of a branch.
+/// An entry on the stack of a branch.
 #[derive(Clone, Copy)]
 pub enum Entry {
     /// An item of the witness.
     Item,
-    /// Bytes that the script makes.
+    /// Bytes that the script determines.
     Known(Bytes),
     /// The hash of an item.
     Hash,
     /// The length of an item.
     Size,
-    /// The answer of a comparison or of a check, which the witness decides.
+    /// The result of a comparison or of a check that the witness decides.
     Answer,
 }
 
 impl Entry {
-    /// Bytes that the script makes.
+    /// Bytes that the script determines.
     pub fn known(item: &[u8]) -> Self {
         Entry::Known(Bytes::new(item))
     }
 
-    /// What a comparison of known bytes answers.
+    /// The result of a comparison of known bytes.
     pub fn flag(holds: bool) -> Self {
         if holds {
             Entry::known(&[1])
@@ -67,7 +68,7 @@ impl Entry {
         }
     }
 
-    /// Whether it counts as true; `None` where the witness decides.
+    /// Whether the entry counts as true; `None` if the witness decides.
     pub fn truth(&self) -> Option<bool> {
         match self {
             Entry::Known(bytes) => Some(is_true(bytes.as_slice())),
@@ -75,7 +76,7 @@ impl Entry {
         }
     }
 
-    /// What SIZE puts above it.
+    /// The entry that SIZE pushes above it.
     pub fn size(&self) -> Self {
         match self {
             Entry::Item => Entry::Size,
@@ -88,7 +89,7 @@ impl Entry {
         }
     }
 
-    /// What HASH160 makes of it.
+    /// The entry that HASH160 replaces it with.
     pub fn hash(&self) -> Self {
         match self {
             Entry::Item => Entry::Hash,
@@ -97,7 +98,7 @@ impl Entry {
         }
     }
 
-    /// What EQUAL makes of two.
+    /// The entry that EQUAL leaves of two.
     pub fn equal(&self, other: &Entry) -> Self {
         match (self, other) {
             (Entry::Known(a), Entry::Known(b)) => Entry::flag(a.as_slice() == b.as_slice()),
@@ -112,7 +113,7 @@ impl Entry {
     }
 }
 
-// The answer that the witness decides, or false.
+// A result that the witness decides, or false if it can't hold.
 fn answer_if(may_hold: bool) -> Entry {
     if may_hold {
         Entry::Answer
@@ -129,12 +130,12 @@ fn is_size(bytes: &[u8]) -> bool {
     }
 }
 
-/// The top of a stack, below which the items of the witness stand.
+/// Pops the top of a stack. Below its entries are the items of the witness.
 pub fn pop(stack: &mut Vec<Entry>) -> Entry {
     stack.pop().unwrap_or(Entry::Item)
 }
 
-/// Puts an entry on top. The only error is that memory ran out.
+/// Pushes an entry. The only error is that memory ran out.
 pub fn push(stack: &mut Vec<Entry>, entry: Entry) -> Result<(), AllocError> {
     stack.push(entry)?;
     Ok(())

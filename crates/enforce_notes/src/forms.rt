@@ -1,16 +1,16 @@
-// What the parts of a scenario are to be.
+// The shapes of the parts of a scenario.
 
 use serde_json::Value;
 use terms::Side;
 use texts::FromValue;
 
-/// What a part of a scenario is to be.
+/// The shape of a part of a scenario.
 #[derive(Clone, Copy)]
 pub enum Kind {
     Side,
-    /// Of 64 bits.
+    /// A number of 64 bits.
     Number,
-    /// Of 32 bits.
+    /// A number of 32 bits.
     Short,
     /// 32 bytes.
     Hash,
@@ -38,7 +38,7 @@ impl Kind {
         }
     }
 
-    /// What it is, in words.
+    /// The shape, in words.
     pub fn text(self) -> &'static str {
         match self {
             Kind::Side => "\"A\" or \"B\"",
@@ -53,7 +53,7 @@ impl Kind {
     }
 }
 
-/// A part of a scenario: its name on the page of scenarios, and what it is to be.
+/// A part of a scenario: its name in `docs/SCENARIOS.md`, and its shape.
 #[derive(Clone, Copy)]
 pub struct Part(pub &'static str, pub Kind);
 
@@ -75,7 +75,7 @@ pub static TERMS: [Part; 7] = [
     Part("start", Kind::Numbers),
 ];
 
-// What stands behind the name of an event.
+// The items after the name of an event.
 static OFFER: [Part; 5] = [
     Part("side", Kind::Side),
     Part("channel", Kind::Number),
@@ -126,7 +126,7 @@ static COUNT: [Part; 2] = [Part("side", Kind::Side), Part("count", Kind::Number)
 
 static REORG: [Part; 2] = [Part("depth", Kind::Number), Part("forgotten", Kind::Number)];
 
-/// What stands behind the name of an event of `count` items, its name included; `None` where there is no event of this name.
+/// The items after the name of an event of `count` items, including its name; `None` if there is no event with this name.
 pub fn event_parts(name: &str, count: usize) -> Option<&'static [Part]> {
     let parts: &'static [Part] = match name.as_bytes() {
         b"offer" => &OFFER,

@@ -1,9 +1,8 @@
-//! Notes on what the program `enforce` answered, for a person at a prompt.
+//! Notes on the output of the program `enforce`, for a person at a prompt.
 //!
-//! [`notes_of`] makes a text from the words of a call, its status and the input that was read: where a script or a
-//! scenario is at fault, which branches ended by a rule that is stricter than consensus, and which paths no witness
-//! meets. It is a pure function, and proved not to panic; what it says is tested. [`Kept`] is a reader that keeps what
-//! passes through it.
+//! [`notes_of`] makes a text from the words of a call, its status and the input that was read. It says where a script or a scenario is at fault, which branches ended by a
+//! rule that is stricter than consensus, and which paths no witness meets. It is a pure function, proved not to panic. What it says is tested, not proved. [`Kept`] is a
+//! reader that keeps what passes through it.
 //!
 //! `enforce` writes the notes on standard error, after all that `enforce_words` printed. They change no status.
 //!
@@ -30,8 +29,8 @@ mod sizes;
 pub use readers::Kept;
 use std::alloc::{AllocError, Global};
 
-/// The notes on a call, a line each; none is an empty text. `words` are those of the call (without the program's name), `status` is what it ended with, and `input` is all
-/// that it read, `None` where a read failed. The only error is that memory ran out.
+/// The notes on a call, a line each; empty if there are none. `words` are those of the call (without the program's name), `status` is its exit status, and `input` is all
+/// that it read, or `None` if a read failed. The only error is that memory ran out.
 pub fn notes_of(
     alloc: Global,
     words: &[String],

@@ -1,6 +1,6 @@
 // The names of Bitcoin's opcodes.
 
-// From byte 4c on, as Bitcoin Core's `script/script.h` has them.
+// From byte 4c on, as in Bitcoin Core's `script/script.h`.
 const FIRST: usize = 0x4c;
 
 static NAMES: [&str; 111] = [
@@ -125,7 +125,7 @@ static NAMES: [&str; 111] = [
     "OP_CHECKSIGADD",
 ];
 
-/// The name that Bitcoin has for an opcode above 4b (in hexadecimal); `None` where it has none.
+/// Bitcoin's name of an opcode above 4b (in hexadecimal); `None` if it has none.
 pub fn name_of(byte: u8) -> Option<&'static str> {
     NAMES.get(usize::from(byte).checked_sub(FIRST)?).copied()
 }

@@ -1,13 +1,13 @@
-// The pushes of a script that was read in part.
+// The pushes of a script that was parsed in part.
 
 use crate::sizes::Counted;
 use script::{Op, Script};
 use std::alloc::{AllocError, Global};
 use std::fmt::Write;
 
-/// Notes what is pushed by the opcodes that these bytes spell, and at which bytes.
+/// Notes what the opcodes in these bytes push, and at which bytes.
 pub fn note_pushes(notes: &mut String, alloc: Global, bytes: &[u8]) -> Result<(), AllocError> {
-    // what was read before a fault splits into opcodes
+    // what was read before a fault parses as a script
     let Ok(script) = Script::parse(alloc, bytes) else {
         return Ok(());
     };
@@ -32,7 +32,7 @@ fn write_pushes(notes: &mut String, ops: &[Op]) -> Result<(), AllocError> {
     }
 }
 
-// Whether the opcode is a push, which is written.
+// Writes the opcode if it is a push, and returns whether it is one.
 fn write_push(notes: &mut String, mark: &str, op: &Op, byte: u64) -> Result<bool, AllocError> {
     match op {
         Op::Push(item) if item.is_empty() => write!(notes, "{mark} the empty item at byte {byte}")?,

@@ -13,7 +13,7 @@ pub struct Kept<R> {
 }
 
 impl<R: Read> Kept<R> {
-    /// A reader that gives what this one does. It takes no memory.
+    /// A reader that returns what this one does. Does not allocate.
     pub fn new(alloc: Global, reader: R) -> Self {
         Kept {
             reader,
@@ -22,7 +22,7 @@ impl<R: Read> Kept<R> {
         }
     }
 
-    /// What was read so far; `None` after a read that failed, or where memory ran out for it.
+    /// What was read so far; `None` if a read failed, or if memory ran out.
     pub fn all_bytes(&self) -> Option<&[u8]> {
         if self.is_whole {
             Some(self.bytes.as_slice())

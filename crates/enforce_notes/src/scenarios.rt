@@ -1,4 +1,4 @@
-// Notes on a text that is no scenario.
+// Notes on a text that is not a scenario.
 
 use crate::forms::{MEMBERS, Part, TERMS, event_parts};
 use serde_json::{Error, Value};
@@ -6,10 +6,11 @@ use std::alloc::{AllocError, Global};
 use std::fmt::Write;
 use texts::tag_of;
 
-// The most bytes that are read as a scenario.
+// The most bytes that are read of a scenario.
 const MAX_INPUT: usize = 4_194_304;
 
-/// Notes on a text that is read as a scenario: where it is no JSON text, or which of its parts has not the form.
+/// Notes on a text that is read as a scenario: where it is
+/// invalid JSON, or which of its parts does not have its shape.
 pub fn notes(alloc: Global, input: &[u8]) -> Result<String, AllocError> {
     let mut notes = String::new(alloc);
     if input.len() <= MAX_INPUT {
@@ -26,7 +27,7 @@ fn note_text(notes: &mut String, alloc: Global, input: &[u8]) -> Result<(), Allo
     }
 }
 
-// Notes where a text is no JSON text.
+// Notes where a text is invalid JSON.
 fn note_place(notes: &mut String, input: &[u8], error: &Error) -> Result<(), AllocError> {
     let (line, column) = (error.line(), error.column());
     let byte = byte_of(input, line, column);
@@ -59,26 +60,26 @@ fn byte_of(input: &[u8], line: usize, column: usize) -> usize {
     start.saturating_add(column.saturating_sub(1))
 }
 
-// What has not the form that it is to have.
+// Why a value does not have its shape.
 #[derive(Clone, Copy)]
 enum Fault {
-    // It is no object.
+    // It is not an object.
     NoObject,
     // It lacks this member.
     Lacks(&'static str),
     // It has a member that does not belong to it.
     Unknown,
-    // It is no array with a name at its front.
+    // It is not an array whose first item is a name.
     NoEvent,
     // There is no event of this name.
     NoName,
-    // It has the first number of items, and is to have the second.
+    // It has the first number of items, and should have the second.
     Count(usize, usize),
-    // This part is of another kind.
+    // This part has another shape.
     Part(Part),
 }
 
-// Notes the first part of a value that has not the form.
+// Notes the first part of a value that does not have its shape.
 fn note_fault(notes: &mut String, value: &Value) -> Result<(), AllocError> {
     if let Some(fault) = object_fault(value, &MEMBERS) {
         write!(notes, "note: the scenario")?;
@@ -110,7 +111,7 @@ fn write_fault(notes: &mut String, fault: &Fault) -> Result<(), AllocError> {
     }
 }
 
-// What an object lacks to have these members, and no others.
+// What keeps an object from having exactly these members.
 fn object_fault(value: &Value, parts: &[Part]) -> Option<Fault> {
     let Some(object) = value.as_object() else {
         return Some(Fault::NoObject);
@@ -130,7 +131,7 @@ fn object_fault(value: &Value, parts: &[Part]) -> Option<Fault> {
     }
 }
 
-// The first channel whose terms have not the form.
+// The first channel whose terms do not have their shape.
 fn terms_fault(value: &Value) -> Option<(usize, Fault)> {
     for (channel, terms) in value.get("channels")?.as_array()?.iter().enumerate() {
         if let Some(fault) = object_fault(terms, &TERMS) {
@@ -140,7 +141,7 @@ fn terms_fault(value: &Value) -> Option<(usize, Fault)> {
     None
 }
 
-// The first event that has not the form.
+// The first event that does not have its shape.
 fn events_fault(value: &Value) -> Option<(usize, Fault)> {
     for (index, event) in value.get("events")?.as_array()?.iter().enumerate() {
         if let Some(fault) = event_fault(event) {
@@ -150,7 +151,7 @@ fn events_fault(value: &Value) -> Option<(usize, Fault)> {
     None
 }
 
-// What an array lacks to be an event.
+// What keeps an array from being an event.
 fn event_fault(event: &Value) -> Option<Fault> {
     let Some(name) = tag_of(event) else {
         return Some(Fault::NoEvent);

@@ -40,7 +40,7 @@ fn before(bytes: &[u8], at: usize) -> &[u8] {
     &bytes[..at.min(bytes.len())]
 }
 
-// Notes which opcode of Bitcoin stands at a byte.
+// Notes which of Bitcoin's opcodes stands at a byte.
 fn note_opcode(notes: &mut String, bytes: &[u8], at: usize) -> Result<(), AllocError> {
     let Some(byte) = bytes.get(at) else {
         return Ok(());
@@ -57,7 +57,7 @@ fn note_opcode(notes: &mut String, bytes: &[u8], at: usize) -> Result<(), AllocE
     }
 }
 
-// Notes how many bytes a push wants, and how many follow it.
+// Notes how many bytes a push needs, and how many follow it.
 fn note_missing(notes: &mut String, bytes: &[u8], at: usize) -> Result<(), AllocError> {
     let Some((len, rest)) = bytes[at.min(bytes.len())..].split_first() else {
         return Ok(());
@@ -91,7 +91,8 @@ fn note_listing(notes: &mut String, alloc: Global, checked: &Checked) -> Result<
     Ok(())
 }
 
-// Notes that nobody can spend, and whether consensus says so too.
+// Notes that no witness satisfies the script, and whether each
+// branch ends as in consensus.
 fn note_no_path(notes: &mut String, is_exact: bool) -> Result<(), AllocError> {
     let end = if is_exact {
         ": each branch ends as in consensus"
@@ -104,7 +105,7 @@ fn note_no_path(notes: &mut String, is_exact: bool) -> Result<(), AllocError> {
     )
 }
 
-// Notes by which rule a branch ended.
+// Notes the rule by which a branch ended.
 fn note_end(notes: &mut String, end: &StrictEnd) -> Result<(), AllocError> {
     let (op, bytes) = (end.op, Counted(end.bytes.as_slice()));
     let rule = match end.rule {

@@ -1,6 +1,6 @@
-// What consensus takes for a signature, and for a number.
+// What consensus accepts as a signature, and as a number.
 
-/// Whether bytes are a signature of consensus: in strict DER, with a byte for the kind of hash (BIP 66).
+/// Whether bytes have the form of a signature in consensus: strict DER, followed by the hash type (BIP 66).
 pub fn is_der(bytes: &[u8]) -> bool {
     let [tag, len, body @ .., _hash_kind] = bytes else {
         return false;
@@ -14,7 +14,7 @@ pub fn is_der(bytes: &[u8]) -> bool {
     }
 }
 
-// What follows an integer of strict DER; `None` where none begins here.
+// The bytes after an integer in strict DER; `None` if no integer begins here.
 fn after_integer(bytes: &[u8]) -> Option<&[u8]> {
     let (tag, rest) = bytes.split_first()?;
     let (len, rest) = rest.split_first()?;
@@ -30,7 +30,7 @@ fn after_integer(bytes: &[u8]) -> Option<&[u8]> {
     }
 }
 
-// Whether the bytes of an integer are not negative, and begin with no zero that could be left out.
+// Whether the bytes of an integer are not negative, and have no leading zero that could be left out.
 fn is_shortest(integer: &[u8]) -> bool {
     match integer {
         [0, next, ..] => *next >= 0x80,
@@ -39,7 +39,7 @@ fn is_shortest(integer: &[u8]) -> bool {
     }
 }
 
-/// Whether consensus reads an item as a number from 0 to `most`, where the item has at most `limit` bytes and need not be minimally encoded.
+/// Whether consensus reads an item as a number from 0 to `most`. The item has at most `limit` bytes and need not be minimally encoded.
 pub fn is_lax_number(bytes: &[u8], limit: usize, most: u64) -> bool {
     let Some((last, front)) = bytes.split_last() else {
         return true;
@@ -53,6 +53,6 @@ pub fn is_lax_number(bytes: &[u8], limit: usize, most: u64) -> bool {
             .saturating_mul(256)
             .saturating_add(u64::from(*byte));
     }
-    // of the negative numbers only that of 0 passes
+    // of the items with the sign bit, only negative zero passes
     magnitude == 0 || (*last < 0x80 && magnitude <= most)
 }

@@ -1,9 +1,10 @@
-// Bytes with their number.
+// Bytes, printed with their number.
 
 use facts::texts::Hex;
 use std::fmt;
 
-/// Bytes in hexadecimal, with their number.
+/// Bytes in hexadecimal,
+/// printed with their number.
 #[derive(Drop)]
 pub struct Counted<'a>(pub &'a [u8]);
 

@@ -1,4 +1,5 @@
-//! Small calls of each program, and words that name none.
+//! Small calls of each program,
+//! and words that name no program.
 
 use crate::fixtures::{Broken, prints, repeated, words_of};
 use enforce_words::{USAGE, run_words};

@@ -1,4 +1,4 @@
-//! Calls of the programs, with what they are to print.
+//! Calls of the programs, with their expected output.
 
 use enforce_words::run_words;
 use std::alloc::Global;
@@ -29,7 +29,7 @@ pub fn words_of(alloc: Global, words: &[&str]) -> Result<Vec<String>, Fail> {
     Ok(all)
 }
 
-/// Asserts what a call without input prints, and its status.
+/// Asserts the output and the status of a call without input.
 pub fn prints(
     rt: &impl Abort,
     alloc: Global,
@@ -42,7 +42,8 @@ pub fn prints(
     prints_of(rt, alloc, words, &mut input, out, err, status)
 }
 
-/// Asserts what a call that may read this input prints, and its status.
+/// Asserts the output and the status
+/// of a call that may read this input.
 pub fn prints_of<R: io::Read>(
     rt: &impl Abort,
     alloc: Global,
@@ -62,7 +63,7 @@ pub fn prints_of<R: io::Read>(
     Ok(())
 }
 
-/// A text so many times, and another after it.
+/// A text repeated a number of times, followed by another one.
 pub fn repeated(alloc: Global, piece: &str, times: usize, end: &str) -> Result<String, Fail> {
     let mut text = String::new(alloc);
     for _ in 0..times {

@@ -1,6 +1,6 @@
-//! Tests of the program `enforce`: what `enforce_words::run_words` prints and answers, as texts and statuses.
+//! Tests of the program `enforce`: the texts and statuses of `enforce_words::run_words`.
 //!
-//! They stand apart so that the library is proved without them.
+//! They are in a crate of their own, so that the library is proved without them.
 #![tactic(auto)]
 
 #[cfg(test)]

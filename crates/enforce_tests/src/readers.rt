@@ -1,11 +1,11 @@
-//! Input that ends otherwise than it should.
+//! Input that never ends, or that fails.
 
 use crate::fixtures::prints_of;
 use enforce_words::USAGE;
 use std::io;
 use std::test::Fail;
 
-// A reader that gives zero bytes without an end.
+// A reader that returns zero bytes without an end.
 #[derive(Drop)]
 struct Endless;
 
@@ -16,7 +16,7 @@ impl io::Read for Endless {
     }
 }
 
-// A reader that gives a byte so many times, and fails from then on.
+// A reader that returns a byte `left` times, and then fails.
 #[derive(Drop)]
 struct Failing {
     left: u8,
@@ -48,7 +48,7 @@ fn tells_a_failed_read(rt: HostRuntime) -> Result<(), Fail> {
     prints_of(&rt, rt.alloc(), &["run"], &mut input, line, "", 1)
 }
 
-// Wrong words are found before any input is read.
+// Wrong words are detected before any input is read.
 #[test]
 fn reads_nothing_after_wrong_words(rt: HostRuntime) -> Result<(), Fail> {
     let mut input = Failing { left: 3 };

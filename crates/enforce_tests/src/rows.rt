@@ -1,4 +1,4 @@
-//! Whole texts of listings, of every refusal, and what messages of every length print.
+//! The whole output of listings, of every refusal, and of messages of every length.
 
 use crate::fixtures::{prints, repeated, words_of};
 use digest::ripemd160;
@@ -30,7 +30,8 @@ fn lists_an_offered_htlc(rt: HostRuntime) -> Result<(), Fail> {
     prints(&rt, alloc, &["paths", code.as_str()], text.as_str(), "", 0)
 }
 
-// The script of an HTLC that a commitment receives, which expires at height 500: three paths, the third with a lock.
+// The script of an HTLC that a commitment receives (BOLT 3),
+// expiring at height 500: three paths, the third with a lock.
 #[test]
 fn lists_a_received_htlc(rt: HostRuntime) -> Result<(), Fail> {
     let alloc = rt.alloc();
@@ -43,7 +44,7 @@ fn lists_a_received_htlc(rt: HostRuntime) -> Result<(), Fail> {
     prints(&rt, alloc, &["paths", code.as_str()], text.as_str(), "", 0)
 }
 
-// The script of a key's hash, and one without a way.
+// The script of a key hash, and a script without a path.
 #[test]
 fn lists_a_key_hash(rt: HostRuntime) -> Result<(), Fail> {
     let alloc = rt.alloc();
@@ -109,7 +110,7 @@ fn hashes_every_length(rt: HostRuntime) -> Result<(), Fail> {
     Ok(())
 }
 
-// A writer that takes every byte, and fails to flush them.
+// A writer that takes every byte, and fails on a flush.
 #[derive(Drop)]
 struct Unflushed;
 
@@ -123,7 +124,7 @@ impl io::Write for Unflushed {
     }
 }
 
-// The status of words, whose texts can't be flushed.
+// The status of a call whose output can't be flushed.
 fn status_unflushed(alloc: Global, words: &[&str]) -> Result<u8, Fail> {
     let all = words_of(alloc, words)?;
     let mut input: &[u8] = &[];

@@ -1,4 +1,5 @@
-//! Scenarios: one in which a side is to sign before it keeps penalties, and input that is no scenario.
+//! Scenarios: one in which a side tries to sign before
+//! it keeps penalties, and input that is not a scenario.
 
 use crate::fixtures::{Broken, prints_of, repeated, words_of};
 use enforce_words::run_words;
@@ -9,10 +10,10 @@ use std::test::Fail;
 // SHA-256 of 32 zero bytes (Python's hashlib).
 const HASH: &str = "66687aadf862bd776c8fc18b8e9f8e20089714856ee233b3902a591d0d5f2925";
 
-// What side A begins with, in millisatoshis, where B begins with 20,000,000 of 100,000,000.
+// The millisatoshis that side A begins with. Side B begins with 20,000,000, of 100,000,000.
 const START: u64 = 80_000_000;
 
-// The text of a scenario with one channel, in which side A begins with so many millisatoshis.
+// The text of a scenario with one channel, in which side A begins with `start` millisatoshis.
 fn scenario(alloc: Global, start: u64, events: &str) -> Result<String, Fail> {
     let a = repeated(alloc, "0a", 32, "")?;
     let b = repeated(alloc, "0b", 32, "")?;
@@ -21,7 +22,7 @@ fn scenario(alloc: Global, start: u64, events: &str) -> Result<String, Fail> {
     )?)
 }
 
-// Asserts what `run` prints for a text, and its status.
+// Asserts the output and the status of `run` for a text.
 fn plays(rt: &impl Abort, alloc: Global, text: &str, out: &str, status: u8) -> Result<(), Fail> {
     let mut input = text.as_bytes();
     prints_of(rt, alloc, &["run"], &mut input, out, "", status)

@@ -1,4 +1,4 @@
-// What each program answers.
+// The output of each program.
 
 use crate::errors::CommandError;
 use crate::listings::paths_text;
@@ -12,14 +12,14 @@ use std::alloc::Global;
 use std::fmt::Write;
 use std::io::Read;
 
-/// A program with its words.
+/// A program, with its words.
 #[derive(Drop)]
 pub enum Command<'a> {
     /// `ripemd HEX`: the RIPEMD-160 of a message.
     Ripemd(&'a str),
     /// `paths HEX`: the ways through a script.
     Paths(&'a str),
-    /// `run`: what becomes of the events of a scenario, which is read.
+    /// `run`: plays the scenario on standard input.
     Run,
 }
 
@@ -35,7 +35,7 @@ impl<'a> Command<'a> {
     }
 }
 
-/// The text that a program prints. `run` alone reads the input.
+/// The text that a program prints. Only `run` reads the input.
 pub fn answer<R: Read>(
     alloc: Global,
     command: &Command<'_>,

@@ -1,4 +1,4 @@
-// The lines of a scenario that was played.
+// The lines that are printed of a scenario that was played.
 
 use book::Book;
 use chain::{Coins, Index};
@@ -7,7 +7,8 @@ use std::fmt::Write;
 use terms::Side;
 use world::{Outcome, World};
 
-/// A line for each event, then those of the world in which they end: the chain, the penalties that each side keeps, and how long their histories are.
+/// A line for each event, followed by the lines of the world after them: the
+/// chain, the penalties that each side keeps, and the lengths of their histories.
 pub fn text_of(alloc: Global, outcomes: &[Outcome], world: &World) -> Result<String, AllocError> {
     let mut text = String::new(alloc);
     let (a, b) = (world.book(Side::A), world.book(Side::B));
@@ -20,7 +21,7 @@ pub fn text_of(alloc: Global, outcomes: &[Outcome], world: &World) -> Result<Str
     Ok(text)
 }
 
-// What became of each event, counted from 0.
+// Appends the outcome of each event, counted from 0.
 fn push_outcomes(text: &mut String, outcomes: &[Outcome]) -> Result<(), AllocError> {
     for (event, outcome) in outcomes.iter().enumerate() {
         writeln!(text, "{event} {outcome}")?;
@@ -28,7 +29,7 @@ fn push_outcomes(text: &mut String, outcomes: &[Outcome]) -> Result<(), AllocErr
     Ok(())
 }
 
-// The chain's height, its unspent outputs and its fees.
+// Appends the chain's height, its unspent outputs and its fees.
 fn push_chain(text: &mut String, chain: &Index) -> Result<(), AllocError> {
     let height = chain.height();
     let unspent = chain.unspent()?;
@@ -39,7 +40,7 @@ fn push_chain(text: &mut String, chain: &Index) -> Result<(), AllocError> {
     Ok(())
 }
 
-// The revoked commitments whose penalties a book keeps, by channel and number.
+// Appends the revoked commitments whose penalties a book keeps, by channel and number.
 fn push_all_kept(text: &mut String, side: &str, book: &Book) -> Result<(), AllocError> {
     for channel in 0..book.channel_count() {
         push_kept(text, side, book, channel)?;
@@ -47,7 +48,7 @@ fn push_all_kept(text: &mut String, side: &str, book: &Book) -> Result<(), Alloc
     Ok(())
 }
 
-// Those of a channel. A commitment that is not revoked ends them.
+// Appends those of one channel, up to the first commitment that is not revoked.
 fn push_kept(text: &mut String, side: &str, book: &Book, channel: u64) -> Result<(), AllocError> {
     for number in 0..u64::MAX {
         match book.keeps(channel, number) {
@@ -59,7 +60,7 @@ fn push_kept(text: &mut String, side: &str, book: &Book, channel: u64) -> Result
     Ok(())
 }
 
-// How many entries the history of a book has.
+// Appends the number of entries of a book's history.
 fn push_history(text: &mut String, side: &str, book: &Book) -> Result<(), AllocError> {
     let entries = book.entries().len();
     writeln!(text, "{side} history {entries}")?;

@@ -17,10 +17,10 @@ pub enum CommandError {
     /// A text is not hexadecimal.
     #[error("BadHex")]
     BadHex,
-    /// The bytes are no script.
+    /// The bytes are not a script.
     #[error("{0}")]
     Parse(ParseError),
-    /// The script is not listed.
+    /// The script's paths can't be listed.
     #[error("{0}")]
     Check(CheckError),
     /// The input has more than 4,194,304 bytes.
@@ -29,7 +29,7 @@ pub enum CommandError {
     /// The input can't be read.
     #[error("ReadFailed")]
     ReadFailed,
-    /// The input is no scenario.
+    /// The input is not a scenario.
     #[error("{0}")]
     Scenario(ScenarioError),
     /// The world of the scenario does not begin.

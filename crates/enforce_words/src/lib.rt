@@ -1,17 +1,16 @@
-//! The words of the program `enforce`, from which come a status and text.
+//! The words of the program `enforce`, and the status and text that they lead to.
 //!
-//! `enforce ripemd HEX` hashes a message, `enforce paths HEX` lists the ways through a script, and `enforce run`
-//! plays the scenario on standard input. [`run_words`] does what the words say, over any reader and writers, and
-//! answers a status of at most 2. What it prints is tested, not proved.
+//! `enforce ripemd HEX` hashes a message, `enforce paths HEX` lists the ways through a script, and `enforce run` plays the scenario
+//! on standard input. [`run_words`] does what the words say, over any reader and writers, and returns a status of at most 2. What it
+//! prints is tested, not proved.
 //!
-//! `digest` hashes, `paths` lists, and `world` plays what `scenario` reads. The programs `enforce` and `runs` hand it
-//! the words.
+//! `digest` hashes, `paths` lists, and `world` plays what `scenario` reads. The programs `enforce` and `runs` pass it the words.
 //!
 //! ```rust
 //! let status = run_words(alloc, words, &mut input, &mut out, &mut err);
 //! ```
 //!
-//! The program's rows are the tests of `enforce_tests`.
+//! The program's whole output is tested in `enforce_tests`.
 #![tactic(auto)]
 
 ghost use Rattle.std.specs.Prelude.{◌≡◌, ◌≤◌, ◌⊎◌};
@@ -26,11 +25,11 @@ use crate::answers::{Command, answer};
 use std::alloc::Global;
 use std::io::{Read, Write};
 
-/// The line that wrong words get.
+/// The line that is printed for wrong words.
 pub const USAGE: &str = "usage: enforce ripemd HEX | paths HEX | run | node N\n";
 
-/// Runs the program on its words (without its name) and answers its status: 0 when done, 1 for refused input or a failed write, 2 for
-/// wrong words, which are found before any input is read. All text is made before its first byte is written.
+/// Runs the program on its words (without its name) and returns its status: 0 when done, 1 for refused input or a failed write, 2 for
+/// wrong words, which are detected before any input is read. The whole text is made before its first byte is written.
 pub fn run_words<R: Read, W: Write, E: Write>(
     alloc: Global,
     words: &[String],
@@ -52,21 +51,21 @@ pub fn run_words<R: Read, W: Write, E: Write>(
     }
 }
 
-/// Answers wrong words.
+/// Handles wrong words.
 pub fn refuse_words<E: Write>(err: &mut E) -> u8
     ensures { result ≤ 2 }
 {
     written(err, USAGE, 2)
 }
 
-/// Answers that memory ran out.
+/// Reports that memory ran out.
 pub fn refuse_memory<W: Write>(out: &mut W) -> u8
     ensures { result ≤ 2 }
 {
     written(out, "refused NoMemory\n", 1)
 }
 
-// Writes a text, and answers the status, or 1 where the write fails.
+// Writes a text, and returns the status, or 1 if the write fails.
 fn written<W: Write>(out: &mut W, text: &str, status: u8) -> u8
     ensures { (result ≡ status) ⊎ (result ≡ 1) }
 {

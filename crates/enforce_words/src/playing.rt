@@ -1,4 +1,4 @@
-// A scenario that is read and played.
+// Reads and plays a scenario.
 
 use crate::endings::text_of;
 use crate::errors::CommandError;
@@ -11,7 +11,7 @@ use world::World;
 // The greatest number of bytes of a scenario.
 const MAX_INPUT: usize = 4_194_304;
 
-/// Plays the scenario that the input is, and gives the lines of its events and of the world in which they end. Refused are, in this order, input that can't be read
+/// Plays the scenario in the input, and returns the lines of its events and of the world after them. Its refusals come in this order: input that can't be read
 /// (`ReadFailed`), input that is too long (`TooLong`), and what [`Scenario::read`] refuses.
 pub fn play<R: Read>(alloc: Global, input: &mut R) -> Result<String, CommandError> {
     let text = read_all(alloc, input)?;
@@ -21,7 +21,7 @@ pub fn play<R: Read>(alloc: Global, input: &mut R) -> Result<String, CommandErro
     Ok(lines_of(alloc, &mut world, &scenario)?)
 }
 
-// The bytes of the input. No more than one above the limit is read.
+// Reads the whole input, but at most one byte above the limit.
 fn read_all<R: Read>(alloc: Global, input: &mut R) -> Result<Vec<u8>, CommandError> {
     let mut bytes = Vec::new(alloc);
     match input.take(MAX_INPUT as u64 + 1).read_to_end(&mut bytes) {
@@ -37,7 +37,7 @@ fn read_all<R: Read>(alloc: Global, input: &mut R) -> Result<Vec<u8>, CommandErr
     Ok(bytes)
 }
 
-// Plays the events of a scenario, and gives the lines. The only error is that memory ran out.
+// Plays the events of a scenario, and returns the lines. The only error is that memory ran out.
 fn lines_of(alloc: Global, world: &mut World, scenario: &Scenario) -> Result<String, AllocError> {
     let outcomes = world.play(scenario.events.values())?;
     text_of(alloc, outcomes.as_slice(), world)

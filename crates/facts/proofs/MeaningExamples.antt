@@ -28,7 +28,7 @@ items = (5 ∷ 6 ∷ []) ∷ (0 ∷ 0x80 ∷ []) ∷ key 1 ∷ token 1 ∷ token
 asked : List Fact → List Bool
 asked facts = map (holds_of spend items) facts
 
--- slots count from the top, from 0; one that is not there is empty
+-- slots count from 0 at the top; a slot that is missing is empty
 slots : map (slot_of items) (0 ∷ 1 ∷ 2 ∷ 5 ∷ 6 ∷ []) ≡ (5 ∷ 6 ∷ []) ∷ (0 ∷ 0x80 ∷ []) ∷ key 1 ∷ [] ∷ [] ∷ []
 unfolding items
 slots = refl

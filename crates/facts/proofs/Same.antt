@@ -1,4 +1,4 @@
--- The test of facts decides whether they are one.
+-- The test of facts decides whether they are the same.
 use Rattle.std.proofs.Common.{◌≡◌, ℕ, Bool, true, false, ◌&&◌, eqb, List, [], ◌∷◌, length, drop, get_or, add-one, drop-cons, sym, ap, ◌∙◌, refl, arith}
 use Rattle.std.specs.Prelude.{◌+◌, ◌<◌, ◌≤◌, ◌≢◌}
 use Rattle.std.proofs.lemmas.List.{drop_all}

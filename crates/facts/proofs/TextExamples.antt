@@ -1,4 +1,4 @@
--- The texts of facts, and whether two facts are one.
+-- The texts of facts, and whether two facts are the same.
 use Rattle.std.proofs.Common.{◌≡◌, ℕ, true, false, List, [], ◌∷◌, ◌++◌, map, replicate, refl}
 use Rattle.std.specs.Prelude.{codes, decimal}
 use Rattle.facts.specs.declared.symbols.KeySourceOver.TheVariants.{Const as FixedKey, Slot as SlotKey}
@@ -17,7 +17,7 @@ no f = record { fact = f; holds = false }
 digits : hex_text (0x00 ∷ 0x09 ∷ 0x0a ∷ 0x9f ∷ 0xa0 ∷ 0xff ∷ 0x3c ∷ []) ≡ codes "00090a9fa0ff3c"
 digits = refl
 
--- decimal digits are std's word
+-- decimal digits are defined by std
 texts : (i n : ℕ) → map text_of (yes (Hash i (0x33 ∷ 0xaf ∷ [])) ∷ no (Hash i (0 ∷ [])) ∷ no (Size i n) ∷ yes (Size i n) ∷ yes (Truth i) ∷ no (Truth i) ∷ yes (Is i []) ∷ no (Is i (0x0a ∷ [])) ∷ yes (KeyForm i) ∷ yes (Form i) ∷ yes (Lock n) ∷ yes (Age n) ∷ []) ≡
     (codes "hash " ++ (decimal i ++ codes " 33af yes")) ∷ (codes "hash " ++ (decimal i ++ codes " 00 no")) ∷ (codes "size " ++ (decimal i ++ (codes " " ++ (decimal n ++ codes " no")))) ∷ (codes "size " ++ (decimal i ++ (codes " " ++ (decimal n ++ codes " yes"))))
     ∷ (codes "truth " ++ (decimal i ++ codes " yes")) ∷ (codes "truth " ++ (decimal i ++ codes " no")) ∷ (codes "is " ++ (decimal i ++ codes " - yes")) ∷ (codes "is " ++ (decimal i ++ codes " 0a no")) ∷ (codes "key " ++ decimal i) ∷ (codes "form " ++ decimal i) ∷ (codes "lock " ++ decimal n) ∷ (codes "age " ++ decimal n) ∷ []
@@ -34,7 +34,7 @@ assigned_texts i j = (refl, refl)
 kinds : List Fact
 kinds = Hash 0 (1 ∷ []) ∷ Size 0 1 ∷ Truth 0 ∷ Is 0 (1 ∷ []) ∷ KeyForm 0 ∷ Form 0 ∷ Token 0 (SlotKey 1) ∷ Assigned (0 ∷ []) (SlotKey 1 ∷ []) ∷ Lock 0 ∷ Age 0 ∷ []
 
--- each is one with itself, and with none of the other nine
+-- each fact is the same as itself, and as none of the other nine
 sames : map (λ f. map (same_fact f) kinds) kinds ≡
     (true ∷ replicate 9 false)
     ∷ (replicate 1 false ++ (true ∷ replicate 8 false))
@@ -60,7 +60,7 @@ others = refl
 same_long : same_fact (Assigned (0 ∷ 1 ∷ []) (SlotKey 1 ∷ FixedKey (2 ∷ 3 ∷ []) ∷ [])) (Assigned (0 ∷ 1 ∷ []) (SlotKey 1 ∷ FixedKey (2 ∷ 3 ∷ []) ∷ [])) ≡ true
 same_long = refl
 
--- one fact with both polarities, wherever they stand; a repeated one is no contradiction
+-- a fact with both polarities, at any positions; a repeated fact is not a contradiction
 contradictions : map contradicts ((yes (Truth 0) ∷ no (Truth 0) ∷ []) ∷ (no (Truth 0) ∷ yes (Form 1) ∷ yes (Truth 0) ∷ []) ∷ (yes (Form 1) ∷ yes (Truth 1) ∷ no (Truth 1) ∷ []) ∷ []) ≡ true ∷ true ∷ true ∷ []
 contradictions = refl
 

@@ -38,7 +38,7 @@ holds_of spend w (Assigned slots keys) = assigned (map (slot_of w) slots) (map (
 holds_of spend w (Lock n) = lock_passes spend n
 holds_of spend w (Age n) = age_passes spend n
 
--- a fact holds, or does not, as it is stated
+-- a fact holds, or does not, as stated
 abbrev pub HoldsFor : Spend → Elements → Stated → Type 0
 HoldsFor spend w s = holds_of spend w s.fact ≡ s.holds
 
@@ -50,13 +50,13 @@ item_for spend w (HashOf i) = hash160 (slot_of w i)
 item_for spend w (SizeOf i) = minimal_bytes_of (length (slot_of w i))
 item_for spend w (Holds fact) = flag (holds_of spend w fact)
 
--- all facts are as they are stated
+-- all facts are as stated
 abbrev pub AllStated : Spend → Elements → List Stated → Type 0
 AllStated spend w [] = Unit {0}
 AllStated spend w (s ∷ facts) = HoldsFor spend w s × AllStated spend w facts
 
--- a witness, its last item the top, meets facts about n slots: it has just those items, none above 520 bytes, and each fact
--- is as it is stated
+-- a witness, whose last item is the top, meets facts about n slots: it has exactly n items, none above 520 bytes, and each
+-- fact is as stated
 pub record Meets (spend : Spend) (witness : List (List ℕ)) (arity : ℕ) (facts : List Stated) : Type 0 where
   pub exact : length witness ≡ arity
   pub short : list_any is_long witness ≡ false

@@ -1,4 +1,4 @@
--- Whether two facts are one.
+-- Whether two facts are the same.
 use Rattle.std.specs.Prelude.{Bool, true, false, ◌&&◌, ◌||◌, not, ◌==◌, if◌then◌else◌, List, [], ◌∷◌}
 use Rattle.std.specs.Str.{bytes_eq}
 use Rattle.std.specs.List.{list_any}
@@ -18,7 +18,7 @@ same_keys [] [] = true
 same_keys (a ∷ as') (b ∷ bs) = same_key a b && same_keys as' bs
 same_keys as' bs = false
 
--- two facts are one
+-- two facts are the same
 abbrev pub same_fact : Fact → Fact → Bool
 same_fact (Hash i a) (Hash j b) = i == j && bytes_eq a b
 same_fact (Size i m) (Size j n) = i == j && m == n
@@ -32,11 +32,11 @@ same_fact (Lock m) (Lock n) = m == n
 same_fact (Age m) (Age n) = m == n
 same_fact f g = false
 
--- a fact stands among others with the other polarity
+-- the list has the fact with the other polarity
 abbrev pub is_denied : Stated → List Stated → Bool
 is_denied s facts = list_any (λ t. same_fact s.fact t.fact && (if s.holds then not t.holds else t.holds)) facts
 
--- some fact stands there with both polarities
+-- the list has some fact with both polarities
 abbrev pub contradicts : List Stated → Bool
 contradicts [] = false
 contradicts (s ∷ facts) = is_denied s facts || contradicts facts

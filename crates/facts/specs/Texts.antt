@@ -52,6 +52,6 @@ text_by (Assigned is keys) p = codes "assigned " ++ (comma_separated decimal is 
 text_by (Lock n) p = codes "lock " ++ decimal n
 text_by (Age n) p = codes "age " ++ decimal n
 
--- the text of a fact with its polarity; key, form, lock and age have none
+-- the text of a fact with its polarity; the texts of key, form, lock and age do not show it
 abbrev pub text_of : Stated → List ℕ
 text_of s = text_by s.fact s.holds

@@ -3,8 +3,8 @@
 //! A [`Fact`] means what `specs/Meaning.antt` says (`holds_of`), under a spend and the items of a witness. A
 //! [`Stated`] fact, with whether it is to hold, prints exactly its text.
 //!
-//! `script` has the runs that the facts are about. `paths` writes down as facts what each opcode asks, `claim` tells
-//! which of them its slots meet, and `enforce_words` prints them.
+//! `script` defines the runs that the facts are about. `paths` writes down as facts what each opcode asks, `claim`
+//! says which of them its slots meet, and `enforce_words` prints them.
 //!
 //! ```
 //! let truth = Stated { fact: Fact::Truth(0), holds: true };

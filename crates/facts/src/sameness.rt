@@ -1,4 +1,4 @@
-// Whether two facts are one.
+// Whether two facts are the same.
 
 ghost use Rattle.std.specs.Prelude.{◌≡◌, ◌↔◌, IsTrue};
 ghost use Rattle.facts.specs.Sameness.{same_key, same_keys, same_fact};
@@ -6,7 +6,7 @@ ghost use Rattle.facts.specs.Sameness.{same_key, same_keys, same_fact};
 use crate::symbols::{Fact, KeySource};
 
 impl KeySource {
-    /// Whether two keys come from one place: the same bytes, or the same slot.
+    /// Whether two keys come from the same place: the same bytes, or the same slot.
     pub fn equals(&self, other: &KeySource) -> bool
         ensures value { result ≡ same_key self.now other.now }
         ensures exact { IsTrue result ↔ (self.now ≡ other.now) }
@@ -24,7 +24,7 @@ impl KeySource {
     }
 }
 
-// Whether two lists of keys are one.
+// Whether two lists of keys are the same.
 fn are_same_keys(keys: &[KeySource], others: &[KeySource]) -> bool
     ensures { result ≡ same_keys keys.now others.now }
 {
@@ -39,7 +39,7 @@ fn are_same_keys(keys: &[KeySource], others: &[KeySource]) -> bool
     true
 }
 
-// Whether two facts are one.
+// Whether two facts are the same.
 fn is_same_fact(fact: &Fact, other: &Fact) -> bool
     ensures { result ≡ same_fact fact.now other.now }
 {
@@ -61,7 +61,7 @@ fn is_same_fact(fact: &Fact, other: &Fact) -> bool
 }
 
 impl Fact {
-    /// Whether two facts are one.
+    /// Whether two facts are the same.
     pub fn equals(&self, other: &Fact) -> bool
         ensures value { result ≡ same_fact self.now other.now }
         ensures exact { IsTrue result ↔ (self.now ≡ other.now) }

@@ -5,7 +5,7 @@ ghost use Rattle.std.specs.Prelude.{◌≡◌, IfOk};
 use lists::{ByteString, List};
 use std::alloc::{AllocError, Global};
 
-/// Where a key comes from, over what stands for bytes.
+/// Where a key comes from. `C` is the type of constant bytes.
 #[derive(Debug, Drop)]
 pub enum KeySourceOver<C> {
     /// The script pushes it.
@@ -17,13 +17,13 @@ pub enum KeySourceOver<C> {
 /// Where a key comes from.
 pub type KeySource = KeySourceOver<ByteString>;
 
-/// What can be asked of a witness and a spend, over what stands for bytes, for the number of an absolute lock and for that of a relative one.
-/// Slots count from the top of the stack, from 0.
+/// What can be asked of a witness and a spend. `C` is the type of constant bytes, `L` that of the number of an absolute lock, and `A` that of
+/// a relative lock's. Slots count from 0 at the top of the stack.
 #[derive(Debug, Drop)]
 pub enum FactOver<C, L, A> {
     /// HASH160 of the slot is these 20 bytes.
     Hash(usize, C),
-    /// The slot has n bytes.
+    /// The slot has this number of bytes.
     Size(usize, u32),
     /// The slot counts as true.
     Truth(usize),
@@ -39,7 +39,7 @@ pub enum FactOver<C, L, A> {
     Assigned(List<usize>, List<KeySourceOver<C>>),
     /// CHECKLOCKTIMEVERIFY of this number passes (BIP 65).
     Lock(L),
-    /// CHECKSEQUENCEVERIFY of this number passes (BIP 112); of a number, the bits of 0x40ffff.
+    /// CHECKSEQUENCEVERIFY of this number passes (BIP 112). Of a number only the bits of 0x40ffff are kept.
     Age(A),
 }
 
@@ -56,7 +56,7 @@ pub struct StatedOver<C, L, A> {
 /// A fact with its polarity.
 pub type Stated = StatedOver<ByteString, u64, u32>;
 
-/// What stands on a symbolic stack.
+/// An element of a symbolic stack.
 #[derive(Debug, Drop)]
 pub enum SymOver<C, L, A> {
     /// An item of the witness.
@@ -67,15 +67,15 @@ pub enum SymOver<C, L, A> {
     HashOf(usize),
     /// The length of a slot, as a number.
     SizeOf(usize),
-    /// 1 where the fact holds, else the empty item.
+    /// 1 if the fact holds, else the empty item.
     Holds(FactOver<C, L, A>),
 }
 
-/// What stands on a symbolic stack.
+/// An element of a symbolic stack.
 pub type Sym = SymOver<ByteString, u64, u32>;
 
 impl KeySource {
-    /// An equal one. The only error is that memory ran out.
+    /// A copy. The only error is that memory ran out.
     pub fn copy(&self) -> Result<Self, AllocError>
         ensures { IfOk result (λ k. k ≡ self.now) }
     {
@@ -87,7 +87,7 @@ impl KeySource {
 }
 
 impl Fact {
-    /// An equal one. The only error is that memory ran out.
+    /// A copy. The only error is that memory ran out.
     pub fn copy(&self) -> Result<Self, AllocError>
         ensures { IfOk result (λ f. f ≡ self.now) }
     {
@@ -110,7 +110,7 @@ impl Fact {
     }
 }
 
-// Equal keys.
+// Copies of keys.
 fn copied_keys(alloc: Global, keys: &[KeySource]) -> Result<Vec<KeySource>, AllocError>
     ensures { IfOk result (λ v. v.items ≡ keys.now) }
 {
@@ -122,7 +122,7 @@ fn copied_keys(alloc: Global, keys: &[KeySource]) -> Result<Vec<KeySource>, Allo
 }
 
 impl Stated {
-    /// An equal one. The only error is that memory ran out.
+    /// A copy. The only error is that memory ran out.
     pub fn copy(&self) -> Result<Self, AllocError>
         ensures { IfOk result (λ s. s ≡ self.now) }
     {
@@ -134,7 +134,7 @@ impl Stated {
 }
 
 impl Sym {
-    /// An equal one. The only error is that memory ran out.
+    /// A copy. The only error is that memory ran out.
     pub fn copy(&self) -> Result<Self, AllocError>
         ensures { IfOk result (λ s. s ≡ self.now) }
     {

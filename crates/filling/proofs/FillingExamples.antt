@@ -63,7 +63,7 @@ shared : map share_outpoint ((first ∷ second ∷ third ∷ []) ∷ (first ∷ 
 unfolding outpoint number
 shared = refl
 
--- two outputs of 1,000: up to 2,000 may be paid; what a fixed transaction pays is not read here
+-- two outputs of 1,000: up to 2,000 may be paid; what a fixed transaction pays is not checked here
 exceeding : (map (do_exceed (first ∷ second ∷ [])) (paid 1999 ∷ paid 2000 ∷ [] ∷ []) ≡ false ∷ true ∷ false ∷ []) × (do_exceed (claim 7 1 500 0 (Fixed fixed) ∷ []) (paid 9000) ≡ false)
 exceeding = (refl, refl)
 

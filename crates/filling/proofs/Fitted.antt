@@ -53,7 +53,7 @@ pub lacks-later : (r : Rights) (ps : List (List ℕ)) (slots others : List Slot)
 lacks-later r ps [] others e f l = l
 lacks-later r ps (slot ∷ slots) others e f l = inr (f.0, lacks-later r ps slots others e f.1 l)
 
--- a preimage that is found is one
+-- a preimage that is found is one of the hash
 found_by : (o : Option (List ℕ)) (x h : List ℕ) (b : Bool) → is_preimage x h ≡ b → (is_some o ≡ true → is_preimage (unwrap_or o []) h ≡ true) → is_some (first_some o (if b then Some x else None)) ≡ true → is_preimage (unwrap_or (first_some o (if b then Some x else None)) []) h ≡ true
 found_by (Some y) x h b e k i = k refl
 found_by None x h true e k i = e

@@ -1,4 +1,4 @@
--- Two texts that are the same, found by what was seen before.
+-- Two equal byte strings, found by what was seen before.
 use Rattle.std.proofs.Common.{◌≡◌, ℕ, Bool, true, false, cond, ◌||◌, List, [], ◌∷◌, sym, ap, ◌∙◌, refl, nat_cmp}
 use Rattle.std.specs.List.{list_any}
 use Rattle.std.specs.Ordering.{is_eq}
@@ -7,7 +7,7 @@ use Rattle.std.specs.Str.{bytes_eq}
 use Rattle.std.proofs.lemmas.Map.Text.{is_eq-slice_cmp}
 use Rattle.filling.specs.Refusals.{has_repeat}
 
--- one of the texts passes the test, or is the same as one before it
+-- one of the byte strings passes the test, or is the same as one before it
 abbrev pub repeats_with : (List ℕ → Bool) → List (List ℕ) → Bool
 repeats_with seen [] = false
 repeats_with seen (x ∷ xs) = seen x || repeats_with (λ q. bytes_eq x q || seen q) xs
@@ -52,7 +52,7 @@ as_or : (t b : Bool) → cond t true b ≡ (t || b)
 as_or true b = refl
 as_or false b = refl
 
--- a text that was not seen is kept
+-- a byte string that was not seen is kept
 pub repeats-next : (f g : List ℕ → Bool) (x : List ℕ) (xs : List (List ℕ)) → f x ≡ false → ((q : List ℕ) → g q ≡ cond (is_eq (slice_cmp nat_cmp x q)) true (f q)) → repeats_with g xs ≡ repeats_with f (x ∷ xs)
 repeats-next f g x xs e h =
     repeats-same g (λ q. bytes_eq x q || f q) (λ q. h q ∙ ap (λ t. cond t true (f q)) (is_eq-slice_cmp x q) ∙ as_or (bytes_eq x q) (f q)) xs

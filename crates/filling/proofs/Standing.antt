@@ -1,4 +1,4 @@
--- What the transaction of claims has before it is signed.
+-- What the transaction of claims satisfies before it is signed.
 use Rattle.std.proofs.Common.{◌≡◌, ℕ, zero, suc, ◌<◌, ◌≤◌, Bool, true, false, ◌||◌, ◌&&◌, List, [], ◌∷◌, length, map, Some, sym, ap, subst, ◌∙◌, refl, arith, nat_lt, get_or, Bor, Result, Ok, Err, IfOk}
 use Rattle.std.specs.Prelude.{slice_get, option_map, unwrap_or}
 use Rattle.std.proofs.lemmas.Bool.{and_parts, eqb-true, lt-ltb, false≢true}
@@ -100,7 +100,7 @@ stands-signed p Open t u e f s =
     (version ∙ s.0, subst (λ n. height_of p ≤ n) (sym lock_time) s.1, subst (λ n. n < 500000000) (sym lock_time) s.2)
 stands-signed p (Fixed v) t u e f s = e ∙ sym f ∙ s
 
--- claims of which the first is all
+-- claims of which the first is the only one
 pub one-of : (claims : List (Bor ClaimParts)) (d c : Bor ClaimParts) → 1 ≤ length claims → length claims ≤ 1 → c ≡ get_or claims 0 d → claims ≡ c ∷ []
 one-of [] d c h l e = absurd (omega arith)
 one-of (b ∷ []) d c h l e = ap (λ x. x ∷ []) (sym e)

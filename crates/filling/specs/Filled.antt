@@ -13,7 +13,7 @@ use Rattle.claim.specs.Claims.{ClaimParts, FitsClaim}
 use Rattle.filling.specs.Filling.{filling_of}
 use Rattle.filling.specs.Refusals.{ArePassed, AreFillable, all_slots}
 
--- a filling: the transaction, and where the outputs stand that its inputs spend, in their order
+-- a filling: the transaction, and the places of the outputs that its inputs spend, in order
 pub record Filling : Type 0 where
   pub tx : Transaction
   pub places : List Place
@@ -39,7 +39,7 @@ AllFit t [] [] = Unit {0}
 AllFit t (c ∷ claims) (input ∷ inputs) = FitsClaim c t input × AllFit t claims inputs
 AllFit t claims inputs = ⊥
 
--- the filling is that of the claims, whose slots can all be filled and for which no refusal holds
+-- the filling is that of the claims: no refusal holds, and all their slots can be filled
 pub record IsFillingOf (claims : List ClaimParts) (outputs : List Output) (r : Rights) (preimages : List (List ℕ)) (f : Filling) : Type 0 where
   pub passed : ArePassed claims outputs
   pub fillable : AreFillable r preimages (all_slots claims)

@@ -32,7 +32,7 @@ greatest_of (n ∷ ns) = max n (greatest_of ns)
 abbrev pub open_transaction : List ClaimParts → List Output → Transaction
 open_transaction claims outputs = record { version = 2; inputs = map unsigned_input claims; outputs = outputs; lock_time = greatest_of (map lock_time_of claims) }
 
--- the transaction of a claim that is alone: the fixed one, or that of an open claim
+-- the transaction of a single claim: the fixed one, or that of an open claim
 abbrev pub lone_transaction : ClaimParts → Shell → List Output → Transaction
 lone_transaction c Open outputs = open_transaction (c ∷ []) outputs
 lone_transaction c (Fixed t) outputs = unsigned_transaction t
@@ -46,7 +46,7 @@ abbrev pub first_some : Option (List ℕ) → Option (List ℕ) → Option (List
 first_some None other = other
 first_some (Some x) other = Some x
 
--- the preimage of a hash, the last where several are given
+-- the preimage of a hash, the last one if several are given
 abbrev pub preimage_of : List (List ℕ) → List ℕ → Option (List ℕ)
 preimage_of [] h = None
 preimage_of (x ∷ xs) h = first_some (preimage_of xs h) (if is_preimage x h then Some x else None)

@@ -1,4 +1,4 @@
--- Why claims are not filled, in the order of the tests.
+-- Why claims are not filled, in the order in which it is checked.
 use Rattle.std.specs.Prelude.{◌≡◌, ◌⊎◌, ℕ, Bool, true, false, ◌&&◌, ◌||◌, not, nat_lt, List, [], ◌∷◌, length, map, sum_by, None, is_some, IsTrue}
 use Rattle.std.specs.List.{list_any, flat_map}
 use Rattle.std.specs.Str.{bytes_eq}
@@ -36,12 +36,12 @@ has_fixed claims = list_any (λ c. is_fixed c.shell) claims
 abbrev pub are_mixed : List ClaimParts → Bool
 are_mixed claims = nat_lt 1 (length claims) && has_fixed claims
 
--- two of the texts are the same
+-- two of the byte strings are the same
 abbrev pub has_repeat : List (List ℕ) → Bool
 has_repeat [] = false
 has_repeat (x ∷ xs) = list_any (bytes_eq x) xs || has_repeat xs
 
--- two claims are on one outpoint, by the bytes of their outpoints (BIP 144)
+-- two claims spend the same outpoint, by the bytes of their outpoints (BIP 144)
 abbrev pub share_outpoint : List ClaimParts → Bool
 share_outpoint claims = has_repeat (map (λ c. outpoint c.place.outpoint) claims)
 
@@ -49,7 +49,7 @@ share_outpoint claims = has_repeat (map (λ c. outpoint c.place.outpoint) claims
 abbrev pub total_claimed : List ClaimParts → ℕ
 total_claimed claims = sum_by (λ c. c.place.value) claims
 
--- the outputs of open claims have more than the claimed outputs; a fixed transaction has its own
+-- the outputs of open claims are worth more than the claimed outputs; a fixed transaction has its own outputs
 abbrev pub do_exceed : List ClaimParts → List Output → Bool
 do_exceed claims outputs = not (has_fixed claims) && nat_lt (total_claimed claims) (total_value outputs)
 
@@ -78,18 +78,18 @@ LacksFirst r preimages (slot ∷ slots) e = Lacks r preimages slot e ⊎ (IsFill
 abbrev pub all_slots : List ClaimParts → List Slot
 all_slots claims = flat_map (λ c. c.slots) claims
 
--- a refusal says this, unless memory ran out
+-- P has to hold, unless the refusal is out of memory
 abbrev pub UnlessMemory : FillError → Type 0 → Type 0
 UnlessMemory NoMemory P = Unit {0}
 UnlessMemory e P = P
 
--- none of the tests on the whole refuses
+-- none of the checks on the whole refuses
 pub record ArePassed (claims : List ClaimParts) (outputs : List Output) : Type 0 where
   pub unmixed : are_mixed claims ≡ false
   pub apart : share_outpoint claims ≡ false
   pub within : do_exceed claims outputs ≡ false
 
--- the refusal is the first that holds, in the order MixedShells, SameOutpoint, OutputsExceed, and then by claim and slot
+-- the refusal is the first that holds, in the order MixedShells, SameOutpoint, OutputsExceed, and then slot by slot
 abbrev pub IsFirstRefusal : List ClaimParts → List Output → Rights → List (List ℕ) → FillError → Type 0
 IsFirstRefusal claims outputs r preimages NoMemory = Unit {0}
 IsFirstRefusal claims outputs r preimages MixedShells = are_mixed claims ≡ true

@@ -1,4 +1,4 @@
--- What the transaction of claims has before it is signed.
+-- What the transaction of claims satisfies before it is signed.
 use Rattle.std.specs.Prelude.{◌≡◌, List, [], ◌∷◌, map, Some}
 use Rattle.tx.specs.Fields.{Transaction}
 use Rattle.paths.specs.declared.state.Path.{Path}

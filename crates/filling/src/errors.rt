@@ -6,8 +6,8 @@ ghost use Rattle.filling.specs.declared.errors.FillError.TheVariants.{NoMemory};
 use std::alloc::{AllocError, AllocFailed};
 use thiserror::Error;
 
-/// Why claims are not filled. It is tested for `MixedShells`, `SameOutpoint`, `OutputsExceed`, and then by claim and slot, the top of the stack
-/// first, for `NoRight` and `NoPreimage`.
+/// Why claims are not filled. Checked in this order: `MixedShells`, `SameOutpoint`, `OutputsExceed`. Then each slot is checked, claim by claim
+/// and with the top of the stack first, for `NoRight` and `NoPreimage`.
 #[derive(Debug, Drop, Error)]
 pub enum FillError {
     /// Memory ran out.
@@ -19,13 +19,13 @@ pub enum FillError {
     /// No preimage is given for the hash of a slot.
     #[error("NoPreimage")]
     NoPreimage,
-    /// The outputs have more than the claimed outputs have together.
+    /// The outputs are worth more than the claimed outputs together.
     #[error("OutputsExceed")]
     OutputsExceed,
     /// A claim with a fixed transaction is not alone.
     #[error("MixedShells")]
     MixedShells,
-    /// Two claims are on one outpoint.
+    /// Two claims spend the same outpoint.
     #[error("SameOutpoint")]
     SameOutpoint,
 }

@@ -9,7 +9,7 @@ use std::alloc::{AllocError, Global};
 use std::collections::BTreeSet;
 use tx::{TxOut, total_value};
 
-// Whether a transaction is fixed.
+// Whether the shell is a fixed transaction.
 fn is_fixed(shell: &Shell) -> bool
     ensures { result ≡ is_fixed shell.now }
 {
@@ -38,7 +38,7 @@ pub(crate) fn are_mixed(claims: &[&Claim]) -> bool
     claims.len() > 1 && has_fixed(claims)
 }
 
-// The bytes of an outpoint (BIP 144): the id, and the index in four little-endian bytes.
+// The bytes of an outpoint (BIP 144): the txid, and the index in four bytes, little-endian.
 #[tactic(auto, unfolding(tx::specs::Spelling::outpoint, tx::specs::Spelling::number))]
 fn outpoint_bytes(outpoint: &OutPoint) -> [u8; 36]
     ensures { result ≡ spelt_outpoint outpoint.now }
@@ -49,7 +49,7 @@ fn outpoint_bytes(outpoint: &OutPoint) -> [u8; 36]
     bytes
 }
 
-/// Whether two claims are on one outpoint, in a time that grows with their number and its logarithm.
+/// Whether two claims spend the same outpoint. The time is O(n log n) for n claims.
 pub(crate) fn share_outpoint(alloc: Global, claims: &[&Claim]) -> Result<bool, AllocError>
     ensures { IfOk result (λ b. b ≡ share_outpoint (map (λ c. c.now) claims.now)) }
 {
@@ -64,7 +64,7 @@ pub(crate) fn share_outpoint(alloc: Global, claims: &[&Claim]) -> Result<bool, A
     Ok(false)
 }
 
-// The satoshis of the claimed outputs together. No number of claims passes the width.
+// The satoshis of the claimed outputs together. The sum never overflows.
 fn total_claimed(claims: &[&Claim]) -> u128
     ensures { result ≡ total_claimed (map (λ c. c.now) claims.now) }
 {
@@ -75,7 +75,7 @@ fn total_claimed(claims: &[&Claim]) -> u128
     total
 }
 
-/// Whether the outputs of open claims have more than the claimed outputs.
+/// Whether the outputs of open claims are worth more than the claimed outputs.
 pub(crate) fn do_exceed(claims: &[&Claim], outputs: &[TxOut]) -> bool
     ensures { result ≡ do_exceed (map (λ c. c.now) claims.now) outputs.now }
 {

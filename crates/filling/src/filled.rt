@@ -5,7 +5,7 @@ use lists::List;
 use std::marker::Model;
 use tx::Tx;
 
-/// A transaction that spends the outputs of accepted claims, with their places. `fill` alone makes one: each of its inputs runs clean.
+/// A transaction that spends the outputs of accepted claims, with their places. Only `fill` makes one. Each of its inputs runs clean.
 #[derive(Drop)]
 pub struct Filled {
     tx: Tx,
@@ -44,14 +44,14 @@ impl Filled {
         &self.tx
     }
 
-    /// Where the outputs stand that the inputs spend, in their order.
+    /// The places of the outputs that the inputs spend, in the order of the inputs.
     pub fn places(&self) -> &[Place]
         ensures { result.now ≡ self.now.places }
     {
         self.places.values()
     }
 
-    /// The transaction, with the memory that it lies in. Each of its inputs runs clean at its place.
+    /// The transaction itself, taken out of the filling. Each of its inputs runs clean at its place.
     pub fn into_tx(self) -> Tx
         ensures value { result ≡ self.tx }
         ensures clean { AllRunClean self.tx self.tx.inputs self.places }

@@ -17,7 +17,7 @@ use lists::List;
 use std::alloc::{AllocError, Global};
 use tx::{Inputs, Tx, TxOut};
 
-// Where the claimed outputs stand.
+// The places of the claimed outputs.
 fn places(alloc: Global, claims: &[&Claim]) -> Result<Vec<Place>, AllocError>
     ensures { IfOk result (λ ps. ps.items ≡ map (λ c. c.place) (map (λ c. c.now) claims.now)) }
 {
@@ -39,13 +39,14 @@ fn finished(unsigned: Tx, inputs: Inputs, places: Vec<Place>) -> Filled
     Filled::new(tx, List::from_vec(places))
 }
 
-/// Fills 1 to 4,000 claims in one transaction. Of open claims it has version 2, the claims' inputs in their order with their sequences, and the
-/// given outputs, at most 4,000. Its lock time is the greatest height that a claim needs. A claim with a fixed transaction stands alone, and its
-/// filling is that transaction with its witness; the outputs are not read then.
+/// Fills 1 to 4,000 claims in one transaction. For open claims, it has version 2, the claims' inputs in their order with their sequences, and the
+/// given outputs, at most 4,000. Its lock time is the greatest height that a claim needs. A claim with a fixed transaction must be alone, and its
+/// filling is that transaction with its witness. The given outputs are then ignored.
 ///
-/// The signer signs for the slots of keys, and the slots of hashes are filled from the preimages. Each input fits its claim, and so runs clean.
-/// It is refused, in this order, as `MixedShells`, `SameOutpoint`, `OutputsExceed`, and then by claim and slot, the top of the stack first, as
-/// `NoRight` and `NoPreimage`; `NoMemory` may come at any time. The time grows with the claims, the outputs and the preimages, and by a logarithm.
+/// The signer signs for the slots of keys. The slots of hashes are filled from the preimages. Each input fits its claim, and so runs clean.
+/// Checked in this order: `MixedShells`, `SameOutpoint`, `OutputsExceed`, and then each slot, claim by claim and with the top of the stack first,
+/// for `NoRight` and `NoPreimage`. `NoMemory` may come at any time. The time is linear in the claims, the outputs and the preimages, apart from a
+/// logarithmic factor.
 pub fn fill(
     alloc: Global,
     claims: &[&Claim],

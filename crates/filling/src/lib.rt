@@ -1,7 +1,8 @@
 //! Fillings: transactions that spend the outputs of accepted claims.
 //!
-//! [`fill`] makes one transaction of 1 to 4,000 claims, exactly that of the definition `filling_of`, or names the
-//! first refusal that holds, barring out-of-memory. Each input of the [`Filled`] fits its claim, and so runs clean.
+//! [`fill`] makes one transaction of 1 to 4,000 claims, exactly that of the definition `filling_of`. Otherwise it
+//! names the first refusal that holds, barring out-of-memory. Each input of the [`Filled`] fits its claim, and so
+//! runs clean.
 //!
 //! `claim` hands it the claims, and `keys` the signer that fills the slots of keys. `book` releases claims by it, and
 //! `chain` takes the transaction.

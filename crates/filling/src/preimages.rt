@@ -32,7 +32,7 @@ impl<'a> Model for Preimages<'a> {
     ghost invariant = { λ a. (h : List ℕ) → get (slice_cmp nat_cmp) a.by_hash h ≡ preimage_of a.given.now h };
 }
 
-// The preimages in the order of their hashes.
+// The preimages, sorted by their hashes.
 fn indexed(alloc: Global, given: &[[u8; 32]]) -> Result<BTreeMap<[u8; 32], [u8; 32]>, AllocError>
     ensures { IfOk result (λ m. (h : List ℕ)
         → get (slice_cmp nat_cmp) m h ≡ preimage_of given.now h) }
@@ -53,7 +53,7 @@ impl<'a> Preimages<'a> {
         Ok(Preimages { given, by_hash })
     }
 
-    /// The preimage of a hash, where one is given.
+    /// The preimage of a hash, if one is given.
     pub(crate) fn of(&self, hash: &[u8; 32]) -> Option<[u8; 32]>
         ensures { result ≡ preimage_of self.now hash.now }
     {

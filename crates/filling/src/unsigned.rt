@@ -57,7 +57,7 @@ fn open_transaction(alloc: Global, claims: &[&Claim], outputs: Vec<TxOut>) -> Re
     Ok(Tx::new(2, inputs, outputs, greatest_lock_time(claims)).unwrap())
 }
 
-/// The transaction of claims, of which none with a fixed one is beside others.
+/// The transaction of claims. A claim with a fixed transaction is alone.
 pub(crate) fn unsigned(
     alloc: Global,
     claims: &[&Claim],

@@ -20,7 +20,7 @@ use sighash::programs::is_script_hash_program;
 use std::alloc::{AllocError, Global};
 use tx::{Inputs, Tx, TxIn, Witness};
 
-// What fills a slot, over a digest.
+// What fills a slot, where signatures are over this digest.
 fn item(
     alloc: Global,
     digest: &[u8; 32],
@@ -65,7 +65,7 @@ fn items(
     Ok(items)
 }
 
-// The witness of items: the script comes last where the program is its hash (BIP 141).
+// The witness of items. For P2WSH the script comes last (BIP 141).
 fn witness_of(
     alloc: Global,
     program: &[u8],
@@ -85,7 +85,7 @@ fn witness_of(
     Ok(Witness::from_vec(items).unwrap())
 }
 
-// The witness of a claim, over a digest.
+// The witness of a claim, where signatures are over this digest.
 fn witness(
     alloc: Global,
     digest: &[u8; 32],

@@ -43,7 +43,7 @@ same_bytes x = (bytes_eq-Decides x x).1 refl
 other_bytes : (x y : List ℕ) → x ≢ y → bytes_eq x y ≡ false
 other_bytes x y h = false_from_ne_true (bytes_eq x y) (λ e. h ((bytes_eq-Decides x y).0 e))
 
--- slots meet the facts of a path, which holds none with both polarities
+-- slots meet the facts of a path, which states no fact with both polarities
 record IsMetBy (known : Option (List ℕ)) (slots : List Slot) (p : Path) : Type 0 where
   arity : length slots ≡ p.arity
   free : contradicts p.facts ≡ false

@@ -57,7 +57,7 @@ to_local_script : spelling (to_local_form local_revocation 144 local_delayed).op
 unfolding number_push minimal_bytes_of digits
 to_local_script = refl
 
--- the hash behind to_remote
+-- the key hash of to_remote
 key_script : spelling (key_hash_form (hash160 remote_htlc)).ops ≡ 0x76 ∷ 0xa9 ∷ 0x14 ∷ 0xcc ∷ 0xf1 ∷ 0xaf ∷ 0x2f ∷ 0x2a ∷ 0xab ∷ 0xee ∷ 0x14 ∷ 0xbb ∷ 0x40 ∷ 0xfa ∷ 0x38 ∷ 0x51 ∷ 0xab ∷ 0x23 ∷ 0x01 ∷ 0xde ∷ 0x84 ∷ 0x31 ∷ 0x10 ∷ 0x88 ∷ 0xac ∷ []
 unfolding number_push minimal_bytes_of digits sha256 digest_bytes hash_after compress rounds schedule first_words left_words right_words left_rotations right_rotations left_constants right_constants block_words left_line right_line blocks ripemd_compress ripemd_hash_after ripemd_bytes ripemd160
 key_script = refl

@@ -47,7 +47,7 @@ to_local-number revocation delayed n k l m o lb nb b31 ms b22 md = rw (m, o, lb,
 not_above : (n : ℕ) → n ≤ 96 → ltb 96 n ≡ false
 not_above n h = le-ltb 96 n h
 
--- a delay of 16 bits has the bits of the lock alone
+-- a delay of 16 bits has only the bits of the lock
 pub to_local-listed : (revocation : List ℕ) (delay : ℕ) (delayed : List ℕ) → delay < 2 ^ 16 → is_key revocation ≡ true → is_key delayed ≡ true → length revocation ≡ 33 → length delayed ≡ 33 → listing (to_local revocation delay delayed) ≡ Ok (to_local_ways revocation delay delayed)
 unfolding to_local_by
 to_local-listed revocation delay delayed h k l m o =

@@ -62,7 +62,7 @@ by_push P n l item number = zero_or (eqb n 0) (leb n 16) refl refl
         number p q (small_read n p q)
     zero_or false false e f = long
 
--- a pattern spells numbers alike
+-- a pattern encodes numbers in the same way
 empty_item : minimal_bytes_of 0 ≡ []
 unfolding minimal_bytes_of digits
 empty_item = refl

@@ -1,4 +1,4 @@
--- Which form a kind of claim opens, and on which path (BOLT 3, "Commitment Transaction Outputs"; BOLT 5).
+-- Which form a kind of claim spends, and by which path (BOLT 3, "Commitment Transaction Outputs"; BOLT 5).
 use Rattle.std.specs.Prelude.{◌≡◌, ◌≢◌, ℕ, ◌<◌, ◌^◌, true, List, [], Some, slice_get, Ok, Err}
 use Rattle.digest.specs.Hash.{hash160}
 use Rattle.digest.specs.Ripemd160.{ripemd160}
@@ -24,8 +24,8 @@ use Rattle.terms.specs.Scripts.{offered, received}
 use Rattle.forms.specs.Ways.{no}
 use Rattle.forms.specs.Forms.{to_local_form, key_hash_form, offered_form, received_form}
 
--- A kind of claim opens a form on a path, where it stands in this place, with this transaction round it. Two cases are left out, which are refused: a
--- timeout where the revocation key's hash is that of the empty item, and a preimage where it is the payment hash.
+-- A kind of claim spends a form by a path, at this place and with this transaction round it. Two cases are refused, and so left out. One is a timeout
+-- where the revocation key's hash is HASH160 of the empty item. The other is a preimage where it is RIPEMD-160 of the payment hash.
 pub data Claims : ClaimKind → CheckedScript → ℕ → Place → Shell → Type 0 where
   of_penalty : (revocation : Key) (delay : ℕ) (delayed : List ℕ) (place : Place)
       → Claims (Penalty revocation) (to_local_form revocation.bytes delay delayed) 0 place Open
@@ -65,8 +65,8 @@ path_taken_by (KeyHash key) = 0
 path_taken_by (HtlcTimeout local remote_token) = 1
 path_taken_by (HtlcSuccess payment_hash local remote_token) = 1
 
--- The two cases that are left out: a timeout where the revocation key's hash is that of the empty item, whose first fact is not met, and a preimage
--- where it is the payment hash, which its path asks for and forbids.
+-- The two cases that are left out. A timeout fails where the revocation key's hash is HASH160 of the empty item: its first fact is not met. A
+-- preimage fails where that hash is RIPEMD-160 of the payment hash, which its path asks for and forbids.
 pub data Refused : ClaimKind → CheckedScript → ℕ → Place → Shell → AcceptError → Type 0 where
   no_timeout : (remote : Key) (local payment_hash : List ℕ) (expiry : ℕ) (place : Place) (shell : Shell)
       → Refused (DirectTimeout remote) (received_form (hash160 []) remote.bytes local payment_hash expiry) 2 place shell (Unmet (no (Hash 0 (hash160 []))))

@@ -5,7 +5,7 @@ use Rattle.claim.specs.declared.parts.Slot.TheVariants.{Sig, Preimage, Exact}
 use Rattle.forms.specs.declared.kinds.ClaimKind.{ClaimKind}
 use Rattle.forms.specs.declared.kinds.ClaimKind.TheVariants.{Penalty, Delayed, HtlcPenalty, DirectPreimage, DirectTimeout, KeyHash, HtlcTimeout, HtlcSuccess}
 
--- the signature of a key, 32 bytes of a SHA-256, or these bytes
+-- the signature of a key, 32 bytes with this SHA-256, or these bytes
 pub data Filling : Type 0 where
   Signature : List ℕ → Filling
   PreimageOf : List ℕ → Filling

@@ -27,7 +27,8 @@ abbrev pub received_form : (revocation_hash remote local payment_hash : List ℕ
 received_form revocation_hash remote local payment_hash expiry =
     record { ops = received revocation_hash remote local payment_hash expiry; paths = received_ways revocation_hash remote local payment_hash expiry }
 
--- the forms of an HTLC: of the revocation key stands its HASH160, of the payment hash, a SHA-256, its RIPEMD-160, which is the HASH160 of the preimage
+-- the forms of an HTLC. The script has the HASH160 of the revocation key and the RIPEMD-160 of the payment hash. The payment hash is a SHA-256, so the
+-- latter is the HASH160 of the preimage
 abbrev pub offered_htlc : HtlcKeys → List ℕ → CheckedScript
 offered_htlc keys payment_hash = offered_form (hash160 keys.revocation.bytes) keys.remote.bytes keys.local.bytes (ripemd160 payment_hash)
 

@@ -15,7 +15,7 @@ to_local_pieces = Code If ∷ KeyHole ∷ Code Else ∷ NumHole ∷ Code CheckSe
 abbrev pub key_hash_pieces : List Piece
 key_hash_pieces = Code Dup ∷ Code Hash160 ∷ HashHole ∷ Code EqualVerify ∷ Code CheckSig ∷ []
 
--- what the script of an HTLC begins with
+-- the beginning of an HTLC's script
 abbrev pub htlc_beginning_pieces : List Piece
 htlc_beginning_pieces =
     Code Dup ∷ Code Hash160 ∷ HashHole ∷ Code Equal

@@ -22,7 +22,7 @@ two_of_two_ways first second =
 abbrev pub funding_ways : List ℕ → List ℕ → List Path
 funding_ways key other = if is_lesser other key then two_of_two_ways other key else two_of_two_ways key other
 
--- the revocation key's way, and the delayed key's
+-- the way of the revocation key, and that of the delayed key
 abbrev pub to_local_ways : (revocation : List ℕ) (delay : ℕ) (delayed : List ℕ) → List Path
 to_local_ways revocation delay delayed =
     record { arity = 2; facts = yes (Truth 0) ∷ yes (Form 1) ∷ yes (Token 1 (FixedKey revocation)) ∷ []; ops = 6; height = 2; lock = None; age = None }

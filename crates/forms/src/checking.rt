@@ -23,7 +23,7 @@ pub fn patterns(alloc: Global) -> Result<Patterns, AllocError> {
     })
 }
 
-// Those of the funding output's script, and of the outputs that pay one side.
+// The patterns of the funding output's script, and of the outputs that pay one side.
 #[derive(Drop)]
 struct PaymentPatterns {
     two_of_two: CheckedPattern,
@@ -34,7 +34,7 @@ struct PaymentPatterns {
     ghost of_key_hash: { key_hash.pieces ≡ key_hash_pieces },
 }
 
-// Those of the scripts of HTLCs.
+// The patterns of the scripts of HTLCs.
 #[derive(Drop)]
 struct HtlcPatterns {
     offered: CheckedPattern,
@@ -43,7 +43,7 @@ struct HtlcPatterns {
     ghost of_received: { received.pieces ≡ received_pieces },
 }
 
-// Checks them. The only error is that memory ran out.
+// Checks the patterns of payments. The only error is that memory ran out.
 fn payment_patterns(alloc: Global) -> Result<PaymentPatterns, AllocError> {
     Ok(PaymentPatterns {
         two_of_two: checked_two_of_two(alloc)?,
@@ -52,7 +52,7 @@ fn payment_patterns(alloc: Global) -> Result<PaymentPatterns, AllocError> {
     })
 }
 
-// Checks them. The only error is that memory ran out.
+// Checks the patterns of HTLCs. The only error is that memory ran out.
 fn htlc_patterns(alloc: Global) -> Result<HtlcPatterns, AllocError> {
     Ok(HtlcPatterns {
         offered: checked_offered(alloc)?,
@@ -158,8 +158,8 @@ fn key_hash(alloc: Global) -> Result<Vec<Piece>, AllocError>
     ]?)
 }
 
-// What the script of an HTLC begins with: the revocation key's branch, and in the other the remote key and the test for a preimage. The only error is
-// that memory ran out.
+// The beginning of an HTLC's script: the revocation key's branch, and in the other branch the remote key and the test for a preimage. The only error
+// is that memory ran out.
 fn htlc_beginning(alloc: Global) -> Result<Vec<Piece>, AllocError>
     ensures { IfOk result (λ v. v.items ≡ htlc_beginning_pieces) }
 {

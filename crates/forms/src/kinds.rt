@@ -14,8 +14,8 @@ use lists::ByteString;
 use sighash::Token;
 use std::alloc::{AllocError, Global};
 
-/// A claim on one of the forms, with what its slots are filled with. Those of the two kinds with a token are on an HTLC output of one's own
-/// commitment, by the HTLC transaction that both sides signed; any transaction may make the others.
+/// A kind of claim on one of the forms, with what fills its slots. The two kinds with a token claim an HTLC output of one's own commitment, by
+/// the HTLC transaction that both sides signed. Any transaction may make the other claims.
 #[derive(Clone, Copy, Debug, PartialEq, Eq)]
 pub enum ClaimKind {
     /// A revoked to_local output, by its revocation key: path 0.
@@ -39,7 +39,7 @@ pub enum ClaimKind {
     DirectTimeout {
         remote: Key,
     },
-    /// An output of a key's hash: path 0.
+    /// A P2WPKH output, such as to_remote: path 0.
     KeyHash {
         key: Key,
     },
@@ -84,7 +84,7 @@ fn exact(alloc: Global, bytes: &[u8]) -> Result<Slot, AllocError>
     Ok(Slot::Exact(WitnessItem { item }))
 }
 
-// Two slots, the top first.
+// Two slots, the one on top first.
 fn pair(alloc: Global, top: Slot, below: Slot) -> Result<Vec<Slot>, AllocError>
     ensures { IfOk result (λ v. v.items ≡ top ∷ below ∷ []) }
 {
@@ -94,7 +94,7 @@ fn pair(alloc: Global, top: Slot, below: Slot) -> Result<Vec<Slot>, AllocError>
     Ok(slots)
 }
 
-// The slots of a claim by both HTLC keys, the top one given.
+// The slots of a claim by both HTLC keys, with the given slot on top.
 fn by_both(alloc: Global, top: Slot, local: &Key, token: &Token) -> Result<Vec<Slot>, AllocError>
     ensures { IfOk result (λ v. map filling_of v.items ≡ filling_of top ∷ Signature local.now.bytes
         ∷ Bytes token.now ∷ Bytes [] ∷ []) }
@@ -141,11 +141,11 @@ fn fillings(alloc: Global, kind: &ClaimKind) -> Result<Vec<Slot>, AllocError>
 pub fn accepted_slots(alloc: Global, kind: &ClaimKind) -> Result<Vec<Slot>, AllocError>
     ensures exact { IfOk result (λ v. map filling_of v.items ≡ fillings_of kind.now) }
 
-    // On each form that the kind claims, whatever its other parameters are, wherever its program stands.
+    // They are accepted on each form that the kind claims, whatever its other parameters are, wherever its program stands.
     ensures accepted { IfOk result (λ v. AreAccepted kind.now v.items) }
 
-    // What that leaves out is refused: a timeout where the revocation key's hash is that of the empty item, and a preimage where it is the
-    // payment hash.
+    // The two cases left out are refused. One is a timeout where the revocation key's hash is HASH160 of the empty item. The other is a preimage
+    // where it is RIPEMD-160 of the payment hash.
     ensures refused { IfOk result (λ v. AreRefused kind.now v.items) }
 {
     fillings(alloc, kind)

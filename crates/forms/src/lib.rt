@@ -1,9 +1,10 @@
 //! The scripts of BOLT 3, checked for all parameters, and the slots with which claims on them are accepted.
 //!
-//! [`patterns`] lists the ways through each script once. With these [`funding`], [`to_local`], [`key_hash`] (the
-//! script of to_remote), [`offered`] and [`received`] give the script of an output with exactly its ways, in the
-//! text order of their branches. [`accepted_slots`] fills the slots of a [`ClaimKind`], with which `claim::accept`
-//! takes a claim on any output of that kind's form. The only error of these calls is that memory ran out.
+//! [`patterns`] lists the ways through each script once. From these, [`funding`], [`to_local`], [`key_hash`] (the
+//! script of to_remote), [`offered`] and [`received`] give the script of an output with exactly its ways. The ways
+//! are in the text order of their branches. [`accepted_slots`] fills the slots of a [`ClaimKind`], with which
+//! `claim::accept` takes a claim on any output of that kind's form. The only error of these calls is that memory ran
+//! out.
 //!
 //! `paths` lists the patterns, and `terms` has the opcodes of the scripts. `penalty` and `resolve` make their claims
 //! of these forms, and `publish` the witnesses of one's own commitments.

@@ -17,7 +17,7 @@ pub struct HtlcKeys {
     pub local: Key,
 }
 
-/// An HTLC's cltv_expiry: a height of blocks, below 500,000,000 (BIP 65; BOLT 2 asks for it of every HTLC).
+/// An HTLC's cltv_expiry: a block height below 500,000,000 (BIP 65; BOLT 2 asks for it of every HTLC).
 #[derive(Clone, Copy, Debug, PartialEq, Eq)]
 pub struct Expiry {
     pub height: u32,

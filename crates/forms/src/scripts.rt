@@ -12,7 +12,7 @@ use paths::{Checked, Fill};
 use std::alloc::{AllocError, Global};
 use std::cmp::Ordering;
 
-// The script that both keys sign, the first one's signature first.
+// The 2-of-2 script of both keys, in this order.
 fn two_of_two(
     alloc: Global,
     patterns: &Patterns,
@@ -25,8 +25,8 @@ fn two_of_two(
     instance_of(alloc, &patterns.two_of_two, &fills)
 }
 
-/// The funding output's script (BOLT 3, "Funding Transaction Output"): both keys sign, the lesser one first, whichever of them comes first here. It
-/// has one path. The only error is that memory ran out.
+/// The funding output's script (BOLT 3, "Funding Transaction Output"): both keys sign. The lexicographically lesser key comes first, in whichever
+/// order they are given. It has one path. The only error is that memory ran out.
 pub fn funding(
     alloc: Global,
     patterns: &Patterns,
@@ -61,8 +61,8 @@ pub fn to_local(
     instance_of(alloc, &patterns.to_local, &fills)
 }
 
-/// The script that a program of version 0 and the key's HASH160 stands for (BIP 141). A commitment's to_remote output has it (BOLT 3): the key
-/// and its signature. It has one path. The only error is that memory ran out.
+/// The script that P2WPKH of this key stands for (BIP 141): DUP HASH160 hash EQUALVERIFY CHECKSIG. It is the script of a commitment's to_remote
+/// output (BOLT 3). Its one path takes the key and its signature. The only error is that memory ran out.
 pub fn key_hash(alloc: Global, patterns: &Patterns, key: &Key) -> Result<Checked, AllocError>
     ensures { IfOk result (λ c. c ≡ key_hash_form (hash160_of key.now.bytes)) }
 {

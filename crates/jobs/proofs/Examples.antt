@@ -1,4 +1,4 @@
--- The rule at chosen values: a queue that meets it, and queues that lost a job, doubled one, or gave the last one first.
+-- The rule at chosen values: a queue that meets it, and queues that lost a job, duplicated one, or gave the last one first.
 use Rattle.std.proofs.Common.{◌≡◌, ℕ, zero, suc, ◌<◌, ◌≤◌, ◌==◌, false, List, [], ◌∷◌, ◌++◌, get_or, sym, refl, ap, ◌∙◌, eq-eqb, ne_eqb, arith}
 use Rattle.std.proofs.lemmas.List.Sorted.{IsPermutation-refl, length_permutation}
 use mathlib.Core.Option.{some, some-ne-none, some-injective}
@@ -44,7 +44,7 @@ one_left = record {
   balanced = IsPermutation-refl (7 ∷ 9 ∷ []);
 }
 
--- 9 is nowhere
+-- 9 was put, and is neither taken nor in the queue
 lost : IsFair {J = ℕ} [] views → ⊥
 lost h = less 1 2 (length_permutation (7 ∷ 9 ∷ []) (7 ∷ []) h.balanced) (omega arith)
 
@@ -52,7 +52,7 @@ lost h = less 1 2 (length_permutation (7 ∷ 9 ∷ []) (7 ∷ []) h.balanced) (o
 doubled : IsFair {J = ℕ} (7 ∷ 9 ∷ []) views → ⊥
 doubled h = less 2 3 (sym (length_permutation (7 ∷ 9 ∷ []) (7 ∷ 7 ∷ 9 ∷ []) h.balanced)) (omega arith)
 
--- a log of one pass alone has its jobs
+-- a log in which only pass 0 stands: its jobs are those of pass 0
 others_none : (x : ℕ) (log : Log ℕ) → ((pass : ℕ) → 1 ≤ pass → by_pass pass ((0, x) ∷ log) ≡ []) → (pass : ℕ) → 1 ≤ pass → by_pass pass log ≡ []
 others_none x log unheard zero h = absurd (omega arith)
 others_none x log unheard (suc pass) h = rw (other_pass pass) at (unheard (suc pass) h)

@@ -81,7 +81,7 @@ module _ {J : Type 0} where
             (IsPermutation-append_left items (taken ++ x ∷ []) (taken_by_all after) (grown (λ u. u.taken) views p v w x at refl)));
       }
 
-  -- the pass stays as it is, and a new one comes
+  -- the pass does not change, and a new one comes
   pub forks : (p : ℕ) (v : Hand J) → Forks IsFair p v v idle
   forks p v items views h at =
       let Q : List (Hand J) → Type 0 = λ l. IsFair items (l ++ idle ∷ []) in

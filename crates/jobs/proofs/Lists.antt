@@ -1,4 +1,4 @@
--- What all passes hold together after the view of one changed or a new pass came, and a log with one step more.
+-- What all passes hold together, after one view changed or a new pass came; and a log with one more step.
 use Rattle.std.proofs.Common.{◌≡◌, ◌≢◌, ℕ, zero, suc, ◌<◌, ◌==◌, Bool, List, [], ◌∷◌, ◌++◌, length, filter, set, sym, refl, ap, ◌∙◌, subst, append_assoc, eq-eqb, ne_eqb, arith}
 use Rattle.std.specs.List.{flat_map}
 use Rattle.std.specs.List.Sorted.{IsPermutation}
@@ -16,7 +16,7 @@ in_range (x ∷ xs) zero a e = omega arith
 in_range (x ∷ xs) (suc i) a e = let r = in_range xs i a e in omega arith
 
 module _ {J : Type 0} (g : Hand J → List J) where
-  -- one view has one job more, and so have all views together
+  -- one view has one more job, and so have all views together
   pub grown : (views : List (Hand J)) (p : ℕ) (v w : Hand J) (x : J) → get_elem? views p ≡ some v → g w ≡ g v ++ x ∷ [] → IsPermutation (flat_map g views ++ x ∷ []) (flat_map g (set views p w))
   grown [] p v w x e is = absurd (some-ne-none v (sym e))
   grown (u ∷ us) zero v w x e is =
@@ -29,7 +29,7 @@ module _ {J : Type 0} (g : Hand J → List J) where
       let Q : List J → Type 0 = λ l. IsPermutation l (g u ++ flat_map g (set us p w)) in
       subst Q (sym (append_assoc (g u) (flat_map g us) (x ∷ []))) (IsPermutation-append_right (g u) (flat_map g us ++ x ∷ []) (flat_map g (set us p w)) (grown us p v w x e is))
 
-  -- one view changed elsewhere
+  -- one view changed, but not in g
   pub unmoved : (views : List (Hand J)) (p : ℕ) (v w : Hand J) → get_elem? views p ≡ some v → g w ≡ g v → flat_map g (set views p w) ≡ flat_map g views
   unmoved [] p v w e is = refl
   unmoved (u ∷ us) zero v w e is = ap (λ l. l ++ flat_map g us) (is ∙ ap g (sym (some-injective u v e)))
@@ -54,7 +54,7 @@ module _ {J : Type 0} where
   one_other : (p q : ℕ) (x : J) → q ≢ p → filter (of_pass p) ((q, x) ∷ []) ≡ []
   one_other p q x n = rw (ne_eqb q p n) refl
 
-  -- a step stands with its own pass
+  -- a step is among those of its own pass
   pub by_own : (p : ℕ) (log : Log J) (x : J) → by_pass p (log ++ (p, x) ∷ []) ≡ by_pass p log ++ x ∷ []
   by_own p log x = ap jobs_of (filter-append (of_pass p) log ((p, x) ∷ []) ∙ ap (λ l. filter (of_pass p) log ++ l) (one_own p x)) ∙ jobs_of-push (filter (of_pass p) log) (p, x)
 

@@ -1,4 +1,4 @@
--- Which pass goes with which end.
+-- Which pass belongs to which end.
 use Rattle.std.specs.Prelude.{◌≡◌}
 use Rattle.crossbeam_channel.specs.Claims.{Pass as ChannelPass, view, IsSeatAt}
 use Rattle.crossbeam_channel.specs.Ends.{sends_on, receives_on, ruled_capacity}
@@ -15,11 +15,11 @@ module _ {J : Type 0} where
   abbrev pub hand_of : JobPass J → Hand J
   hand_of p = view p
 
-  -- the pass is one to the sender's queue, which holds at most 64 jobs
+  -- the pass belongs to the sender's queue, which holds at most 64 jobs
   abbrev pub PutsWith : JobSender J → JobPass J → Type 0
   PutsWith s p = IsSeatAt (sends_on s.sender) p × (ruled_capacity (sends_on s.sender) ≡ 64)
 
-  -- the pass is one to the taker's queue
+  -- the pass belongs to the taker's queue
   abbrev pub TakesWith : JobTaker J → JobPass J → Type 0
   TakesWith t p = IsSeatAt (receives_on t.taker) p
 

@@ -1,4 +1,4 @@
--- The rule of the queue of jobs: first in, first out, and no job lost or doubled.
+-- The rule of the queue of jobs: first in, first out, and no job lost or duplicated.
 use Rattle.std.specs.Prelude.{◌≡◌, ℕ, ◌≤◌, ◌==◌, List, [], ◌++◌, length, map, filter, IsPermutation}
 use Rattle.std.specs.List.{flat_map}
 use mathlib.Core.Option.{some}
@@ -32,8 +32,9 @@ module _ {J : Type 0} where
   abbrev pub by_pass : ℕ → Log J → List J
   by_pass pass log = map (λ s. s.1) (filter (λ s. s.0 == pass) log)
 
-  -- What was put, in order, is what was taken, in order, and then what the queue holds: first in, first out. Each view has the puts and the takes of its
-  -- pass, and no others were made. What all passes put is, each job as often, what they took and what the queue holds.
+  -- The jobs that were put are those that were taken, followed by those in the queue, in order: first
+  -- in, first out. Each view has the puts and the takes of its pass, and there are no others. The jobs
+  -- that all passes put are those that they took and those in the queue, with the same multiplicity.
   pub record IsFair (items : List J) (views : List (Hand J)) : Type 0 where
     pub puts : Log J
     pub takes : Log J

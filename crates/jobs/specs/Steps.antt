@@ -6,7 +6,7 @@ use Rattle.jobs.specs.declared.rule.Hand.{Hand}
 use Rattle.jobs.specs.Rule.{hand, IsFair}
 
 module _ {J : Type 0} where
-  -- the job is added at the back, where there were fewer than 64
+  -- the job is added at the back, where fewer than 64 stood
   pub record IsPut (v : Hand J) (job : J) (w : Hand J) : Type 0 where
     pub pass : ℕ
     pub items : List J
@@ -27,7 +27,7 @@ module _ {J : Type 0} where
     pub after : IsFair items (slice_set views pass w)
     pub added : w ≡ hand v.put (v.taken ++ job ∷ [])
 
-  -- the rule held of these jobs in the queue, with a pass that has this view; the other passes may be made up for it
+  -- the rule held with these jobs in the queue, for a pass with this view; the other passes may be made up
   pub record HeldThen (v : Hand J) (items : List J) : Type 0 where
     pub pass : ℕ
     pub views : List (Hand J)

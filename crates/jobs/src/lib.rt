@@ -1,14 +1,14 @@
 //! A queue of jobs that threads share: at most 64 jobs, first in, first out.
 //!
 //! [`job_queue`] makes a queue with its two ends and a first pass. A [`JobSender`] puts jobs in, a [`JobTaker`] takes
-//! them out, and each thread goes by a [`Pass`] of its own, which takes no bytes. Ends are copied for further
-//! threads, and the queue is closed once all senders are gone. At every moment what was put, in order, is what was
-//! taken, in order, and then what the queue holds; and the jobs that all passes put are, each as often, those that
-//! the passes took and those in the queue (`IsFair` of `specs/Rule.antt`). That a call returns is not proved: both
-//! may wait for another thread.
+//! them out, and each thread uses a [`Pass`] of its own, which takes no bytes. Ends are copied for further threads,
+//! and the queue is closed once all senders are dropped. At every moment, the jobs that were put are those that were
+//! taken, followed by those in the queue, in order. And the jobs that all passes put are those that the passes took
+//! and those in the queue, with the same multiplicity (`IsFair` of `specs/Rule.antt`). Termination of a call is not
+//! proved: `put` and `take` may wait for another thread.
 //!
-//! It stands on the libraries `crossbeam_channel` and `atomic_table`, and no crate but `thread_tests` stands on it.
-//! It is for a node's threads: one finds the work, others take it.
+//! It stands on the libraries `crossbeam_channel` and `atomic_table`, and is used only by `thread_tests`. It is for a
+//! node's threads: one finds the work, others take it.
 //!
 //! ```text
 //! let (sender, taker, mut mine) = job_queue(alloc)?;

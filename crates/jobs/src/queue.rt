@@ -10,12 +10,12 @@ use crossbeam_channel::{RuledReceiver, RuledSender, SendError, bounded_with};
 use std::alloc::{AllocError, Global};
 use std::sync::Wait;
 
-/// How many jobs a queue holds at most.
+/// The greatest number of jobs that a queue holds.
 pub const CAPACITY: usize = 64;
 
-/// A thread's right to use one queue, which takes no bytes. Contracts see in it what was put and taken by it.
+/// A thread's right to use one queue, which takes no bytes. Contracts see the jobs that it put and took.
 ///
-/// A pass is to be kept as long as the queue is used: what a dropped pass put and took still counts, but nobody knows it any more.
+/// Keep a pass as long as the queue is used. What a dropped pass put and took still counts, but its view of it is lost.
 pub type Pass<J> = crossbeam_channel::Pass<J, Hand<J>>;
 
 /// The end of the queue into which jobs are put.
@@ -39,7 +39,7 @@ pub fn job_queue<J: Drop>(alloc: Global) -> Result<(JobSender<J>, JobTaker<J>, P
 }
 
 impl<J: Drop> JobSender<J> {
-    /// A second sender to the same queue. The only error is that memory ran out.
+    /// A further sender to the same queue. The only error is that memory ran out.
     pub fn copy(&self) -> Result<JobSender<J>, AllocError>
         ensures { IfOk result (λ s. PutIntoOne s self.now) }
     {
@@ -47,7 +47,7 @@ impl<J: Drop> JobSender<J> {
         Ok(JobSender { sender })
     }
 
-    /// A second pass to the same queue, which has put and taken nothing.
+    /// A further pass to the same queue, which has put and taken nothing.
     pub fn pass(&self, pass: &mut Pass<J>) -> Pass<J>
         requires { PutsWith self.now pass.old }
         ensures same { PutsWith self.now pass.new × (hand_of pass.new ≡ hand_of pass.old) }
@@ -56,7 +56,8 @@ impl<J: Drop> JobSender<J> {
         self.sender.another::<Apart>(pass)
     }
 
-    /// Puts a job at the back, and waits while the queue holds 64. A job that comes back was not put, as where no taker is left.
+    /// Puts a job at the back, and blocks while the queue holds 64. The job is returned as an error if it was not put, as when all
+    /// takers were dropped.
     pub fn put<R: Wait>(&self, rt: &R, pass: &mut Pass<J>, job: J) -> Result<(), J>
         requires { PutsWith self.now pass.old }
         ensures pass { PutsWith self.now pass.new }
@@ -72,7 +73,7 @@ impl<J: Drop> JobSender<J> {
 }
 
 impl<J: Drop> JobTaker<J> {
-    /// A second taker of the same queue. The only error is that memory ran out.
+    /// A further taker of the same queue. The only error is that memory ran out.
     pub fn copy(&self) -> Result<JobTaker<J>, AllocError>
         ensures { IfOk result (λ t. TakeFromOne t self.now) }
     {
@@ -80,8 +81,8 @@ impl<J: Drop> JobTaker<J> {
         Ok(JobTaker { taker })
     }
 
-    /// Takes the job at the front, and waits while the queue is empty and a sender is left. `None` comes only where the queue was empty
-    /// at some moment of the call, and closed; tests show that, since passes can be made up that meet `WasEmpty`.
+    /// Takes the job at the front, and blocks while the queue is empty and a sender is left. `None` only if the queue was empty at some
+    /// moment of the call, and closed. That is tested, not proved, since passes can be made up that meet `WasEmpty`.
     pub fn take<R: Wait>(&self, rt: &R, pass: &mut Pass<J>) -> Option<J>
         requires { TakesWith self.now pass.old }
         ensures pass { TakesWith self.now pass.new }

@@ -1,9 +1,10 @@
-// The rule of the queue, and what its steps tell.
+// The rule of the queue, and its kinds of step.
 
 use crossbeam_channel::protocol::{Lesson, Outcome, Protocol, Split};
 use std::collections::LinkedList;
 
-/// What a pass has put and taken, for contracts alone: no value of it is made.
+/// What a pass has put and taken. Only contracts
+/// use it; no program makes a value of it.
 pub struct Hand<J> {
     /// The jobs that it put, in order.
     pub put: LinkedList<J>,
@@ -22,7 +23,7 @@ impl<J> Protocol<J, Hand<J>> for Fair {
     ghost first = { idle };
 }
 
-// a pass of its own, which has put and taken nothing
+// a new pass, which has put and taken nothing
 pub struct Apart;
 
 impl<J> Split<Hand<J>> for Apart {

@@ -1,4 +1,4 @@
--- Whether a key stands in a list of keys.
+-- Whether a key is in a list of keys.
 use Rattle.std.proofs.Common.{◌≡◌, ℕ, ◌⊎◌, inl, inr, Bool, true, false, ◌||◌, List, [], ◌∷◌, ◌++◌, sym, ap, ◌∙◌, refl, arith}
 use Rattle.std.specs.Prelude.{Contains}
 use Rattle.std.specs.List.{flat_map}
@@ -106,7 +106,7 @@ flat_among f q (y ∷ ys) e =
 same : (k q : List ℕ) → q ≡ k → bytes_eq k q ≡ true
 same k q e = (bytes_eq-Decides k q).1 (sym e)
 
--- what stands at a base stands at one of the five
+-- the value at a base is among the values at the five bases
 pub among_each : (f : Base → List ℕ) (b : Base) (q : List ℕ) → q ≡ f b → is_among q (at_each f) ≡ true
 among_each f Funding q e = here (bytes_eq (f Funding) q) _ (same _ q e)
 among_each f Payment q e = there (bytes_eq (f Funding) q) _ (here (bytes_eq (f Payment) q) _ (same _ q e))

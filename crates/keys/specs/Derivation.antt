@@ -1,4 +1,4 @@
--- How keys derive (BOLT 3, "Key Derivation"), with hashes in place of elliptic curves.
+-- How keys derive (BOLT 3, "Key Derivation"), with hashes instead of elliptic curves.
 use Rattle.std.specs.Prelude.{ℕ, List, [], ◌∷◌, ◌++◌, codes}
 use Rattle.sha2.specs.Sha256.{sha256}
 use Rattle.keys.specs.declared.bases.Base.{Base}
@@ -24,14 +24,14 @@ number_of Delayed = 2
 number_of Htlc = 3
 number_of Revocation = 4
 
--- the secret of that number, of a seed
+-- the secret of a seed at this number
 unfoldable pub seed_secret : List ℕ → ℕ → List ℕ
 seed_secret seed number = sha256 (codes "base" ++ seed ++ number ∷ [])
 
--- the base key of a seed
+-- the base key of a seed, by its kind
 abbrev pub base_key : List ℕ → Base → List ℕ
 base_key seed b = point_of (seed_secret seed (number_of b))
 
--- the seed of its per-commitment secrets
+-- the seed of the per-commitment secrets
 abbrev pub commitment_seed : List ℕ → List ℕ
 commitment_seed seed = seed_secret seed 5

@@ -6,7 +6,7 @@ use Rattle.keys.specs.declared.bases.Base.{Base}
 use Rattle.keys.specs.declared.bases.Base.TheVariants.{Funding, Payment, Delayed, Htlc, Revocation}
 use Rattle.keys.specs.Derivation.{point_of, derived_key, revocation_key, base_key}
 
--- what a function of the base gives for each
+-- the value of a function at each base
 abbrev pub at_each : (Base → List ℕ) → List (List ℕ)
 at_each f = f Funding ∷ f Payment ∷ f Delayed ∷ f Htlc ∷ f Revocation ∷ []
 
@@ -19,11 +19,11 @@ keys_at seed point = at_each (λ b. derived_key (base_key seed b) point)
 abbrev pub revocations_at : List ℕ → List ℕ → List (List ℕ)
 revocations_at seed point = at_each (λ b. revocation_key (base_key seed b) point)
 
--- the keys that were made signable by what was learnt
+-- the keys that the signer may sign for because of what it learnt
 unfoldable pub learnt_keys : List ℕ → List (List ℕ) → List (List ℕ) → List (List ℕ)
 learnt_keys seed points secrets = flat_map (keys_at seed) points ++ flat_map (λ s. revocations_at seed (point_of s)) secrets
 
--- whether a key stands in a list
+-- whether a key is in a list
 abbrev pub is_among : List ℕ → List (List ℕ) → Bool
 is_among key [] = false
 is_among key (k ∷ ks) = bytes_eq k key || is_among key ks

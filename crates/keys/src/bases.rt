@@ -7,12 +7,12 @@ use crate::compressed::Key;
 use crate::derivation::{derive, point, revocation, seed_hash};
 use std::marker::Model;
 
-/// The base keys of a side of a channel (BOLT 2, `open_channel`), each for another kind of output or transaction.
+/// The base keys of a side of a channel (BOLT 2, `open_channel`), each for its own kind of output or transaction.
 #[derive(Clone, Copy, Debug, PartialEq, Eq)]
 pub enum Base {
-    /// 0: the funding output. Used as it is.
+    /// 0: the funding output. Used without derivation.
     Funding,
-    /// 1: the peer's to_remote output. Used as it is.
+    /// 1: the peer's to_remote output. Used without derivation.
     Payment,
     /// 2: the delayed outputs of one's own commitments.
     Delayed,
@@ -26,7 +26,7 @@ impl Base {
     ghost use Rattle.std.specs.Prelude.{◌≡◌};
     ghost use Rattle.keys.specs.Derivation.{number_of};
 
-    /// The number of the base among a seed's secrets, from 0. (Number 5 is the seed of the per-commitment secrets.)
+    /// The number of the base among a seed's secrets, from 0. Number 5 is the seed of the per-commitment secrets.
     pub fn number(self) -> u8
         ensures { result ≡ number_of self }
     {
@@ -95,7 +95,7 @@ impl BaseKeys {
         }
     }
 
-    /// The same keys.
+    /// A copy of the keys.
     pub(crate) fn copy(&self) -> BaseKeys
         ensures { result ≡ self.now }
     {

@@ -7,7 +7,7 @@ use script::tokens::has_key_form;
 
 /// A compressed public key: 33 bytes, the first of which is 02 or 03 (BIP 141).
 ///
-/// No curve is behind it: any bytes of this form are a key.
+/// It need not be a point of the curve: any bytes of this form are a key.
 #[derive(Clone, Copy, Debug, PartialEq, Eq)]
 pub struct Key {
     pub bytes: [u8; 33],
@@ -15,7 +15,7 @@ pub struct Key {
 }
 
 impl Key {
-    /// The key of these bytes; `None` where they have not the form of one.
+    /// The key with these bytes; `None` where they do not have the form of a key.
     pub fn read(bytes: &[u8; 33]) -> Option<Key>
         ensures some { IfSome result (λ k. k.bytes ≡ bytes.now) }
         ensures none { IfNone result (is_key bytes.now ≡ false) }

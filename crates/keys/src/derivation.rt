@@ -7,7 +7,7 @@ ghost use Rattle.keys.specs.Derivation.{point_of, derived_key, revocation_key};
 use crate::compressed::Key;
 use sha2::{Digest, Sha256};
 
-// The key that begins with 02, and has these 32 bytes behind it.
+// The key that is the byte 02, followed by these 32 bytes.
 #[tactic(auto, unfolding(script::specs::Token::is_key))]
 fn key_of_hash(hash: &[u8; 32]) -> Key
     ensures { result.bytes ≡ 2 ∷ hash.now }
@@ -17,7 +17,7 @@ fn key_of_hash(hash: &[u8; 32]) -> Key
     Key { bytes }
 }
 
-// SHA-256 of three pieces taken as one message.
+// SHA-256 of the concatenation of three pieces.
 fn hash_of(name: &[u8], first: &[u8], second: &[u8]) -> [u8; 32]
     ensures { result ≡ sha256_of (name.now ++ first.now ++ second.now) }
 {
@@ -28,7 +28,7 @@ fn hash_of(name: &[u8], first: &[u8], second: &[u8]) -> [u8; 32]
     hasher.finalize()
 }
 
-/// The point of a secret, its public key: 02, and SHA-256 of `point` and the secret's 32 bytes.
+/// The point of a secret, its public key: 02, and the SHA-256 of the ASCII bytes `point` and the secret's 32 bytes.
 #[tactic(auto, unfolding(crate::specs::Derivation::point_of))]
 pub fn point(secret: &[u8; 32]) -> Key
     ensures { result.bytes ≡ point_of secret.now }
@@ -36,7 +36,8 @@ pub fn point(secret: &[u8; 32]) -> Key
     key_of_hash(&hash_of(b"point", secret, &[]))
 }
 
-/// The key that derives from a base key at a per-commitment point: 02, and SHA-256 of `derive`, the base key and the point, 33 bytes each.
+/// The key that derives from a base key at a per-commitment point: 02, and the SHA-256 of `derive`, the base key and the point, 33 bytes
+/// each.
 #[tactic(auto, unfolding(crate::specs::Derivation::derived_key))]
 pub fn derive(base: &Key, point: &Key) -> Key
     ensures { result.bytes ≡ derived_key base.now.bytes point.now.bytes }
@@ -44,7 +45,7 @@ pub fn derive(base: &Key, point: &Key) -> Key
     key_of_hash(&hash_of(b"derive", &base.bytes, &point.bytes))
 }
 
-/// The revocation key of a base key at a per-commitment point: 02, and SHA-256 of `revoke`, the base key and the point, 33 bytes each.
+/// The revocation key of a base key at a per-commitment point: 02, and the SHA-256 of `revoke`, the base key and the point, 33 bytes each.
 #[tactic(auto, unfolding(crate::specs::Derivation::revocation_key))]
 pub fn revocation(base: &Key, point: &Key) -> Key
     ensures { result.bytes ≡ revocation_key base.now.bytes point.now.bytes }
@@ -52,7 +53,7 @@ pub fn revocation(base: &Key, point: &Key) -> Key
     key_of_hash(&hash_of(b"revoke", &base.bytes, &point.bytes))
 }
 
-/// SHA-256 of `base`, a seed and a number, of which a signer's secrets are made.
+/// SHA-256 of `base`, a seed and a number, from which a signer's secrets are made.
 pub(crate) fn seed_hash(seed: &[u8; 32], number: u8) -> [u8; 32]
     ensures { result ≡ sha256_of (codes "base" ++ seed.now ++ number ∷ []) }
 {

@@ -1,4 +1,4 @@
-// Sets of keys in order, in which one look-up takes a time logarithmic in their number.
+// Sets of keys in order, in which a look-up takes time logarithmic in their number.
 
 ghost use Rattle.std.specs.Prelude.{◌≡◌, ◌||◌, ℕ, List, OnOk, OnErr};
 ghost use Rattle.std.specs.Ordering.{nat_cmp};

@@ -1,13 +1,13 @@
 //! The keys of a channel and who may sign for them (BOLT 3, "Key Derivation").
 //!
-//! Hashes stand here for elliptic curves: a secret's [`point`] is a hash of it, and [`derive`] and [`revocation`]
-//! hash a base key with a per-commitment point. [`Signer::sign`] gives the token of a key over a digest exactly where
-//! the signer may sign for the key (`MaySign`), and refuses every other key. A signer has the right to its own base
-//! keys, to what derives from them at a point that it learnt, and to a revocation key where it learnt the point's
-//! secret.
+//! Hashes replace elliptic curves here: a secret's [`point`] is a hash of it, and [`derive`] and [`revocation`] hash a
+//! base key with a per-commitment point. [`Signer::sign`] gives the token of a key over a digest exactly where the signer
+//! may sign for the key (`MaySign`), and refuses every other key. A signer may sign for its own base keys. It may sign
+//! for keys that derive from them at a point that it learnt, and for their revocation keys at a point whose secret it
+//! learnt.
 //!
-//! `sighash` has the tokens. `terms` names both sides' base keys, `commit` derives the keys of a commitment, and
-//! `channel` and `filling` sign by a [`Signer`].
+//! `sighash` provides the tokens. `terms` names both sides' base keys, `commit` derives the keys of a commitment, and
+//! `channel` and `filling` sign with a [`Signer`].
 //!
 //! ```rust
 //! /// A token of one's delayed key for a commitment with this point.

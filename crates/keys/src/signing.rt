@@ -10,7 +10,7 @@ use std::collections::BTreeSet;
 use std::marker::Model;
 use thiserror::Error;
 
-/// Why a signer does not sign. Each is numbered as `number` says.
+/// Why a signer does not sign.
 #[derive(Clone, Copy, Debug, Drop, Error, PartialEq, Eq)]
 pub enum SignError {
     /// 1: the signer may not sign for the key.
@@ -21,7 +21,7 @@ pub enum SignError {
 impl SignError {
     ghost use Rattle.std.specs.Prelude.{◌≡◌};
 
-    /// The number of the refusal. No refusal says that memory ran out, which would be 0.
+    /// The refusal's number. There is no 0 (out of memory): signing allocates nothing.
     pub fn number(&self) -> u8
         ensures { result ≡ 1 }
     {
@@ -34,11 +34,11 @@ impl SignError {
 /// A side's signer in a channel: its seed, and the points and secrets that it learnt.
 ///
 /// It may sign for its five base keys, for [`derive`](crate::derive) of these and each learnt point, and for
-/// [`revocation`](crate::revocation) of these and the point of each learnt secret. The keys of what was learnt are kept in order, so an answer
-/// takes a time logarithmic in the number of points and secrets. Each of these costs five keys of 33 bytes in the order, and itself: some 300
-/// bytes, and at most some 520. To learn one twice changes no answer.
+/// [`revocation`](crate::revocation) of these and the point of each learnt secret. The keys that result are kept in order, so an answer takes
+/// time logarithmic in the number of points and secrets. Each point or secret costs itself and five keys of 33 bytes: some 300 bytes, and at
+/// most some 520. Learning one twice changes no answer.
 ///
-/// In clauses it is its `Rights`: the seed, the points and the secrets, the oldest first.
+/// A contract sees it as its `Rights`: the seed, the points and the secrets, the oldest first.
 #[derive(Drop)]
 pub struct Signer {
     bases: BaseKeys,
@@ -69,7 +69,7 @@ impl Signer {
     ghost use Rattle.keys.specs.Derivation.{base_key, commitment_seed};
     ghost use Rattle.keys.specs.Rights.{MaySign};
 
-    /// A signer of this seed, which learnt nothing. It takes no memory.
+    /// A signer with this seed that has learnt nothing. It allocates nothing.
     pub fn new(alloc: Global, seed: &[u8; 32]) -> Signer
         ensures { result ≡ record { seed = seed.now; points = []; secrets = [] } }
     {
@@ -96,8 +96,8 @@ impl Signer {
         seed_hash(self.bases.seed(), 5)
     }
 
-    /// Learns a per-commitment point, one's own or the peer's: from now on the signer may sign for what derives from its bases there. Want of
-    /// memory leaves it as it was.
+    /// Learns a per-commitment point, one's own or the peer's: from now on the signer may sign for the keys that derive from its base keys at
+    /// this point. Where memory runs out, it is as it was.
     pub fn learn_point(&mut self, point: &Key) -> Result<(), AllocError>
         ensures ok { OnOk result (self.new ≡ record self.old {
           points = self.old.points
@@ -111,8 +111,8 @@ impl Signer {
         Ok(())
     }
 
-    /// Learns a per-commitment secret of the peer: from now on the signer may sign for the revocation keys of its bases at the secret's point.
-    /// Where memory runs out, it is as it was.
+    /// Learns a per-commitment secret of the peer: from now on the signer may sign for the revocation keys of its base keys at the secret's
+    /// point. Where memory runs out, it is as it was.
     pub fn learn_secret(&mut self, secret: &[u8; 32]) -> Result<(), AllocError>
         ensures ok { OnOk result (self.new ≡ record self.old {
           secrets = self.old.secrets
@@ -126,7 +126,7 @@ impl Signer {
         Ok(())
     }
 
-    /// Learns what a revocation brings: the peer's secret, and its next point. Where memory runs out, the signer learnt neither.
+    /// Learns what a revocation reveals: the peer's secret, and its next point. Where memory runs out, the signer learnt neither.
     pub fn learn_revocation(
         &mut self,
         secret: &[u8; 32],
@@ -147,14 +147,14 @@ impl Signer {
         Ok(())
     }
 
-    /// Whether the signer may sign for the key. It takes no memory.
+    /// Whether the signer may sign for the key. It allocates nothing.
     pub fn can_sign(&self, key: &Key) -> bool
         ensures { IsTrue result ↔ MaySign self.now key.now.bytes }
     {
         self.bases.has(key) || self.learnt.contains(&key.bytes)
     }
 
-    /// The token of the key over the digest; `NoRight` where the signer may not sign for the key. It takes no memory.
+    /// The token of the key over the digest; `NoRight` where the signer may not sign for the key. It allocates nothing.
     pub fn sign(&self, key: &Key, digest: &[u8; 32]) -> Result<Token, SignError>
         ensures token { IfOk result (λ t. t ≡ token_of key.now.bytes digest.now) }
         ensures ok { IsOk result ↔ MaySign self.now key.now.bytes }

@@ -1,4 +1,4 @@
-//! Strings of bytes.
+//! Byte strings.
 
 ghost use Rattle.std.specs.Prelude.{◌≡◌, ◌==◌, [], length, IfOk};
 ghost use Rattle.std.specs.Str.{bytes_eq};
@@ -6,8 +6,8 @@ ghost use Rattle.std.specs.Str.{bytes_eq};
 use std::alloc::{AllocError, Global};
 use std::marker::Model;
 
-/// A string of bytes: an element of a script's stack, an item of a witness (BIP 141), the data of a push, or an output's script. It has no
-/// limit of its own. A contract sees it as the list of its bytes.
+/// A byte string: a stack element of a script, a witness item (BIP 141), the data of a push, or an output's script. It has no limit of its
+/// own. A contract sees it as the list of its bytes.
 #[derive(Debug, Drop)]
 pub struct ByteString {
     bytes: Vec<u8>,
@@ -40,14 +40,14 @@ impl ByteString {
         })
     }
 
-    /// The string that takes over the bytes of a `Vec`, without memory.
+    /// Takes over the bytes of a `Vec` without allocating.
     pub fn from_vec(bytes: Vec<u8>) -> Self
         ensures { result ≡ bytes.items }
     {
         ByteString { bytes }
     }
 
-    /// Gives the bytes back as a `Vec`, without memory.
+    /// Gives the bytes back as a `Vec` without allocating.
     pub fn into_vec(self) -> Vec<u8>
         ensures { result.items ≡ self }
     {
@@ -68,7 +68,7 @@ impl ByteString {
         self.bytes.len()
     }
 
-    /// Whether there are none.
+    /// Whether the string is empty.
     pub fn is_empty(&self) -> bool
         ensures { result ≡ (length self.now == 0) }
     {

@@ -4,8 +4,8 @@
 //! with the top first. Each keeps the allocator that it was made with. Every call is exact: `push` on a stack that a
 //! contract sees as `s` leaves `value ∷ s`, and one that runs out of memory leaves `s`.
 //!
-//! It stands on no other crate. `script` holds pushed bytes in it, `machine` its stack, `tx` the items of a witness,
-//! and the crates above them their lists.
+//! It depends on no other crate. `script` keeps pushed bytes in it, `machine` its stack, and `tx` the items of a
+//! witness. The crates above them keep their lists in it.
 //!
 //! ```
 //! let mut stack = Stack::new(rt.alloc());

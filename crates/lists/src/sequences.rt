@@ -29,14 +29,14 @@ impl<T: Drop> List<T> {
         }
     }
 
-    /// The list of these values. It takes no memory.
+    /// The list of these values, without allocating.
     pub fn from_vec(items: Vec<T>) -> Self
         ensures { result ≡ items.items }
     {
         List { items }
     }
 
-    /// Gives the values back as a `Vec`, without memory.
+    /// Gives the values back as a `Vec` without allocating.
     pub fn into_vec(self) -> Vec<T>
         ensures { result.items ≡ self }
     {
@@ -55,14 +55,14 @@ impl<T: Drop> List<T> {
         self.items.len()
     }
 
-    /// Whether there is no value.
+    /// Whether the list is empty.
     pub fn is_empty(&self) -> bool
         ensures { result ≡ (length self.now == 0) }
     {
         self.items.is_empty()
     }
 
-    /// Puts a value at the end. The only error is that memory ran out, which leaves the list as it was.
+    /// Appends a value. The only error is that memory ran out, which leaves the list as it was.
     pub fn push(&mut self, value: T) -> Result<(), AllocError>
         ensures pushed { OnOk result (self.new ≡ self.old ++ value ∷ []) }
         ensures err { OnErr result (self.new ≡ self.old) }

@@ -29,7 +29,7 @@ impl<T: Drop> Stack<T> {
         }
     }
 
-    /// The stack of these values, the last of which is the top. It takes no memory.
+    /// The stack of these values, the last of which is the top. It allocates nothing.
     pub fn from_vec(items: Vec<T>) -> Self
         ensures { result ≡ reverse items.items }
     {
@@ -48,14 +48,14 @@ impl<T: Drop> Stack<T> {
         self.items.len()
     }
 
-    /// Whether there is no value.
+    /// Whether the stack is empty.
     pub fn is_empty(&self) -> bool
         ensures { result ≡ (length self.now == 0) }
     {
         self.items.is_empty()
     }
 
-    /// Puts a value on top. The only error is that memory ran out, which leaves the stack as it was.
+    /// Pushes a value. The only error is that memory ran out, which leaves the stack as it was.
     pub fn push(&mut self, value: T) -> Result<(), AllocError>
         ensures pushed { OnOk result (self.new ≡ value ∷ self.old) }
         ensures err { OnErr result (self.new ≡ self.old) }
@@ -64,7 +64,7 @@ impl<T: Drop> Stack<T> {
         Ok(())
     }
 
-    /// Takes the top off, where there is one.
+    /// Removes and returns the top; `None` if the stack is empty.
     pub fn pop(&mut self) -> Option<T>
         ensures { MatchOption result ((self.old ≡ []) × (self.new ≡ []))
             (λ x. self.old ≡ x ∷ self.new) }
@@ -72,7 +72,7 @@ impl<T: Drop> Stack<T> {
         self.items.pop()
     }
 
-    /// The top, where there is one.
+    /// The top; `None` if the stack is empty.
     pub fn top(&self) -> Option<&T>
         ensures { MatchOption result (self.now ≡ [])
             (λ x. (rest : List T) × (self.now ≡ x.now ∷ rest)) }

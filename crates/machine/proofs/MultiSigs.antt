@@ -1,4 +1,4 @@
--- CHECKMULTISIG, part after part.
+-- CHECKMULTISIG, part by part.
 use Rattle.std.proofs.Common.{◌≡◌, ℕ, ◌+◌, ◌<◌, ◌≤◌, Bool, true, false, List, [], ◌∷◌, length, take, drop, reverse, Result, Ok, Err, leb, eqb, sym, ap, ◌∙◌, refl, arith, length-take}
 use Rattle.std.proofs.lemmas.List.{length-reverse}
 use Rattle.std.specs.List.{list_all}

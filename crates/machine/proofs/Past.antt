@@ -51,7 +51,7 @@ if_stop : (h : Halt) (next next' : List Op → Result RunState Cause) → ((rest
 if_stop NoMemory next next' e h = tt
 if_stop (Stop c) next next' e h = λ rest. e rest ∙ h rest
 
--- a place leads to where an equal one leads
+-- equal states lead to equal results
 pub leads_as : (next next' : List Op → Result RunState Cause) (new : Machine) (r : Result (Unit {0}) Halt) → ((rest : List Op) → next' rest ≡ next rest) → ReachesState next new r → ReachesState next' new r
 leads_as next next' new (Ok u) e h = λ rest. e rest ∙ h rest
 leads_as next next' new (Err halt) e h = if_stop halt next next' e h

@@ -1,4 +1,4 @@
--- What an opcode that is run does, by its definition.
+-- What an opcode does when it runs, by its definition.
 use Rattle.std.specs.Prelude.{◌≡◌, ℕ, List, [], ◌∷◌, Result, Ok, Err, MatchResult}
 use Rattle.script.specs.declared.opcode.Op.{Op}
 use Rattle.script.specs.declared.opcode.Op.TheVariants.{CheckMultiSig}
@@ -30,14 +30,15 @@ IsEffect e new r =
     (λ step. e ≡ Ok (record { jump = step.jump; stack = new; keys = step.keys }))
     (λ h. IfStop h (λ c. e ≡ Err c))
 
--- the opcode takes the elements to these, whatever is counted, and counts no keys, or it stops
+-- whatever is counted, the opcode turns the old elements into the new ones and counts no keys, or
+-- it stops
 abbrev pub Does : Spend → Op → Elements → Elements → Result Jump Halt → Type 0
 Does spend op old new r =
     MatchResult r
     (λ j. (counted : ℕ) → effect spend counted op old ≡ Ok (record { jump = j; stack = new; keys = 0 }))
     (λ h. IfStop h (λ c. (counted : ℕ) → effect spend counted op old ≡ Err c))
 
--- the number of an item as a lock, or why it is none
+-- the number of an item as a lock, or why it is not a lock
 abbrev pub lock_operand : Kind → List ℕ → Result ℕ Cause
 lock_operand kind item = number_or_failure (number_of 5 item) >>= magnitude_or_failure kind
 
@@ -46,7 +47,7 @@ abbrev pub IsLock : Elements → Kind → ℕ → Type 0
 IsLock [] kind n = ⊥
 IsLock (x ∷ stack) kind n = lock_operand kind x ≡ Ok n
 
--- the top is no lock, for this cause
+-- the top is not a lock, for this cause
 abbrev pub HasNoLock : Elements → Kind → Cause → Type 0
 HasNoLock [] kind c = c ≡ MissingOperand
 HasNoLock (x ∷ stack) kind c = lock_operand kind x ≡ Err c

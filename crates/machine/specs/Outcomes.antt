@@ -1,4 +1,4 @@
--- A result, by the definition of a run.
+-- Results of `run`, by the definition of a run.
 use Rattle.std.specs.Prelude.{◌≡◌, ℕ, Result, Ok, Err}
 use Rattle.script.specs.Run.{Outcome, Clean, Stopped}
 use Rattle.machine.specs.declared.ends.Run.{Run}

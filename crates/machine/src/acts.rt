@@ -1,4 +1,4 @@
-//! What each opcode does that is run.
+//! What each opcode does when it runs.
 
 ghost use Rattle.std.specs.Prelude.{◌≡◌, ◌≤◌, ◌+◌, true, false, [], ◌∷◌, IfOk, MatchResult};
 ghost use Rattle.script.specs.Step.{effect};
@@ -16,16 +16,17 @@ use script::truths::{flag, is_true};
 use script::{Cause, Jump, Kind, Op, Spend, num};
 use std::alloc::Global;
 
-/// What an opcode that was run gives beside the elements.
+/// What running an opcode gives, apart from the elements.
 #[derive(Clone, Copy, Debug, PartialEq, Eq)]
 pub struct Step {
     /// Where the run goes.
     pub jump: Jump,
-    /// The keys that it counted.
+    /// The number of keys that it counted.
     pub keys: usize,
 }
 
-/// Runs an opcode, where `counted` opcodes and keys are counted with it.
+/// Runs an opcode. `counted` is the number of opcodes and keys counted so far, this opcode
+/// included.
 #[tactic(auto, unfolding(script::specs::Step::effect))]
 pub fn act(
     alloc: Global,
@@ -77,7 +78,7 @@ fn act_keyless(
     }
 }
 
-/// The top of the stack, which is taken off.
+/// Removes and returns the top of the stack.
 pub fn take(stack: &mut Stack<ByteString>) -> Result<ByteString, Halt>
     ensures { MatchResult result
         (λ x. stack.old ≡ x ∷ stack.new)
@@ -86,7 +87,7 @@ pub fn take(stack: &mut Stack<ByteString>) -> Result<ByteString, Halt>
     stack.pop().ok_or(Halt::Stop(Cause::MissingOperand))
 }
 
-// Puts an element on top.
+// Pushes an element.
 fn push(stack: &mut Stack<ByteString>, item: ByteString) -> Result<Jump, Halt>
     ensures { MatchResult result
         (λ jump. (jump ≡ Jump.Next) × (stack.new ≡ item ∷ stack.old))
@@ -96,7 +97,7 @@ fn push(stack: &mut Stack<ByteString>, item: ByteString) -> Result<Jump, Halt>
     Ok(Jump::Next)
 }
 
-// IF, and NOTIF, which runs where the top is false.
+// IF, and NOTIF, whose branch runs if the top is false.
 #[tactic(auto, unfolding(script::specs::Step::effect))]
 fn enter(stack: &mut Stack<ByteString>, wanted: bool) -> Result<Jump, Halt>
     ensures on_true { (spend : Spending) → wanted ≡ true

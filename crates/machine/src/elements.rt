@@ -1,4 +1,4 @@
-//! The elements on the way of a run.
+//! The stack elements in the course of a run.
 
 ghost use Rattle.std.specs.Prelude.{◌≡◌, IfOk};
 ghost use Rattle.machine.specs.Elements.{elements_at as elements_before};
@@ -10,7 +10,7 @@ use lists::{ByteString, Stack};
 use script::{Script, Spend};
 use std::alloc::{AllocError, Global};
 
-/// The elements that stand before the opcode at an index, or at the end; `None` where the run stops before, and for an index above the number of opcodes.
+/// The stack elements before the opcode at an index, or at the end. `None` where the run stops before that, and for an index above the number of opcodes.
 /// The only error is that memory ran out.
 pub fn elements_at(
     alloc: Global,

@@ -8,12 +8,12 @@ use script::Cause;
 use std::alloc::AllocError;
 use thiserror::Error;
 
-/// How a clean run went.
+/// The result of a clean run.
 #[derive(Clone, Copy, Debug, PartialEq, Eq)]
 pub struct Run {
     /// The counted opcodes: those of the whole script above 60 (in hexadecimal), and the keys of each CHECKMULTISIG that ran.
     pub counted: usize,
-    /// The greatest number of elements that stood on the stack, at the start or after an opcode.
+    /// The greatest number of elements on the stack, at the start or after an opcode.
     pub height: usize,
 }
 
@@ -23,14 +23,14 @@ pub enum Stop {
     /// Memory ran out.
     #[error("NoMemory")]
     NoMemory,
-    /// The cause, and the index of the opcode that the run stops at: 0 for an item that is too long, and the number of opcodes for a stop
-    /// at the end.
+    /// The cause, and the index of the opcode that the run stops at. The index is 0 for an item that is too long, and the number of
+    /// opcodes for a stop at the end.
     #[error("{0} {1}")]
     At(Cause, usize),
 }
 
 impl Stop {
-    /// The number of the refusal: that of the cause, or 0 for running out of memory.
+    /// The refusal's number: that of the cause, or 0 for out of memory.
     pub fn number(&self) -> u8
         ensures { result ≡ refusal_number self.now }
     {

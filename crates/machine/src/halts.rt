@@ -1,4 +1,4 @@
-//! Why one opcode is not passed.
+//! Why a run stops at an opcode.
 
 ghost use Rattle.std.specs.Prelude.{◌≡◌};
 ghost use Rattle.machine.specs.declared.halts.Halt.TheVariants.{NoMemory};
@@ -6,12 +6,12 @@ ghost use Rattle.machine.specs.declared.halts.Halt.TheVariants.{NoMemory};
 use script::{Cause, Kind};
 use std::alloc::AllocError;
 
-/// Why one opcode is not passed.
+/// Why a run stops at an opcode.
 #[derive(Clone, Copy, Debug, PartialEq, Eq)]
 pub enum Halt {
     /// Memory ran out.
     NoMemory,
-    /// The run stops there.
+    /// The run stops for this cause.
     Stop(Cause),
 }
 

@@ -1,4 +1,4 @@
-//! Lock times of an input.
+//! Time locks of an input.
 
 ghost use Rattle.std.specs.Prelude.{◌≡◌, MatchResult};
 ghost use Rattle.script.specs.Step.{age_passes, lock_passes};
@@ -24,7 +24,8 @@ pub fn is_lock_reached(spend: &Spend, lock: u64) -> bool
         && spend.sequence != FINAL
 }
 
-/// Whether a relative lock passes (BIP 112): bit 31 switches it off, bit 22 is its kind, and the lowest 16 bits are its length.
+/// Whether a relative lock passes (BIP 112): bit 31 disables it, bit 22 is its kind (blocks or units of 512 seconds), and the
+/// lowest 16 bits are its length.
 #[tactic(auto, unfolding(script::specs::Step::age_passes))]
 pub fn is_age_reached(spend: &Spend, age: u64) -> bool
     ensures { result ≡ age_passes spend.now age }
@@ -37,7 +38,7 @@ pub fn is_age_reached(spend: &Spend, age: u64) -> bool
             && age % 0x1_0000 <= sequence % 0x1_0000)
 }
 
-/// The lock on top of the stack: a number of at most 5 bytes that is not negative, else the check of its kind fails.
+/// Reads the lock on top of the stack, a number of at most 5 bytes. A negative number fails the check `kind`.
 pub fn read_lock(stack: &Stack<ByteString>, kind: Kind) -> Result<u64, Halt>
     ensures { MatchResult result (λ n. IsLock stack.now kind n)
         (λ h. IfStop h (λ c. HasNoLock stack.now kind c)) }

@@ -17,8 +17,8 @@ use script::truths::flag;
 use script::{Cause, Jump, Kind, Spend, num};
 use std::alloc::Global;
 
-/// CHECKMULTISIG, where `counted` opcodes and keys are counted with the opcode. The elements are, from the top: the number of keys, the
-/// keys, the number of signatures, the signatures, and an extra item, which has to be empty (BIP 147).
+/// CHECKMULTISIG. `counted` is the number of opcodes and keys counted so far, this opcode included. The elements are, from the top: the
+/// number of keys, the keys, the number of signatures, the signatures, and an extra item, which must be empty (BIP 147).
 pub fn check_multi_sig(
     alloc: Global,
     spend: &Spend,
@@ -46,7 +46,7 @@ pub fn check_multi_sig(
     })
 }
 
-// The number of at most 4 bytes on top of the stack, which is taken off; the check of its kind fails where it is not from 0 to a limit.
+// Takes a number of at most 4 bytes off the stack. The check `kind` fails if the number is not from 0 to `limit`.
 fn take_count(stack: &mut Stack<ByteString>, limit: usize, kind: Kind) -> Result<usize, Halt>
     ensures { MatchResult result
         (λ n. Counts stack.old stack.new limit kind n)
@@ -62,7 +62,7 @@ fn take_count(stack: &mut Stack<ByteString>, limit: usize, kind: Kind) -> Result
     Ok(number.magnitude as usize)
 }
 
-// n elements from the top, which are taken off; the deepest of them is the top of the pile.
+// Takes n elements off the stack. The deepest of them is the top of the result.
 fn take_many(
     alloc: Global,
     stack: &mut Stack<ByteString>,
@@ -79,7 +79,7 @@ fn take_many(
     Ok(entries)
 }
 
-// The forms of the signatures, those of the keys, and the extra item, in this order.
+// Checks the forms of the signatures, then those of the keys, and then that the extra item is empty.
 #[tactic(auto, using(crate::proofs::Reversing::all_reversed))]
 fn check_forms(
     keys: &Stack<ByteString>,
@@ -114,7 +114,7 @@ fn are_keys(items: &[ByteString]) -> bool
     items.iter().all(|item| has_key_form(item.bytes()))
 }
 
-/// Whether the signatures are, in their order, the tokens of some of the keys in theirs. A key that fits the first signature that is left is
+/// Whether the signatures, in order, are the tokens of some of the keys, in order. A key that fits the first remaining signature is always
 /// taken for it: where there is a choice of keys at all, there is one that begins so.
 pub fn is_assigned(mut sigs: Stack<ByteString>, mut keys: Stack<ByteString>, digest: &[u8]) -> bool
     ensures { result ≡ assigned sigs keys digest.now }

@@ -1,4 +1,4 @@
-//! A run on its way.
+//! A run in progress.
 
 ghost use Rattle.std.specs.Prelude.{◌≡◌, ◌≤◌, ◌<◌, ◌+◌, max, length, OnOk, MatchResult};
 ghost use Rattle.script.specs.Run.{weight, open_ifs_after};
@@ -15,16 +15,16 @@ use script::limits::{MAX_OPS_PER_SCRIPT, MAX_STACK_SIZE};
 use script::{Cause, Op, Spend};
 use std::alloc::Global;
 
-/// A run on its way.
+/// A run in progress.
 #[derive(Drop)]
 pub struct Machine {
-    /// The elements.
+    /// The stack elements.
     pub stack: Stack<ByteString>,
-    /// The IFs that stand open, each with whether its ELSE has come.
+    /// The open IFs, each with whether its ELSE has come.
     pub ifs: Stack<bool>,
-    /// The branch that is jumped over.
+    /// The branch that is being jumped over.
     pub skip: Option<Skip>,
-    /// The opcodes and keys that are counted.
+    /// The number of opcodes and keys counted so far.
     pub counted: usize,
     /// The greatest number of elements so far.
     pub height: usize,
@@ -50,7 +50,7 @@ impl Machine {
         }
     }
 
-    // Runs an opcode that is counted, and whose branch is entered or ended.
+    // Runs an opcode that was counted, and whose branch was entered or ended.
     fn run_one(&mut self, alloc: Global, op: &Op, spend: &Spend) -> Result<(), Halt>
         requires few { self.old.counted ≤ MAX_OPS_PER_SCRIPT }
         ensures run { IsRun spend.now op.now self.old self.new result }
@@ -78,7 +78,7 @@ fn count(op: &Op, counted: &mut usize) -> Result<(), Halt>
     Ok(())
 }
 
-// Enters a branch, goes over to its ELSE, or ends it.
+// Enters a branch, moves to its ELSE, or ends it.
 fn open(op: &Op, ifs: &mut Stack<bool>) -> Result<(), Halt>
     ensures { MatchResult result
         (λ _. open_ifs_after op.now ifs.old ≡ Ok ifs.new)
@@ -90,7 +90,7 @@ fn open(op: &Op, ifs: &mut Stack<bool>) -> Result<(), Halt>
     Ok(())
 }
 
-// Keeps the greatest number of elements.
+// Updates the greatest number of elements. More than 1,000 elements stop the run.
 fn settle(entries: usize, height: &mut usize) -> Result<(), Halt>
     ensures { MatchResult result
         (λ _. (height.new ≡ max height.old entries) × (entries ≤ MAX_STACK_SIZE))

@@ -15,9 +15,9 @@ use script::truths::is_true;
 use script::{Cause, Script, Spend};
 use std::alloc::{AllocError, Global};
 
-/// Runs a script on the items of a witness, the last of which is the top of the stack (BIP 141). `Ok` gives the counted opcodes and the
-/// greatest number of elements of a clean run, one that ends with one true element and no open IF; `Stop::At` the first opcode that the run
-/// stops at, counted from 0, and why.
+/// Runs a script on the items of a witness, of which the last is the top of the stack (BIP 141). A run is clean if it ends with one true
+/// element and no open IF: `Ok` gives its counted opcodes and its greatest number of elements. `Stop::At` gives the opcode at which the run
+/// stops, counted from 0, and why.
 pub fn run(
     alloc: Global,
     script: &Script,

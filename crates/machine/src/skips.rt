@@ -11,14 +11,14 @@ use script::{Jump, Op};
 /// A branch that is jumped over.
 #[derive(Clone, Copy, Debug, PartialEq, Eq)]
 pub struct Skip {
-    /// How many IFs stand open inside it.
+    /// How many IFs are open inside it.
     pub depth: usize,
     /// Whether its own ELSE ends the jump.
     pub stop: bool,
 }
 
 impl Skip {
-    /// What is jumped over after an opcode.
+    /// What a run jumps over after an opcode with this jump.
     pub fn begin(jump: Jump) -> Option<Skip>
         ensures jumps { (rest : List Opcode) → ahead_of result rest ≡ jump_length jump rest }
         ensures shallow { depth_of result ≡ 0 }
@@ -36,7 +36,7 @@ impl Skip {
         }
     }
 
-    /// What is still jumped over after an opcode that was.
+    /// What is left to jump over once `op` was jumped over.
     pub fn after(self, op: &Op) -> Option<Skip>
         requires { self.depth ≤ MAX_OPS_PER_SCRIPT }
         ensures jumps { (rest : List Opcode)

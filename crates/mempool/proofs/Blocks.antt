@@ -1,4 +1,4 @@
--- How blocks take what waits.
+-- How blocks take what waits in the pool.
 use Rattle.std.proofs.Common.{◌≡◌, ℕ, suc, ◌+◌, ◌≤◌, ◌<◌, ◌||◌, cond, Bool, true, false, List, [], ◌∷◌, ◌++◌, length, take, Option, Some, None, refl, sym, ap, subst, ◌∙◌, append_assoc, arith}
 use Rattle.std.specs.Prelude.{filter}
 use Rattle.std.specs.Ordering.{is_eq, nat_cmp}
@@ -21,7 +21,7 @@ use Rattle.mempool.specs.Mining.{Mined, waits, is_taken, still_waiting, blocks_a
 abbrev Fewer : List Transaction → List (Option ChainError) → Type 0
 Fewer ts rs = length (filter is_taken rs) + length (still_waiting ts rs) ≤ length ts
 
--- one more of them, whatever it was refused for
+-- one more of them, whatever the reason of its refusal
 one_fewer : (t : Transaction) (ts : List Transaction) (r : Option ChainError) (rs : List (Option ChainError)) → Fewer ts rs → Fewer (t ∷ ts) (r ∷ rs)
 one_fewer t ts None rs rest = omega arith
 one_fewer t ts (Some r) rs rest = by (waits (Some r)) refl
@@ -36,7 +36,7 @@ fewer_left blocks [] = omega arith
 fewer_left blocks (t ∷ ts) =
     one_fewer t ts (transaction_refusal blocks t) (refusals_of (unless_refusal (transaction_refusal blocks t) blocks t) ts) (fewer_left (unless_refusal (transaction_refusal blocks t) blocks t) ts)
 
--- a block more is one fewer to come
+-- one more block is one fewer still to make
 pub next_block : (n k : ℕ) (m whole : Mined) (new : Standing) (waiting : List Transaction) (taken : ℕ) → n ≡ suc k → IsNextBlock m.chain m.waiting new waiting taken → blocks_after n m ≡ whole
     → blocks_after k (record { chain = new; waiting = waiting; txs = m.txs + taken }) ≡ whole
 unfolding blocks_after
@@ -46,7 +46,7 @@ pub no_more : (n : ℕ) (m whole : Mined) → n ≡ 0 → blocks_after n m ≡ w
 unfolding blocks_after
 no_more n m whole none e = sym (subst (λ x. blocks_after x m ≡ whole) none e)
 
--- the transactions of a new block and those that still wait are no more than waited
+-- the transactions of a new block and those that still wait are at most as many as waited before
 pub no_more_left : (old new : Standing) (txs waiting : List Transaction) (taken : ℕ) → IsNextBlock old txs new waiting taken → taken + length waiting ≤ length txs
 no_more_left old new txs waiting taken next =
     let few = fewer_left (empty_block ∷ old.blocks) txs in

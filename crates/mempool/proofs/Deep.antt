@@ -1,4 +1,4 @@
--- Blocks that give way stand above the first.
+-- Blocks that are replaced are above the first.
 use Rattle.std.proofs.Common.{◌≡◌, ℕ, ◌-◌, ◌+◌, ◌<◌, ◌==◌, ◌||◌, Bool, true, false, length, take, Option, Some, None, refl, arith}
 use Rattle.std.specs.Prelude.{nat_lt, if◌then◌else◌}
 use Rattle.std.specs.List.{list_any}

@@ -1,4 +1,4 @@
--- The orders of a pool, worked out by hand from what its blocks are said to take and to leave.
+-- The order of a pool, worked out by hand from what its blocks are said to take and to leave.
 use Rattle.std.proofs.Common.{◌≡◌, true, false, map, List, [], ◌∷◌, Some, None, refl}
 use Rattle.tx.specs.Fields.{Transaction}
 use Rattle.chain.specs.declared.errors.ChainError.TheVariants.{NoMemory, Spent, Unknown, NotFinal, TooYoung, Script, BadProgram, OutputsExceed, Twice, TooDeep}
@@ -33,7 +33,7 @@ module _ (t1 t2 t3 t4 p q f g : Transaction) where
       → with_fillings blocks (p ∷ q ∷ []) (f ∷ t1 ∷ g ∷ []) ≡ p ∷ q ∷ f ∷ g ∷ []
   fillings e h k = rw (e, h, k) refl
 
-  -- what was taken off stands before the old pool, and what was released and forgotten comes back behind it
+  -- what was taken off comes before the old pool, and what was released and forgotten comes back after it
   after : is_on (with_transactions [] ∷ []) (t1 ∷ t2 ∷ p ∷ q ∷ []) t2 ≡ true → is_on (with_transactions [] ∷ []) (t1 ∷ t2 ∷ p ∷ q ∷ []) t3 ≡ false
       → is_on (with_transactions [] ∷ []) (t1 ∷ t2 ∷ p ∷ q ∷ []) t4 ≡ false
       → pool_after 2 2 blocks (p ∷ q ∷ []) (t2 ∷ t4 ∷ t3 ∷ []) ≡ t1 ∷ t2 ∷ p ∷ q ∷ t4 ∷ t3 ∷ []

@@ -1,4 +1,4 @@
-//! Why blocks don't give way to others.
+//! Why the newest blocks are not replaced.
 
 ghost use Rattle.std.specs.Prelude.{◌≡◌};
 ghost use Rattle.mempool.specs.declared.errors.ReorgError.TheVariants.{NoMemory};
@@ -6,17 +6,17 @@ ghost use Rattle.mempool.specs.declared.errors.ReorgError.TheVariants.{NoMemory}
 use std::alloc::{AllocError, AllocFailed};
 use thiserror::Error;
 
-/// Why blocks don't give way to others. It is tested for these in this order.
+/// Why the newest blocks are not replaced. The causes are checked in this order.
 #[derive(Clone, Copy, Debug, PartialEq, Eq, Drop, Error)]
 pub enum ReorgError {
     /// Memory ran out.
     #[error("NoMemory")]
     NoMemory,
-    /// So many blocks can't be taken off: there are not as many above the first, the height would fall more than 6 below the greatest that the chain ever had, or one of them
-    /// holds a grant. Or they are none.
+    /// This number of blocks cannot be taken off. It is 0, it is more than there are above the first block, or one of them holds a grant. Or the height
+    /// would fall more than 6 below the greatest that the chain ever had.
     #[error("TooDeep")]
     TooDeep,
-    /// Fewer transactions stand in these blocks than are to be forgotten.
+    /// The blocks hold fewer transactions than are to be forgotten.
     #[error("NoSuchTx")]
     NoSuchTx,
 }

@@ -1,10 +1,10 @@
 //! The transactions that wait for a block of the simulated chain, and the blocks that take them.
 //!
-//! [`mine`] makes blocks. Each takes, in the order of the pool, exactly what the chain allows; each other transaction
-//! waits or is dropped, by what it was refused for. [`reorganise`] lets the newest blocks give way to others. Where
+//! [`mine`] makes blocks. Each takes, in the order of the pool, exactly what the chain allows. Each other transaction
+//! waits or is dropped, by the reason of its refusal. [`reorganise`] replaces the newest blocks by others. Where
 //! memory ran out, the chain is as it was.
 //!
-//! `chain` tests and connects the transactions. `world` keeps the pool, puts broadcasts and released claims in it,
+//! `chain` checks and connects the transactions. `world` keeps the pool, adds broadcasts and released claims to it,
 //! and mines.
 //!
 //! ```rust

@@ -1,4 +1,4 @@
-//! New blocks of what the pool has.
+//! New blocks from the pool.
 
 ghost use Rattle.std.specs.Prelude.{◌≡◌, length, filter, IfOk, OnErr};
 ghost use Rattle.chain.specs.Marking.{IsGrown};
@@ -13,11 +13,11 @@ use tx::Tx;
 pub struct Mined {
     /// The transactions that still wait for a block, in the order of the pool.
     pub waiting: Vec<Tx>,
-    /// How many stand in the new blocks.
+    /// The number of transactions in the new blocks.
     pub txs: u64,
 }
 
-// Whether a transaction that the chain refuses for this waits for a later block: its lock is not reached, or nothing created an output that it spends.
+// Whether a transaction that the chain refuses for this reason waits for a later block: its lock is not reached, or nothing created an output that it spends.
 fn waits(refusal: &Option<ChainError>) -> bool
     ensures { result ≡ waits_for refusal.now }
 {
@@ -27,7 +27,7 @@ fn waits(refusal: &Option<ChainError>) -> bool
     }
 }
 
-/// Equal transactions. The only error is that memory ran out.
+/// Copies of transactions. The only error is that memory ran out.
 pub(crate) fn copied(alloc: Global, txs: &[Tx]) -> Result<Vec<Tx>, AllocError>
     ensures { IfOk result (λ copies. copies.items ≡ txs.now) }
 {
@@ -38,14 +38,14 @@ pub(crate) fn copied(alloc: Global, txs: &[Tx]) -> Result<Vec<Tx>, AllocError>
     Ok(copies)
 }
 
-// How many were taken.
+// The number of transactions that were taken.
 fn taken_in(refusals: &[Option<ChainError>]) -> u64
     ensures { result ≡ length (filter is_taken refusals.now) }
 {
     refusals.iter().filter(|refusal| refusal.is_none()).count() as u64
 }
 
-// Those of the transactions that wait, by what each was refused for.
+// Those of the transactions that still wait, by the reason of each refusal.
 fn waiting_of(
     alloc: Global,
     txs: Vec<Tx>,
@@ -65,7 +65,7 @@ fn waiting_of(
     Ok(left)
 }
 
-// One more block of the transactions that the chain allows, in their order. Where memory ran out, the chain has the block or not.
+// One more block, of the transactions that the chain allows, in their order. Where memory ran out, the chain may have the block or not.
 #[tactic(auto, using(crate::proofs::Blocks::not_grown))]
 fn mine_one(alloc: Global, chain: &mut Index, waiting: Vec<Tx>) -> Result<Mined, AllocError>
     ensures ok { IfOk result (λ m. IsNextBlock chain.old waiting.items chain.new m.waiting.items
@@ -98,8 +98,8 @@ fn mine_all(alloc: Global, chain: &mut Index, pool: &[Tx], count: u64) -> Result
     Ok(Mined { waiting, txs })
 }
 
-/// Makes `count` blocks. Each takes, in the order of the pool, what the chain allows; what is NotFinal, TooYoung or Unknown waits for the next one, and the rest is
-/// dropped. The only error is that memory ran out, which leaves the chain as it was.
+/// Makes `count` blocks. Each takes, in the order of the pool, what the chain allows. A transaction that is NotFinal, TooYoung or Unknown waits for the next
+/// block; any other refused one is dropped. The only error is that memory ran out, which leaves the chain as it was.
 pub fn mine(alloc: Global, chain: &mut Index, pool: &[Tx], count: u64) -> Result<Mined, AllocError>
     ensures ok { IfOk result (λ m. AreNewBlocks count chain.old pool.now chain.new m.waiting.items
         m.txs) }

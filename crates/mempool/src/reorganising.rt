@@ -1,4 +1,4 @@
-//! The newest blocks give way to others.
+//! Replaces the newest blocks by others.
 
 ghost use Rattle.std.specs.Prelude.{◌≡◌, ◌||◌, ◌<◌, ◌+◌, ℕ, List, length, OnOk, IfOk, IfErr, MatchResult, Ok, Err};
 ghost use Rattle.std.specs.List.{list_any};
@@ -25,18 +25,18 @@ struct Branch {
     pool: Vec<Tx>,
 }
 
-/// A chain whose newest blocks gave way to others.
+/// A chain whose newest blocks were replaced.
 #[derive(Drop)]
 pub struct Reorganised {
     /// The chain.
     pub chain: Index,
     /// The transactions that still wait for a block.
     pub pool: Vec<Tx>,
-    /// How many transactions the new blocks have.
+    /// The number of transactions in the new blocks.
     pub txs: u64,
 }
 
-// Takes the newest blocks off, and gives their transactions but for the last ones: TooDeep, NoSuchTx.
+// Takes off the newest blocks, and gives their transactions without the last `forgotten`. It refuses TooDeep, then NoSuchTx.
 fn taken_off(chain: &mut Index, depth: u64, forgotten: u64) -> Result<Vec<Tx>, ReorgError>
     ensures { MatchResult result (λ txs. IsTakenOff chain.old depth forgotten
         (Ok txs.items) chain.new) (λ e. IsTakenOff chain.old depth forgotten (Err e) chain.new) }
@@ -69,7 +69,7 @@ fn ids_of(alloc: Global, txs: &[Tx]) -> Result<BTreeSet<[u8; 32]>, AllocError>
     Ok(ids)
 }
 
-// Whether a transaction stands on the chain, or has one of these ids.
+// Whether a transaction is on the chain, or has one of these ids.
 fn is_on(chain: &Index, ids: &BTreeSet<[u8; 32]>, tx: &Tx) -> bool
     ensures { result ≡ (has_id chain.now.blocks (transaction_id tx.now) || contains
         (slice_cmp nat_cmp) ids.now (transaction_id tx.now)) }
@@ -78,7 +78,7 @@ fn is_on(chain: &Index, ids: &BTreeSet<[u8; 32]>, tx: &Tx) -> bool
     chain.has_id(&id) || ids.contains(&id)
 }
 
-// Each filling that was ever released and stands neither on the chain nor in the pool joins the pool.
+// Adds to the pool each filling that was ever released and is neither on the chain nor in the pool.
 fn add_released(
     alloc: Global,
     chain: &Index,
@@ -97,7 +97,7 @@ fn add_released(
     Ok(())
 }
 
-// A copy of the chain without its newest blocks, with the pool that this leaves: TooDeep, NoSuchTx.
+// A copy of the chain without its newest blocks, with the resulting pool. It refuses TooDeep, then NoSuchTx.
 fn branch_of(
     alloc: Global,
     chain: &Index,
@@ -122,7 +122,7 @@ fn branch_of(
     })
 }
 
-// One more than a number of blocks that stand above the first.
+// One more than a number of blocks above the first.
 fn one_more(depth: u64, blocks: &[Block]) -> u64
     requires { depth < length blocks.now }
     ensures { result ≡ depth + 1 }
@@ -130,9 +130,10 @@ fn one_more(depth: u64, blocks: &[Block]) -> u64
     depth + 1
 }
 
-/// The newest blocks of a copy of the chain give way to one more. The last of their transactions are forgotten, the others wait before those of the pool, and each filling
-/// that was ever released and is on neither waits after them. The new blocks then take what the chain allows, as those of [`mine`](crate::mine()) do. TooDeep
-/// where there are no blocks to take off or they can't be, NoSuchTx where fewer transactions stand in them than are to be forgotten.
+/// Replaces the newest `depth` blocks of a copy of the chain by one block more. The last `forgotten` of their transactions are forgotten, and the others wait
+/// before those of the pool. Each filling that was ever released and is on neither waits after them. The new blocks then take what the chain allows, as those
+/// of [`mine`](crate::mine()) do. The error is TooDeep where `depth` is 0 or that many blocks cannot be taken off, and NoSuchTx where they hold fewer than
+/// `forgotten` transactions.
 pub fn reorganise(
     alloc: Global,
     chain: &Index,

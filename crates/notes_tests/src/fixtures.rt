@@ -1,4 +1,4 @@
-//! Calls of the program, with the notes that they are to get.
+//! Calls of the program, with the expected notes.
 
 use enforce_notes::notes_of;
 use std::alloc::Global;

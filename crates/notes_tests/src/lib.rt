@@ -1,6 +1,6 @@
-//! Tests of the notes of the program `enforce`: what `enforce_notes::notes_of` says of scripts and of scenarios.
+//! Tests of the notes of the program `enforce`: what `enforce_notes::notes_of` says about scripts and scenarios.
 //!
-//! They stand apart so that the library is proved without them.
+//! They are in a crate of their own, so that the library is proved without them.
 #![tactic(auto)]
 
 #[cfg(test)]

@@ -1,4 +1,5 @@
-//! Notes on scenarios: where a text is no JSON text, and which part has not the form.
+//! Notes on scenarios: where a text is invalid
+//! JSON, and which part does not have its shape.
 
 use crate::fixtures::noted;
 use std::alloc::Global;
@@ -7,7 +8,7 @@ use std::test::Fail;
 // A seed of 32 bytes in hexadecimal.
 const SEED: &str = "0a0a0a0a0a0a0a0a0a0a0a0a0a0a0a0a0a0a0a0a0a0a0a0a0a0a0a0a0a0a0a0a";
 
-// A scenario with one channel, whose terms end as told, and these events.
+// A scenario with one channel, whose terms end with this text, and with these events.
 fn scenario(alloc: Global, terms: &str, events: &str) -> Result<String, Fail> {
     Ok(format!(in alloc;
         "{{\"seeds\":[\"{SEED}\",\"{SEED}\"],\"channels\":[{{\"capacity\":100000,\"opener\":\"A\",\"feerate\":1000,\"dust\":[546,546],\"delay\":[144,144],\"minimum\":[1000,1000]{terms}}}],\"events\":[{events}]}}"

@@ -1,11 +1,11 @@
-//! The reader that keeps what it gives.
+//! The reader that keeps what it returns.
 
 use enforce_notes::Kept;
 use std::io;
 use std::io::Read;
 use std::test::Fail;
 
-// A reader that gives a byte so many times, and fails from then on.
+// A reader that returns a byte `left` times, and then fails.
 #[derive(Drop)]
 struct Failing {
     left: u8,

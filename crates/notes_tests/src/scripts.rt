@@ -59,14 +59,15 @@ fn names_opcodes_outside_the_table(rt: HostRuntime) -> Result<(), Fail> {
     Ok(())
 }
 
-// The end of a branch at an opcode, by bytes that are none of what the rule asks for.
+// The note on a branch that ends at an opcode,
+// for bytes that are not what the rule asks for.
 fn end_at(alloc: Global, op: usize, bytes: &str, rule: &str) -> Result<String, Fail> {
     Ok(format!(in alloc;
         "note: a branch ends at opcode {op}: {bytes} is {rule}; consensus is laxer, and may let others spend\n"
     )?)
 }
 
-// Keys that the script pushes, of another form than 33 bytes.
+// Keys in the script that do not have 33 bytes.
 #[test]
 fn tells_ends_by_keys(rt: HostRuntime) -> Result<(), Fail> {
     let alloc = rt.alloc();
@@ -87,7 +88,7 @@ fn tells_ends_by_keys(rt: HostRuntime) -> Result<(), Fail> {
     noted_of(&rt, alloc, "820114ac", text.as_str())
 }
 
-// Numbers that are not minimal, and signatures that the script pushes.
+// Numbers that are not minimally encoded, and signatures in the script.
 #[test]
 fn tells_ends_by_numbers_and_signatures(rt: HostRuntime) -> Result<(), Fail> {
     let alloc = rt.alloc();
@@ -106,7 +107,7 @@ fn tells_ends_by_numbers_and_signatures(rt: HostRuntime) -> Result<(), Fail> {
     noted_of(&rt, alloc, signed.as_str(), text.as_str())
 }
 
-// Branches that end as in consensus.
+// Branches that end as they do in consensus.
 #[test]
 fn tells_exact_ends(rt: HostRuntime) -> Result<(), Fail> {
     let alloc = rt.alloc();

@@ -1,10 +1,9 @@
 //! Keys, parties and terms with which tests and programs open channels.
 //!
-//! [`party`] is a side by its signer: its base keys are those of the signer's seed (`IsSeedOf`), so that a channel,
-//! and a book, opens by it. [`party_with`] is a side with any base keys, where no signer takes part.
+//! [`party`] makes a side from its signer: its base keys are those of the signer's seed (`IsSeedOf`), so a channel or a book can be opened with it.
+//! [`party_with`] makes a side from any base keys, where no signer takes part.
 //!
-//! It fills the types of `keys` and `terms`. `channel_sides` and `book_peers` open channels with it, and so do the
-//! crates of tests.
+//! It makes values of `keys` and `terms`. `channel_sides`, `book_peers` and the test crates open channels with it.
 //!
 //! ```rust
 //! /// The terms of a channel of 100,000 satoshis, of which A has 80,000.
@@ -14,7 +13,7 @@
 //! }
 //! ```
 //!
-//! The tests of `channel_tests` open their channels so.
+//! The tests of `channel_tests` open their channels this way.
 #![tactic(auto)]
 
 ghost use Rattle.std.specs.Prelude.{◌≡◌, ◌∷◌, IfOk, IfSome, replicate};
@@ -32,7 +31,7 @@ pub const FUNDING: OutPoint = OutPoint {
     index: 1,
 };
 
-/// The key of 02 and one byte over and over.
+/// The key that is 02 followed by 32 equal bytes.
 pub fn key_of(fill: u8) -> Option<Key>
     ensures { IfSome result (λ k. k.bytes ≡ 2 ∷ replicate 32 fill) }
 {
@@ -41,7 +40,7 @@ pub fn key_of(fill: u8) -> Option<Key>
     Key::read(&bytes)
 }
 
-/// Base keys that are all one.
+/// Base keys that are all the same key.
 pub fn one_key(key: Key) -> BaseKeys
     ensures { result ≡ record {
       funding = key;
@@ -60,8 +59,8 @@ pub fn one_key(key: Key) -> BaseKeys
     }
 }
 
-/// A side with these base keys, and the millisatoshis that it begins with. It has a dust limit of 546 satoshis, a delay of 144 blocks, and HTLCs of at least 1,000
-/// millisatoshis.
+/// A side with these base keys and this starting balance in millisatoshis. It has a dust limit of 546 satoshis, a delay of 144 blocks, and takes HTLCs of at
+/// least 1,000 millisatoshis.
 pub fn party_with(bases: BaseKeys, start: u64) -> Party
     ensures { result ≡ record {
       dust = 546;
@@ -80,14 +79,14 @@ pub fn party_with(bases: BaseKeys, start: u64) -> Party
     }
 }
 
-/// A side with its signer's base keys, and the millisatoshis that it begins with.
+/// A side with its signer's base keys and this starting balance in millisatoshis.
 pub fn party(signer: &Signer, start: u64) -> Party
     ensures { IsSeedOf signer.now.seed result.bases }
 {
     party_with(BaseKeys::of(signer), start)
 }
 
-/// The terms of a channel that A opened, by its capacity in satoshis, at 1,000 satoshis for 1,000 units of weight.
+/// The terms of a channel that A opened with this capacity in satoshis, at 1,000 satoshis per 1,000 units of weight.
 pub fn terms_of(funding: OutPoint, capacity: u64, a: Party, b: Party) -> Result<Terms, TermsError>
     ensures a { IfOk result (λ t. t.a ≡ a) }
     ensures b { IfOk result (λ t. t.b ≡ b) }
@@ -95,7 +94,7 @@ pub fn terms_of(funding: OutPoint, capacity: u64, a: Party, b: Party) -> Result<
     Terms::new(funding, capacity, Side::A, 1000, a, b)
 }
 
-/// An HTLC whose payment hash is one byte over and over.
+/// An HTLC whose payment hash is 32 equal bytes.
 pub fn htlc(id: u64, amount: u64, fill: u8, expiry: u32) -> Htlc {
     Htlc {
         id,
@@ -105,7 +104,7 @@ pub fn htlc(id: u64, amount: u64, fill: u8, expiry: u32) -> Htlc {
     }
 }
 
-// What a view pays to a side: so many millisatoshis, and the HTLCs that it offered.
+// What a view gives to a side: this balance in millisatoshis, and the HTLCs that it offered.
 fn share(alloc: Global, balance: u64, htlcs: &[Htlc]) -> Result<Share, AllocError> {
     Ok(Share {
         balance,
@@ -113,7 +112,7 @@ fn share(alloc: Global, balance: u64, htlcs: &[Htlc]) -> Result<Share, AllocErro
     })
 }
 
-/// A view with these millisatoshis of A and of B, and the HTLCs that each offered, at 1,000 satoshis for 1,000 units of weight.
+/// A view with these balances of A and of B in millisatoshis, and the HTLCs that each offered, at 1,000 satoshis per 1,000 units of weight.
 pub fn view(
     alloc: Global,
     balances: [u64; 2],

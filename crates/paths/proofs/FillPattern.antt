@@ -121,7 +121,7 @@ module _ (holes : List (Option HoleKind)) (whole : List Op) (counted : ℕ) wher
       subst (λ o. Agrees false (in_step (filling whole)) (rule_by o counted at op s) (rule_of counted op (in_state (filling whole) s))) (sym h) (
       rule_agrees false (filling whole) with_holes plain (filling_respects whole) counted op s)
 
--- opcodes that push alone
+-- opcodes that only push
 push_item : (item : List ℕ) → length item ≤ 75 → IsPush (Push item)
 push_item item h = record { skips = λ stop depth rest. refl; opens = λ ifs. refl; weighs = ap (λ b. if b then 1 else 0) light }
   where
@@ -176,7 +176,7 @@ module _ (holes : List (Option HoleKind)) (whole : List Op) (counted : ℕ) wher
   alike_filled at (HashHole ∷ pieces) fills rest hs ws e = alike_hole ForHash at (map op_of pieces) (map hole_of pieces) (filled pieces) fills rest hs ws e (λ fs more h w l. alike_filled (at + 1) pieces fs more h w l)
   alike_filled at (NumHole ∷ pieces) fills rest hs ws e = alike_hole ForNumber at (map op_of pieces) (map hole_of pieces) (filled pieces) fills rest hs ws e (λ fs more h w l. alike_filled (at + 1) pieces fs more h w l)
 
-  -- branches close alike, and as many opcodes count
+  -- branches close the same way, and the same number of opcodes count
   both_ways : (r : Result (List Bool) Cause) (go go' : List Bool → Bool) → ((ifs : List Bool) → go ifs ≡ go' ifs) → balanced_with r go ≡ balanced_with r go'
   both_ways (Ok ifs) go go' h = h ifs
   both_ways (Err c) go go' h = refl
@@ -217,7 +217,7 @@ filled_listing pieces fills ops paths h e =
     walk_all-follows false (filling ops) (filled_path ops) (hole_guide holes) plain_guide n (filled_ends ops holes n) bare ops a))) in
     subst (λ r. Follows false (filled_paths ops) r (listing ops)) h follows
 
--- the opcodes of a filled pattern are opcodes, and no more bytes than the pattern may come to
+-- the opcodes of a filled pattern are valid, and their bytes are at most the greatest length of the pattern
 valid_op : (op : Op) → is_op op ≡ true → IsOp op
 valid_op (Push item) e = grind (arith, e)
 valid_op (SmallNumber n) e = grind (arith, e)
@@ -242,7 +242,7 @@ spelt_more p pieces op ops f s = record {
   short = let both = length-append (payload_of op) (spelling ops) in omega (arith, both, f.short, s.short);
 }
 
--- the most bytes that a fill comes to
+-- the greatest number of bytes of a fill
 abbrev most_for : HoleKind → ℕ
 most_for ForKey = 34
 most_for ForHash = 21
@@ -275,7 +275,7 @@ filled_spelt (KeyHole ∷ pieces) fills rest t e = spelt_hole KeyHole ForKey pie
 filled_spelt (HashHole ∷ pieces) fills rest t e = spelt_hole HashHole ForHash pieces fills rest refl e (λ fs more l. filled_spelt pieces fs more (and_both true (all_ops pieces) t).1 l)
 filled_spelt (NumHole ∷ pieces) fills rest t e = spelt_hole NumHole ForNumber pieces fills rest refl e (λ fs more l. filled_spelt pieces fs more (and_both true (all_ops pieces) t).1 l)
 
--- what a pattern's listing says
+-- what a pattern's listing guarantees
 record Patterned (pieces : List Piece) (paths : List PatternPath) : Type 0 where
   ops : all_ops pieces ≡ true
   listed : pattern_listing (map hole_of pieces) (map op_of pieces) ≡ Ok paths

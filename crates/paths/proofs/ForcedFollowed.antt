@@ -15,7 +15,7 @@ use Rattle.paths.proofs.ForcedWords.{Forced, forced_then, IsMet, IsMetBy, push_m
 use Rattle.paths.proofs.ForcedRules.{condition_lives, size_lives, hash_lives, equal_lives, branch_forced, verify_forced, check_sig_forced, lock_time_forced, sequence_forced}
 use Rattle.paths.proofs.ForcedMultisig.{multi_sig_forced}
 
--- where a run passes the opcode from a state that is met, the rule is no dead end and leaves a state that is met
+-- where a run passes the opcode from a state that is met, the rule does not die and leaves a state that is met
 pub rule_of-forced : (counted : ℕ) (op : Op) (s : State) (spend : Spend) (w : Elements) (c : ℕ) (e : Effect) → IsShort w → IsMet spend w s → effect spend c op (entries_of spend w s) ≡ Ok e → Forced (IsMetBy spend w) (rule_of counted op s)
 unfolding rule_of check_multi_sig effect
 rule_of-forced counted (Push item) s spend w c e sh m h = push_met spend w (Const item) s m

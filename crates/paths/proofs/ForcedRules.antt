@@ -1,4 +1,4 @@
--- Each rule but that of CHECKMULTISIG, where a run passes its opcode: the facts that it asks hold, and it is no dead end.
+-- Each rule but that of CHECKMULTISIG, where a run passes its opcode: the facts that it asks hold, and it does not die.
 use Rattle.std.proofs.Common.{◌≡◌, ℕ, Bool, true, false, not, ◌||◌, List, [], ◌∷◌, Option, Some, None, Result, Ok, if◌then◌else◌, sym, ap, ◌∙◌, refl}
 use Rattle.std.specs.Str.{bytes_eq}
 use Rattle.std.proofs.lemmas.Bool.{or_from, not_from_true, not_from_false}
@@ -28,7 +28,7 @@ use Rattle.paths.proofs.SoundNumbers.{age_bits-passes}
 use Rattle.paths.proofs.SoundRules.{truth_flag, IsDecided, condition_good, IsEqualOf, equal_good, IsSource, source_good}
 use Rattle.paths.proofs.ForcedWords.{Forced, Lives, forced_then, forced_checked, forced_gives, ok_checked, ok_then, IsMet, IsMetBy, push_met, ask_met, pop_met, pop_met-2}
 
--- what decides a branch is no death, and neither is what the other opcodes push
+-- what decides a branch does not die, and neither does what the other opcodes push
 pub condition_lives : (x : Sym) → Lives (condition_of x)
 condition_lives (Slot i) = tt
 condition_lives (Const b) = tt

@@ -93,7 +93,7 @@ passes_jump ops spend w counted height at op rest s n z p =
           ∙ c.2;
     }
 
--- run: the opcode had this effect
+-- run, where the opcode had this effect
 record Runs (ops : List Op) (spend : Spend) (w : Elements) (counted height at : ℕ) (op : Op) (rest : List Op) (s : State) : Type 0 where
   pub ifs : List Bool
   pub before : ℕ
@@ -150,7 +150,7 @@ passes_on ops spend w counted height at op rest s turn s' n facts sh f m h j r =
     tall : max (length w + s.excess) (length (entries_of spend w s')) ≡ length w + max s'.excess (length s'.stack - s'.slots)
     tall = let x = f.excess in let en = m.enough in let long = length_entries spend w s' m.enough in omega arith
 
--- one of the ways that are walked, of which there are two at the most
+-- one of the states that are walked, of which there are at most two
 abbrev OneOf : (State → Type 0) → List State → Type 0
 OneOf P [] = ⊥
 OneOf P (s ∷ []) = P s
@@ -244,7 +244,7 @@ closed_met ops P at (Err Dead) h = h
 closed_met ops P at (Err Undecided) h = tt
 closed_met ops P at (Err TooManyOps) h = tt
 
--- what a path that ends says: as many slots as items, all facts as stated, and the numbers of the run
+-- what a path that ends gives: as many slots as items, all facts as stated, and the numbers of the run
 abbrev IsGood : List Op → Spend → Elements → ℕ → ℕ → (Path → Type 0) → Type 0
 IsGood ops spend w counted height P =
     (s : State) → s.slots ≡ length w → AllStated spend w s.facts → counted_in ops + s.keys ≡ counted → s.slots + s.excess ≡ height → P (path_of (counted_in ops) s)

@@ -17,7 +17,7 @@ use Rattle.paths.specs.Rules.{pop_of, pop, push, ask}
 use Rattle.paths.proofs.SoundWords.{Gives, entries_of}
 use Rattle.paths.proofs.SoundPops.{stated_join, pop_entries}
 
--- a rule's answer where a run passes: it is not a death, and what it leaves has this property; any other halt is a refusal of the script
+-- a rule's answer where a run passes: it does not die, and what it leaves has this property; any other halt is a refusal of the script
 abbrev pub Forced : {A : Type 0} → (A → Type 0) → Result A Halt → Type 0
 Forced P (Ok x) = P x
 Forced P (Err NoMemory) = Unit {0}
@@ -25,7 +25,7 @@ Forced P (Err Dead) = ⊥
 Forced P (Err Undecided) = Unit {0}
 Forced P (Err TooManyOps) = Unit {0}
 
--- no rule says here that no witness goes on
+-- the rule does not die here
 abbrev pub Lives : {A : Type 0} → Result A Halt → Type 0
 Lives {A} r = Forced (λ (x : A). Unit {0}) r
 
@@ -107,7 +107,7 @@ pop_reaches spend w s l = go s.stack
     go [] = ⊎_elim (λ (a : s.slots < length w). inl (omega arith)) (λ (a : length w ≤ s.slots). inr (drop_all s.slots w a)) (cases_lt s.slots (length w))
     go (x ∷ xs) = inl l
 
--- what has a result on the elements, and none on no elements, has an item for the symbol
+-- what has a result on the elements, and no result on none, has an item for the symbol
 pub pop_met : {B : Type 0} (spend : Spend) (w : Elements) (s : State) (f : Elements → Result B Cause) (c : Cause) (e : B) → f [] ≡ Err c → f (entries_of spend w s) ≡ Ok e → IsMet spend w s → IsMet spend w (pop s).1
 pop_met spend w s f c e none some m = record {
   enough = ⊎_elim (λ (l : (pop s).1.slots ≤ length w). l) (λ (z : entries_of spend w s ≡ []). absurd (missing z)) (pop_reaches spend w s m.enough);

@@ -87,7 +87,7 @@ locked : listing (Push (0xf4 ∷ 0x01 ∷ []) ∷ CheckLockTimeVerify ∷ Drop �
 unfolding listing rule_of check_multi_sig number_of
 locked = refl
 
--- an age in units of 512 seconds, one that is switched off (bit 31), and one whose bit 30 is set
+-- an age in units of 512 seconds, one that is disabled (bit 31), and one whose bit 30 is set
 other_ages : map listing ((Push (0x90 ∷ 0 ∷ 0x40 ∷ []) ∷ CheckSequenceVerify ∷ []) ∷ (Push (0x90 ∷ 0 ∷ 0 ∷ 0x80 ∷ 0 ∷ []) ∷ CheckSequenceVerify ∷ []) ∷ (Push (0x90 ∷ 0 ∷ 0 ∷ 0x40 ∷ []) ∷ CheckSequenceVerify ∷ []) ∷ []) ≡
     paths (path 0 (yes (Age 0x400090) ∷ []) 1 1 ∷ []) ∷ paths (path 0 [] 1 1 ∷ []) ∷ paths (record { arity = 0; facts = yes (Age 144) ∷ []; ops = 1; height = 1; lock = None; age = Some 144 } ∷ []) ∷ []
 unfolding listing rule_of check_multi_sig number_of
@@ -105,7 +105,8 @@ key b = 2 ∷ replicate 32 b
 abbrev two_keys : List Op
 two_keys = Push [] ∷ Push [] ∷ Push (key 1) ∷ Push (key 2) ∷ Number 2 ∷ CheckMultiSig ∷ []
 
--- the keys count with the whole script: with 199 opcodes up to 201, and with 200 too many at CHECKMULTISIG, before what is undecided after it
+-- the keys count with the whole script: with 199 opcodes that is 201, and with 200 too many at CHECKMULTISIG, before the undecided opcode
+-- after it
 keys_counted : (listing (two_keys ++ (replicate 99 Dup ++ replicate 99 Drop)) ≡ paths (path 0 [] 201 100 ∷ [])) × (listing (two_keys ++ (replicate 99 Dup ++ replicate 100 Drop)) ≡ refused TooManyOps) × (listing (two_keys ++ (Drop ∷ Size ∷ Size ∷ Size ∷ (replicate 98 Dup ++ replicate 97 Drop))) ≡ refused TooManyOps) × (listing (Size ∷ Size ∷ (two_keys ++ (replicate 99 Dup ++ replicate 98 Drop))) ≡ refused (Undecided 1))
 unfolding listing rule_of check_multi_sig number_of minimal_bytes_of digits is_key is_signature is_token
 keys_counted = (refl, refl, refl, refl)
@@ -131,7 +132,7 @@ begun : (count_of (listing (nest 63 [])) ≡ counted 64) × (count_of (listing (
 unfolding listing rule_of check_multi_sig number_of minimal_bytes_of digits
 begun = (refl, refl, refl, refl)
 
--- those count that end dead
+-- paths that end dead count too
 dead_begun : count_of (listing (If ∷ Number 1 ∷ Number 1 ∷ Push [] ∷ EqualVerify ∷ Else ∷ (nest 63 [] ++ (EndIf ∷ [])))) ≡ Err TooManyPaths
 unfolding listing rule_of check_multi_sig
 dead_begun = refl

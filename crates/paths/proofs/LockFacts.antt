@@ -1,4 +1,4 @@
--- Locks among the facts of a path: each is asked, none is denied, and no relative one is switched off. So whatever meets the facts meets the
+-- Locks among the facts of a path: each is asked, none is denied, and no relative one is disabled. So whatever meets the facts meets the
 -- greatest of them.
 use Rattle.std.proofs.Common.{◌≡◌, ℕ, zero, suc, ◌+◌, ◌/◌, ◌%◌, ◌^◌, ◌<◌, ◌≤◌, max, Bool, true, false, not, ◌||◌, nat_le, nat_lt, ◌==◌, List, [], ◌∷◌, ◌++◌, length, reverse, Option, Some, None, Result, Ok, Err, if◌then◌else◌, slice_index_or, eqb-true, subst, ◌∙◌, refl, arith, ⊎_elim}
 use Rattle.std.specs.Prelude.{IfSome}
@@ -35,7 +35,7 @@ use Rattle.paths.specs.Laws.{MeetsLocks}
 use Rattle.paths.proofs.SoundWords.{Gives}
 use Rattle.paths.proofs.SoundPops.{gives_then, gives_result_if}
 
--- no lock
+-- a fact that is not a lock
 abbrev IsNoLock : Fact → Type 0
 IsNoLock (Lock n) = ⊥
 IsNoLock (Age n) = ⊥
@@ -358,7 +358,7 @@ listing_plain ops =
 pub listing-tells : (ops : List Op) (paths : List Path) → listing ops ≡ Ok paths → Each TellsLocks paths
 listing-tells ops paths e = rw e at (listing_plain ops)
 
--- the greatest of numbers that pass passes
+-- if numbers pass, the greatest of them passes
 max_either : (P : ℕ → Type 0) (m n : ℕ) → P m → P n → P (max m n)
 max_either P m n p q = ⊎_elim (λ (l : m < n). subst P (later l) q) (λ (l : n ≤ m). subst P (first l) p) (cases_lt m n)
   where

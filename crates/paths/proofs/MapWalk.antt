@@ -80,7 +80,7 @@ pub record IsPush (op : Op) : Type 0 where
   pub opens : (ifs : List Bool) → open_ifs_after op ifs ≡ Ok ifs
   pub weighs : weight op ≡ 0
 
--- two opcodes are one, or both push
+-- two opcodes are the same, or both push
 abbrev pub IsSame : Op → Op → Type 0
 IsSame op op' = (op ≡ op') ⊎ (IsPush op × IsPush op')
 

@@ -91,7 +91,7 @@ ages : map age_under (Push [] ∷ Number 16 ∷ Push (17 ∷ []) ∷ Push (0x40 
 unfolding delayed fits number_of
 ages = refl
 
--- a number is spelt as scripts spell numbers; 499,999,999 is the greatest
+-- a number has the encoding that scripts give it; 499,999,999 is the greatest
 numbers :
     map (λ n. filled (NumHole ∷ []) (Num n ∷ [])) (0 ∷ 1 ∷ 16 ∷ 17 ∷ 40000 ∷ 499999999 ∷ 500000000 ∷ [])
     ≡ Some (Push [] ∷ []) ∷ Some (Number 1 ∷ []) ∷ Some (Number 16 ∷ []) ∷ Some (Push (17 ∷ []) ∷ []) ∷ Some (Push (0x40 ∷ 0x9c ∷ 0 ∷ []) ∷ []) ∷ Some (Push (0xff ∷ 0x64 ∷ 0xcd ∷ 0x1d ∷ []) ∷ []) ∷ None ∷ []
@@ -111,7 +111,7 @@ fills :
 unfolding a_key a_hash fits is_key
 fills = refl
 
--- opcodes that are none, and 10,000 and 10,001 bytes; other refusals come before TooLong
+-- pieces that are not valid opcodes, and 10,000 and 10,001 bytes; other refusals come before TooLong
 refusals :
     map pattern_of ((Fixed (Number 17) ∷ Fixed If ∷ []) ∷ (Fixed (Number 0) ∷ []) ∷ (Fixed (Push (replicate 76 1)) ∷ []) ∷ (Fixed (Push (replicate 75 1)) ∷ []) ∷ (replicate 294 KeyHole ++ replicate 4 (Fixed Drop)) ∷ (replicate 294 KeyHole ++ replicate 5 (Fixed Drop)) ∷ (Fixed If ∷ replicate 295 KeyHole) ∷ [])
     ≡ Err BadOpcode ∷ Err BadOpcode ∷ Err BadOpcode ∷ Ok (free 0 0 1 ∷ []) ∷ Ok [] ∷ Err TooLong ∷ Err (Check OpenBranch) ∷ []

@@ -25,7 +25,7 @@ Outcome = Result (SymbolicJump × State) Halt
 abbrev state : List Sym → State
 state xs = record { ahead = 0; stack = xs; slots = 5; facts = []; keys = 0; excess = 0 }
 
--- the path goes so: what stands on the stack, how many slots are reached, which facts are asked, how many keys counted
+-- where the path goes: the symbols on the stack, the number of slots reached, the facts asked, the number of keys counted
 abbrev goes : SymbolicJump → List Sym → ℕ → List Stated → ℕ → Outcome
 goes jump xs slots facts keys = Ok (jump, record { ahead = 0; stack = xs; slots = slots; facts = facts; keys = keys; excess = 0 })
 
@@ -94,7 +94,7 @@ hashes : map (λ xs. rule_of 0 Hash160 (state xs)) ([] ∷ (Const (7 ∷ []) ∷
 unfolding rule_of
 hashes = refl
 
--- the minimal encodings of 32, 0, 128 and 520 name sizes; those of 521, -0, -32 and numbers of five bytes, and 32 spelt in two bytes, do not
+-- the minimal encodings of 32, 0, 128 and 520 are sizes; those of 521, -0, -32 and numbers of five bytes, and 32 encoded in two bytes, are not
 size_names : List (List ℕ)
 size_names = (0x20 ∷ []) ∷ [] ∷ (0x80 ∷ 0 ∷ []) ∷ (8 ∷ 2 ∷ []) ∷ (9 ∷ 2 ∷ []) ∷ (0x20 ∷ 0 ∷ []) ∷ (0x80 ∷ []) ∷ (0xa0 ∷ []) ∷ (1 ∷ 0 ∷ 0 ∷ 0 ∷ 0 ∷ []) ∷ []
 
@@ -126,7 +126,7 @@ signatures : map (λ xs. rule_of 0 CheckSig (state xs)) ((Const (key 17) ∷ Slo
 unfolding rule_of is_key is_signature is_token
 signatures = refl
 
--- a key of 32 bytes, a signature of one byte: dead, also beside what no rule decides
+-- a key of 32 bytes, a signature of one byte: dead, also next to an operand that no rule decides
 dead_signatures : map (λ xs. rule_of 0 CheckSig (state xs)) ((Const (replicate 32 2) ∷ Slot 1 ∷ []) ∷ (Const [] ∷ HashOf 1 ∷ []) ∷ (Slot 0 ∷ Const (1 ∷ []) ∷ []) ∷ (HashOf 0 ∷ Const (1 ∷ []) ∷ []) ∷ []) ≡ replicate 4 dead
 unfolding rule_of is_key is_signature is_token
 dead_signatures = refl
@@ -140,7 +140,7 @@ lock_times : map (λ b. rule_of 0 CheckLockTimeVerify (state (Const b ∷ []))) 
 unfolding rule_of number_of
 lock_times = refl
 
--- blocks, units of 512 seconds, and a lock that bit 31 switches off
+-- blocks, units of 512 seconds, and a lock that bit 31 disables
 sequences : map (λ b. rule_of 0 CheckSequenceVerify (state (Const b ∷ []))) ((0x90 ∷ 0 ∷ []) ∷ (0x90 ∷ 0 ∷ 0xe1 ∷ 0 ∷ []) ∷ (5 ∷ 0 ∷ 0 ∷ 0x80 ∷ 0 ∷ []) ∷ (0x81 ∷ []) ∷ (0 ∷ []) ∷ []) ≡
     goes Next (Const (0x90 ∷ 0 ∷ []) ∷ []) 5 (yes (Age 144) ∷ []) 0 ∷ goes Next (Const (0x90 ∷ 0 ∷ 0xe1 ∷ 0 ∷ []) ∷ []) 5 (yes (Age 0x400090) ∷ []) 0 ∷ leaves (Const (5 ∷ 0 ∷ 0 ∷ 0x80 ∷ 0 ∷ []) ∷ []) 5 ∷ dead ∷ dead ∷ []
 unfolding rule_of number_of

@@ -41,7 +41,7 @@ numbered_at (Some z) n e =
 pub number_of-item : (n : ℕ) → n ≤ 520 → number_of 4 (minimal_bytes_of n) ≡ Some (record { negative = false; magnitude = n })
 number_of-item n l = numbered_at (number_of 4 (minimal_bytes_of n)) n (agree_below_at (λ n. is_numbered (number_of 4 (minimal_bytes_of n)) n) (λ n. true) 521 n all_numbered (omega arith))
 
--- a relative lock reads the bits of the mask alone
+-- a relative lock reads only the bits of the mask
 pub age_bits-passes : (spend : Spend) (n : ℕ) → bit_at 31 n ≡ false → age_passes spend (age_bits n) ≡ age_passes spend n
 unfolding age_passes
 age_bits-passes spend n e =

@@ -14,7 +14,7 @@ use Rattle.paths.specs.Plain.{Condition}
 use Rattle.paths.specs.declared.state.ConditionOver.TheVariants.{Known, Asked}
 use Rattle.paths.specs.Listing.{is_balanced}
 
--- a result, where there is one, has this property
+-- the value of a result, if it has one, has this property
 abbrev pub Gives : {A E : Type 0} → (A → Type 0) → Result A E → Type 0
 Gives P (Ok x) = P x
 Gives P (Err e) = Unit {0}
@@ -52,8 +52,8 @@ pub record Asks (s s' : State) : Type 0 where
   pub same : s' ≡ record s { facts = s'.facts }
   pub facts : (spend : Spend) (w : Elements) → AllStated spend w s'.facts → AllStated spend w s.facts
 
--- an opcode, where so many of the whole script count, takes the elements of the first state to those of the second, for each witness that
--- meets the second
+-- an opcode, in a script with `counted` counted opcodes, takes the elements of the first state to those of the second, for each witness
+-- that meets the second
 pub record Follows (counted : ℕ) (op : Op) (s : State) (turn : SymbolicJump) (s' : State) : Type 0 where
   pub ahead : s'.ahead ≡ s.ahead
   pub excess : s'.excess ≡ s.excess
@@ -75,7 +75,7 @@ pub record Fits (spend : Spend) (w : Elements) (s : State) : Type 0 where
   pub low : length w + s.excess ≤ 1000
   pub short : IsShort w
 
--- a path has come so far: each run on a witness that meets it, the top first, comes to its place
+-- each run on a witness that meets the path, the top first, reaches the path's state
 pub record Comes (ops : List Op) (at : ℕ) (rest : List Op) (s : State) : Type 0 where
   pub ifs : List Bool
   pub balanced : is_balanced rest ifs ≡ true

@@ -12,7 +12,7 @@ pub record SatisfiesBy (spend : Spend) (witness : List (List ℕ)) (counted heig
   pub counts : p.ops ≡ counted
   pub tallest : p.height ≡ height
 
--- whatever witness runs clean, under whatever spend, meets one of the paths, with that path's counted opcodes and height
+-- any witness that runs clean, under any spend, meets one of the paths, with that path's counted opcodes and height
 abbrev pub IsExhaustive : List Op → List Path → Type 0
 IsExhaustive ops paths =
     (spend : Spend) (witness : List (List ℕ)) (counted height : ℕ) → outcome spend ops witness ≡ Clean counted height → Any (SatisfiesBy spend witness counted height) paths

@@ -11,7 +11,7 @@ use Rattle.paths.specs.Listing.{greatest_lock_in, greatest_age_in}
 abbrev pub filled_facts : List Op → List HoleStated → List Stated
 filled_facts ops facts = map (in_stated (filling ops)) facts
 
--- its locks are those of its filled facts
+-- a filled path: its locks are those of its filled facts
 abbrev pub filled_path : List Op → PatternPath → Path
 filled_path ops p = record { arity = p.arity; facts = filled_facts ops p.facts; ops = p.ops; height = p.height; lock = greatest_lock_in (filled_facts ops p.facts); age = greatest_age_in (filled_facts ops p.facts) }
 

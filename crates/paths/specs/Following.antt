@@ -1,4 +1,4 @@
--- What the functions answer that follow an opcode, by the rules.
+-- What a function that follows an opcode returns, by the table of rules.
 use Rattle.std.specs.Prelude.{◌≡◌, ℕ, List, Option, Result, Ok, Err}
 use Rattle.script.specs.declared.opcode.Op.{Op}
 use Rattle.paths.specs.Holes.{Sym}

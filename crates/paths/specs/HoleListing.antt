@@ -1,4 +1,4 @@
--- The ways through a pattern of a script, as the rules have it where constants may be holes.
+-- The ways through a pattern of a script, by the rules where constants may be holes.
 use Rattle.std.specs.Prelude.{ℕ, ◌+◌, Bool, nat_le, List, [], Option, Some, None, Result, slice_index_or}
 use Rattle.script.specs.declared.opcode.Op.{Op}
 use Rattle.script.specs.Limits.{max_ops}
@@ -23,7 +23,7 @@ use Rattle.paths.specs.Walk as way
 abbrev pub hole_at : List (Option HoleKind) → ℕ → Option HoleKind
 hole_at holes at = slice_index_or holes at None
 
--- a hole is pushed; elsewhere the rules have it
+-- a hole is pushed; any other opcode goes by the table of rules
 abbrev pub rule_by : Option HoleKind → ℕ → ℕ → Op → State → Result (SymbolicJump × State) Halt
 rule_by (Some kind) counted at op s = goes_on (push (Const (Hole kind at)) s)
 rule_by None counted at op s = rule_of counted op s
@@ -31,7 +31,7 @@ rule_by None counted at op s = rule_of counted op s
 abbrev pub path_of : ℕ → State → PatternPath
 path_of counted s = record { arity = s.slots; facts = s.facts; ops = counted + s.keys; height = s.slots + s.excess }
 
--- the walk where constants may be holes
+-- what a walk needs where constants may be holes
 abbrev pub guide : List (Option HoleKind) → Guide Constant (Amount ℕ) (Amount ℕ) PatternPath
 guide holes = record { rule = λ counted at op s. rule_by (hole_at holes at) counted at op s; condition = condition_of; path = path_of }
 
@@ -80,6 +80,6 @@ walk holes = way.walk (guide holes)
 abbrev pub beginning : State
 beginning = way.beginning
 
--- the paths of a pattern, where an empty push stands for each hole
+-- the paths of a pattern, with an empty push in the place of each hole
 unfoldable pub pattern_listing : List (Option HoleKind) → List Op → Result (List PatternPath) CheckError
 pattern_listing holes ops = result_if (is_balanced ops []) OpenBranch (result_if (nat_le (counted_in ops) max_ops) TooMany (way.walk_all (guide holes) (counted_in ops) ops))

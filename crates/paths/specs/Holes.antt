@@ -1,4 +1,4 @@
--- Constants that may be holes of a pattern: the words of the rules on them, and what stands in their place once the pattern is filled.
+-- Constants that may be holes of a pattern: what the rules ask of them, and what replaces the holes once the pattern is filled.
 use Rattle.std.specs.Prelude.{ℕ, Bool, true, false, ◌&&◌, not, nat_lt, ◌==◌, if◌then◌else◌, List, [], ◌∷◌, length, Option, Some, None, Result, Ok, Err, slice_index_or}
 use Rattle.script.specs.declared.opcode.Op.{Op}
 use Rattle.script.specs.declared.opcode.Op.TheVariants.{Push, Number as SmallNumber}
@@ -53,7 +53,7 @@ Condition = ConditionOver Constant (Amount ℕ) (Amount ℕ)
 abbrev pub Listed : Type 0
 Listed = ListedOver PatternPath
 
--- SIZE: that of a key and of a hash is known
+-- SIZE: the lengths of a key and of a hash are known
 abbrev pub size_in : Constant → Result Constant Halt
 size_in (Known b) = plain.size b >>= λ d. Ok (Known d)
 size_in (Hole Key at) = Ok (Known (minimal_bytes_of 33))
@@ -114,7 +114,7 @@ count_in limit (Known b) = plain.count limit b
 count_in limit (Hole Number at) = Err Undecided
 count_in limit (Hole kind at) = Err Dead
 
--- the number of a number hole is a lock as it is
+-- any number that fills a number hole is a lock
 abbrev pub lock_in : Constant → Result (Amount ℕ) Halt
 lock_in (Known b) = plain.lock b >>= λ n. Ok (KnownAmount n)
 lock_in (Hole Number at) = Ok (AmountHole at)
@@ -166,7 +166,7 @@ fits Key b = is_key b
 fits Hash b = length b == 20
 fits Number b = is_low_number (number_of 5 b)
 
--- some bytes that the hole takes
+-- default bytes that fit the hole
 abbrev pub blank : HoleKind → List ℕ
 blank Key = BLANK_KEY
 blank Hash = BLANK_HASH
@@ -176,7 +176,7 @@ blank Number = []
 abbrev pub pushed_at : List Op → ℕ → List ℕ
 pushed_at ops at = pushed_by (slice_index_or ops at (Push []))
 
--- what stands in the place of a hole: what the filled script pushes there
+-- what replaces a hole: what the filled script pushes there if it fits, else the default
 abbrev pub hole_bytes : List Op → HoleKind → ℕ → List ℕ
 hole_bytes ops kind at = if fits kind (pushed_at ops at) then pushed_at ops at else blank kind
 

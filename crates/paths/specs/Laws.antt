@@ -18,7 +18,7 @@ abbrev pub SatisfiedExactly : Type 0
 SatisfiedExactly =
     (ops : List Op) (paths : List Path) (spend : Spend) (witness : List (List ℕ)) (counted height : ℕ) → listing ops ≡ Ok paths → (outcome spend ops witness ≡ Clean counted height) ↔ Any (SatisfiesBy spend witness counted height) paths
 
--- a script that is listed with no path runs clean on no witness, under no spend
+-- a script whose listing has no path runs clean on no witness, whatever the spend
 abbrev pub NoPathNoWitness : Type 0
 NoPathNoWitness =
     (ops : List Op) (spend : Spend) (witness : List (List ℕ)) (counted height : ℕ) → listing ops ≡ Ok [] → outcome spend ops witness ≡ Clean counted height → ⊥
@@ -28,7 +28,7 @@ pub record MeetsLocks (spend : Spend) (p : Path) : Type 0 where
   pub lock : IfSome p.lock (λ n. lock_passes spend n ≡ true)
   pub age : IfSome p.age (λ n. age_passes spend n ≡ true)
 
--- a witness goes this way in time
+-- a witness satisfies the script by this path, and the spend meets the path's locks
 pub record SatisfiesInTime (spend : Spend) (witness : List (List ℕ)) (counted height : ℕ) (p : Path) : Type 0 where
   pub opens : SatisfiesBy spend witness counted height p
   pub locks : MeetsLocks spend p

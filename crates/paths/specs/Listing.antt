@@ -1,4 +1,4 @@
--- The ways through a script: every branch in the text order, as the rules have it where all constants are known.
+-- The ways through a script: every branch in the text order, by the rules where all constants are known.
 use Rattle.std.specs.Prelude.{ℕ, ◌+◌, ◌%◌, ◌^◌, max, Bool, true, false, nat_le, if◌then◌else◌, List, [], ◌∷◌, Option, Some, None, Result, Ok, Err}
 use Rattle.script.specs.declared.opcode.Op.{Op}
 use Rattle.script.specs.declared.stops.Cause.{Cause}
@@ -21,7 +21,8 @@ pub record CheckedScript : Type 0 where
   pub ops : List Op
   pub paths : List Path
 
--- each IF has its ENDIF, each ELSE and ENDIF its IF, and no IF a second ELSE, in opcodes that follow where these IFs stand open
+-- each IF has its ENDIF, each ELSE and ENDIF its IF, and no IF a second ELSE, in the opcodes after a point where these IFs are
+-- open
 abbrev pub balanced_with : Result (List Bool) Cause → (List Bool → Bool) → Bool
 balanced_with (Ok ifs) go = go ifs
 balanced_with (Err c) go = false
@@ -44,7 +45,7 @@ abbrev pub greatest_lock_in : List Stated → Option ℕ
 greatest_lock_in [] = None
 greatest_lock_in (s ∷ facts) = with_lock s.fact (greatest_lock_in facts)
 
--- the greatest relative lock of facts, of those in blocks: bit 22 is clear, and the low 16 bits count
+-- the greatest of the facts' relative locks in blocks: bit 22 is clear, and the low 16 bits are the number (BIP 68)
 abbrev pub with_age : Fact → Option ℕ → Option ℕ
 with_age (Age n) o = if bit_at 22 n then o else greater o (n % 2 ^ 16)
 with_age fact o = o
@@ -53,11 +54,11 @@ abbrev pub greatest_age_in : List Stated → Option ℕ
 greatest_age_in [] = None
 greatest_age_in (s ∷ facts) = with_age s.fact (greatest_age_in facts)
 
--- the path that ends
+-- the path of a state at the end of the script
 abbrev pub path_of : ℕ → State → Path
 path_of counted s = record { arity = s.slots; facts = s.facts; ops = counted + s.keys; height = s.slots + s.excess; lock = greatest_lock_in s.facts; age = greatest_age_in s.facts }
 
--- the walk where all constants are known
+-- what a walk needs where all constants are known
 abbrev pub guide : Guide (List ℕ) ℕ ℕ Path
 guide = record { rule = λ counted at op s. rule_of counted op s; condition = condition_of; path = path_of }
 

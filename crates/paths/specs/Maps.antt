@@ -1,4 +1,4 @@
--- Symbols, facts and states where other constants stand in the place of some.
+-- Symbols, facts and states with their constants replaced by others.
 use Rattle.std.specs.Prelude.{map}
 use Rattle.facts.specs.declared.symbols.KeySourceOver.{KeySourceOver}
 use Rattle.facts.specs.declared.symbols.KeySourceOver.TheVariants.{Const as FixedKey, Slot as SlotKey}
@@ -13,7 +13,7 @@ use Rattle.paths.specs.declared.state.SymbolicJumpOver.TheVariants.{Next, AfterE
 use Rattle.paths.specs.declared.state.ConditionOver.{ConditionOver}
 use Rattle.paths.specs.declared.state.ConditionOver.TheVariants.{Known, Asked}
 
--- what stands in the place of constants, and of the numbers of absolute and of relative locks
+-- what replaces constants, and the numbers of absolute and of relative locks
 pub record Replacing (C L A C' L' A' : Type 0) : Type 0 where
   pub bytes : C → C'
   pub lock : L → L'

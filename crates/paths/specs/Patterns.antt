@@ -36,18 +36,18 @@ hole_of KeyHole = Some ForKey
 hole_of HashHole = Some ForHash
 hole_of NumHole = Some ForNumber
 
--- an opcode, where an empty push stands for each hole
+-- the opcode of a piece; an empty push for a hole
 abbrev pub op_of : Piece → Op
 op_of (Fixed op) = op
 op_of hole = Push []
 
--- an opcode has a byte of its own, and its item at most 75 bytes
+-- a valid opcode: a push has at most 75 bytes, and a number is from 1 to 16
 abbrev pub is_op : Op → Bool
 is_op (Push item) = nat_le (length item) 75
 is_op (SmallNumber n) = nat_le 1 n && nat_le n 16
 is_op op = true
 
--- the most bytes that a piece comes to
+-- the greatest length of a piece in bytes
 abbrev pub longest_of : Piece → ℕ
 longest_of (Fixed op) = 1 + length (payload_of op)
 longest_of KeyHole = 34
@@ -96,7 +96,7 @@ filled_by None op fills go = also op (go fills)
 filled_by (Some kind) op [] go = None
 filled_by (Some kind) op (f ∷ fills) go = if takes kind f then also (op_by f) (go fills) else None
 
--- the opcodes of a pattern whose holes take these fills, one after another; none where number, kind or range of the fills differ
+-- the opcodes of a pattern with its holes filled in order; None if number, kind or range of the fills do not fit
 abbrev pub filled : List Piece → List Fill → Option (List Op)
 filled [] [] = Some []
 filled [] (f ∷ fills) = None

@@ -1,4 +1,4 @@
--- Where a path stands, and where it goes, where all constants are known.
+-- The state of a path and its jumps, where all constants are known.
 use Rattle.std.specs.Prelude.{ℕ, List}
 use Rattle.paths.specs.declared.state.StateOver.{StateOver}
 use Rattle.paths.specs.declared.state.SymbolicJumpOver.{SymbolicJumpOver}

@@ -20,7 +20,7 @@ abbrev pub named_size : List ℕ → Option Signed → Option ℕ
 named_size b None = None
 named_size b (Some z) = if not z.negative && nat_le z.magnitude max_element_size && bytes_eq (minimal_bytes_of z.magnitude) b then Some z.magnitude else None
 
--- a number that is not negative, of bytes
+-- the count from 0 to a limit that bytes encode
 abbrev pub count_by : ℕ → Option Signed → Result ℕ Halt
 count_by limit None = Err Dead
 count_by limit (Some z) = result_if (not z.negative && nat_le z.magnitude limit) Dead (Ok z.magnitude)
@@ -28,12 +28,12 @@ count_by limit (Some z) = result_if (not z.negative && nat_le z.magnitude limit)
 abbrev pub count_bytes : ℕ → List ℕ → Result ℕ Halt
 count_bytes limit b = count_by limit (number_of 4 b)
 
--- a lock's number, of bytes
+-- the number of a lock that bytes encode
 abbrev pub lock_by : Option Signed → Result ℕ Halt
 lock_by None = Err Dead
 lock_by (Some z) = result_if (not z.negative) Dead (Ok z.magnitude)
 
--- the bits of a relative lock that its check reads, those of 0x40ffff
+-- the bits of a relative lock that its check reads: those of the mask 0x40ffff (BIP 112)
 abbrev pub age_bits : ℕ → ℕ
 age_bits n = n % 2 ^ 16 + n / 2 ^ 22 % 2 * 2 ^ 22
 

@@ -8,7 +8,8 @@ use Rattle.facts.specs.Meaning.{Meets}
 use Rattle.paths.specs.declared.state.Path.{Path}
 use Rattle.paths.specs.Listing.{greatest_lock_in, greatest_age_in}
 
--- whatever meets the path runs clean, with exactly its counted opcodes and its height, at most 1,000; and its locks are those of its facts
+-- whatever meets the path runs clean, with exactly its counted opcodes and its height, at most 1,000; the path's locks are those of its
+-- facts
 pub record IsSound (ops : List Op) (p : Path) : Type 0 where
   pub clean : (spend : Spend) (witness : List (List ℕ)) → Meets spend witness p.arity p.facts → outcome spend ops witness ≡ Clean p.ops p.height
   pub low : p.height ≤ max_stack_size

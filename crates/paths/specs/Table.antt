@@ -1,4 +1,4 @@
--- What an opcode does to a path: the table of rules, by cases, over what stands for constants. Where an opcode has both a dead operand and one
+-- What an opcode does to a path: the table of rules, by cases, over any type of constants. Where an opcode has both a dead operand and one
 -- that no rule decides, it is dead.
 use Rattle.std.specs.Prelude.{ℕ, zero, suc, ◌+◌, Bool, true, false, ◌||◌, not, nat_le, if◌then◌else◌, List, [], ◌∷◌, ◌++◌, reverse, Option, Some, None, Result, Ok, Err}
 use Rattle.std.specs.List.{list_any}
@@ -34,23 +34,23 @@ pub record Words (C L A : Type 0) : Type 0 where
   -- it may be what HASH160 gives, and the number from 0 to 520 whose minimal encoding it is
   pub is_hash : C → Bool
   pub named_size : C → Result (Option ℕ) Halt
-  -- no run takes it for a key, for a signature, for the extra item of CHECKMULTISIG
+  -- every run rejects it as a key, as a signature, as the extra item of CHECKMULTISIG (BIP 147)
   pub is_bad_key : C → Bool
   pub is_bad_signature : C → Bool
   pub is_bad_extra : C → Bool
-  -- it is empty, as a signature
+  -- it is the empty signature
   pub is_no_signature : C → Bool
-  -- it is known whether it is empty, as the extra item
+  -- whether it is empty is known, for the extra item
   pub is_clear_extra : C → Bool
-  -- the number from 0 to a limit, and the number of a lock, that it spells
+  -- the count from 0 to a limit, and the number of a lock, that it encodes
   pub count : ℕ → C → Result ℕ Halt
   pub lock : C → Result L Halt
-  -- a relative lock is switched off, and the bits of it that its check reads
+  -- a relative lock is disabled (bit 31, BIP 112), and the bits of it that its check reads
   pub is_off : L → Bool
   pub age_bits : L → A
 
 module _ {C L A : Type 0} where
-  -- the top symbol, which is the next slot where there is none, and what is left
+  -- the top symbol, or the next slot if there is none, and the state after
   abbrev pub pop_of : List (SymOver C L A) → StateOver C L A → SymOver C L A × StateOver C L A
   pop_of [] s = (Slot s.slots, record s { stack = []; slots = s.slots + 1 })
   pop_of (x ∷ xs) s = (x, record s { stack = xs })
@@ -58,7 +58,7 @@ module _ {C L A : Type 0} where
   abbrev pub pop : StateOver C L A → SymOver C L A × StateOver C L A
   pop s = pop_of s.stack s
 
-  -- n symbols, the topmost first, and what is left
+  -- n symbols, the topmost first, and the state after
   abbrev pub pops : ℕ → StateOver C L A → List (SymOver C L A) × StateOver C L A
   pops zero s = ([], s)
   pops (suc n) s = ((pop s).0 ∷ (pops n (pop s).1).0, (pops n (pop s).1).1)
@@ -158,7 +158,7 @@ module _ {C L A : Type 0} (w : Words C L A) where
   condition_of (Slot i) = Ok (Asked (Truth i))
   condition_of x = Err Undecided
 
-  -- a key, a signature and an extra item that no run takes
+  -- every run rejects it as a key, as a signature, as the extra item
   abbrev pub is_bad_key : SymOver C L A → Bool
   is_bad_key (Const c) = w.is_bad_key c
   is_bad_key x = false
@@ -205,7 +205,7 @@ module _ {C L A : Type 0} (w : Words C L A) where
     s' ← ask_extra extra (ask_keys sources (ask_forms slots s))
     Ok (push (answer_of slots sources) s'))
 
-  -- CHECKMULTISIG, where `counted` opcodes of the whole script count
+  -- CHECKMULTISIG, in a script with `counted` counted opcodes
   abbrev pub check_multi_sig : ℕ → StateOver C L A → Result (StateOver C L A) Halt
   check_multi_sig counted s = do
     let top = pop s
@@ -221,11 +221,11 @@ module _ {C L A : Type 0} (w : Words C L A) where
   lock_of (Const c) = w.lock c
   lock_of x = Err Undecided
 
-  -- a relative lock; none where it is switched off
+  -- a relative lock, unless it is disabled
   abbrev pub ask_age : L → StateOver C L A → StateOver C L A
   ask_age n s = if w.is_off n then s else ask (Age (w.age_bits n)) true s
 
-  -- what an opcode does to a path, where `counted` opcodes of the whole script count
+  -- what an opcode does to a path, in a script with `counted` counted opcodes
   abbrev pub rule_of : ℕ → Op → StateOver C L A → Result (SymbolicJumpOver C L A × StateOver C L A) Halt
   rule_of counted (Push item) s = goes_on (push (Const (w.known item)) s)
   rule_of counted (SmallNumber n) s = goes_on (push (Const (w.known (n ∷ []))) s)

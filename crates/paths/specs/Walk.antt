@@ -1,4 +1,4 @@
--- The ways through a script: every branch in the text order, over what stands for constants and for a path.
+-- The ways through a script: every branch in the text order, over any types of constants and paths.
 use Rattle.std.specs.Prelude.{ℕ, zero, suc, ◌+◌, ◌-◌, max, Bool, true, false, not, nat_lt, nat_le, List, [], ◌∷◌, ◌++◌, length, Result, Ok, Err}
 use Rattle.script.specs.declared.opcode.Op.{Op}
 use Rattle.script.specs.Limits.{max_stack_size}
@@ -16,22 +16,22 @@ use Rattle.paths.specs.declared.state.ConditionOver.{ConditionOver}
 use Rattle.paths.specs.declared.state.ListedOver.{ListedOver}
 use Rattle.paths.specs.Table.{pop, ask, insist}
 
--- the refusal for a halt at an opcode; a path that dies has no way on
+-- the refusal for a halt at an opcode; a path that dies does not go on
 abbrev pub refusal_at : {A : Type 0} → ℕ → A → Halt → Result A CheckError
 refusal_at at none NoMemory = Err OutOfMemory
 refusal_at at none Dead = Ok none
 refusal_at at none Undecided = Err (NoRule at)
 refusal_at at none TooManyOps = Err TooMany
 
--- what a walk asks: the rule of an opcode at its position, where n opcodes of the whole script count; what decides whether a symbol is true; and
--- the path that ends, where n opcodes count
+-- what a walk needs. The rule is that of an opcode at its position, in a script with n counted opcodes. The condition decides whether a symbol
+-- is true. The path is that of a state at the end
 pub record Guide (C L A P : Type 0) : Type 0 where
   pub rule : ℕ → ℕ → Op → StateOver C L A → Result (SymbolicJumpOver C L A × StateOver C L A) Halt
   pub condition : SymOver C L A → Result (ConditionOver C L A) Halt
   pub path : ℕ → StateOver C L A → P
 
 module _ {C L A : Type 0} where
-  -- after an opcode that was run: by how much the elements pass those of the witness, at the most
+  -- after an opcode ran: the greatest number by which the elements have exceeded those of the witness
   abbrev pub with_excess : StateOver C L A → StateOver C L A
   with_excess s = record s { excess = max s.excess (length s.stack - s.slots) }
 
@@ -43,7 +43,7 @@ module _ {C L A : Type 0} where
   abbrev pub ahead_by : ℕ → StateOver C L A → StateOver C L A
   ahead_by n s = record s { ahead = n }
 
-  -- the ways on from an opcode, which these follow, the first in the text first
+  -- the states after an opcode, given the opcodes that follow it; the branch that is first in the text comes first
   abbrev pub states_after_jump : SymbolicJumpOver C L A → List Op → StateOver C L A → List (StateOver C L A)
   states_after_jump Next rest s = s ∷ []
   states_after_jump AfterElse rest s = ahead_by (skip_length true 0 rest) s ∷ []
@@ -54,7 +54,7 @@ module _ {C L A : Type 0} where
   states_after_rule at rest (Ok (turn, s)) = result_if (is_low (with_excess s)) TooTall (Ok (states_after_jump turn rest (with_excess s)))
   states_after_rule at rest (Err h) = refusal_at at [] h
 
-  -- where a path begins
+  -- the state in which a path begins
   abbrev pub beginning : StateOver C L A
   beginning = record { ahead = 0; stack = []; slots = 0; facts = []; keys = 0; excess = 0 }
 
@@ -68,7 +68,7 @@ module _ {P : Type 0} where
   abbrev pub begins : ListedOver P → Result (ListedOver P) CheckError
   begins l = result_if (nat_lt l.begun 64) TooManyPaths (Ok (record l { begun = l.begun + 1 }))
 
--- along the ways on, each to its end: the second begins once all paths through the first have ended
+-- walks on from each state to its end: the second begins once all paths through the first have ended
 abbrev pub walk_along : {S P : Type 0} → (S → ListedOver P → Result (ListedOver P) CheckError) → Result (List S) CheckError → ListedOver P → Result (ListedOver P) CheckError
 walk_along go (Err e) l = Err e
 walk_along go (Ok []) l = Ok l
@@ -76,12 +76,12 @@ walk_along go (Ok (s ∷ [])) l = go s l
 walk_along go (Ok (s ∷ t ∷ ways)) l = go s l >>= λ l'. begins l' >>= go t
 
 module _ {C L A P : Type 0} (g : Guide C L A P) where
-  -- the ways on from an opcode, where `counted` opcodes of the whole script count
+  -- the states after an opcode, in a script with `counted` counted opcodes
   abbrev pub states_after : ℕ → ℕ → Op → List Op → StateOver C L A → ℕ → Result (List (StateOver C L A)) CheckError
   states_after counted at op rest s (suc n) = Ok (ahead_by n s ∷ [])
   states_after counted at op rest s zero = states_after_rule at rest (g.rule counted at op s)
 
-  -- the path that ends, with one element that has to be true, or none
+  -- the path that ends, with one element, which has to be true; none if the path dies
   abbrev pub path_at_end : ℕ → ℕ → Result (StateOver C L A) Halt → Result (List P) CheckError
   path_at_end counted at (Ok s) = result_if (is_low s) TooTall (Ok (g.path counted s ∷ []))
   path_at_end counted at (Err h) = refusal_at at [] h
@@ -93,7 +93,7 @@ module _ {C L A P : Type 0} (g : Guide C L A P) where
   abbrev pub paths_at_end : ℕ → ℕ → StateOver C L A → Result (List P) CheckError
   paths_at_end counted at s = path_at_end counted at (end_of (pop s).1.stack (pop s).0 (pop s).1)
 
-  -- the paths from a state on, at a position of the script, where these opcodes are left
+  -- the paths from a state on, at a position of the script, with these opcodes left
   abbrev pub walk : ℕ → ℕ → List Op → StateOver C L A → ListedOver P → Result (ListedOver P) CheckError
   walk counted at [] s l = with_paths l (paths_at_end counted at s)
   walk counted at (op ∷ rest) s l = walk_along (walk counted (at + 1) rest) (states_after counted at op rest s s.ahead) l

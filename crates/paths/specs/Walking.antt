@@ -1,4 +1,4 @@
--- What the functions answer that walk along the ways through a script.
+-- What the functions return that walk the ways through a script.
 use Rattle.std.specs.Prelude.{◌≡◌, ℕ, ◌+◌, ◌≤◌, Bool, true, false, List, [], ◌∷◌, drop, Option, Some, None, Result, Ok, Err}
 use Rattle.script.specs.declared.opcode.Op.{Op}
 use Rattle.script.specs.Limits.{max_ops, max_stack_size}
@@ -21,11 +21,11 @@ IsEnded rule (Ok (Some path)) = rule ≡ Ok (path ∷ [])
 IsEnded rule (Ok None) = rule ≡ Ok []
 IsEnded rule (Err e) = IfRefused e (rule ≡ Err e)
 
--- a second branch, as it comes to these opcodes: it jumps after the ELSE
+-- the second branch, as it comes to these opcodes: it jumps past the ELSE
 abbrev pub at_second_branch : List Op → State → State
 at_second_branch rest s = ahead_by (skip_length true 0 rest) s
 
--- the ways on, which these opcodes follow: none, this state, or this state and then the other, which enters its branch
+-- the states before these opcodes: none, this state, or this state and then the second one, which enters its branch
 abbrev pub states_of : List Op → State → Successors → List State
 states_of rest s Dies = []
 states_of rest s Goes = s ∷ []
@@ -50,12 +50,12 @@ pub record IsWaiting (counted n : ℕ) (w : Waiting) : Type 0 where
   pub within : w.at ≤ n
   pub kept : IsKept counted w.state
 
--- what is left to walk where these second branches wait, the newest first
+-- the walk of the second branches that wait, the newest first
 abbrev pub waiting_paths : List (Option HoleKind) → ℕ → List Op → List Waiting → Listed → Result Listed CheckError
 waiting_paths holes counted ops [] l = Ok l
 waiting_paths holes counted ops (w ∷ ws) l = begins l >>= λ l'. walk holes counted w.at (drop w.at ops) (at_second_branch (drop w.at ops) w.state) l' >>= waiting_paths holes counted ops ws
 
--- the rest of a path from a position on, and then what waits
+-- the rest of a path from a position on, and then the branches that wait
 abbrev pub rest_of_walk : List (Option HoleKind) → ℕ → List Op → ℕ → State → List Waiting → Listed → Result Listed CheckError
 rest_of_walk holes counted ops at s ws l = walk holes counted at (drop at ops) s l >>= waiting_paths holes counted ops ws
 
@@ -63,7 +63,8 @@ rest_of_walk holes counted ops at s ws l = walk holes counted at (drop at ops) s
 abbrev pub paths_in : Result Listed CheckError → Result (List PatternPath) CheckError
 paths_in r = r >>= λ l. Ok l.paths
 
--- past one opcode: the rest of the path is what is left, and then what waits, whatever was listed so far; or what waits alone
+-- a step past one opcode keeps what is left to walk, whatever was listed so far: the rest of the path and the branches that
+-- wait, or those alone
 abbrev pub KeepsRest : List (Option HoleKind) → ℕ → List Op → ℕ → State → List Waiting → State → List Waiting → Bool → Type 0
 KeepsRest holes counted ops at s ws s' ws' true =
     (l : Listed) → rest_of_walk holes counted ops at s ws l ≡ rest_of_walk holes counted ops (at + 1) s' ws' l
@@ -73,7 +74,7 @@ abbrev pub IsStep : List (Option HoleKind) → ℕ → List Op → ℕ → State
 IsStep holes counted ops at s ws s' ws' (Ok goes) = KeepsRest holes counted ops at s ws s' ws' goes
 IsStep holes counted ops at s ws s' ws' (Err e) = IfRefused e ((l : Listed) → rest_of_walk holes counted ops at s ws l ≡ Err e)
 
--- one path to its end: what waits is left
+-- one path to its end: only the branches that wait are left
 abbrev pub IsWalked : List (Option HoleKind) → ℕ → List Op → Result Listed CheckError → List Waiting → Listed → Result (Unit {0}) CheckError → Type 0
 IsWalked holes counted ops whole ws l (Ok done) = whole ≡ waiting_paths holes counted ops ws l
 IsWalked holes counted ops whole ws l (Err e) = IfRefused e (whole ≡ Err e)

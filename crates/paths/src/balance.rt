@@ -1,4 +1,4 @@
-// Whether a script's branches close.
+// Whether every branch of a script is closed.
 
 ghost use Rattle.std.specs.Prelude.{◌≡◌, [], IfOk};
 ghost use Rattle.paths.specs.Listing.{is_balanced as balances};

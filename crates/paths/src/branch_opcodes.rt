@@ -12,7 +12,7 @@ use crate::state::{Condition, Halt, State, SymbolicJump};
 use script::Op;
 use script::limits::MAX_STACK_SIZE;
 
-/// IF, which runs what follows where the top is true.
+/// IF: runs the opcodes after it where the top is true.
 #[tactic(auto, unfolding(crate::specs::HoleRules::rule_of))]
 pub fn enter_if(state: &mut State) -> Result<SymbolicJump, Halt>
     requires { state.old.slots ≤ MAX_STACK_SIZE }
@@ -23,7 +23,7 @@ pub fn enter_if(state: &mut State) -> Result<SymbolicJump, Halt>
     Ok(branch(true, condition))
 }
 
-/// NOTIF, which runs what follows where the top is false.
+/// NOTIF: runs the opcodes after it where the top is false.
 #[tactic(auto, unfolding(crate::specs::HoleRules::rule_of))]
 pub fn enter_not_if(state: &mut State) -> Result<SymbolicJump, Halt>
     requires { state.old.slots ≤ MAX_STACK_SIZE }
@@ -34,7 +34,8 @@ pub fn enter_not_if(state: &mut State) -> Result<SymbolicJump, Halt>
     Ok(branch(false, condition))
 }
 
-// Where a path goes from a branch that runs where the condition is `runs`.
+// Where a path goes at an IF or NOTIF whose first branch runs where the
+// condition is `runs`.
 fn branch(runs: bool, condition: Condition) -> SymbolicJump
     ensures { (s : Waiting) → branched runs condition s ≡ Ok (result, s) }
 {

@@ -1,4 +1,4 @@
-// SIZE, HASH160, EQUAL and EQUALVERIFY: what opcodes make of symbols.
+// SIZE, HASH160, EQUAL and EQUALVERIFY over symbols.
 
 ghost use Rattle.std.specs.Prelude.{◌≡◌, ◌≤◌, OnOk};
 ghost use Rattle.paths.specs.Answers.{Answers, IfHalts};
@@ -113,7 +113,7 @@ fn equal_of(alloc: Global, top: Sym, second: Sym) -> Result<Sym, Halt>
     }
 }
 
-// Whether the hash of a slot is this constant.
+// Whether the HASH160 of a slot is this constant.
 fn hash_is(alloc: Global, slot: usize, constant: Constant) -> Sym
     ensures { result ≡ hash_asked slot constant }
 {
@@ -124,7 +124,8 @@ fn hash_is(alloc: Global, slot: usize, constant: Constant) -> Sym
     }
 }
 
-// Whether the length of a slot is the number of this constant.
+// Whether the length of a slot in bytes is the number of this
+// constant.
 fn size_is(alloc: Global, slot: usize, constant: &Constant) -> Result<Sym, Halt>
     ensures { Answers IfHalts (size_asked slot constant.now) result }
 {

@@ -30,18 +30,18 @@ pub enum HoleKind {
 /// Bytes that a script pushes.
 #[derive(Debug, Drop)]
 pub enum Constant {
-    /// These.
+    /// These bytes.
     Known(ByteString),
-    /// Those of a hole, by its position in the pattern.
+    /// The bytes that fill a hole, by its position in the pattern.
     Hole(HoleKind, usize),
 }
 
 /// The number of a lock.
 #[derive(Debug, Drop)]
 pub enum Amount<N> {
-    /// This one.
+    /// This number.
     Known(N),
-    /// That of a hole, by its position in the pattern.
+    /// The number that fills a hole, by its position in the pattern.
     Hole(usize),
 }
 
@@ -57,17 +57,17 @@ pub type Stated = StatedOver<Constant, Amount<u64>, Amount<u32>>;
 /// A symbol whose constants may be holes.
 pub type Sym = SymOver<Constant, Amount<u64>, Amount<u32>>;
 
-/// Stands for the key of a hole where the script pushes none.
+/// Stands in for the key of a hole where the script pushes no key there.
 pub const BLANK_KEY: [u8; 33] = [
     2, 0, 0, 0, 0, 0, 0, 0, 0, 0, 0, 0, 0, 0, 0, 0, 0, 0, 0, 0, 0, 0, 0, 0, 0, 0, 0, 0, 0, 0, 0, 0,
     0,
 ];
 
-/// Stands for the hash of a hole where the script pushes none.
+/// Stands in for the hash of a hole where the script pushes no hash there.
 pub const BLANK_HASH: [u8; 20] = [0, 0, 0, 0, 0, 0, 0, 0, 0, 0, 0, 0, 0, 0, 0, 0, 0, 0, 0, 0];
 
 impl Constant {
-    /// An equal one. The only error is that memory ran out.
+    /// A copy. The only error is that memory ran out.
     pub fn copy(&self) -> Result<Self, AllocError>
         ensures { IfOk result (λ c. c ≡ self.now) }
     {
@@ -77,7 +77,7 @@ impl Constant {
         }
     }
 
-    /// Its length, as a number.
+    /// Its length in bytes, as a script number.
     pub fn size(&self, alloc: Global) -> Result<Constant, Halt>
         ensures { Answers IfHalts (size_in self.now) result }
     {
@@ -102,7 +102,7 @@ impl Constant {
         }
     }
 
-    /// Whether two are equal, as an item.
+    /// EQUAL of the two: the element 01 if they are equal, else the empty one.
     pub fn equal(&self, other: &Constant, alloc: Global) -> Result<Constant, Halt>
         ensures { Answers IfHalts (equal_in self.now other.now) result }
     {
@@ -124,7 +124,7 @@ impl Constant {
         }
     }
 
-    /// Whether it may be what HASH160 gives.
+    /// Whether it may be a result of HASH160, which has 20 bytes.
     pub fn is_hash(&self) -> bool
         ensures { result ≡ is_hash_in self.now }
     {
@@ -146,7 +146,7 @@ impl Constant {
         }
     }
 
-    /// Whether no run takes it for a key.
+    /// Whether every run rejects it as a key.
     pub fn is_bad_key(&self) -> bool
         ensures { result ≡ is_bad_key_in self.now }
     {
@@ -157,7 +157,7 @@ impl Constant {
         }
     }
 
-    /// Whether no run takes it for a signature.
+    /// Whether every run rejects it as a signature.
     pub fn is_bad_signature(&self) -> bool
         ensures { result ≡ is_bad_signature_in self.now }
     {
@@ -168,7 +168,7 @@ impl Constant {
         }
     }
 
-    /// Whether no run takes it for the extra item of CHECKMULTISIG (BIP 147).
+    /// Whether every run rejects it as the extra item of CHECKMULTISIG (BIP 147).
     pub fn is_bad_extra(&self) -> bool
         ensures { result ≡ is_bad_extra_in self.now }
     {
@@ -189,7 +189,7 @@ impl Constant {
         }
     }
 
-    /// Whether it is known if it is empty.
+    /// Whether it is known to be empty or not: false only for the hole of a number.
     pub fn is_clear_extra(&self) -> bool
         ensures { result ≡ is_clear_extra_in self.now }
     {
@@ -223,7 +223,7 @@ impl Constant {
     }
 }
 
-/// Whether a relative lock is switched off (bit 31, BIP 112).
+/// Whether a relative lock is disabled (bit 31, BIP 112).
 pub fn is_off(age: &Amount<u64>) -> bool
     ensures { result ≡ is_off_in age.now }
 {
@@ -233,7 +233,7 @@ pub fn is_off(age: &Amount<u64>) -> bool
     }
 }
 
-/// The bits of a relative lock that its check reads, those of 0x40ffff.
+/// The bits of a relative lock that its check reads: those of the mask 0x40ffff (BIP 112).
 pub fn age_bits(age: &Amount<u64>) -> Amount<u32>
     ensures { result ≡ age_bits_in age.now }
 {
@@ -243,7 +243,7 @@ pub fn age_bits(age: &Amount<u64>) -> Amount<u32>
     }
 }
 
-/// The bits of a number that are those of 0x40ffff (BIP 112).
+/// A number masked with 0x40ffff (BIP 112).
 pub fn masked(age: u64) -> u32
     ensures { result ≡ masked_by age }
 {
@@ -267,7 +267,7 @@ fn named_size(alloc: Global, bytes: &ByteString) -> Result<Option<u32>, AllocErr
     }
 }
 
-// A count from 0 to a limit, of bytes.
+// The count from 0 to a limit that these bytes encode.
 fn count(bytes: &ByteString, limit: usize) -> Result<usize, Halt>
     ensures exact { Answers IfHalts (count_bytes limit bytes.now) result }
     ensures low { IfOk result (λ n. n ≤ limit) }
@@ -280,7 +280,7 @@ fn count(bytes: &ByteString, limit: usize) -> Result<usize, Halt>
     }
 }
 
-/// An equal number.
+/// A copy of a number.
 pub fn copied_amount<N: Copy>(amount: &Amount<N>) -> Amount<N>
     ensures { result ≡ amount.now }
 {
@@ -290,7 +290,7 @@ pub fn copied_amount<N: Copy>(amount: &Amount<N>) -> Amount<N>
     }
 }
 
-/// An equal key. The only error is that memory ran out.
+/// A copy of a key. The only error is that memory ran out.
 pub fn copied_key(key: &KeySource) -> Result<KeySource, AllocError>
     ensures { IfOk result (λ k. k ≡ key.now) }
 {
@@ -300,7 +300,7 @@ pub fn copied_key(key: &KeySource) -> Result<KeySource, AllocError>
     }
 }
 
-// Equal keys.
+// Copies of keys.
 fn copied_keys(alloc: Global, keys: &[KeySource]) -> Result<Vec<KeySource>, AllocError>
     ensures { IfOk result (λ v. v.items ≡ keys.now) }
 {
@@ -311,7 +311,7 @@ fn copied_keys(alloc: Global, keys: &[KeySource]) -> Result<Vec<KeySource>, Allo
     Ok(copies)
 }
 
-/// An equal fact. The only error is that memory ran out.
+/// A copy of a fact. The only error is that memory ran out.
 pub fn copied_fact(fact: &Fact) -> Result<Fact, AllocError>
     ensures { IfOk result (λ f. f ≡ fact.now) }
 {
@@ -333,7 +333,7 @@ pub fn copied_fact(fact: &Fact) -> Result<Fact, AllocError>
     }
 }
 
-/// An equal fact, stated alike. The only error is that memory ran out.
+/// A copy of a stated fact. The only error is that memory ran out.
 pub fn copied_stated(stated: &Stated) -> Result<Stated, AllocError>
     ensures { IfOk result (λ s. s ≡ stated.now) }
 {
@@ -343,7 +343,7 @@ pub fn copied_stated(stated: &Stated) -> Result<Stated, AllocError>
     })
 }
 
-/// An equal symbol. The only error is that memory ran out.
+/// A copy of a symbol. The only error is that memory ran out.
 pub fn copied_sym(sym: &Sym) -> Result<Sym, AllocError>
     ensures { IfOk result (λ s. s ≡ sym.now) }
 {

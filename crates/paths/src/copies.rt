@@ -1,4 +1,4 @@
-// Equal paths, for what is kept twice.
+// Copies of paths and of their facts.
 
 ghost use Rattle.std.specs.Prelude.{◌≡◌, IfOk};
 
@@ -7,7 +7,7 @@ use facts::Stated;
 use lists::List;
 use std::alloc::{AllocError, Global};
 
-// Equal facts, stated alike.
+// Copies of stated facts.
 fn copied_facts(alloc: Global, facts: &[Stated]) -> Result<Vec<Stated>, AllocError>
     ensures { IfOk result (λ v. v.items ≡ facts.now) }
 {
@@ -19,7 +19,8 @@ fn copied_facts(alloc: Global, facts: &[Stated]) -> Result<Vec<Stated>, AllocErr
 }
 
 impl Path {
-    /// An equal path. The only error is that memory ran out.
+    /// A copy of a path. The only error is that memory ran
+    /// out.
     pub fn copy(&self) -> Result<Self, AllocError>
         ensures { IfOk result (λ p. p ≡ self.now) }
     {
@@ -35,7 +36,7 @@ impl Path {
     }
 }
 
-/// Equal paths.
+/// Copies of paths.
 pub(crate) fn copied_paths(alloc: Global, paths: &[Path]) -> Result<Vec<Path>, AllocError>
     ensures { IfOk result (λ v. v.items ≡ paths.now) }
 {

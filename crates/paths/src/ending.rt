@@ -11,7 +11,7 @@ use crate::rules::{condition, insist, take};
 use crate::state::{Halt, Listed, PatternPath, State};
 use script::limits::{MAX_OPS_PER_SCRIPT, MAX_STACK_SIZE};
 
-/// The refusal for a halt at this position; none where the path dies.
+/// The refusal for a halt at this position; no refusal where the path dies.
 pub fn refusal(at: usize, halt: Halt) -> Result<(), CheckError>
     ensures { result ≡ refusal_at at tt halt }
 {
@@ -23,7 +23,8 @@ pub fn refusal(at: usize, halt: Halt) -> Result<(), CheckError>
     }
 }
 
-/// Ends a path at this position, the number of opcodes, and lists it unless it dies there.
+/// Ends a path after the last opcode, where `at` is the number of opcodes. Lists the path
+/// unless it dies there.
 pub fn end(counted: usize, at: usize, state: State, listed: &mut Listed) -> Result<(), CheckError>
     requires slots { state.slots ≤ MAX_STACK_SIZE }
     requires keys { counted + state.keys ≤ MAX_OPS_PER_SCRIPT }
@@ -37,7 +38,7 @@ pub fn end(counted: usize, at: usize, state: State, listed: &mut Listed) -> Resu
     Ok(())
 }
 
-// The path that ends, unless it dies.
+// The path that ends; `None` if it dies.
 fn ended(counted: usize, at: usize, mut state: State) -> Result<Option<PatternPath>, CheckError>
     requires slots { state.slots ≤ MAX_STACK_SIZE }
     requires keys { counted + state.keys ≤ MAX_OPS_PER_SCRIPT }
@@ -54,7 +55,7 @@ fn ended(counted: usize, at: usize, mut state: State) -> Result<Option<PatternPa
     Ok(Some(path_of(counted, state)))
 }
 
-// Insists that the last element, below which there are none, is true.
+// Requires the last element to be true and no other to be left.
 fn decide(state: &mut State, top: Sym) -> Result<(), Halt>
     ensures exact { Leaves IfHalts (end_of [] state.old.stack top state.old) state.new result }
     ensures keys { OnOk result (state.new.keys ≡ state.old.keys) }

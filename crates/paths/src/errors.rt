@@ -7,8 +7,8 @@ ghost use Rattle.paths.specs.declared.errors.CheckError.TheVariants.{NoMemory};
 use std::alloc::{AllocError, AllocFailed};
 use thiserror::Error;
 
-/// Why the ways through a script are not listed. The whole script is tested for `OpenBranch`, then for `TooManyOps`; then the paths are
-/// followed in the text order of their branches, and what is met first is named.
+/// Why the paths of a script are not listed. The whole script is checked for `OpenBranch`, then for `TooManyOps`. Then the paths are
+/// followed in the text order of their branches, and the first fault met is returned.
 #[derive(Clone, Copy, PartialEq, Eq, Debug, Error)]
 pub enum CheckError {
     /// Memory ran out.
@@ -17,16 +17,16 @@ pub enum CheckError {
     /// An ELSE or ENDIF without its IF, a second ELSE of one IF, or an IF without its ENDIF.
     #[error("OpenBranch")]
     OpenBranch,
-    /// More than 201 opcodes count, with the keys of the CHECKMULTISIGs of a path.
+    /// More than 201 counted opcodes, the keys of a path's CHECKMULTISIGs included.
     #[error("TooManyOps")]
     TooManyOps,
-    /// No rule decides the opcode at this index, or the end, where it is the number of opcodes.
+    /// No rule decides the opcode at this index. The number of opcodes as the index stands for the end of the script.
     #[error("Undecided {0}")]
     Undecided(usize),
     /// A 65th path begins.
     #[error("TooManyPaths")]
     TooManyPaths,
-    /// A path needs more than 1,000 elements.
+    /// A path needs more than 1,000 stack elements.
     #[error("TooTall")]
     TooTall,
 }

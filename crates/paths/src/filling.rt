@@ -19,7 +19,7 @@ use script::tokens::has_key_form;
 use script::{Op, num};
 use std::alloc::{AllocError, Global};
 
-// What the opcode at this position pushes; nothing where it does not push. The only error is that memory ran out.
+// What the opcode at this position pushes; empty where it pushes nothing. The only error is that memory ran out.
 fn pushed_at(alloc: Global, ops: &[Op], at: usize) -> Result<ByteString, AllocError>
     ensures { IfOk result (λ b. b ≡ pushed_of ops.now at) }
 {
@@ -52,7 +52,7 @@ fn is_low_number(number: Option<Number>) -> bool
     }
 }
 
-// Some bytes that a hole takes. The only error is that memory ran out.
+// Default bytes that fit a hole. The only error is that memory ran out.
 fn blank(alloc: Global, kind: HoleKind) -> Result<ByteString, AllocError>
     ensures { IfOk result (λ b. b ≡ blank_for kind) }
 {
@@ -63,7 +63,8 @@ fn blank(alloc: Global, kind: HoleKind) -> Result<ByteString, AllocError>
     }
 }
 
-// What stands in the place of a hole. The only error is that memory ran out.
+// The bytes in the place of a hole: what the script pushes there if it fits, else the default. The only error is
+// that memory ran out.
 fn hole_bytes(
     alloc: Global,
     ops: &[Op],
@@ -80,7 +81,7 @@ fn hole_bytes(
     }
 }
 
-// The number that stands in the place of a hole. The only error is that memory ran out.
+// The number in the place of a hole. The only error is that memory ran out.
 fn hole_number(alloc: Global, ops: &[Op], at: usize) -> Result<u64, AllocError>
     ensures { IfOk result (λ n. n ≡ hole_number_of ops.now at) }
 {

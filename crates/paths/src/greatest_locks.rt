@@ -16,7 +16,7 @@ pub fn greatest_lock(facts: &[Stated]) -> Option<u64>
     lock
 }
 
-// The greater one of the fact's absolute lock and another.
+// The greater of the fact's absolute lock, if it has one, and another.
 fn with_lock(fact: &Fact, other: Option<u64>) -> Option<u64>
     ensures { result ≡ with_lock_of fact.now other }
 {
@@ -27,7 +27,7 @@ fn with_lock(fact: &Fact, other: Option<u64>) -> Option<u64>
     }
 }
 
-/// The greatest relative lock of facts, of those in blocks (BIP 68, 112).
+/// The greatest of the facts' relative locks in blocks (BIP 68, 112).
 pub fn greatest_age(facts: &[Stated]) -> Option<u16>
     ensures { result ≡ greatest_age_in facts.now }
 {
@@ -38,7 +38,7 @@ pub fn greatest_age(facts: &[Stated]) -> Option<u16>
     age
 }
 
-// The greater one of the fact's relative lock, where that is in blocks, and another.
+// The greater of the fact's relative lock, if that is in blocks, and another.
 fn with_age(fact: &Fact, other: Option<u16>) -> Option<u16>
     ensures { result ≡ with_age_of fact.now other }
 {

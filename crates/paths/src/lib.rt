@@ -1,10 +1,11 @@
 //! The verifier, which lists every way through a version 0 witness script (BIP 141).
 //!
-//! [`check`] follows each branch over symbols, and writes down what each opcode asks of the witness and of the spend;
-//! a [`Path`] is all that one way asks. Barring out-of-memory, the list is exactly the definition `listing`. It is
-//! sound and exhaustive, whatever the witness and the spend: whoever meets a listed path runs the script clean, with
-//! that path's counted opcodes and height, and whoever runs it clean meets a listed path. [`check_pattern`] lists a
-//! script with holes for keys, hashes and numbers once, and [`CheckedPattern::instance`] fills the holes.
+//! [`check`] follows each branch over symbols, and writes down what each opcode asks of the witness and of the spend.
+//! A [`Path`] is all that one way through the script asks. Barring out-of-memory, the list is exactly the definition
+//! `listing`. It is sound and exhaustive, whatever the witness and the spend. Whoever meets a listed path runs the
+//! script clean, with that path's counted opcodes and height, and whoever runs it clean meets a listed path.
+//! [`check_pattern`] lists a script with holes for keys, hashes and numbers once, and [`CheckedPattern::instance`]
+//! fills the holes.
 //!
 //! `script` parses the bytes, and `facts` has the facts. `forms` lists the scripts of BOLT 3 as patterns, and `claim`
 //! takes a [`Checked`] script with one of its paths.

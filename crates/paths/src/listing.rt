@@ -23,7 +23,7 @@ use script::{Op, Script};
 use std::alloc::{AllocError, Global};
 use std::marker::Model;
 
-/// A script with every way through it that runs clean. `check` and [`CheckedPattern::instance`](crate::CheckedPattern::instance) alone make one. A contract sees it as its opcodes and its paths.
+/// A script with every path on which it runs clean. Only `check` and [`CheckedPattern::instance`](crate::CheckedPattern::instance) make one. A contract sees it as its opcodes and its paths.
 #[derive(Drop)]
 pub struct Checked {
     script: Script,
@@ -47,7 +47,7 @@ impl Checked {
     ghost use Rattle.paths.specs.Sound.{IsSound};
     ghost use Rattle.paths.specs.Exhaustive.{IsExhaustive};
 
-    /// A script with its paths. It takes no memory.
+    /// A script with its paths. It allocates nothing.
     pub(crate) fn from_parts(script: Script, paths: List<Path>) -> Self
         requires { listing script ≡ Ok paths }
         ensures { result ≡ record { ops = script; paths = paths } }
@@ -73,12 +73,12 @@ impl Checked {
         // Nothing else satisfies the script.
         ensures exhaustive { IsExhaustive self.now.ops self.now.paths }
     {
-        // Borrowing both fields gives the prover the invariant, which says that these are the script's paths.
+        // Borrowing both fields gives the prover the invariant: these are the script's paths.
         let _script = &self.script;
         self.paths.values()
     }
 
-    /// The same script with the same paths, which are not listed once more. The only error is that memory ran out.
+    /// A copy of the script with its paths, which are not listed again. The only error is that memory ran out.
     pub fn copy(&self) -> Result<Self, AllocError>
         ensures { IfOk result (λ c. c ≡ self.now) }
     {
@@ -90,27 +90,28 @@ impl Checked {
     }
 }
 
-/// Lists every way through a script, in the text order of its branches: the second branch of a split begins once all paths through the
-/// first have ended. It takes at most as many steps as paths are begun times opcodes.
+/// Lists every way through a script, in the text order of its branches: the second branch of a split begins once all paths through the first have ended. The number of steps is at most the
+/// number of paths begun times the number of opcodes.
 ///
-/// Refused are, first, branches of the whole script that do not close (`OpenBranch`), then more than 201 opcodes that count
-/// (`TooManyOps`), and then what the paths meet first: an opcode or an end that no rule decides (`Undecided`), keys of a CHECKMULTISIG
-/// that lift the count above 201 (`TooManyOps`), more than 1,000 elements (`TooTall`), or a 65th path that begins (`TooManyPaths`).
-/// `NoMemory` may come at any time.
+/// `NoMemory` may come at any time. The other refusals are checked in this order:
+/// - `OpenBranch`: branches of the whole script do not close.
+/// - `TooManyOps`: more than 201 opcodes of the whole script count.
+/// - Then the first fault that the paths meet. `Undecided`: no rule decides an opcode or an end. `TooManyOps`: the keys of a CHECKMULTISIG lift the count above 201. `TooTall`: more than 1,000
+///   elements. `TooManyPaths`: a 65th path begins.
 #[tactic(auto, using(crate::proofs::SoundListing::exact_sound))]
 pub fn check(alloc: Global, script: Script) -> Result<Checked, CheckError>
     ensures exact { IsListing script result }
 
-    // Whatever witness meets a listed path runs clean, with exactly its counted opcodes and its height, at most 1,000.
+    // Any witness that meets a listed path runs clean, with exactly its counted opcodes and its height, at most 1,000.
     ensures sound { IfOk result (λ c. All (IsSound c.ops) c.paths) }
 
-    // Nothing else satisfies the script: whatever witness runs clean, under whatever spend, meets a listed path.
+    // Nothing else satisfies the script: any witness that runs clean, under any spend, meets a listed path.
     ensures exhaustive { IfOk result (λ c. IsExhaustive c.ops c.paths) }
 {
     list(alloc, script)
 }
 
-// Lists the ways, as the definition has them.
+// Lists the paths, as the definition does.
 fn list(alloc: Global, script: Script) -> Result<Checked, CheckError>
     ensures exact { IsListing script result }
 {
@@ -147,7 +148,7 @@ pub fn pattern_paths(
     walk_all(alloc, holes, ops, counted)
 }
 
-// How many opcodes count.
+// The number of counted opcodes.
 fn counted_in(ops: &[Op]) -> usize
     ensures { result ≡ counted_of ops.now }
 {

@@ -42,7 +42,7 @@ pub fn check_sequence(state: &mut State) -> Result<SymbolicJump, Halt>
     Ok(SymbolicJump::Next)
 }
 
-// A lock's number.
+// The number of a lock.
 fn lock_of(sym: &Sym) -> Result<Amount<u64>, Halt>
     ensures { Answers IfHalts (lock_for sym.now) result }
 {
@@ -52,7 +52,7 @@ fn lock_of(sym: &Sym) -> Result<Amount<u64>, Halt>
     }
 }
 
-// Asks for a relative lock that is not switched off. The only error is that memory ran out.
+// Asks for a relative lock, unless it is disabled. The only error is that memory ran out.
 fn ask_age(state: &mut State, age: &Amount<u64>) -> Result<(), AllocError>
     ensures { OnOk result (state.new ≡ age_asked age.now state.old) }
 {

@@ -18,7 +18,7 @@ use script::limits::{MAX_OPS_PER_SCRIPT, MAX_PUBKEYS_PER_MULTISIG, MAX_STACK_SIZ
 use script::truths::flag;
 use std::alloc::{AllocError, Global};
 
-/// CHECKMULTISIG, where `counted` opcodes of the whole script count.
+/// CHECKMULTISIG, in a script with `counted` counted opcodes.
 #[tactic(auto, unfolding(crate::specs::HoleRules::rule_of, crate::specs::HoleRules::check_multi_sig), using(crate::proofs::RulePops::pops_keys))]
 pub fn check_multi_sig(
     alloc: Global,
@@ -51,7 +51,7 @@ fn count_of(limit: usize, sym: &Sym) -> Result<usize, Halt>
     }
 }
 
-// Counts keys with the opcodes of the whole script.
+// Adds keys to the counted opcodes of the whole script.
 fn count_keys(counted: usize, more: usize, state: &mut State) -> Result<(), Halt>
     requires keys { counted + state.old.keys ≤ MAX_OPS_PER_SCRIPT }
     requires more { more ≤ 20 }
@@ -64,7 +64,7 @@ fn count_keys(counted: usize, more: usize, state: &mut State) -> Result<(), Halt
     Ok(())
 }
 
-// Takes n symbols, the deepest of which is the top of the result. The only error is that memory ran out.
+// Pops `count` symbols. The deepest of them is the top of the result. The only error is that memory ran out.
 fn pull_many(alloc: Global, count: usize, state: &mut State) -> Result<Stack<Sym>, AllocError>
     requires { state.old.slots + count < usize.MAX }
     ensures taken { IfOk result (λ p. p ≡ reverse (pops count state.old).0) }
@@ -78,7 +78,7 @@ fn pull_many(alloc: Global, count: usize, state: &mut State) -> Result<Stack<Sym
     Ok(syms)
 }
 
-// Checks signatures against keys, the deepest of each the top. A bad form comes before what no rule decides.
+// Checks signatures against keys, the deepest of each on top. A bad form (`Dead`) comes before `Undecided`.
 fn check(
     alloc: Global,
     state: &mut State,
@@ -146,7 +146,7 @@ fn put_answer(
     put(state, answer)
 }
 
-// Whether no run takes one of these symbols for a key.
+// Whether every run rejects one of these symbols as a key.
 #[tactic(auto, using(crate::proofs::RuleLists::any_reversed))]
 fn has_bad_key(keys: &Stack<Sym>) -> bool
     ensures { result ≡ list_any is_bad_key_of keys.now }
@@ -154,14 +154,14 @@ fn has_bad_key(keys: &Stack<Sym>) -> bool
     any_is_bad(keys.values())
 }
 
-// Whether no run takes one of these symbols for a key.
+// Whether every run rejects one of these symbols as a key.
 fn any_is_bad(keys: &[Sym]) -> bool
     ensures { result ≡ list_any is_bad_key_of keys.now }
 {
     keys.iter().any(|key| is_bad_key(key))
 }
 
-// Whether no run takes this symbol for the extra item.
+// Whether every run rejects this symbol as the extra item.
 fn is_bad_extra(extra: &Sym) -> bool
     ensures { result ≡ is_bad_extra_of extra.now }
 {
@@ -171,7 +171,7 @@ fn is_bad_extra(extra: &Sym) -> bool
     }
 }
 
-// The slots of symbols that are all slots, the deepest of which is the top.
+// The slots of symbols that are all slots, the deepest on top.
 fn slots_of(alloc: Global, syms: Stack<Sym>) -> Result<List<usize>, Halt>
     ensures { Answers IfHalts (slots_for syms) result }
 {
@@ -186,7 +186,7 @@ fn slots_of(alloc: Global, syms: Stack<Sym>) -> Result<List<usize>, Halt>
     Ok(slots)
 }
 
-// Where keys come from, the deepest of which is the top.
+// Where keys come from, the deepest on top.
 fn sources_of(alloc: Global, keys: Stack<Sym>) -> Result<List<KeySource>, Halt>
     ensures { Answers IfHalts (sources_for keys) result }
 {
@@ -245,7 +245,8 @@ fn ask_extra(alloc: Global, state: &mut State, extra: &Sym) -> Result<(), Halt>
     }
 }
 
-// Whether the slots are tokens of an increasing choice of the keys; no slots are. The only error is that memory ran out.
+// Whether the slots are tokens of an increasing choice of the keys; true if there are no slots. The only error is that
+// memory ran out.
 fn answer_of(alloc: Global, slots: List<usize>, keys: List<KeySource>) -> Result<Sym, AllocError>
     ensures { IfOk result (λ s. s ≡ answer_for slots keys) }
 {

@@ -17,7 +17,7 @@ use script::{Op, Script};
 use std::alloc::Global;
 use std::marker::Model;
 
-/// A pattern with every way through it. `check_pattern` alone makes one. A contract sees it as its pieces and its paths.
+/// A pattern with every way through it. Only `check_pattern` makes one. A contract sees it as its pieces and its paths.
 #[derive(Drop)]
 pub struct CheckedPattern {
     pieces: List<Piece>,
@@ -35,8 +35,8 @@ impl Model for CheckedPattern {
     ghost invariant = { λ p. pattern_of p.pieces ≡ Ok p.paths };
 }
 
-/// Lists every way through a pattern. Refused are first a piece that is no opcode (`BadOpcode`), then what `check` refuses, where a rule that needs
-/// the value of a hole decides nothing (`Undecided`), and last a pattern that a script could fill with more than 10,000 bytes (`TooLong`).
+/// Lists every way through a pattern. A piece that is not a valid opcode (`BadOpcode`) is refused first, then what `check` refuses. A rule that would
+/// need the value of a hole is `Undecided`. Last, `TooLong` refuses a pattern that could be filled to a script of more than 10,000 bytes.
 #[tactic(auto, using(crate::proofs::FillPattern::bad_pattern, crate::proofs::FillPattern::refused_pattern, crate::proofs::FillPattern::long_pattern, crate::proofs::FillPattern::listed_pattern))]
 pub fn check_pattern(alloc: Global, pieces: Vec<Piece>) -> Result<CheckedPattern, PatternError>
     ensures { IsPattern pieces.items result }
@@ -66,8 +66,8 @@ fn pattern_paths_of(alloc: Global, pieces: &[Piece]) -> Result<List<PatternPath>
 }
 
 impl CheckedPattern {
-    /// The script with these fills, one for each hole in their order, and its paths: what `check` gives for that script, without a walk. The refusals
-    /// are that number, kind or range of the fills differ from the holes (`WrongHoles`), and that memory ran out.
+    /// The script with these fills, one for each hole in order, and its paths: what `check` gives for that script, without walking it. Fills whose
+    /// number, kind or range does not fit the holes are refused (`WrongHoles`). The other error is that memory ran out.
     pub fn instance(&self, alloc: Global, fills: &[Fill]) -> Result<Checked, InstanceError>
         ensures { IsInstance self.now.pieces fills.now result }
     {
@@ -75,7 +75,7 @@ impl CheckedPattern {
     }
 }
 
-// Fills the holes of a pattern with these paths.
+// Fills the holes of a pattern that has these paths.
 #[tactic(auto, using(crate::proofs::FillPattern::filled_valid, crate::proofs::FillPattern::filled_short, crate::proofs::FillPattern::filled_listed))]
 fn fill(
     alloc: Global,

@@ -23,7 +23,7 @@ use thiserror::Error;
 pub enum Piece {
     /// This opcode.
     Op(Op),
-    /// A push of a key.
+    /// A push of a key of 33 bytes.
     KeyHole,
     /// A push of a hash of 20 bytes.
     HashHole,
@@ -38,20 +38,20 @@ pub enum Fill {
     Key([u8; 33]),
     /// A hash.
     Hash([u8; 20]),
-    /// A number from 0 to 499,999,999: a push of nothing for 0, an opcode of its own from 1 to 16, else the push of its minimal encoding.
+    /// A number from 0 to 499,999,999. It is an empty push for 0, an opcode of its own from 1 to 16, else the push of its minimal encoding.
     Num(u32),
 }
 
 /// Why a pattern is not listed.
 #[derive(Clone, Copy, PartialEq, Eq, Debug, Error)]
 pub enum PatternError {
-    /// It is refused as a script is.
+    /// The listing is refused, as a script's may be.
     #[error("{0}")]
     Check(CheckError),
-    /// A script that fills it could pass 10,000 bytes.
+    /// A script that fills it could exceed 10,000 bytes.
     #[error("TooLong")]
     TooLong,
-    /// A piece is no opcode: its item has more than 75 bytes, or its number is not from 1 to 16.
+    /// A piece is not a valid opcode: it pushes more than 75 bytes, or its number is not from 1 to 16.
     #[error("BadOpcode")]
     BadOpcode,
 }
@@ -62,7 +62,7 @@ pub enum InstanceError {
     /// Memory ran out.
     #[error("NoMemory")]
     NoMemory,
-    /// The fills are not as many as the holes, or one is of another kind than its hole or out of its range.
+    /// The number of fills differs from that of the holes, or a fill does not fit its hole in kind or range.
     #[error("WrongHoles")]
     WrongHoles,
 }
@@ -124,7 +124,7 @@ impl<T: Drop> From<AllocFailed<T>> for InstanceError {
     }
 }
 
-/// What a hole takes; none is an opcode.
+/// What a hole takes; `None` for an opcode.
 pub fn hole_of(piece: &Piece) -> Option<HoleKind>
     ensures { result ≡ hole_for piece.now }
 {
@@ -147,7 +147,7 @@ pub fn holes_of(alloc: Global, pieces: &[Piece]) -> Result<Vec<Option<HoleKind>>
     Ok(holes)
 }
 
-// An equal opcode, where an empty push stands for a hole. The only error is that memory ran out.
+// A copy of a piece's opcode; an empty push for a hole. The only error is that memory ran out.
 fn copied_op(alloc: Global, piece: &Piece) -> Result<Op, AllocError>
     ensures { IfOk result (λ o. o ≡ op_of piece.now) }
 {
@@ -168,7 +168,7 @@ pub fn ops_of(alloc: Global, pieces: &[Piece]) -> Result<Vec<Op>, AllocError>
     Ok(ops)
 }
 
-/// Whether a value is an opcode: an item of at most 75 bytes, a number from 1 to 16.
+/// Whether a value is a valid opcode: a push has at most 75 bytes, and a number is from 1 to 16.
 pub fn is_opcode(op: &Op) -> bool
     ensures { result ≡ is_op op.now }
 {
@@ -179,14 +179,14 @@ pub fn is_opcode(op: &Op) -> bool
     }
 }
 
-/// Whether each opcode of these is one.
+/// Whether all of these are valid opcodes.
 pub fn are_opcodes(ops: &[Op]) -> bool
     ensures { result ≡ list_all is_op ops.now }
 {
     ops.iter().all(|op| is_opcode(op))
 }
 
-// How many bytes are left after the most that a piece comes to, if so many are left.
+// `left` less the greatest length of a piece in bytes; `None` if the piece may be longer.
 fn left_after(piece: &Piece, left: usize) -> Option<usize>
     ensures { MatchOption result (left < longest_piece piece.now)
         (λ n. n + longest_piece piece.now ≡ left) }
@@ -204,7 +204,7 @@ fn left_after(piece: &Piece, left: usize) -> Option<usize>
     }
 }
 
-/// Whether no script that fills the pieces passes 10,000 bytes.
+/// Whether no script that fills the pieces exceeds 10,000 bytes.
 #[tactic(auto, using(crate::proofs::FillPieces::longest_step, crate::proofs::FillPieces::longest_over))]
 pub fn is_short(pieces: &[Piece]) -> bool
     ensures { result ≡ nat_le (longest_of_all pieces.now) 10000 }
@@ -219,7 +219,7 @@ pub fn is_short(pieces: &[Piece]) -> bool
     true
 }
 
-/// Whether a hole takes a fill.
+/// Whether a fill fits a hole.
 pub fn takes(kind: HoleKind, fill: &Fill) -> bool
     ensures { result ≡ hole_takes kind fill.now }
 {
@@ -248,8 +248,8 @@ pub fn op_for(alloc: Global, fill: &Fill) -> Result<Op, AllocError>
     }
 }
 
-/// The opcodes of pieces whose holes take these fills; none where number, kind or range of the fills differ. The only error is that memory ran
-/// out.
+/// The opcodes of pieces with their holes filled in order. `None` if number, kind or range of the fills do not fit. The only error is that
+/// memory ran out.
 #[tactic(auto, using(crate::proofs::FillPieces::step_op, crate::proofs::FillPieces::step_fill, crate::proofs::FillPieces::no_fill, crate::proofs::FillPieces::wrong_fill))]
 pub fn filled_ops(
     alloc: Global,
@@ -295,7 +295,7 @@ pub fn spelt(alloc: Global, ops: &[Op]) -> Result<Vec<u8>, AllocError>
     Ok(bytes)
 }
 
-// Puts the bytes of an opcode at the end. The only error is that memory ran out.
+// Appends the bytes of an opcode. The only error is that memory ran out.
 fn spell(bytes: &mut Vec<u8>, op: &Op) -> Result<(), AllocError>
     requires { IsOp op.now }
     ensures { OnOk result (bytes.new.items ≡ bytes.old.items ++ code_of op.now

@@ -25,7 +25,7 @@ impl From<AllocError> for Halt {
     }
 }
 
-/// Takes the top symbol, which is the next slot where there is none.
+/// Pops the top symbol. If there is none, it is the next slot of the witness.
 pub fn take(state: &mut State) -> Sym
     requires { state.old.slots < usize.MAX }
     ensures { pop state.old ≡ (result, state.new) }
@@ -40,7 +40,7 @@ pub fn take(state: &mut State) -> Sym
     }
 }
 
-/// Asks for a fact. The only error is that memory ran out.
+/// Adds a fact to those that the path asks for. The only error is that memory ran out.
 pub fn ask(state: &mut State, fact: Fact, holds: bool) -> Result<(), AllocError>
     ensures { OnOk result (state.new ≡ asked fact holds state.old) }
 {
@@ -59,7 +59,7 @@ pub fn condition(sym: Sym) -> Result<Condition, Halt>
     }
 }
 
-/// Goes on only where the condition holds.
+/// Goes on only if the condition holds.
 pub fn insist(state: &mut State, condition: Condition) -> Result<(), Halt>
     ensures { IsInsisted condition state.old state.new result }
 {
@@ -73,9 +73,9 @@ pub fn insist(state: &mut State, condition: Condition) -> Result<(), Halt>
     }
 }
 
-/// Follows an opcode, where `counted` opcodes of the whole script count. After an error the path ends, and its state may be anything:
-/// `Dead` where no witness goes on, `Undecided` where no rule and no death decides, `TooManyOps` where the keys of a CHECKMULTISIG lift
-/// the count above 201, `NoMemory` where memory runs out.
+/// Follows an opcode, in a script with `counted` counted opcodes. After an error the path ends, and its state may be anything. `Dead`
+/// means that no witness can go on, and `Undecided` that no rule applies and the opcode is not dead. `TooManyOps` means that the keys
+/// of a CHECKMULTISIG lift the count above 201, and `NoMemory` that memory ran out.
 #[tactic(auto, unfolding(crate::specs::HoleRules::rule_of))]
 pub fn follow(
     alloc: Global,

@@ -28,7 +28,7 @@ pub fn check_sig(state: &mut State) -> Result<SymbolicJump, Halt>
     Ok(SymbolicJump::Next)
 }
 
-// Checks a signature against a key. A bad form comes before what no rule decides.
+// Checks a signature against a key. A bad form (`Dead`) comes before `Undecided`.
 fn check(state: &mut State, key: Sym, signature: Sym) -> Result<(), Halt>
     ensures exact { Leaves IfHalts (checked_sig key signature state.old) state.new result }
     ensures near { OnOk result (IsNear 0 state.old state.new) }
@@ -40,7 +40,7 @@ fn check(state: &mut State, key: Sym, signature: Sym) -> Result<(), Halt>
     record_check(state, source, signature)
 }
 
-// Puts on top whether the signature is the token of the key.
+// Pushes whether the signature is the token of the key.
 fn record_check(state: &mut State, key: KeySource, signature: Sym) -> Result<(), Halt>
     ensures exact { Leaves IfHalts (signature_rule_of key signature state.old) state.new result }
     ensures near { OnOk result (IsNear 0 state.old state.new) }
@@ -57,7 +57,7 @@ fn record_check(state: &mut State, key: KeySource, signature: Sym) -> Result<(),
     }
 }
 
-// Puts the answer for a signature of known bytes on top: false, where there are none.
+// Pushes the answer for a signature of known bytes: false for the empty one.
 fn record_known_check(state: &mut State, key: &KeySource, signature: Constant) -> Result<(), Halt>
     ensures exact { Leaves IfHalts (signature_rule_of key.now (Const signature) state.old) state.new
         result }
@@ -71,7 +71,7 @@ fn record_known_check(state: &mut State, key: &KeySource, signature: Constant) -
     Ok(())
 }
 
-/// Whether no run takes this symbol for a key.
+/// Whether every run rejects this symbol as a key.
 pub fn is_bad_key(sym: &Sym) -> bool
     ensures { result ≡ is_bad_key_of sym.now }
 {
@@ -81,7 +81,7 @@ pub fn is_bad_key(sym: &Sym) -> bool
     }
 }
 
-// Whether no run takes this symbol for a signature.
+// Whether every run rejects this symbol as a signature.
 fn is_bad_signature(sym: &Sym) -> bool
     ensures { result ≡ is_bad_signature_of sym.now }
 {
@@ -102,7 +102,8 @@ pub fn source_of(sym: Sym) -> Result<KeySource, Halt>
     }
 }
 
-/// Asks for the form of a key that is a slot. The only error is that memory ran out.
+/// Asks for the form of a key if the key is a slot. The only error is that memory ran
+/// out.
 pub fn ask_key(state: &mut State, key: &KeySource) -> Result<(), AllocError>
     ensures exact { OnOk result (state.new ≡ key_asked key.now state.old) }
     ensures near { OnOk result (IsNear 0 state.old state.new) }

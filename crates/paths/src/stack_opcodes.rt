@@ -1,4 +1,4 @@
-// What opcodes do to the symbols on the stack that ask for nothing, and the two steps that all opcodes are made of.
+// The stack opcodes, which ask for no fact, and the two steps that all opcodes share: `pull` and `put`.
 
 ghost use Rattle.std.specs.Prelude.{◌≡◌, ◌<◌, ◌≤◌, OnOk};
 ghost use Rattle.paths.specs.HoleRules.{pop, push as pushed};
@@ -13,7 +13,7 @@ use script::Op;
 use script::limits::MAX_STACK_SIZE;
 use std::alloc::{AllocError, Global};
 
-/// Takes the top symbol, which is the next slot where there is none.
+/// Pops the top symbol. If there is none, it is the next slot of the witness.
 pub fn pull(state: &mut State) -> Sym
     requires { state.old.slots < usize.MAX }
     ensures top { result ≡ (pop state.old).0 }
@@ -23,7 +23,7 @@ pub fn pull(state: &mut State) -> Sym
     take(state)
 }
 
-/// Puts a symbol on top. The only error is that memory ran out.
+/// Pushes a symbol. The only error is that memory ran out.
 pub fn put(state: &mut State, sym: Sym) -> Result<(), AllocError>
     ensures put { OnOk result (state.new ≡ pushed sym state.old) }
 {

@@ -1,4 +1,4 @@
-// Where a path stands, and where it ends.
+// The state of a path, and its end.
 
 ghost use Rattle.std.specs.Prelude.{◌≡◌, IfOk};
 ghost use Rattle.script.specs.Step.{result_if};
@@ -10,28 +10,28 @@ use lists::{List, Stack};
 use script::limits::MAX_STACK_SIZE;
 use std::alloc::{AllocError, Global};
 
-/// A path on its way, as it comes to an opcode of the list.
+/// A path in progress, before an opcode of the script.
 #[derive(Drop)]
 pub struct StateOver<C, L, A> {
-    /// How many opcodes it jumps over from here on.
+    /// The number of opcodes that it jumps over next.
     pub ahead: usize,
     /// The symbols on the stack; below them are the slots that were not reached yet.
     pub stack: Stack<SymOver<C, L, A>>,
-    /// How many slots were reached.
+    /// The number of slots reached.
     pub slots: usize,
     /// The facts in the order in which they arose.
     pub facts: List<StatedOver<C, L, A>>,
-    /// How many keys of CHECKMULTISIGs were counted.
+    /// The number of keys of CHECKMULTISIGs counted.
     pub keys: usize,
-    /// By how much the number of elements has passed that of the witness, at the most.
+    /// The greatest number by which the elements have exceeded those of the witness.
     pub excess: usize,
 }
 
-/// A path on its way.
+/// A path in progress.
 pub type State = StateOver<Constant, Amount<u64>, Amount<u32>>;
 
 impl State {
-    /// Where a path begins. It takes no memory.
+    /// The state in which a path begins. It allocates nothing.
     pub fn new(alloc: Global) -> Self
         ensures { result ≡ beginning }
     {
@@ -45,7 +45,7 @@ impl State {
         }
     }
 
-    /// An equal one. The only error is that memory ran out.
+    /// A copy. The only error is that memory ran out.
     pub fn copy(&self) -> Result<Self, AllocError>
         ensures { IfOk result (λ s. s ≡ self.now) }
     {
@@ -68,7 +68,7 @@ impl State {
         self.slots <= MAX_STACK_SIZE && self.excess <= MAX_STACK_SIZE - self.slots
     }
 
-    /// Keeps by how much the elements pass those of the witness.
+    /// Updates `excess` from the elements on the stack.
     pub fn measure(&mut self)
         ensures { self.new ≡ with_excess self.old }
     {
@@ -77,7 +77,7 @@ impl State {
     }
 }
 
-// Equal symbols.
+// Copies of symbols.
 fn copied_syms(alloc: Global, syms: &[Sym]) -> Result<Vec<Sym>, AllocError>
     ensures { IfOk result (λ v. v.items ≡ syms.now) }
 {
@@ -88,7 +88,7 @@ fn copied_syms(alloc: Global, syms: &[Sym]) -> Result<Vec<Sym>, AllocError>
     Ok(copies)
 }
 
-// Equal facts, stated alike.
+// Copies of stated facts.
 fn copied_facts(alloc: Global, facts: &[Stated]) -> Result<Vec<Stated>, AllocError>
     ensures { IfOk result (λ v. v.items ≡ facts.now) }
 {
@@ -104,11 +104,11 @@ fn copied_facts(alloc: Global, facts: &[Stated]) -> Result<Vec<Stated>, AllocErr
 pub enum Halt {
     /// Memory ran out.
     NoMemory,
-    /// No witness goes on.
+    /// No witness can go on.
     Dead,
     /// No rule decides the opcode.
     Undecided,
-    /// The keys lift the count above 201.
+    /// The keys of a CHECKMULTISIG lift the count of opcodes above 201.
     TooManyOps,
 }
 
@@ -131,9 +131,9 @@ pub type SymbolicJump = SymbolicJumpOver<Constant, Amount<u64>, Amount<u32>>;
 /// What decides whether a symbol counts as true.
 #[derive(Drop)]
 pub enum ConditionOver<C, L, A> {
-    /// It is known.
+    /// This is known.
     Known(bool),
-    /// The fact.
+    /// This fact decides it.
     Asked(FactOver<C, L, A>),
 }
 
@@ -143,7 +143,7 @@ pub type Condition = ConditionOver<Constant, Amount<u64>, Amount<u32>>;
 /// A way through a script: whatever witness meets it runs clean.
 #[derive(Debug, Drop)]
 pub struct Path {
-    /// How many items the witness has beside the script.
+    /// The number of witness items, the script not counted.
     pub arity: usize,
     /// What is asked of the witness and the spend, in the order in which it arises.
     pub facts: List<facts::Stated>,
@@ -160,7 +160,7 @@ pub struct Path {
 /// A way through a pattern: a path whose constants may be holes.
 #[derive(Debug, Drop)]
 pub struct PatternPath {
-    /// How many items the witness has beside the script.
+    /// The number of witness items, the script not counted.
     pub arity: usize,
     /// What is asked of the witness and the spend, in the order in which it arises.
     pub facts: List<Stated>,
@@ -170,10 +170,10 @@ pub struct PatternPath {
     pub height: usize,
 }
 
-/// The paths that were listed so far, and how many were begun.
+/// The paths listed so far, and the number of paths begun.
 #[derive(Drop)]
 pub struct ListedOver<P> {
-    /// How many paths were begun, those included that end dead.
+    /// The number of paths begun, including those that end dead.
     pub begun: usize,
     /// The paths that ended, in the text order of their branches.
     pub paths: List<P>,

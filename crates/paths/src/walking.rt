@@ -18,30 +18,31 @@ use script::Op;
 use script::limits::{MAX_OPS_PER_SCRIPT, MAX_STACK_SIZE};
 use std::alloc::{AllocError, Global};
 
-/// The most paths that a script may begin.
+/// The greatest number of paths that a script may begin.
 pub const MAX_PATHS: usize = 64;
 
 /// How a path goes on after an opcode.
 #[derive(Drop)]
 pub enum Successors {
-    /// It ends there, and no witness goes on.
+    /// It ends there, because no witness can go on.
     Dies,
     /// It goes on.
     Goes,
-    /// It goes on, and a second one, which has yet to jump after the ELSE, begins once all paths through the first have ended.
+    /// It goes on, and a second path waits. That one has yet to jump past the ELSE, and begins once all paths through the
+    /// first have ended.
     Splits(State),
 }
 
-/// A path that waits for its turn: the second branch of a split, which has yet to jump after the ELSE.
+/// A path that waits for its turn: the second branch of a split, which has yet to jump past the ELSE.
 #[derive(Drop)]
 pub struct Waiting {
     /// The position of the next opcode.
     pub at: usize,
-    /// Where it stands there.
+    /// Its state there.
     pub state: State,
 }
 
-/// Every path through opcodes of which so many count.
+/// Every path through a script with `counted` counted opcodes.
 pub fn walk_all(
     alloc: Global,
     holes: &[Option<HoleKind>],
@@ -70,7 +71,7 @@ pub fn walk_all(
     Ok(listed.paths)
 }
 
-// Begins one more path.
+// Counts one more path as begun.
 fn begins(listed: &mut Listed) -> Result<(), CheckError>
     ensures exact { Leaves IfRefused (begins_of listed.old) listed.new result }
     ensures more { OnOk result (listed.old.begun < 64 × (listed.new.begun ≡ listed.old.begun + 1)) }
@@ -109,7 +110,7 @@ fn walk_path(
     end(counted, ops.len(), state, listed)
 }
 
-// Goes past the opcode at this position; whether the path goes on.
+// Steps past the opcode at this position. The result is whether the path goes on.
 fn step(
     alloc: Global,
     holes: &[Option<HoleKind>],
@@ -141,7 +142,7 @@ fn step(
     }
 }
 
-// The ways on from the opcode at this position, where `counted` opcodes of the whole script count.
+// The states after the opcode at this position, in a script with `counted` counted opcodes.
 fn next_states(
     alloc: Global,
     holes: &[Option<HoleKind>],
@@ -175,7 +176,7 @@ fn next_states(
     }
 }
 
-// Follows the opcode at a position, where a hole is pushed.
+// Follows the opcode at a position, or pushes the hole there.
 fn follow_at(
     alloc: Global,
     holes: &[Option<HoleKind>],
@@ -205,7 +206,7 @@ fn hole_at(holes: &[Option<HoleKind>], at: usize) -> Option<HoleKind>
     if at < holes.len() { holes[at] } else { None }
 }
 
-// Where a turn leads a path. The only error is that memory ran out.
+// How a path goes on after a jump. The only error is that memory ran out.
 fn successors_of(
     alloc: Global,
     turn: SymbolicJump,
@@ -234,7 +235,7 @@ fn successors_of(
     }
 }
 
-// How many of these opcodes are jumped over, to after the branch's end, or where `stop` to after its ELSE.
+// The number of these opcodes that are jumped over: to after the ENDIF of the branch, or to after its ELSE if `stop`.
 fn jump_len(ops: &[Op], stop: bool) -> usize
     ensures { result ≡ skip_length stop 0 ops.now }
 {

@@ -66,7 +66,7 @@ each_from c i (p ∷ os) (suc n) o e =
     behind (claims_on c i (place_in (transaction_of c) i (tx_output p)) p.kind) (claims_from c (i + 1) os) _
     (subst (λ m. IsClaimedAt (claims_from c (i + 1) os) (place_in (transaction_of c) m (tx_output o))) g (each_from c (i + 1) os n o e))
 
--- an HTLC's second stage, at the output or behind it
+-- an HTLC's second stage, at the output or after it
 at_kind : (c : Contents) (i : ℕ) (place : Place) (kind : OutputKind) (rest : List HtlcOutput) (claims : List Claimable) (k : ℕ) (h : HtlcOutput)
     → ((j : ℕ) → slice_get rest j ≡ Some h → IsClaimedAt claims (place_in (second_stage_of c h) 0 (second_stage_output c h)))
     → slice_get (cons_option (htlc_at i kind) rest) k ≡ Some h → IsClaimedAt (claims_on c i place kind ++ claims) (place_in (second_stage_of c h) 0 (second_stage_output c h))

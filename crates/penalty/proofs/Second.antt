@@ -49,7 +49,7 @@ has_output c k t o s f g =
     let l : length t.outputs ≡ 1 = ap (λ (x : Transaction). length x.outputs) e ∙ ap length (outputs_are c h.0) in
     omega (arith, l)
 
--- where its output stands
+-- the place of its output
 pub stands : (c : Contents) (k : ℕ) (t : Transaction) (o : Option Transaction) (h : HtlcOutput) (p : Place) → slice_get (htlcs_of c) k ≡ Some h → o ≡ htlc_transaction_of c k → o ≡ Some t
     → ((out : Output) → slice_get t.outputs 0 ≡ Some out → p ≡ place_in t 0 out) → p ≡ place_in (second_stage_of c h) 0 (second_stage_output c h)
 stands c k t o h p e f g i =

@@ -31,14 +31,14 @@ module _ (funding : OutPoint) (bases : BaseKeys) where
       × (refusal_of terms (view 4000 (htlcs 1 1000 5) 3000 (htlcs 3 1000 5)) ≡ Some WrongTotal)
   totals = (refl, refl, refl, refl, refl)
 
-  -- heights end below 500,000,000, on either side; and the expiry is tested before the total
+  -- heights are below 500,000,000, on either side; and the expiry is checked before the total
   heights : (refusal_of terms (view 9000 (htlcs 1 1000 499999999) 0 []) ≡ None)
       × (refusal_of terms (view 9000 (htlcs 1 1000 500000000) 0 []) ≡ Some ExpiryTooLarge)
       × (refusal_of terms (view 9000 [] 0 (htlcs 1 1000 500000000)) ≡ Some ExpiryTooLarge)
       × (refusal_of terms (view 0 [] 0 (htlcs 1 1000 500000000)) ≡ Some ExpiryTooLarge)
   heights = (refl, refl, refl, refl)
 
-  -- at most 3,998 HTLCs of both sides together, which is tested first
+  -- at most 3,998 HTLCs of both sides together, which is checked first
   counts : (refusal_of terms (view 10000 (htlcs 1999 0 5) 0 (htlcs 1999 0 5)) ≡ None)
       × (refusal_of terms (view 10000 (htlcs 1999 0 5) 0 (htlcs 2000 0 5)) ≡ Some TooManyHtlcs)
       × (refusal_of terms (view 10000 (htlcs 3999 0 500000000) 0 []) ≡ Some TooManyHtlcs)

@@ -17,7 +17,7 @@ use Rattle.penalty.specs.declared.states.RevokedState.{RevokedState}
 use Rattle.penalty.specs.Claimable.{claims_by, commitment_in}
 use Rattle.penalty.specs.Worth.{staged, first_stage, value_of, fees_with, IsCapacityWith}
 
--- The dust limits are 546 of A and 1,000 of B, and the feerate is 5,000 at the start, of which no commitment here takes account: their views say 1,000.
+-- The dust limits are 546 for A and 1,000 for B. The feerate at the start is 5,000, but no commitment here uses it: their views say 1,000.
 module _ (funding : OutPoint) (bases : BaseKeys) (hash secret : List ℕ) where
   abbrev side : ℕ → ℕ → Party
   side dust start = record { dust = dust; delay = 144; minimum = 0; start = start; bases = bases }
@@ -31,8 +31,8 @@ module _ (funding : OutPoint) (bases : BaseKeys) (hash secret : List ℕ) where
   abbrev view : ℕ → List ℕ → ℕ → List ℕ → View
   view a from_a b from_b = record { a = record { balance = a; offered = offers from_a }; b = record { balance = b; offered = offers from_b }; feerate = 1000 }
 
-  -- the satoshis of each claim, the fees of the HTLC transactions that stand, the fee that the opener pays, what is left out, and the millisatoshis that are
-  -- rounded off
+  -- the satoshis of each claim, and the fees of the HTLC transactions on the chain. Then the fee that the opener pays, what is left out, and the
+  -- millisatoshis that are rounded off
   abbrev figures : (ℕ → Bool) → RevokedState → List ℕ × ℕ × ℕ × ℕ × ℕ
   figures stands s = (
     map (λ o. o.place.value) (staged stands (commitment_in s)),
@@ -45,7 +45,7 @@ module _ (funding : OutPoint) (bases : BaseKeys) (hash secret : List ℕ) where
   abbrev none : ℕ → Bool
   none index = false
 
-  -- of the opener A or B, and of each of them the owner A or B
+  -- with the opener A or B, and for each opener the owner A or B
   abbrev of_each : (Side → Side → RevokedState) → List RevokedState
   of_each state = state A A ∷ state A B ∷ state B A ∷ state B B ∷ []
 
@@ -155,7 +155,7 @@ module _ (funding : OutPoint) (bases : BaseKeys) (hash secret : List ℕ) where
   little_capacity : (IsCapacityWith (little A A) 99276) × (IsCapacityWith (little A B) 98376) × (IsCapacityWith (little B A) 99100) × (IsCapacityWith (little B B) 99100)
   little_capacity = (refl, refl, refl, refl)
 
-  -- an HTLC of each direction: neither transaction stands, the first output's, the second's, both
+  -- an HTLC of each direction: neither transaction is on the chain, the first output's is, the second's is, both are
   abbrev mixed : Side → Side → RevokedState
   mixed opener owner = record {
     terms = opened_by opener;

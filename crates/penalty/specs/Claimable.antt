@@ -23,8 +23,8 @@ use Rattle.forms.specs.Forms.{to_local_form, key_hash_form, offered_form, receiv
 use Rattle.forms.specs.Fillings.{Filling, Signature, Bytes}
 use Rattle.penalty.specs.declared.states.RevokedState.{RevokedState}
 
--- an output that may be claimed: where it stands, with its value and program; its script with the ways through it; which of these is taken; what
--- fills its slots, the top of the stack first; and the transaction round the claim
+-- an output that may be claimed: its place, and its script with the paths through it. Then the path that is taken, what fills its slots with the
+-- top of the stack first, and the transaction round the claim
 pub record Claimable : Type 0 where
   pub place : Place
   pub form : CheckedScript
@@ -32,7 +32,7 @@ pub record Claimable : Type 0 where
   pub slots : List Filling
   pub shell : Shell
 
--- where an output of a transaction stands
+-- the place of an output of a transaction
 abbrev pub place_in : Transaction → ℕ → Output → Place
 place_in t index o = record { outpoint = record { txid = transaction_id t; index = index }; value = o.value; program = o.script }
 
@@ -84,7 +84,7 @@ claims_on c index place (ToHtlc direction h) =
     ∷ second_stage_penalty c (record { index = index; direction = direction; htlc = h })
     ∷ []
 
--- the outputs from an index on, by what an output at an index and a place gives
+-- what the outputs from an index on let the peer claim, by a rule for one output at an index and a place
 unfoldable pub claims_by : (ℕ → Place → OutputKind → List Claimable) → Contents → ℕ → List CommitmentOutput → List Claimable
 claims_by on c index [] = []
 claims_by on c index (o ∷ os) = on index (place_in (transaction_of c) index (tx_output o)) o.kind ++ claims_by on c (index + 1) os
@@ -92,10 +92,10 @@ claims_by on c index (o ∷ os) = on index (place_in (transaction_of c) index (t
 abbrev pub claims_from : Contents → ℕ → List CommitmentOutput → List Claimable
 claims_from c = claims_by (claims_on c) c
 
--- the commitment that was revoked, with the point of the secret
+-- the revoked commitment, with the point of the secret
 abbrev pub commitment_in : RevokedState → Contents
 commitment_in state = commitment_of state.terms state.view state.owner state.number (point_of state.secret)
 
--- what a revoked state lets the owner's peer claim: by output, each HTLC followed by the output of its HTLC transaction
+-- what a revoked state lets the owner's peer claim, in the order of outputs, each HTLC followed by the output of its HTLC transaction
 unfoldable pub claimable_of : RevokedState → List Claimable
 claimable_of state = claims_from (commitment_in state) 0 (commitment_in state).outputs

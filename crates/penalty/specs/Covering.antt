@@ -7,7 +7,7 @@ use Rattle.commit.specs.Commitments.{transaction_of, htlc_transaction_of}
 use Rattle.penalty.specs.declared.states.RevokedState.{RevokedState}
 use Rattle.penalty.specs.Claimable.{Claimable, place_in, commitment_in, claimable_of}
 
--- one of the outputs stands at the place
+-- one of the claimable outputs is at the place
 abbrev pub IsClaimedAt : List Claimable → Place → Type 0
 IsClaimedAt os place = (o : Claimable) × Contains os o × (o.place ≡ place)
 

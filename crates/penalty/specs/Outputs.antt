@@ -1,4 +1,4 @@
--- What a claim on an output of a commitment rests on.
+-- What a claim on an output of a commitment needs.
 use Rattle.std.specs.Prelude.{◌≡◌, ℕ, ◌≤◌, ◌<◌, true, List, length, Some, slice_get}
 use Rattle.std.specs.List.{All}
 use Rattle.script.specs.Limits.{locktime_threshold}

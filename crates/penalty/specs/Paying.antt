@@ -8,11 +8,11 @@ use Rattle.penalty.specs.Views.{htlc_count, has_heights}
 use Rattle.penalty.specs.declared.errors.StateError.{StateError}
 use Rattle.penalty.specs.declared.errors.StateError.TheVariants.{TooManyHtlcs, ExpiryTooLarge, WrongTotal}
 
--- how many HTLCs a state can have at most
+-- the greatest number of HTLCs of a state
 abbrev pub max_htlcs : ℕ
 max_htlcs = 3998
 
--- the first reason why a view is none that a commitment of the terms can pay
+-- the first reason why no commitment of the terms can pay a view
 abbrev pub refusal_of : Terms → View → Option StateError
 refusal_of terms view =
     if nat_lt max_htlcs (htlc_count view) then Some TooManyHtlcs

@@ -25,7 +25,7 @@ pub record AreBasesOf (r : Rights) (bases : BaseKeys) : Type 0 where
   pub payment : bases.payment.bytes ≡ base_key r.seed Payment
   pub revocation : bases.revocation.bytes ≡ base_key r.seed Revocation
 
--- the owner's peer, once it learnt the secret, can fill each claim
+-- once the owner's peer has learnt the secret, it can fill each claim
 abbrev pub PeerCanFill : Type 0
 PeerCanFill =
     (state : RevokedState) (r : Rights) → AreBasesOf r (party (other state.owner) state.terms).bases → Contains r.secrets state.secret

@@ -5,7 +5,7 @@ use Rattle.script.specs.Limits.{locktime_threshold}
 use Rattle.terms.specs.declared.htlcs.Htlc.{Htlc}
 use Rattle.terms.specs.declared.views.View.{View}
 
--- how many HTLCs a view has
+-- the number of HTLCs of a view
 abbrev pub htlc_count : View → ℕ
 htlc_count view = length view.a.offered + length view.b.offered
 

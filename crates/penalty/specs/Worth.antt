@@ -13,9 +13,9 @@ use Rattle.commit.specs.Commitments.{Contents, htlcs_of}
 use Rattle.penalty.specs.declared.states.RevokedState.{RevokedState}
 use Rattle.penalty.specs.Claimable.{Claimable, penalty_on, payment_on, htlc_penalty_on, second_stage_penalty, claims_by, commitment_in, claimable_of}
 
--- Below, `stands` says of an output's index whether the HTLC transaction that spends it stands.
+-- Below, `stands` says of an output's index whether the HTLC transaction that spends the output is on the chain.
 
--- what the peer claims of an output then: of an HTLC the output itself, or that of its transaction
+-- what the peer claims for an output: for an HTLC, the output itself or that of its HTLC transaction
 abbrev pub stage_on : (ℕ → Bool) → Contents → ℕ → Place → OutputKind → List Claimable
 stage_on stands c index place ToLocal = penalty_on c place ∷ []
 stage_on stands c index place ToRemote = payment_on c place ∷ []
@@ -29,7 +29,7 @@ stage_on stands c index place (ToHtlc direction h) =
 abbrev pub staged : (ℕ → Bool) → Contents → List Claimable
 staged stands c = claims_by (stage_on stands c) c 0 c.outputs
 
--- while no HTLC transaction stands
+-- the claims while no HTLC transaction is on the chain
 abbrev pub first_stage : Contents → List Claimable
 first_stage c = staged (λ _. false) c
 
@@ -37,27 +37,27 @@ first_stage c = staged (λ _. false) c
 abbrev pub value_of : List Claimable → ℕ
 value_of os = sum_by (λ o. o.place.value) os
 
--- what the transaction of an HTLC costs, where it stands; and all those that stand
+-- the fee of an HTLC's transaction, if it is on the chain; and the fees of all that are
 abbrev pub fee_with : (ℕ → Bool) → ℕ → HtlcOutput → ℕ
 fee_with stands feerate h = if stands h.index then fee_of (htlc_weight h.direction) feerate else 0
 
 abbrev pub fees_with : (ℕ → Bool) → Contents → ℕ
 fees_with stands c = sum_by (λ h. fee_with stands c.feerate h) (htlcs_of c)
 
--- satoshis are the capacity together with the commitment's fee, of which the opener pays no more
--- than it has, with what was left out as dust, and with the millisatoshis that were rounded off
+-- satoshis are the capacity together with three amounts. These are the commitment's fee, of which the opener pays no
+-- more than it has, what was left out as dust, and the millisatoshis that were rounded off
 abbrev pub IsCapacityWith : RevokedState → ℕ → Type 0
 IsCapacityWith s satoshis =
     MSAT_PER_SAT * (satoshis + fee_paid s.terms s.view s.owner + left_out s.terms s.view s.owner)
     + rounded_off s.view
     ≡ MSAT_PER_SAT * s.terms.capacity
 
--- the outputs of the commitment are so, all of which are claimable, the peer's own among them
+-- the outputs of the commitment are worth that; all of them are claimable, and the peer's own is among them
 abbrev pub FirstStageIsWorthTheCapacity : Type 0
 FirstStageIsWorthTheCapacity =
     (s : RevokedState) → IsCapacityWith s (value_of (first_stage (commitment_in s)))
 
--- and so is what is claimable whichever HTLC transactions stand, with the fees of these
+-- so is what is claimable with any HTLC transactions on the chain, together with their fees
 abbrev pub EachStageIsWorthTheCapacity : Type 0
 EachStageIsWorthTheCapacity =
     (s : RevokedState) (stands : ℕ → Bool)

@@ -39,7 +39,7 @@ fn second_stage_penalty(
     }
 }
 
-// What an output lets the peer claim goes to the end. Where it is an HTLC's, that one is the k-th.
+// Appends what an output lets the peer claim. If the output is an HTLC's, that HTLC is the k-th.
 fn push_claims_on(
     alloc: Global,
     patterns: &Patterns,
@@ -135,7 +135,7 @@ pub fn payable_commitment(
     }
 }
 
-/// The commitment that was revoked. The only error is that memory ran out.
+/// The revoked commitment. The only error is that memory ran out.
 pub fn revoked_commitment(alloc: Global, state: &RevokedState) -> Result<Commitment, AllocError>
     ensures value { IfOk result (λ c. c ≡ commitment_in state.now) }
     ensures outputs { IfOk result AreOutputs }
@@ -151,7 +151,7 @@ pub fn revoked_commitment(alloc: Global, state: &RevokedState) -> Result<Commitm
     )
 }
 
-// The claims on all outputs of the commitment that was revoked.
+// The claims on all outputs of the revoked commitment.
 #[tactic(auto, unfolding(crate::specs::Claimable::claimable_of))]
 fn revoked_claims(alloc: Global, state: &RevokedState) -> Result<List<Claim>, AllocError>
     ensures { IfOk result (AreClaimsOn (claimable_of state.now)) }
@@ -160,10 +160,10 @@ fn revoked_claims(alloc: Global, state: &RevokedState) -> Result<List<Claim>, Al
     claims_of(alloc, &commitment)
 }
 
-/// All that a revoked state lets the owner's peer claim (BOLT 5, "Revoked Transaction Close Handling"). These are accepted claims on to_local and to_remote where they
-/// are outputs, on each HTLC that isn't trimmed, and on the output of the HTLC transaction that the peer signed for it. That is HTLC-timeout where the owner offered
-/// the HTLC, and HTLC-success where it was offered to the owner. They stand by output, each HTLC's followed by that of its HTLC transaction. The only
-/// error is that memory ran out.
+/// All that a revoked state lets the owner's peer claim (BOLT 5, "Revoked Transaction Close Handling"). These are accepted claims on to_local and to_remote if they
+/// are outputs, and on each HTLC that isn't trimmed. For each such HTLC there is another claim, on the output of the HTLC transaction that the peer signed for it.
+/// That is HTLC-timeout where the owner offered the HTLC, and HTLC-success where it was offered to the owner. They are in the order of the outputs, and each HTLC's
+/// claim is followed by that on its HTLC transaction. The only error is that memory ran out.
 pub fn penalties(alloc: Global, state: &RevokedState) -> Result<PenaltySet, AllocError>
     ensures state { IfOk result (λ p. p.state ≡ state.now) }
     ensures claims { IfOk result (λ p. AreClaimsOn (claimable_of state.now) p.claims) }

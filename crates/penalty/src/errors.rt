@@ -1,11 +1,11 @@
-//! Why values are no revoked state.
+//! Why values make no revoked state.
 
 ghost use Rattle.std.specs.Prelude.{◌≡◌};
 ghost use Rattle.penalty.specs.States.{refusal_number};
 
 use thiserror::Error;
 
-/// Why a view is none that a commitment of the terms can pay. It is tested for these in this order.
+/// Why no commitment of the terms can pay a view. Checked in this order.
 #[derive(Clone, Copy, Debug, PartialEq, Eq, Drop, Error)]
 pub enum StateError {
     /// There are more than 3,998 HTLCs.
@@ -14,13 +14,13 @@ pub enum StateError {
     /// The expiry of an HTLC is a time: 500,000,000 or above (BIP 65).
     #[error("ExpiryTooLarge")]
     ExpiryTooLarge,
-    /// Balances and HTLCs are together not the capacity.
+    /// Balances and HTLCs do not sum to the capacity.
     #[error("WrongTotal")]
     WrongTotal,
 }
 
 impl StateError {
-    /// The refusal's number. No refusal says that memory ran out, which would be 0.
+    /// The refusal's number. None is 0, which stands for out of memory.
     pub fn number(&self) -> u8
         ensures { result ≡ refusal_number self.now }
     {

@@ -10,15 +10,15 @@ pub fn nothing_is_left_out()
     ensures second_stages { EachSecondStageIsClaimed }
 {}
 
-/// The owner's peer, once it learnt the secret, has the right to each key in the slots of each claim, and no claim wants a preimage: so a filling is never
-/// refused for want of either.
+/// Once the owner's peer has learnt the secret, it has the right to each key in the slots of each claim, and no claim wants a preimage. So no filling is refused for
+/// a missing right or preimage.
 pub fn peer_can_fill()
     ensures { PeerCanFill }
 {}
 
-/// What a revoked commitment lets the owner's peer claim is worth the capacity, the peer's own to_remote among it. To the outputs of the commitment are added the fee
-/// that the opener paid, at most its balance, what was left out as dust, and what was rounded off. Where HTLC transactions stand, their
-/// outputs take the place of the HTLCs' outputs, and the fees of these transactions are added.
+/// What a revoked commitment lets the owner's peer claim is worth the capacity, with the peer's own to_remote included. The sum has the outputs of the commitment,
+/// the fee that the opener paid (at most its balance), what was left out as dust, and what was rounded off. Where HTLC transactions are on the chain, their outputs
+/// take the place of the HTLCs' outputs, and the fees of these transactions are added.
 pub fn claims_are_worth_the_capacity()
     ensures first { FirstStageIsWorthTheCapacity }
     ensures each { EachStageIsWorthTheCapacity }

@@ -2,9 +2,9 @@
 //! Handling").
 //!
 //! [`penalties`] gives one accepted claim for each output of the commitment, to_local, to_remote and each HTLC. After
-//! each HTLC's claim stands one for the output of the HTLC transaction with which the cheater may get there first.
-//! That the claims are on exactly the definition's outputs (`claimable_of`), in its order, is a fact of the type
-//! [`PenaltySet`]. Running out of memory is the only error.
+//! each HTLC's claim comes one on the output of its HTLC transaction, because the cheater may confirm that
+//! transaction first. The type [`PenaltySet`] guarantees that the claims are on exactly the outputs of the definition
+//! `claimable_of`, in its order. Running out of memory is the only error.
 //!
 //! `commit` builds the revoked commitment, and `claim` accepts each claim. `resolve` gives the set as what is due,
 //! `side` builds it for a node, and `book` keeps it.

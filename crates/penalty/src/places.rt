@@ -1,4 +1,4 @@
-//! Where the outputs of commitments and of HTLC transactions stand.
+//! The places of the outputs of commitments and of HTLC transactions.
 
 ghost use Rattle.std.specs.Prelude.{ℕ, ◌≡◌, ◌≤◌, ◌<◌, [], length, Some, IfOk, slice_get};
 ghost use Rattle.std.specs.List.{cons_option};
@@ -12,7 +12,7 @@ use std::alloc::AllocError;
 use tx::hashing::txid;
 use tx::{OutPoint, Tx};
 
-/// Where an output of the commitment stands. The only error is that memory ran out.
+/// The place of an output of the commitment. The only error is that memory ran out.
 pub fn place_of(
     commitment: &Commitment,
     index: u32,
@@ -32,7 +32,7 @@ pub fn place_of(
     })
 }
 
-/// Where the first output of a transaction stands. The only error is that memory ran out.
+/// The place of the first output of a transaction. The only error is that memory ran out.
 pub fn first_place(tx: &Tx) -> Result<Place, AllocError>
     requires { 0 < length tx.now.outputs }
     ensures { (o : Output) → slice_get tx.now.outputs 0 ≡ Some o
@@ -50,7 +50,7 @@ pub fn first_place(tx: &Tx) -> Result<Place, AllocError>
     })
 }
 
-/// How many HTLCs an output is for.
+/// The number of HTLCs that an output is for: 0 or 1.
 pub fn htlc_count(kind: &OutputKind) -> usize
     ensures value { (index : ℕ) → result ≡ length (cons_option (htlc_at index kind.now) []) }
     ensures bound { result ≤ 1 }

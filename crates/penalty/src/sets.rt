@@ -8,7 +8,7 @@ use lists::List;
 use std::alloc::{AllocError, Global};
 use std::marker::Model;
 
-/// All that a revoked state lets the owner's peer claim: accepted claims on exactly the outputs of `claimable_of`, in its order. `penalties` alone makes
+/// All that a revoked state lets the owner's peer claim: accepted claims on exactly the outputs of `claimable_of`, in its order. Only `penalties` makes
 /// one.
 #[derive(Drop)]
 pub struct PenaltySet {
@@ -27,7 +27,7 @@ impl Model for PenaltySet {
     ghost invariant = { λ s. AreClaimsOn (claimable_of s.state) s.claims };
 }
 
-// Equal claims.
+// Copies of claims.
 fn copied_claims(alloc: Global, claims: &[Claim]) -> Result<Vec<Claim>, AllocError>
     ensures { IfOk result (λ v. v.items ≡ claims.now) }
 {
@@ -58,7 +58,7 @@ impl PenaltySet {
         &self.state
     }
 
-    /// The claims: by output of the commitment, and after each HTLC's the one on the output of its HTLC transaction.
+    /// The claims, in the order of the commitment's outputs. Each HTLC's claim is followed by the one on the output of its HTLC transaction.
     pub fn claims(&self) -> &[Claim]
         ensures value { result.now ≡ self.now.claims }
         ensures full { AreClaimsOn (claimable_of self.now.state) self.now.claims }
@@ -68,7 +68,7 @@ impl PenaltySet {
         self.claims.values()
     }
 
-    /// An equal set, for which nothing is built again. The only error is that memory ran out.
+    /// A copy, made without building it again. The only error is that memory ran out.
     pub fn copy(&self) -> Result<PenaltySet, AllocError>
         ensures { IfOk result (λ p. p ≡ self.now) }
     {
@@ -80,7 +80,7 @@ impl PenaltySet {
         })
     }
 
-    /// The claims, without memory.
+    /// The claims, taken out of the set. It allocates nothing.
     pub fn into_claims(self) -> Vec<Claim>
         ensures value { result.items ≡ self.claims }
         ensures full { AreClaimsOn (claimable_of self.state) self.claims }

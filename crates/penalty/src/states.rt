@@ -11,10 +11,10 @@ use script::limits::LOCKTIME_THRESHOLD;
 use std::alloc::AllocError;
 use terms::{Htlc, MSAT_PER_SAT, Share, Side, Terms, View};
 
-/// How many HTLCs a state can have, so that to_local and to_remote have room beside them in one transaction.
+/// The greatest number of HTLCs of a state. It leaves room for to_local and to_remote in the same transaction.
 pub const MAX_STATE_HTLCS: usize = 3998;
 
-/// A commitment that its owner revoked, by what it pays and by the secret. The type keeps that a commitment can pay the view.
+/// A commitment that its owner revoked, by what it pays and by the secret. The type guarantees that a commitment can pay the view.
 #[derive(Debug, Drop)]
 pub struct RevokedState {
     pub terms: Terms,
@@ -22,7 +22,7 @@ pub struct RevokedState {
     pub view: View,
     /// Whose commitment it is: the side that revoked it.
     pub owner: Side,
-    /// The commitment's number, of which the low 48 bits count.
+    /// The commitment's number, of which only the low 48 bits count.
     pub number: u64,
     /// The commitment's per-commitment secret, which its owner gave away (BOLT 2, `revoke_and_ack`).
     pub secret: [u8; 32],
@@ -40,7 +40,7 @@ fn expire_at_heights(htlcs: &[Htlc]) -> bool
         .all(|htlc| u64::from(htlc.expiry) < LOCKTIME_THRESHOLD)
 }
 
-// The millisatoshis of HTLCs. No number of them passes the width.
+// The millisatoshis of HTLCs. The sum never overflows.
 fn millisatoshis(htlcs: &[Htlc]) -> u128
     ensures value { result ≡ millisatoshis_of htlcs.now }
     ensures bound { result ≤ length htlcs.now * 2 ^ 64 }
@@ -71,8 +71,10 @@ fn total(view: &View) -> u128
     share_total(&view.a) + share_total(&view.b)
 }
 
-/// Why a commitment of the terms can't pay a view: TooManyHtlcs where there are more than 3,998, ExpiryTooLarge where one expires at a time and not a
-/// height, and WrongTotal where balances and HTLCs are together not the capacity. `None` where it can.
+/// Why no commitment of the terms can pay a view; `None` if one can. Checked in this order:
+/// - TooManyHtlcs if there are more than 3,998 HTLCs;
+/// - ExpiryTooLarge if one expires at a time instead of a height;
+/// - WrongTotal if balances and HTLCs do not sum to the capacity.
 pub fn refusal(terms: &Terms, view: &View) -> Option<StateError>
     ensures value { result ≡ refusal_of terms.now view.now }
     ensures passed { IfNone result (CanPay terms.now view.now) }
@@ -96,7 +98,7 @@ impl RevokedState {
     ghost use Rattle.penalty.specs.States.{HasParts};
     ghost use Rattle.penalty.specs.Paying.{refusal_of};
 
-    /// The state of these values, or why there is none, as `refusal` says.
+    /// The state of these values, or why there is none, as by `refusal`.
     pub fn new(
         terms: Terms,
         view: View,
@@ -120,7 +122,7 @@ impl RevokedState {
         })
     }
 
-    /// An equal state. The only error is that memory ran out.
+    /// A copy. The only error is that memory ran out.
     pub fn copy(&self) -> Result<RevokedState, AllocError>
         ensures { IfOk result (λ s. s ≡ self.now) }
     {

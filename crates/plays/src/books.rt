@@ -1,8 +1,8 @@
-//! Plays two nodes with a book each, as the lines of its input say: `open CHANNELS` gives both an empty book and opens so many channels; `A offer MILLISATOSHIS EXPIRY`, `A fee RATE`, `A sign`,
-//! `A deliver`, `A keep NUMBER` and `A release NUMBER` (the penalties of the peer's commitment), or the same of B, are calls in the first channel. `A zeros` hands A a revocation with a secret of zeros.
+//! Plays two nodes with a book each, as the lines of its input say. `open CHANNELS` gives both an empty book and opens this number of channels. `A offer MILLISATOSHIS EXPIRY`, `A fee RATE`, `A sign`, `A
+//! deliver`, `A keep NUMBER` and `A release NUMBER` (the penalties of the peer's commitment), or the same of B, are calls in the first channel. `A zeros` gives A a revocation with a secret of zeros.
 //!
-//! It prints what came of each call, and of a refused one whether the dump is what it was. `entries` prints how many entries both histories have; `beginnings`, `damages` and `version` change A's dump and
-//! load it, and `dump` prints it; `load TEXT` loads a text, and `stored TEXT` dumps it again; `random GAMES` dumps, loads and dumps again the histories of random games.
+//! It prints the result of each call, and after a refusal whether the dump changed. `entries` prints how many entries both histories have. `beginnings`, `damages` and `version` change A's dump and load
+//! it, and `dump` prints it. `load TEXT` loads a text, and `stored TEXT` dumps it again. `random GAMES` dumps, loads and dumps again the histories of random games.
 
 mod damages;
 mod loading;
@@ -23,7 +23,7 @@ struct Words<'a> {
     words: &'a str,
 }
 
-// An offer of so many millisatoshis up to an expiry.
+// An offer of an amount in millisatoshis, up to an expiry.
 fn offer_of(words: &str) -> Result<Act> {
     let (amount, expiry) = words.split_once(' ').context("an offer has two numbers")?;
     Ok(Act::Update(offer(amount.parse()?, expiry.parse()?)))
@@ -36,7 +36,7 @@ fn fee_of(rate: &str) -> Result<Act> {
     }))
 }
 
-// The call of a word with numbers behind it.
+// The call of a word followed by numbers.
 fn act_with(word: &str, words: &str) -> Result<Act> {
     match word {
         "offer" => offer_of(words),
@@ -47,7 +47,7 @@ fn act_with(word: &str, words: &str) -> Result<Act> {
     }
 }
 
-// The call of a word alone.
+// The call of a single word.
 fn plain_act(word: &str) -> Result<Act> {
     match word {
         "sign" => Ok(Act::Sign),
@@ -57,7 +57,7 @@ fn plain_act(word: &str) -> Result<Act> {
     }
 }
 
-// The call that words say.
+// The call that the words name.
 fn act_of(words: &str) -> Result<Act> {
     match words.split_once(' ') {
         Some((word, words)) => act_with(word, words),
@@ -65,7 +65,7 @@ fn act_of(words: &str) -> Result<Act> {
     }
 }
 
-// What came of a call, in words.
+// Prints the result of a call.
 fn print_reply(rt: &impl Print, line: &str, reply: &Reply) -> Result<()> {
     match reply {
         Reply::Done => println!(rt; "{line}: ok")?,
@@ -96,7 +96,7 @@ fn print_unchanged(
     Ok(())
 }
 
-// Plays a call on a side whose dump is this one, and prints what came of it; of a refused one whether the dump changed.
+// Plays a call on a side with this dump, and prints the result; after a refusal also whether the dump changed.
 fn play_from(
     rt: &impl Print,
     alloc: Global,
@@ -132,7 +132,7 @@ fn print_entries(rt: &impl Print, peers: &Peers) -> Result<()> {
     Ok(())
 }
 
-// Plays random games, and prints how many of their histories come back.
+// Plays random games, and prints how many of their histories are loaded as they were dumped.
 fn print_random(rt: &impl Print, alloc: Global, peers: &mut Peers, games: u32) -> Result<()> {
     let tally = play_games(alloc, peers, games)?;
     println!(rt;
@@ -149,7 +149,7 @@ fn print_beginnings(rt: &impl Print, alloc: Global, text: String) -> Result<()> 
     Ok(())
 }
 
-// Does with A's dump what a line of one word says.
+// Handles a line of one word about A's dump.
 fn follow_dump(rt: &impl Print, alloc: Global, word: &str, text: String) -> Result<()> {
     match word {
         "beginnings" => print_beginnings(rt, alloc, text),
@@ -160,13 +160,13 @@ fn follow_dump(rt: &impl Print, alloc: Global, word: &str, text: String) -> Resu
     }
 }
 
-// Opens so many channels between two empty books.
+// Opens this number of channels between two empty books.
 fn open(alloc: Global, peers: &mut Peers, channels: u32) -> Result<()> {
     *peers = Peers::new(alloc);
     peers.open(alloc, channels)
 }
 
-// Does what a line of two words or more says.
+// Handles a line of two words or more.
 fn follow_words(
     rt: &impl Print,
     alloc: Global,
@@ -185,7 +185,7 @@ fn follow_words(
     }
 }
 
-/// Does what a line says.
+/// Handles a line.
 pub fn follow(rt: &impl Print, alloc: Global, peers: &mut Peers, line: &str) -> Result<()> {
     match line.split_once(' ') {
         Some((word, words)) => follow_words(rt, alloc, peers, &Words { line, words }, word),

@@ -1,5 +1,5 @@
-//! What a side of a channel publishes when it closes it, what is due by each verdict, and claims in one transaction. What must be printed is what an independent model of
-//! BOLT 3 and BOLT 5 and of BIP 65, 68 and 143 prints.
+//! What a side of a channel broadcasts to close it, what is due by each verdict, and claims in one transaction. The expected output is from an independent model of BOLT
+//! 3 and BOLT 5 and of BIP 65, 68 and 143.
 
 mod known;
 mod publishing;
@@ -17,7 +17,7 @@ use terms::Side;
 /// The delays of A and of B.
 const DELAYS: Delays = [144, 144];
 
-/// Those where the channel is closed.
+/// The delays where the channel is closed.
 const SHORT_DELAYS: Delays = [4, 3];
 
 /// Three HTLCs of A.
@@ -36,7 +36,7 @@ const THREE: [Offer; 3] = [
     },
 ];
 
-/// An HTLC of A beside one of B.
+/// One HTLC of A, with one of B.
 const OF_A: [Offer; 1] = [Offer {
     satoshis: 12_000,
     expiry: 500,
@@ -47,7 +47,7 @@ const OF_B: [Offer; 1] = [Offer {
     expiry: 500,
 }];
 
-/// The same, which expire soon.
+/// The same with an early expiry.
 const SOON_OF_A: [Offer; 1] = [Offer {
     satoshis: 12_000,
     expiry: 6,
@@ -58,13 +58,13 @@ const SOON_OF_B: [Offer; 1] = [Offer {
     expiry: 7,
 }];
 
-/// The HTLC of A's commitment 1 where A is punished.
+/// The HTLC of A's commitment 1, for which A is punished.
 const SCENARIO: [Offer; 1] = [Offer {
     satoshis: 10_000,
     expiry: 5,
 }];
 
-/// Shows the steps in a channel that is opened on a chain.
+/// Shows the steps in a channel that was opened on a chain.
 fn show_in<R: Print + AllocGlobal>(
     rt: &R,
     setting: &Setting,
@@ -102,7 +102,7 @@ fn show_steps<R: Print + AllocGlobal>(
     show_on(rt, delays, of_a, of_b, steps, &mut chain)
 }
 
-/// A step of a side that knows the preimage, where the channel is closed by its commitment of a number.
+/// A step of a side that knows the preimage, after its commitment of a number closed the channel.
 fn show_close<R: Print + AllocGlobal>(
     rt: &R,
     what: &'static str,
@@ -138,7 +138,7 @@ fn show_success<R: Print + AllocGlobal>(rt: &R, what: &'static str, newest: u64)
     show_close(rt, what, Side::B, newest, shown)
 }
 
-/// What closes a channel with an HTLC each way: A's commitment, B's newest, B's next and a revoked one, and B's HTLC-success transaction on each of the last two.
+/// What closes a channel with an HTLC each way: A's commitment, and B's newest, next and revoked one; and B's HTLC-success transaction on each of the last two.
 fn show_closes<R: Print + AllocGlobal>(rt: &R) -> Result<()> {
     show_closing(rt, "closes: our commitment", Side::A, 1)?;
     show_closing(rt, "closes: the peer's newest", Side::B, 1)?;
@@ -148,7 +148,7 @@ fn show_closes<R: Print + AllocGlobal>(rt: &R) -> Result<()> {
     show_success(rt, "closes: HTLC-success on a revoked one", 0)
 }
 
-/// What A is shown, where the commitments of number 1 are the newest.
+/// A step that is shown to A, where the commitments of number 1 are the newest.
 fn step_of_a(what: &'static str, preimage: Option<[u8; 32]>, shown: Shown) -> Step {
     Step {
         what,
@@ -160,7 +160,7 @@ fn step_of_a(what: &'static str, preimage: Option<[u8; 32]>, shown: Shown) -> St
     }
 }
 
-/// What is due with an HTLC each way and a preimage.
+/// Shows what is due with an HTLC each way and a preimage.
 fn show_both_ways<R: Print + AllocGlobal>(
     rt: &R,
     what: &'static str,
@@ -170,7 +170,7 @@ fn show_both_ways<R: Print + AllocGlobal>(
     show_steps(rt, DELAYS, &OF_A, &OF_B, &[step])
 }
 
-/// What is shown with three HTLCs of A and no preimage.
+/// Shows what is due with three HTLCs of A and no preimage.
 fn show_three_htlcs<R: Print + AllocGlobal>(
     rt: &R,
     what: &'static str,
@@ -179,12 +179,12 @@ fn show_three_htlcs<R: Print + AllocGlobal>(
     show_steps(rt, DELAYS, &THREE, &[], &[step_of_a(what, None, shown)])
 }
 
-/// The first two claims by a verdict in one transaction, with three HTLCs of A.
+/// Shows the first two claims by a verdict in one transaction, with three HTLCs of A.
 fn show_two<R: Print + AllocGlobal>(rt: &R, what: &'static str, verdict: Verdict) -> Result<()> {
     show_three_htlcs(rt, what, Shown::Claims(verdict, Taken::FirstTwo))
 }
 
-/// A's commitment 1 in a block, and then what B claims of it once it is revoked.
+/// Shows A's commitment 1 in a block, and what B claims of it after it is revoked.
 fn show_scenario<R: Print + AllocGlobal>(rt: &R) -> Result<()> {
     let close = Step {
         what: "A's commitment 1",

@@ -1,14 +1,14 @@
-//! Plays with books, and with what is due of a channel: `stdin` asks, and `stdout` is what must be printed.
+//! Plays with books, and with what is due of a channel: `stdin` is the input, and `stdout` the expected output.
 //!
-//! A line `== WORD` begins a part, and is printed again. The lines after it are the part's own, up to the next such
-//! line:
+//! A line `== WORD` begins a part, and is printed again. The
+//! lines after it, up to the next such line, belong to the part:
 //!
 //! - `book`: calls of two books, their dumps, and what changed dumps are loaded as
 //! - `due`: transactions of a channel, the claims that are due by each verdict, and claims in one transaction; it has
 //!   no lines
 //!
-//! Each word's module says what its lines are. Nothing stands on the program: it plays the two nodes of `book_peers`,
-//! and asks `resolve` and `filling`.
+//! The module of each word describes its lines. No crate depends on the program. It plays the two nodes of
+//! `book_peers`, and calls `resolve` and `filling`.
 #![tactic(auto)]
 
 mod books;
@@ -17,14 +17,14 @@ mod dues;
 use anyhow::{Result, bail};
 use book_peers::Peers;
 
-/// What the lines of a part are about.
+/// The kind of a part.
 #[derive(Clone, Copy, PartialEq, Eq)]
 enum Word {
     Book,
     Due,
 }
 
-/// The part that is read, and what its lines left.
+/// The current part, and the state that its lines left.
 #[derive(Drop)]
 struct Reading {
     word: Word,
@@ -32,7 +32,7 @@ struct Reading {
     peers: Peers,
 }
 
-/// The word of a header.
+/// The kind that a header names.
 fn word_of(name: &str) -> Result<Word> {
     match name {
         "book" => Ok(Word::Book),
@@ -41,7 +41,7 @@ fn word_of(name: &str) -> Result<Word> {
     }
 }
 
-/// Begins a part, and prints what needs no lines.
+/// Begins a part, and prints the output of a part without lines.
 fn begin<R: Print + AllocGlobal>(rt: &R, word: &mut Word, name: &str) -> Result<()> {
     println!(rt; "== {name}")?;
     *word = word_of(name)?;
@@ -51,7 +51,7 @@ fn begin<R: Print + AllocGlobal>(rt: &R, word: &mut Word, name: &str) -> Result<
     Ok(())
 }
 
-/// Answers a line of a part.
+/// Handles a line of a part.
 fn answer<R: Print + AllocGlobal>(rt: &R, reading: &mut Reading, line: &str) -> Result<()> {
     match reading.word {
         Word::Book => books::follow(rt, rt.alloc(), &mut reading.peers, line),

@@ -101,7 +101,7 @@ module _ (known : Known) (terms : Terms) (funding : OutPoint) (hidden : Obscured
   unfolding transaction_of
   commitments = refl
 
-  -- the HTLC transaction of an output, with what stands above the signatures
+  -- the HTLC transaction of an output, with the item above its signatures
   abbrev second_stage : ℕ → ℕ → ℕ → Direction → Htlc → List ℕ → Transaction
   second_stage index value lock_time direction h item = record {
     version = 2;
@@ -115,12 +115,12 @@ module _ (known : Known) (terms : Terms) (funding : OutPoint) (hidden : Obscured
     lock_time = lock_time;
   }
 
-  -- HTLC-timeout pays 663 less, waits for the expiry and wants no preimage
+  -- HTLC-timeout pays 663 less, has the expiry as its lock time and needs no preimage
   timeout : (preimages : List (List ℕ)) → htlc_tx_known of_a 1 0 preimages ≡ Some (second_stage 0 9337 500 Offered (htlc 10000000 500) [])
   unfolding htlcs_from second_stage_of
   timeout preimages = refl
 
-  -- HTLC-success pays 703 less, waits for nothing and shows the first preimage that has the hash
+  -- HTLC-success pays 703 less, has lock time 0 and shows the first preimage that has the hash
   success : (x y : List ℕ) → bytes_eq (sha256 x) hash ≡ false → bytes_eq (sha256 y) hash ≡ true
       → htlc_tx_known of_a 1 1 (x ∷ y ∷ []) ≡ Some (second_stage 1 10297 0 Received (htlc 11000000 600) y)
   unfolding htlcs_from second_stage_of
@@ -145,7 +145,7 @@ module _ (known : Known) (terms : Terms) (funding : OutPoint) (hidden : Obscured
   htlc_keys : map (htlc_key of_a) (0 ∷ 1 ∷ 2 ∷ []) ≡ Some keys.local_htlc ∷ Some keys.local_htlc ∷ None ∷ []
   htlc_keys = refl
 
--- no right where there is no key, and that of the key where there is one
+-- without a key there is no right, and with one the right is that to the key
 module _ (r : Rights) (key : List ℕ) where
   no_key : MaySignIf r None → ⊥
   no_key h = h
@@ -156,7 +156,7 @@ module _ (r : Rights) (key : List ℕ) where
   that_key : MaySignIf r (Some key) → MaySign r key
   that_key h = h
 
--- an answer with the right and without it, where something is wanted and where nothing is
+-- an answer with the right and without it, where a transaction is wanted and where none is
 module _ (t : Transaction) where
   abbrev free : Type 0
   free = Unit {0}

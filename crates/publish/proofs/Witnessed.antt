@@ -1,4 +1,4 @@
--- Witnesses, put together from tokens.
+-- Witnesses that are made of tokens.
 use Rattle.std.proofs.Common.{◌≡◌, ℕ, List, [], ◌∷◌, ◌++◌, Result, Ok, Err, ap, ◌∙◌, refl}
 use Rattle.std.specs.Prelude.{IfOk}
 use Rattle.script.specs.Spelling.{spelling}

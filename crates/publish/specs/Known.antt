@@ -7,7 +7,7 @@ use Rattle.resolve.specs.declared.known.SignedCommitment.{SignedCommitment}
 use Rattle.resolve.specs.declared.known.Known.{Known}
 use Rattle.publish.specs.Published.{signed_transaction, signed_htlc_of}
 
--- one's own commitment of a number: the older ones stand by number, from 0 on, and the newest after them
+-- one's own commitment of a number: the older ones by number, from 0 on, and then the newest
 abbrev pub owned_at : Known → ℕ → Option SignedCommitment
 owned_at k n = slice_get (k.older ++ k.own ∷ []) n
 
@@ -19,11 +19,11 @@ commitment_known k n = option_map (λ c. signed_transaction c.terms c.commitment
 abbrev pub htlc_tx_known : Known → ℕ → ℕ → List (List ℕ) → Option Transaction
 htlc_tx_known k n i preimages = option_and_then (λ c. signed_htlc_of c.commitment i preimages) (owned_at k n)
 
--- the key by which its owner signs the one
+-- the key by which the owner signs the commitment
 abbrev pub commitment_key : Known → ℕ → Option (List ℕ)
 commitment_key k n = option_map (λ c. (party c.owner c.terms).bases.funding.bytes) (owned_at k n)
 
--- and the other
+-- the key by which the owner signs its HTLC transactions
 abbrev pub htlc_key : Known → ℕ → Option (List ℕ)
 htlc_key k n = option_map (λ c. c.commitment.keys.local_htlc) (owned_at k n)
 

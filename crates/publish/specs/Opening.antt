@@ -1,4 +1,4 @@
--- What is broadcast opens what it spends, on a chain that has it (BIP 65, BIP 68, BIP 141).
+-- What is broadcast spends the outputs that it names, on a chain that has them (BIP 65, BIP 68, BIP 141).
 use Rattle.std.specs.Prelude.{◌≡◌, ℕ, ◌<◌, ◌≤◌, false, List, length, Some, None, slice_get}
 use Rattle.std.specs.List.{All}
 use Rattle.std.specs.Str.{bytes_eq}
@@ -35,7 +35,7 @@ pub record HasUnspent (blocks : List Block) (o : OutPoint) (output : Output) : T
 abbrev pub IsTaken : List Block → ℕ → Transaction → Type 0
 IsTaken blocks height t = indexed_refusal blocks height t (slice_get t.inputs 0) ≡ None
 
--- a commitment with both signatures opens the funding output, wherever that stands unspent, in a block of any height
+-- a commitment with both signatures spends the funding output, wherever that is unspent, in a block of any height
 abbrev pub CommitmentsSpend : Type 0
 CommitmentsSpend =
     (s : State) (n : ℕ) (t : Transaction) (blocks : List Block) (height : ℕ) → signed_commitment_of s n ≡ Some t
@@ -48,7 +48,7 @@ output_of c h = tx_output (htlc_output c.keys h.direction h.htlc)
 abbrev pub outpoint_of : Contents → HtlcOutput → OutPoint
 outpoint_of c h = record { txid = id_of c; index = h.index }
 
--- the HTLC transaction of a commitment, with what stands above its signatures
+-- the HTLC transaction of a commitment, with the item above its signatures
 pub record IsHtlcTx (s : State) (n k : ℕ) (preimages : List (List ℕ)) (c : Contents) (h : HtlcOutput) (item : List ℕ) (t : Transaction) : Type 0 where
   pub state : CommitmentState
   pub recorded : slice_get s.mine n ≡ Some state
@@ -57,8 +57,8 @@ pub record IsHtlcTx (s : State) (n k : ℕ) (preimages : List (List ℕ)) (c : C
   pub branch : branch_item preimages h.direction h.htlc ≡ Some item
   pub tx : signed_htlc_tx_of s n k preimages ≡ Some t
 
--- An HTLC transaction with both signatures opens the HTLC's output, wherever that stands unspent, in each block above the expiry where it is HTLC-timeout, and else in the next one.
--- The one exception: what stands above the signatures must not have the hash of the revocation key, for which the script would take it.
+-- An HTLC transaction with both signatures spends the HTLC's output, wherever that is unspent. HTLC-timeout does so in each block above the expiry, and HTLC-success in each block
+-- above the first. The one exception: the item above its signatures must not have the hash of the revocation key, for which the script would take it.
 abbrev pub HtlcTxsSpend : Type 0
 HtlcTxsSpend =
     (s : State) (n k : ℕ) (preimages : List (List ℕ)) (c : Contents) (h : HtlcOutput) (item : List ℕ) (t : Transaction) (blocks : List Block) (height : ℕ)

@@ -33,7 +33,7 @@ funding_witness terms c =
 abbrev pub signed_transaction : Terms → Contents → Transaction
 signed_transaction terms c = transaction_with_witness (transaction_of c) 0 (funding_witness terms c)
 
--- a side's commitment of a number, where its peer signed it
+-- a side's commitment of a number, if its peer signed it
 abbrev pub signed_commitment_of : State → ℕ → Option Transaction
 signed_commitment_of s n = option_map (λ c. signed_transaction s.held.terms (contents_of s.held.terms c)) (slice_get s.mine n)
 
@@ -41,12 +41,13 @@ signed_commitment_of s n = option_map (λ c. signed_transaction s.held.terms (co
 abbrev pub preimage_among : List (List ℕ) → List ℕ → Option (List ℕ)
 preimage_among preimages hash = find (λ p. bytes_eq (sha256 p) hash) preimages
 
--- what stands above the signatures: the empty item for HTLC-timeout, the preimage for HTLC-success
+-- the item above the signatures: the empty item for HTLC-timeout, the preimage for HTLC-success
 abbrev pub branch_item : List (List ℕ) → Direction → Htlc → Option (List ℕ)
 branch_item preimages Offered h = Some []
 branch_item preimages Received h = preimage_among preimages h.hash
 
--- what spends an HTLC's output by both HTLC keys, the lowest item first: the empty item, the signature of the owner's peer, the owner's, what the branch takes, and the script
+-- the witness that spends an HTLC's output by both HTLC keys, the lowest item first. It is the empty item, the signature of the owner's peer, the owner's, what the branch
+-- takes, and the script
 abbrev pub htlc_witness : Contents → HtlcOutput → List ℕ → List (List ℕ)
 htlc_witness c h item =
     [] ∷ token_of c.keys.remote_htlc (htlc_digest c h) ∷ token_of c.keys.local_htlc (htlc_digest c h) ∷ item ∷ htlc_script c.keys h.direction h.htlc ∷ []
@@ -55,10 +56,10 @@ htlc_witness c h item =
 abbrev pub signed_second_stage : Contents → HtlcOutput → List ℕ → Transaction
 signed_second_stage c h item = transaction_with_witness (second_stage_of c h) 0 (htlc_witness c h item)
 
--- that of the k-th untrimmed HTLC of a commitment, in the order of outputs, from 0: where there is one, and what its branch takes is known
+-- that of the k-th untrimmed HTLC of a commitment, in the order of outputs, from 0, if there is one and what its branch takes is known
 abbrev pub signed_htlc_of : Contents → ℕ → List (List ℕ) → Option Transaction
 signed_htlc_of c k preimages = option_and_then (λ h. option_map (signed_second_stage c h) (branch_item preimages h.direction h.htlc)) (slice_get (htlcs_of c) k)
 
--- that of a side's commitment of a number, where its peer signed it
+-- that of a side's commitment of a number, if its peer signed it
 abbrev pub signed_htlc_tx_of : State → ℕ → ℕ → List (List ℕ) → Option Transaction
 signed_htlc_tx_of s n k preimages = option_and_then (λ c. signed_htlc_of (contents_of s.held.terms c) k preimages) (slice_get s.mine n)

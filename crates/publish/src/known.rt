@@ -20,7 +20,7 @@ fn owned_at(known: &Known, number: u64) -> Option<&SignedCommitment>
 }
 
 /// One's own commitment of a number with both signatures (BOLT 3, "Commitment Transaction"), by what is known of the channel. The older ones are numbered from 0 on, and the newest
-/// comes after them. `None` exactly where no own commitment of that number is known, or the signer may not sign for its owner's funding key. The only error is that memory ran out.
+/// comes after them. `None` exactly if no own commitment of that number is known, or if the signer may not sign for its owner's funding key. The only error is that memory ran out.
 pub fn signed_commitment_in(
     alloc: Global,
     known: &Known,
@@ -43,10 +43,15 @@ pub fn signed_commitment_in(
     }
 }
 
-/// The HTLC transaction of the `k`-th HTLC that isn't trimmed, in the order of outputs, from 0, of one's own commitment of a number, with both signatures (BOLT 3,
-/// "HTLC-Timeout and HTLC-Success Transactions"), by what is known of the channel. It is HTLC-timeout where the commitment's owner offered the HTLC, and else HTLC-success with the
-/// first of these preimages that has its hash. `None` exactly where no own commitment of that number is known, it has no such HTLC, the HTLC was offered to its owner and none of
-/// the preimages is its own, or the signer may not sign for the owner's HTLC key. The only error is that memory ran out.
+/// An HTLC transaction of one's own commitment of a number, with both signatures (BOLT 3, "HTLC-Timeout and HTLC-Success Transactions"), by what is known of the channel. It is
+/// that of the `k`-th HTLC that isn't trimmed, in the order of outputs, from 0. It is HTLC-timeout if the commitment's owner offered the HTLC, and else HTLC-success with the first
+/// of these preimages that has its hash.
+///
+/// The only error is that memory ran out. `None` in exactly these cases:
+/// - no own commitment of that number is known;
+/// - it has no such HTLC;
+/// - the HTLC was offered to its owner, and none of the preimages is its own;
+/// - the signer may not sign for the owner's HTLC key.
 pub fn signed_htlc_tx_in(
     alloc: Global,
     known: &Known,

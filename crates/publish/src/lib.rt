@@ -2,11 +2,11 @@
 //! transactions (BOLT 3).
 //!
 //! [`signed_commitment`] gives this side's commitment of a number, and [`signed_htlc_tx`] the HTLC transaction of its
-//! `k`-th HTLC that isn't trimmed: HTLC-timeout for one that this side offered, and HTLC-success for one that was
-//! offered to it, where the preimage is among those that are given. Barring out-of-memory each is exactly that of the
-//! definitions `signed_commitment_of` and `signed_htlc_tx_of`, witness included. [`signed_commitment_in`] and
-//! [`signed_htlc_tx_in`] give the same by a `resolve::Known` whose signer has the right to the keys, so that no
-//! channel is held. The laws say when `chain` takes their inputs.
+//! `k`-th HTLC that isn't trimmed. That is HTLC-timeout for an HTLC that this side offered. For one that was offered
+//! to it, it is HTLC-success, if the preimage is among those given. Barring out-of-memory, each is exactly that of
+//! the definitions `signed_commitment_of` and `signed_htlc_tx_of`, witness included. [`signed_commitment_in`] and
+//! [`signed_htlc_tx_in`] give the same by a `resolve::Known` whose signer has the right to the keys, without a
+//! channel. The laws say when `chain` takes their inputs.
 //!
 //! `channel` has the commitments with the peer's tokens, and `commit` their HTLC transactions. `world` broadcasts
 //! what is made here.

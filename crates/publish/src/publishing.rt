@@ -35,8 +35,8 @@ fn signed(
     )
 }
 
-/// This side's commitment of a number with both signatures, ready to be broadcast (BOLT 3, "Commitment Transaction"): `None` exactly where this side has no commitment of that
-/// number that its peer signed. The only error is that memory ran out.
+/// This side's commitment of a number with both signatures, ready to be broadcast (BOLT 3, "Commitment Transaction"). `None` exactly if this side has no commitment of that number
+/// that its peer signed. The only error is that memory ran out.
 pub fn signed_commitment(
     alloc: Global,
     channel: &Channel,
@@ -77,10 +77,13 @@ fn signed_second_stage(
     )
 }
 
-/// The HTLC transaction of the `k`-th HTLC that isn't trimmed, in the order of outputs, from 0, of this side's commitment of a number, with both signatures (BOLT 3,
-/// "HTLC-Timeout and HTLC-Success Transactions"): HTLC-timeout where this side offered the HTLC, and else HTLC-success with the first of these preimages that has its hash. `None`
-/// exactly where this side has no commitment of that number that its peer signed, or it has no such HTLC, or none of the preimages is that of an HTLC that was offered
-/// to this side. The only error is that memory ran out.
+/// An HTLC transaction of this side's commitment of a number, with both signatures (BOLT 3, "HTLC-Timeout and HTLC-Success Transactions"). It is that of the `k`-th HTLC that
+/// isn't trimmed, in the order of outputs, from 0. It is HTLC-timeout if this side offered the HTLC, and else HTLC-success with the first of these preimages that has its hash.
+///
+/// The only error is that memory ran out. `None` in exactly these cases:
+/// - this side has no commitment of that number that its peer signed;
+/// - it has no such HTLC;
+/// - the HTLC was offered to this side, and none of the preimages is its own.
 pub fn signed_htlc_tx(
     alloc: Global,
     channel: &Channel,

@@ -1,4 +1,4 @@
-// Commitments and HTLC transactions with both signatures: that of their owner, where its signer has the right, and its peer's.
+// Commitments and HTLC transactions with both signatures: that of their owner, if its signer has the right, and its peer's.
 
 ghost use Rattle.std.specs.Prelude.{◌≡◌, ◌≤◌, Some, length, slice_get, IfOk, IfSome};
 ghost use Rattle.script.specs.Token.{token_of};
@@ -72,8 +72,7 @@ fn commitment_by_both(
     }
 }
 
-/// An owner's commitment with the token of its peer and the signer's: `None` exactly where the signer may not sign for the owner's funding key. The only error is that memory
-/// ran out.
+/// An owner's commitment with the token of its peer and the signer's. `None` exactly if the signer may not sign for the owner's funding key. The only error is that memory ran out.
 pub(crate) fn signed_by_both(
     alloc: Global,
     terms: &Terms,
@@ -95,7 +94,7 @@ pub(crate) fn signed_by_both(
     }
 }
 
-// What stands above the signatures: the empty item for HTLC-timeout, and the preimage for HTLC-success, where it is given.
+// The item above the signatures: the empty item for HTLC-timeout, and the preimage for HTLC-success, if it is given.
 fn branch_item(
     alloc: Global,
     direction: Direction,
@@ -155,7 +154,7 @@ fn htlc_digest(
     Ok(digests.htlcs.values()[k])
 }
 
-// The HTLC transaction of the `k`-th HTLC of a commitment, with its peer's token and the owner's, where what its branch takes is known.
+// The HTLC transaction of the `k`-th HTLC of a commitment, with its peer's token and the owner's, if what its branch takes is known.
 fn second_stage_by(
     alloc: Global,
     commitment: &Commitment,
@@ -179,7 +178,7 @@ fn second_stage_by(
     Ok(Some(second_stage_with(alloc, commitment, k, htlc, &remote, local, item)?))
 }
 
-/// The HTLC transaction of the `k`-th HTLC of an owner's commitment, with the token of its peer and the signer's: `None` exactly where there is no such HTLC, or no such preimage, or the
+/// The HTLC transaction of the `k`-th HTLC of an owner's commitment, with the token of its peer and the signer's. `None` exactly if there is no such HTLC, or no such preimage, or if the
 /// signer may not sign for the owner's HTLC key. The only error is that memory ran out.
 pub(crate) fn second_stage_by_both(
     alloc: Global,

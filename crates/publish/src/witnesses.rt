@@ -1,4 +1,4 @@
-// The witnesses that spend what both sides sign for.
+// The witnesses that spend outputs for which both sides sign.
 
 ghost use Rattle.std.specs.Prelude.{◌≡◌, ◌<◌, ◌≤◌, [], ◌∷◌, ◌++◌, length, IfOk};
 ghost use Rattle.script.specs.Limits.{locktime_threshold};
@@ -21,7 +21,7 @@ use std::cmp::Ordering;
 use terms::Terms;
 use tx::Witness;
 
-// The empty item, which CHECKMULTISIG takes beside the signatures (BIP 147), and two tokens, the lowest first.
+// The empty item that CHECKMULTISIG takes besides the signatures (BIP 147), and two tokens, the lowest first.
 fn two_tokens(alloc: Global, lower: &Token, upper: &Token) -> Result<Witness, AllocError>
     ensures { IfOk result (λ w. w ≡ [] ∷ lower.now ∷ upper.now ∷ []) }
 {
@@ -66,7 +66,7 @@ fn checked_funding(alloc: Global, terms: &Terms) -> Result<Checked, AllocError>
     )
 }
 
-// Its bytes, which stand on top of the witness (BIP 141).
+// The bytes of the funding script, the last item of the witness (BIP 141).
 #[tactic(auto, unfolding(commit::specs::Signing::funding_script))]
 fn funding_item(alloc: Global, terms: &Terms) -> Result<ByteString, AllocError>
     ensures value { IfOk result (λ s. s ≡ funding_script terms.now) }
@@ -107,7 +107,7 @@ fn checked_htlc(
     htlc_script(alloc, &patterns, keys, htlc.direction, &htlc.htlc)
 }
 
-// Its bytes, which stand on top of the witness (BIP 141).
+// The bytes of an HTLC's script, the last item of the witness (BIP 141).
 #[tactic(auto, using(crate::proofs::Witnessed::spelt))]
 fn htlc_item(
     alloc: Global,

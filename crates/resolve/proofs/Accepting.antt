@@ -1,4 +1,4 @@
--- The claims beside penalties are accepted.
+-- The claims other than penalties are accepted.
 use Rattle.std.proofs.Common.{◌≡◌, ℕ, ◌<◌, ◌^◌, Bool, true, List, [], ◌∷◌, Some, refl, sym, ap, subst, ◌∙◌}
 use Rattle.std.specs.Prelude.{◌≢◌, not}
 use Rattle.std.specs.Str.{bytes_eq}

@@ -77,13 +77,13 @@ module _ (funding : OutPoint) (hidden : Obscured) (k : KeyBytes) (hash : List �
   unfolding peers_due claims_by
   peers_without e g = rw (e, g) refl
 
--- any preimage that is known counts, whichever came first
+-- any preimage that is known counts, in whatever order
 module _ (x y hash : List ℕ) where
   either : bytes_eq (sha256 x) hash ≡ true → bytes_eq (sha256 y) hash ≡ false
       → map (λ known. is_known known hash) ((x ∷ y ∷ []) ∷ (y ∷ x ∷ []) ∷ (x ∷ []) ∷ (y ∷ y ∷ []) ∷ [] ∷ []) ≡ true ∷ true ∷ true ∷ false ∷ false ∷ []
   either e f = rw (e, f) refl
 
--- the penalties of a revoked commitment are due whether they are kept or not, by its number alone
+-- the penalties of a revoked commitment are due by its number alone, whether they are kept or not
 module _ (known : Known) (kept bare : RevokedCommitment) where
   whether_kept : kept.is_kept ≡ true → bare.is_kept ≡ false
       → map penalties_if (None ∷ Some kept ∷ Some bare ∷ []) ≡ [] ∷ claimable_of kept.state ∷ claimable_of bare.state ∷ []
@@ -94,7 +94,7 @@ module _ (known : Known) (kept bare : RevokedCommitment) where
   unfolding due_of
   by_number e k b f g = rw (e, f, g) refl
 
--- the item before the last, of three or five
+-- the second to last item, of three or five
 shown : (shown_by ((1 ∷ []) ∷ (2 ∷ []) ∷ (3 ∷ []) ∷ []) ≡ Some (2 ∷ []))
     × (shown_by ([] ∷ (1 ∷ []) ∷ (2 ∷ []) ∷ (3 ∷ []) ∷ (4 ∷ []) ∷ []) ≡ Some (3 ∷ []))
     × (shown_by ((1 ∷ []) ∷ (2 ∷ []) ∷ []) ≡ None)

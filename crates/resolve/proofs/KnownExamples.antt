@@ -49,7 +49,7 @@ some_is : (x y : RevokedCommitment) → Some x ≡ Some y → x ≡ y
 some_is x y e = cc
 
 module _ (r s : RevokedCommitment) where
-  -- the next number alone
+  -- only the next number
   next : map (is_next []) (0 ∷ 1 ∷ []) ≡ true ∷ false ∷ []
   next = refl
 

@@ -1,4 +1,4 @@
--- Claims that go to the end of those on earlier outputs.
+-- Claims that are appended to those on earlier outputs.
 use Rattle.std.proofs.Common.{◌≡◌, ℕ, ◌<◌, Bool, true, false, List, [], ◌∷◌, ◌++◌, zero, suc, ◌&&◌, map, length, get_or, Option, Some, None, refl, sym, ap, subst, ◌∙◌, arith, append-nil}
 use Rattle.std.specs.Prelude.{slice_get, option_map, if◌then◌else◌}
 use Rattle.std.proofs.lemmas.Option.{slice_get-map, slice_get_within, get_or_from_slice_get}
@@ -42,7 +42,7 @@ pub token_is : (c : Contents) (tokens : List (List ℕ)) (k : ℕ) (h : HtlcOutp
     → token ≡ token_of c.keys.remote_htlc (htlc_digest c h)
 token_is c tokens k h token a e f = f ∙ get_or_from_slice_get tokens k (token_of c.keys.remote_htlc (htlc_digest c h)) token (token_at c tokens k h a e)
 
--- what an HTLC's output rests on
+-- what a claim on an HTLC's output needs
 pub htlc_place : (c : Contents) (index : ℕ) (o : CommitmentOutput) (direction : Direction) (h : Htlc) (place : Place) → o.kind ≡ ToHtlc direction h
     → IsOutput c.delay c.keys o → IsOutputOf c.keys o → place ≡ place_in (transaction_of c) index (tx_output o)
     → IsHtlcPlace c (record { index = index; direction = direction; htlc = h }) place

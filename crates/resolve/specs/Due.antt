@@ -1,4 +1,4 @@
--- What is due on the chain by the commitment that stands there (BOLT 5, "Unilateral Close Handling").
+-- What is due on the chain, by the commitment that closed the channel (BOLT 5, "Unilateral Close Handling").
 use Rattle.std.specs.Prelude.{ℕ, Bool, ◌&&◌, not, ◌==◌, if◌then◌else◌, List, [], ◌∷◌, Option, Some, None, slice_get}
 use Rattle.std.specs.List.{list_any}
 use Rattle.std.specs.Str.{bytes_eq}
@@ -29,15 +29,16 @@ use Rattle.resolve.specs.declared.known.Known.{Known}
 abbrev pub is_known : List (List ℕ) → List ℕ → Bool
 is_known preimages hash = list_any (λ x. bytes_eq (sha256 x) hash) preimages
 
--- Two claims are refused, and so never due. A timeout's empty item would be taken for the revocation key where that key's hash is the empty item's.
+-- Two claims are refused, and so never due. One is a timeout where the revocation key's hash is that of the empty item: the script would take the
+-- empty item for the revocation key.
 abbrev pub can_time_out : KeyBytes → Bool
 can_time_out k = not (bytes_eq (hash160 k.revocation) (hash160 []))
 
--- And a preimage where the revocation key's hash is the payment hash.
+-- The other is a preimage where the revocation key's hash is the RIPEMD-160 of the payment hash.
 abbrev pub can_pay : KeyBytes → Htlc → Bool
 can_pay k h = not (bytes_eq (hash160 k.revocation) (ripemd160 h.hash))
 
--- the owner of a commitment takes back what it offered, and is paid what it received where it knows the preimage
+-- the owner of a commitment takes back what it offered, and is paid what it received if it knows the preimage
 abbrev pub is_owners : List (List ℕ) → KeyBytes → Direction → Htlc → Bool
 is_owners preimages k Offered h = can_time_out k
 is_owners preimages k Received h = is_known preimages h.hash && can_pay k h
@@ -76,7 +77,7 @@ second_stage_on c h place = record {
 abbrev pub delayed_second_stage : Contents → HtlcOutput → Claimable
 delayed_second_stage c h = delayed_on c (place_in (second_stage_of c h) 0 (second_stage_output c h))
 
--- what spends the HTLC with the peer's key alone: the preimage, or the empty item for the timeout
+-- what spends the HTLC with only the peer's key: the preimage, or the empty item for the timeout
 abbrev pub item_with_peers_key : Direction → Htlc → Filling
 item_with_peers_key Offered h = PreimageOf h.hash
 item_with_peers_key Received h = Bytes []
@@ -91,7 +92,7 @@ direct_on c direction h place = record {
   shell = Open;
 }
 
--- what an output at an index gives the commitment's owner
+-- what an output at an index lets the commitment's owner claim
 abbrev pub owners_on : List (List ℕ) → Contents → ℕ → Place → OutputKind → List Claimable
 owners_on preimages c index place ToLocal = delayed_on c place ∷ []
 owners_on preimages c index place ToRemote = []
@@ -100,20 +101,20 @@ owners_on preimages c index place (ToHtlc direction h) =
     then second_stage_on c (record { index = index; direction = direction; htlc = h }) place ∷ delayed_second_stage c (record { index = index; direction = direction; htlc = h }) ∷ []
     else []
 
--- what an output gives the owner's peer
+-- what an output lets the owner's peer claim
 abbrev pub peers_on : List (List ℕ) → Contents → ℕ → Place → OutputKind → List Claimable
 peers_on preimages c index place ToLocal = []
 peers_on preimages c index place ToRemote = payment_on c place ∷ []
 peers_on preimages c index place (ToHtlc direction h) = if is_peers preimages c.keys direction h then direct_on c direction h place ∷ [] else []
 
--- what all outputs give them, in their order
+-- what all outputs let them claim, in order
 unfoldable pub owners_due : List (List ℕ) → Contents → List Claimable
 owners_due preimages c = claims_by (owners_on preimages c) c 0 c.outputs
 
 unfoldable pub peers_due : List (List ℕ) → Contents → List Claimable
 peers_due preimages c = claims_by (peers_on preimages c) c 0 c.outputs
 
--- of a commitment that may not be there
+-- the same for a commitment that may not be there
 abbrev pub peers_due_if : List (List ℕ) → Option Contents → List Claimable
 peers_due_if preimages None = []
 peers_due_if preimages (Some c) = peers_due preimages c
@@ -123,12 +124,12 @@ abbrev pub penalties_if : Option RevokedCommitment → List Claimable
 penalties_if None = []
 penalties_if (Some r) = claimable_of r.state
 
--- a revoked commitment, where it has the number
+-- a revoked commitment, if it has the number
 abbrev pub if_number : ℕ → Option RevokedCommitment → Option RevokedCommitment
 if_number n None = None
 if_number n (Some r) = if r.state.number == n then Some r else None
 
--- the revoked commitment of a number: they stand by their numbers, from 0 on
+-- the revoked commitment of a number; the list has them by number, from 0 on
 abbrev pub revoked_at : Known → ℕ → Option RevokedCommitment
 revoked_at known n = if_number n (slice_get known.revoked n)
 

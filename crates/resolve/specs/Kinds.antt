@@ -1,4 +1,4 @@
--- The kinds of claims on HTLCs, and what they rest on.
+-- The kinds of claims on HTLCs, and what they need.
 use Rattle.std.specs.Prelude.{◌≡◌, ℕ, true, List}
 use Rattle.terms.specs.declared.htlcs.Htlc.{Htlc}
 use Rattle.claim.specs.declared.parts.Place.{Place}
@@ -15,17 +15,17 @@ use Rattle.commit.specs.Outputs.{htlc_script}
 use Rattle.commit.specs.Commitments.{Contents, id_of}
 use Rattle.resolve.specs.Due.{can_time_out, can_pay}
 
--- of the owner's peer
+-- the kind of claim of the owner's peer
 abbrev pub direct_kind_of : CommitmentKeys → Direction → Htlc → ClaimKind
 direct_kind_of k Offered h = DirectPreimage h.hash k.remote_htlc
 direct_kind_of k Received h = DirectTimeout k.remote_htlc
 
--- of the owner, with the peer's token
+-- the kind of claim of the owner, with the peer's token
 abbrev pub second_stage_kind_of : CommitmentKeys → Direction → Htlc → List ℕ → ClaimKind
 second_stage_kind_of k Offered h token = HtlcTimeout k.local_htlc token
 second_stage_kind_of k Received h token = HtlcSuccess h.hash k.local_htlc token
 
--- such a claim is none of the two that are refused
+-- such a claim is neither of the two that are refused
 abbrev pub IsDirect : KeyBytes → Direction → Htlc → Type 0
 IsDirect k Offered h = can_pay k h ≡ true
 IsDirect k Received h = can_time_out k ≡ true
@@ -34,7 +34,7 @@ abbrev pub IsSecondStage : KeyBytes → Direction → Htlc → Type 0
 IsSecondStage k Offered h = can_time_out k ≡ true
 IsSecondStage k Received h = can_pay k h ≡ true
 
--- where the output of an HTLC stands, with its value and its program
+-- the place of an HTLC's output: its outpoint, value and program
 pub record IsHtlcPlace (c : Contents) (h : HtlcOutput) (place : Place) : Type 0 where
   pub id : place.outpoint.txid ≡ id_of c
   pub index : place.outpoint.index ≡ h.index

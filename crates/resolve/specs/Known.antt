@@ -14,7 +14,8 @@ use Rattle.resolve.specs.declared.known.RevokedCommitment.{RevokedCommitment}
 use Rattle.resolve.specs.Refusals.{refusal_by}
 use Rattle.resolve.specs.Signed.{IsCommitmentToken, AreHtlcTokens}
 
--- the first reason why there is no known commitment: no transaction carries its number, or no commitment of the terms can pay its view
+-- the first reason why there is no known commitment: no transaction can carry its number, or no commitment of the terms can pay its
+-- view
 abbrev pub refusal_of : Terms → View → ℕ → Option KnownError
 refusal_of terms view number = if nat_lt MAX_NUMBER number then Some NumberTooLarge else option_map refusal_by (view_refusal_of terms view)
 
@@ -31,7 +32,7 @@ pub record HasTokens (terms : Terms) (owner : Side) (c : Contents) (token : List
   pub token_is : s.token ≡ token
   pub htlc_tokens_are : s.htlc_tokens ≡ htlc_tokens
 
--- tokens are refused as BadSignature where they are not the right ones
+-- tokens are refused as BadSignature if they are not the right ones
 abbrev pub IsTokenRefusal : Terms → Side → Contents → List ℕ → List (List ℕ) → KnownError → Type 0
 IsTokenRefusal terms owner c token htlc_tokens NoMemory = Unit {0}
 IsTokenRefusal terms owner c token htlc_tokens BadSignature = ¬ (IsCommitmentToken terms owner c token × AreHtlcTokens c htlc_tokens)

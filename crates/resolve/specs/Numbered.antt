@@ -14,12 +14,12 @@ AreNumbered rs = (i : ℕ) (r : RevokedCommitment) → slice_get rs i ≡ Some r
 abbrev pub is_next : List RevokedCommitment → ℕ → Bool
 is_next rs number = number == length rs && nat_le number MAX_NUMBER
 
--- one more is refused as WrongNumber where it is not the next, else where memory ran out
+-- appending one more is refused as WrongNumber if it is not the next, else because memory ran out
 abbrev pub IsPushRefusal : List RevokedCommitment → RevokedCommitment → RevokedError → Type 0
 IsPushRefusal rs r WrongNumber = is_next rs r.state.number ≡ false
 IsPushRefusal rs r NoMemory = is_next rs r.state.number ≡ true
 
--- those, with the penalties of a number kept
+-- the list with the penalties of a number kept
 abbrev pub kept_if : List RevokedCommitment → ℕ → Option RevokedCommitment → List RevokedCommitment
 kept_if rs number None = rs
 kept_if rs number (Some r) = slice_set rs number (as_kept r)

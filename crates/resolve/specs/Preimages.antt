@@ -3,13 +3,13 @@ use Rattle.std.specs.Prelude.{ℕ, ◌+◌, ◌==◌, nat_le, Bool, if◌then◌
 use Rattle.tx.specs.declared.input.TxIn.{TxIn}
 use Rattle.tx.specs.Fields.{Transaction}
 
--- the item before the last of a witness of three items, which spends an HTLC of the peer's commitment, or of five, which is an HTLC-success transaction's
+-- the second to last item of a witness. Three items spend an HTLC of the peer's commitment, and five are those of an HTLC-success transaction
 abbrev pub shown_by : List (List ℕ) → Option (List ℕ)
 shown_by (signature ∷ item ∷ script ∷ []) = Some item
 shown_by (extra ∷ remote ∷ local ∷ item ∷ script ∷ []) = Some item
 shown_by witness = None
 
--- where it has 32 bytes
+-- the item, if it has 32 bytes
 abbrev pub if_32 : Option (List ℕ) → Option (List ℕ)
 if_32 None = None
 if_32 (Some item) = if length item == 32 then Some item else None

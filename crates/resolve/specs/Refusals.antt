@@ -19,7 +19,7 @@ abbrev pub push_refusal_number : RevokedError → ℕ
 push_refusal_number NoRoom = 0
 push_refusal_number WrongNumber = 1
 
--- as a view's refusal is named here
+-- the refusal here that stands for a view's refusal
 abbrev pub refusal_by : StateError → KnownError
 refusal_by ManyHtlcs = TooManyHtlcs
 refusal_by LargeExpiry = ExpiryTooLarge

@@ -1,4 +1,4 @@
-// The claims that are due beside penalties.
+// The claims that are due other than penalties.
 
 ghost use Rattle.std.specs.Prelude.{◌≡◌, ◌<◌, IfOk};
 ghost use Rattle.script.specs.Limits.{locktime_threshold};

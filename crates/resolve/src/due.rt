@@ -22,7 +22,7 @@ use penalty::penalties;
 use penalty::places::{first_place, htlc_count, place_of};
 use std::alloc::{AllocError, Global};
 
-// The claims on the output of the k-th HTLC, and on that of its HTLC transaction, go to the end.
+// Appends the claims on the output of the k-th HTLC and on that of its HTLC transaction.
 fn push_second_stage(
     alloc: Global,
     patterns: &Patterns,
@@ -51,7 +51,7 @@ fn push_second_stage(
     Ok(())
 }
 
-// What an output of one's own commitment gives goes to the end. Where it is an HTLC's, that one is the k-th.
+// Appends what an output of one's own commitment lets its owner claim. If the output is an HTLC's, that HTLC is the k-th.
 fn push_owners(
     alloc: Global,
     patterns: &Patterns,
@@ -93,7 +93,7 @@ fn push_owners(
     }
 }
 
-// What one's own commitment gives.
+// What one's own commitment lets its owner claim.
 #[tactic(auto, unfolding(crate::specs::Due::owners_due))]
 fn owners_due(
     alloc: Global,
@@ -123,7 +123,7 @@ fn owners_due(
     Ok(claims)
 }
 
-// What an output of the peer's commitment gives goes to the end.
+// Appends what an output of the peer's commitment lets one claim.
 fn push_peers(
     alloc: Global,
     patterns: &Patterns,
@@ -156,7 +156,7 @@ fn push_peers(
     }
 }
 
-// What a commitment of the peer gives.
+// What a commitment of the peer lets one claim.
 #[tactic(auto, unfolding(crate::specs::Due::peers_due))]
 fn peers_due(
     alloc: Global,
@@ -183,7 +183,7 @@ fn peers_due(
     Ok(claims)
 }
 
-/// The commitment of a number among those that the peer revoked: one look-up. It takes no memory.
+/// The commitment of a number among those that the peer revoked: one look-up. It allocates nothing.
 pub fn revoked_at(known: &Known, n: u64) -> Option<&RevokedCommitment>
     ensures { option_map (λ r. r.now) result ≡ revoked_at known.now n }
 {
@@ -224,13 +224,16 @@ fn due_by(
     }
 }
 
-/// What is due by a verdict, each claim accepted, in the order of the commitment's outputs (BOLT 5). `Ours`: the delayed claim on to_local; the HTLC-timeout
-/// transaction of each HTLC that was offered, and the HTLC-success transaction of each received one whose preimage is known, each followed by the delayed claim
-/// on its output. `Theirs` and `TheirsNext`: the key hash claim on to_remote, the direct timeout of each HTLC that one offered oneself, and the direct preimage
-/// claim of each other one whose preimage is known. `Revoked(n)`: the penalty set of n. `Unknown`: none.
+/// The claims that are due by a verdict, each accepted, in the order of the commitment's outputs (BOLT 5):
+/// - `Ours`: the delayed claim on to_local, the HTLC-timeout transaction of each offered HTLC, and the HTLC-success transaction of each received HTLC whose
+///   preimage is known. Each HTLC transaction is followed by the delayed claim on its output.
+/// - `Theirs` and `TheirsNext`: the key hash claim on to_remote and the direct timeout of each HTLC that this side offered. Also the direct preimage claim of
+///   each other HTLC whose preimage is known.
+/// - `Revoked(n)`: the penalty set of n.
+/// - `Unknown`: none.
 ///
-/// The two claims that `accept` refuses are not due, nor is the delayed claim after one: a timeout where the revocation key's HASH160 is that of the empty
-/// item, and a preimage where it is the RIPEMD-160 of the payment hash. The only error is that memory ran out.
+/// The two claims that `accept` refuses are not due, nor is the delayed claim after one of them. These are a timeout where the revocation key's HASH160 is that
+/// of the empty item, and a preimage where it is the RIPEMD-160 of the payment hash. The only error is that memory ran out.
 pub fn due_claims(alloc: Global, known: &Known, verdict: Verdict) -> Result<Vec<Claim>, AllocError>
     ensures { IfOk result (λ v. AreClaimsOn (due_of known.now verdict) v.items) }
 {

@@ -1,4 +1,4 @@
-//! Why something is not known.
+//! Why a value is refused as knowledge of a channel.
 
 ghost use Rattle.std.specs.Prelude.{◌≡◌};
 ghost use Rattle.resolve.specs.Refusals.{refusal_number, refusal_by, push_refusal_number};
@@ -9,7 +9,7 @@ use penalty::StateError;
 use std::alloc::AllocError;
 use thiserror::Error;
 
-/// Why there is no known commitment of these values. It is tested for `NumberTooLarge` first and then for the others in this order, memory last.
+/// Why there is no known commitment of these values. `NumberTooLarge` is checked first, and then the others in this order, memory last.
 #[derive(Clone, Copy, Debug, PartialEq, Eq, Drop, Error)]
 pub enum KnownError {
     /// Memory ran out.
@@ -21,13 +21,13 @@ pub enum KnownError {
     /// The expiry of an HTLC is a time: 500,000,000 or above (BIP 65).
     #[error("ExpiryTooLarge")]
     ExpiryTooLarge,
-    /// Balances and HTLCs are together not the capacity.
+    /// Balances and HTLCs do not sum to the capacity.
     #[error("WrongTotal")]
     WrongTotal,
-    /// The token on the commitment or those on HTLC transactions are not those of the owner's peer.
+    /// The tokens on the commitment and on its HTLC transactions are not those of the owner's peer.
     #[error("BadSignature")]
     BadSignature,
-    /// The number is 2^48 or above, which no commitment transaction carries (BOLT 3, "Commitment Transaction").
+    /// The number is 2^48 or above, which no commitment transaction can carry (BOLT 3, "Commitment Transaction").
     #[error("NumberTooLarge")]
     NumberTooLarge,
 }
@@ -48,7 +48,7 @@ impl KnownError {
     }
 }
 
-// A view's refusal, as it is named here.
+// The refusal here that stands for a view's refusal.
 pub(crate) fn of_view(refusal: StateError) -> KnownError
     ensures { result ≡ refusal_by refusal }
 {

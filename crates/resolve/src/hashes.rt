@@ -11,7 +11,8 @@ use std::alloc::{AllocError, Global};
 use std::collections::BTreeSet;
 use std::marker::Model;
 
-/// Known preimages, told by their SHA-256 in a time logarithmic in their number. A contract sees them as the list that was given.
+/// Known preimages, found by their SHA-256 in a time logarithmic in their number. A contract sees them as the list that was
+/// given.
 #[derive(Drop)]
 pub(crate) struct KnownHashes<'a> {
     preimages: &'a [[u8; 32]],

@@ -18,7 +18,7 @@ use std::alloc::{AllocError, Global};
 use std::marker::Model;
 use terms::{Side, Terms, View};
 
-/// A commitment that a view of the channel gives. A contract sees it as the commitment's contents.
+/// A commitment of a view of the channel. A contract sees it as the commitment's contents.
 #[derive(Debug, Drop)]
 pub struct KnownCommitment {
     commitment: Commitment,
@@ -41,8 +41,8 @@ impl KnownCommitment {
     ghost use Rattle.penalty.specs.Outputs.{AreOutputs};
     ghost use Rattle.resolve.specs.Known.{refusal_of, IsNamed};
 
-    /// The owner's commitment of a view, with its number and the owner's per-commitment point for it. It is refused as NumberTooLarge where the number is
-    /// above `MAX_NUMBER`, then as `penalty::refusal` says of the view, else where memory ran out.
+    /// The owner's commitment of a view, with its number and the owner's per-commitment point for it. Checked in this order: NumberTooLarge if the number is above `MAX_NUMBER`,
+    /// then what `penalty::refusal` says of the view, and memory last.
     pub fn new(
         alloc: Global,
         terms: &Terms,
@@ -68,7 +68,7 @@ impl KnownCommitment {
         }
     }
 
-    /// An equal commitment. The only error is that memory ran out.
+    /// A copy. The only error is that memory ran out.
     pub fn copy(&self) -> Result<KnownCommitment, AllocError>
         ensures { IfOk result (λ k. k ≡ self.now) }
     {
@@ -85,7 +85,7 @@ impl KnownCommitment {
     }
 }
 
-/// One's own commitment, with the peer's tokens on it and on its HTLC transactions. The type keeps that these are the right ones.
+/// One's own commitment, with the peer's tokens on it and on its HTLC transactions. The type guarantees that these are the right ones.
 #[derive(Debug, Drop)]
 pub struct SignedCommitment {
     pub commitment: KnownCommitment,
@@ -95,7 +95,7 @@ pub struct SignedCommitment {
     pub owner: Side,
     /// The token on the commitment: that of the peer's funding key.
     pub token: Token,
-    /// Those on the HTLC transactions, in the order of the commitment's outputs.
+    /// The tokens on the HTLC transactions, in the order of the commitment's outputs.
     pub htlc_tokens: List<Token>,
     pub ghost funding: { IsCommitmentToken terms owner commitment token },
     pub ghost signed: { AreHtlcTokens commitment htlc_tokens },
@@ -127,8 +127,8 @@ impl SignedCommitment {
     ghost use Rattle.std.specs.Prelude.{◌≡◌, IfOk, IfErr};
     ghost use Rattle.resolve.specs.Known.{HasTokens, IsTokenRefusal};
 
-    /// The owner's commitment with tokens. BadSignature where the token on it is not that of the funding key of the owner's peer over the commitment's digest.
-    /// BadSignature too where those on the HTLC transactions are not the tokens of the commitment's `remote_htlcpubkey`, in the order of outputs. NoMemory where that can't be told.
+    /// The owner's commitment with tokens. BadSignature if the token on it is not that of the funding key of the owner's peer over the commitment's digest. BadSignature too if
+    /// those on the HTLC transactions are not the tokens of the commitment's `remote_htlcpubkey`, in the order of outputs. NoMemory if memory ran out before that was decided.
     pub fn new(
         alloc: Global,
         terms: &Terms,
@@ -160,7 +160,7 @@ impl SignedCommitment {
         })
     }
 
-    /// An equal commitment with equal tokens. The only error is that memory ran out.
+    /// A copy, with its tokens. The only error is that memory ran out.
     pub fn copy(&self) -> Result<SignedCommitment, AllocError>
         ensures { IfOk result (λ s. s ≡ self.now) }
     {
@@ -177,11 +177,11 @@ impl SignedCommitment {
     }
 }
 
-/// A commitment of the peer that it revoked.
+/// A commitment that the peer revoked.
 #[derive(Debug, Drop)]
 pub struct RevokedCommitment {
     pub state: RevokedState,
-    /// The id of the commitment transaction, in the hash's own byte order.
+    /// The id of the commitment transaction, in the byte order of the hash (not reversed as for display).
     pub id: [u8; 32],
     /// Whether its penalties are kept.
     pub is_kept: bool,
@@ -205,14 +205,14 @@ impl RevokedCommitment {
         Ok(RevokedCommitment { state, id, is_kept })
     }
 
-    // Notes that its penalties are kept.
+    // Marks its penalties as kept.
     pub(crate) fn keep(&mut self)
         ensures { self.new ≡ as_kept self.old }
     {
         self.is_kept = true;
     }
 
-    /// An equal one, for which nothing is built again. The only error is that memory ran out.
+    /// A copy, made without building it again. The only error is that memory ran out.
     pub fn copy(&self) -> Result<RevokedCommitment, AllocError>
         ensures { IfOk result (λ r. r ≡ self.now) }
     {
@@ -235,19 +235,19 @@ pub struct Known {
     pub signer: Signer,
     /// Its own newest commitment.
     pub own: SignedCommitment,
-    /// Its own older ones, for broadcasts alone.
+    /// Its own older commitments, only for broadcasts.
     pub older: List<SignedCommitment>,
     /// The peer's newest commitment.
     pub theirs: KnownCommitment,
-    /// The one after it, where it is signed and the newest isn't revoked yet.
+    /// The peer's commitment after that, if it is signed and the newest isn't revoked yet.
     pub next: Option<KnownCommitment>,
-    /// Those that the peer revoked.
+    /// The commitments that the peer revoked.
     pub revoked: RevokedCommitments,
     /// Preimages of HTLCs, 32 bytes each.
     pub preimages: List<[u8; 32]>,
 }
 
-// Equal commitments with their tokens.
+// Copies of commitments with their tokens.
 fn copied_signed(
     alloc: Global,
     commitments: &[SignedCommitment],
@@ -261,7 +261,7 @@ fn copied_signed(
     Ok(copies)
 }
 
-// The same, where there is one.
+// A copy of the peer's next commitment, if there is one.
 fn copied_next(next: &Option<KnownCommitment>) -> Result<Option<KnownCommitment>, AllocError>
     ensures { IfOk result (λ n. n ≡ next.now) }
 {
@@ -271,7 +271,7 @@ fn copied_next(next: &Option<KnownCommitment>) -> Result<Option<KnownCommitment>
     }
 }
 
-// What it knows of its own commitments, with what it may sign with.
+// What a side knows of its own commitments, with its signer.
 #[derive(Drop)]
 struct OwnCommitments {
     signer: Signer,
@@ -279,7 +279,7 @@ struct OwnCommitments {
     older: List<SignedCommitment>,
 }
 
-// What it knows of the peer's.
+// What a side knows of the peer's commitments.
 #[derive(Drop)]
 struct PeersCommitments {
     newest: KnownCommitment,
@@ -287,7 +287,7 @@ struct PeersCommitments {
     revoked: RevokedCommitments,
 }
 
-// Equal ones of its own. The only error is that memory ran out.
+// A copy of what is known of its own commitments. The only error is that memory ran out.
 fn copied_own(known: &Known) -> Result<OwnCommitments, AllocError>
     ensures { IfOk result (λ o. o ≡ record {
       signer = known.now.signer;
@@ -305,7 +305,7 @@ fn copied_own(known: &Known) -> Result<OwnCommitments, AllocError>
     })
 }
 
-// Equal ones of the peer. The only error is that memory ran out.
+// A copy of what is known of the peer's commitments. The only error is that memory ran out.
 fn copied_peers(known: &Known) -> Result<PeersCommitments, AllocError>
     ensures { IfOk result (λ p. p ≡ record {
       newest = known.now.theirs;
@@ -326,7 +326,7 @@ fn copied_peers(known: &Known) -> Result<PeersCommitments, AllocError>
 impl Known {
     ghost use Rattle.std.specs.Prelude.{◌≡◌, IfOk};
 
-    /// Equal knowledge. The only error is that memory ran out.
+    /// A copy. The only error is that memory ran out.
     pub fn copy(&self) -> Result<Known, AllocError>
         ensures { IfOk result (λ k. k ≡ self.now) }
     {

@@ -1,13 +1,14 @@
 //! What is due on the chain: for each commitment that may close a channel, every output that one may claim (BOLT 5).
 //!
-//! Barring out-of-memory, [`due_claims`] gives exactly the claims of the definition `due_of`, in the order of the
-//! commitment's outputs, each accepted, by a [`Verdict`] on the transaction that closed the channel and what is
-//! [`Known`] of the channel. What the types of `Known` keep: the commitments can be paid, one's own have the peer's
-//! tokens on them ([`SignedCommitment`]), and the i-th revoked one has number i ([`RevokedCommitments`]).
-//! [`preimage_in`] reads a preimage off a spend of an HTLC, and [`is_final`] tells what is buried deep enough.
+//! [`due_claims`] takes a [`Verdict`] on the transaction that closed the channel, and what is [`Known`] of the
+//! channel. Barring out-of-memory, it gives exactly the claims of the definition `due_of`, in the order of the
+//! commitment's outputs, each accepted. The types of `Known` guarantee that the commitments can be paid. They also
+//! guarantee that one's own have the peer's tokens on them ([`SignedCommitment`]), and that the i-th revoked one has
+//! number i ([`RevokedCommitments`]). [`preimage_in`] reads a preimage off a spend of an HTLC, and [`is_final`]
+//! tells what is buried deep enough.
 //!
 //! `penalty` hands it the claims of a revoked commitment. `book` makes the `Known` of each channel, and `watch` asks
-//! what is due by the verdict on what it saw.
+//! what is due by its verdict on what it saw.
 //!
 //! ```rust
 //! // A channel with one HTLC, which the peer's newest commitment pays beside to_remote.

@@ -6,10 +6,10 @@ ghost use Rattle.resolve.specs.Preimages.{shown_by, preimage_shown, is_deep};
 use lists::ByteString;
 use tx::Tx;
 
-/// How many blocks stand above one that is 100 deep.
+/// The number of blocks above one that is 100 deep.
 const BLOCKS_ABOVE: u64 = 99;
 
-// The item before the last of three or five.
+// The second to last of three or five items.
 fn shown_by(items: &[ByteString]) -> Option<&[u8]>
     ensures { option_map (λ x. x.now) result ≡ shown_by items.now }
 {
@@ -20,9 +20,9 @@ fn shown_by(items: &[ByteString]) -> Option<&[u8]>
     }
 }
 
-/// The preimage that an input of a transaction shows where it spends an HTLC (BOLT 5, "HTLC Output Handling"). It is the item before the last, where it has 32
-/// bytes, of a witness of three items, as a direct claim on the peer's commitment has, or of five, as an HTLC-success transaction has. `None` where there is no
-/// such item, and where the transaction has no input at the index. It takes no memory.
+/// The preimage that an input of a transaction shows where it spends an HTLC (BOLT 5, "HTLC Output Handling"). It is the second to last item of the witness, if
+/// that has 32 bytes. The witness has three items in a direct claim on the peer's commitment, or five in an HTLC-success transaction. `None` if there is no
+/// such item, or if the transaction has no input at the index. It allocates nothing.
 pub fn preimage_in(tx: &Tx, index: usize) -> Option<[u8; 32]>
     ensures { result ≡ preimage_shown tx.now index }
 {
@@ -36,8 +36,8 @@ pub fn preimage_in(tx: &Tx, index: usize) -> Option<[u8; 32]>
     Some(preimage)
 }
 
-/// Whether what stands in the block of a height is 100 blocks deep under this tip, so that nothing more is to be done about it: irrevocably resolved (BOLT 5,
-/// "General Nomenclature").
+/// Whether what is in the block of a height is 100 blocks deep under this tip, so that nothing more is to be done about it. BOLT 5, "General Nomenclature",
+/// calls it irrevocably resolved.
 pub fn is_final(height: u64, tip: u64) -> bool
     ensures { result ≡ is_deep height tip }
 {

@@ -9,8 +9,8 @@ use crate::numbers::MAX_NUMBER;
 use std::alloc::{AllocError, Global};
 use std::marker::Model;
 
-/// The commitments that the peer revoked, which stand by their numbers: the first has number 0, and each the number after the one before it. A contract
-/// sees them as the list of these.
+/// The commitments that the peer revoked, by number: the first has number 0, and each has the number after the one before it. A contract sees them as the
+/// list of these.
 #[derive(Debug, Drop)]
 pub struct RevokedCommitments {
     items: Vec<RevokedCommitment>,
@@ -28,7 +28,7 @@ impl Model for RevokedCommitments {
     ghost invariant = { λ r. AreNumbered r.items.items };
 }
 
-// Equal commitments.
+// Copies of commitments.
 fn copied(
     alloc: Global,
     commitments: &[RevokedCommitment],
@@ -42,7 +42,7 @@ fn copied(
     Ok(copies)
 }
 
-// Puts one at the end.
+// Appends one.
 fn push_to(
     commitments: &mut Vec<RevokedCommitment>,
     revoked: RevokedCommitment,
@@ -54,7 +54,7 @@ fn push_to(
     Ok(())
 }
 
-// Notes that the penalties of the one at an index are kept, and tells whether there is one.
+// Marks the penalties of the commitment at an index as kept. The result is whether there is one.
 #[tactic(auto, using(crate::proofs::Numbering::kept_at, crate::proofs::Numbering::kept_past))]
 fn keep_at(commitments: &mut [RevokedCommitment], index: usize) -> bool
     ensures kept { commitments.new ≡ with_kept commitments.old index }
@@ -71,7 +71,7 @@ impl RevokedCommitments {
     ghost use Rattle.std.specs.Prelude.{◌≡◌, ◌++◌, ◌∷◌, [], true, length, nat_lt, slice_get, option_map, IfOk, IfErr, IfSome, OnOk, OnErr};
     ghost use Rattle.resolve.specs.Numbered.{AreNumbered, is_next, IsPushRefusal, with_kept};
 
-    /// None, which takes no memory.
+    /// No commitments. It allocates nothing.
     pub fn new(alloc: Global) -> RevokedCommitments
         ensures { result ≡ [] }
     {
@@ -80,8 +80,8 @@ impl RevokedCommitments {
         }
     }
 
-    /// Puts the next one at the end. It is refused as WrongNumber where its number is not how many there are, or is above `MAX_NUMBER`, else where memory ran
-    /// out. A refusal leaves all as it was.
+    /// Appends the next one. WrongNumber if its number is not that of the next one, or is above `MAX_NUMBER`; else the only error is that memory ran out. A
+    /// refusal leaves all as it was.
     #[tactic(auto, using(crate::proofs::Numbering::pushed))]
     pub fn push(&mut self, revoked: RevokedCommitment) -> Result<(), RevokedError>
         ensures pushed { OnOk result (self.new ≡ self.old ++ revoked ∷ []) }
@@ -97,7 +97,7 @@ impl RevokedCommitments {
         Ok(())
     }
 
-    /// The one of a number.
+    /// The commitment of a number, if there is one.
     pub fn get(&self, number: u64) -> Option<&RevokedCommitment>
         ensures value { option_map (λ r. r.now) result ≡ slice_get self.now number }
         ensures number { IfSome result (λ r. r.now.state.number ≡ number) }
@@ -105,7 +105,7 @@ impl RevokedCommitments {
         self.items.get(number as usize)
     }
 
-    /// How many there are, which is the number of the next one.
+    /// The number of commitments, which is also the number of the next one.
     pub fn len(&self) -> usize
         ensures { result ≡ length self.now }
     {
@@ -120,7 +120,7 @@ impl RevokedCommitments {
         self.items.as_slice()
     }
 
-    /// Notes that the penalties of a number are kept, and tells whether there is one of that number. To note it again changes nothing.
+    /// Marks the penalties of a number as kept. The result is whether there is a commitment of that number. Marking it again changes nothing.
     #[tactic(auto, using(crate::proofs::Numbering::kept))]
     pub fn keep(&mut self, number: u64) -> bool
         ensures kept { self.new ≡ with_kept self.old number }
@@ -129,7 +129,7 @@ impl RevokedCommitments {
         keep_at(self.items.as_mut_slice(), number as usize)
     }
 
-    /// Equal ones. The only error is that memory ran out.
+    /// A copy. The only error is that memory ran out.
     pub fn copy(&self) -> Result<RevokedCommitments, AllocError>
         ensures { IfOk result (λ r. r ≡ self.now) }
     {

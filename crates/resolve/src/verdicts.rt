@@ -7,7 +7,8 @@ pub enum Verdict {
     Ours,
     /// The peer's newest commitment.
     Theirs,
-    /// The peer's commitment after that, which was signed and whose predecessor isn't revoked yet.
+    /// The peer's commitment after that, which is signed while the one before it isn't revoked
+    /// yet.
     TheirsNext,
     /// The peer's commitment of this number, which it revoked.
     Revoked(u64),

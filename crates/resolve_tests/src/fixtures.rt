@@ -14,7 +14,7 @@ use std::process::Abort;
 use terms::{BaseKeys, Party, Side, Terms, View};
 use tx::OutPoint;
 
-// A key of one byte over and over, behind 02.
+// A key: 02, and then one byte 32 times.
 fn key(rt: &impl Abort, fill: u8) -> Key {
     key_of(fill).expect(rt, "a key")
 }
@@ -114,7 +114,7 @@ pub fn revoked(rt: &impl Abort, alloc: Global, number: u64) -> RevokedCommitment
     RevokedCommitment::new(alloc, state, false).expect(rt, "memory")
 }
 
-/// Those of numbers 0 and 1, of which the penalties of 1 are kept.
+/// The revoked commitments 0 and 1, with the penalties of 1 kept.
 pub fn two_revoked(rt: &impl Abort, alloc: Global) -> RevokedCommitments {
     let mut list = RevokedCommitments::new(alloc);
     list.push(revoked(rt, alloc, 0)).expect(rt, "number 0");

@@ -60,7 +60,7 @@ fn copies_a_revoked_commitment(rt: HostRuntime) {
     assert!(rt; one.copy().is_ok());
 }
 
-// How many claims are due.
+// The number of claims that are due.
 fn due(rt: &impl Abort, alloc: Global, known: &Known, verdict: Verdict) -> usize {
     let claims = due_claims(alloc, known, verdict).expect(rt, "memory");
     claims.len()

@@ -13,7 +13,7 @@ use terms::{Htlc, Side, Terms};
 use tx::{Tx, TxOut, Witness};
 use watch::{Lookout, Watch};
 
-// The script of the funding output, which anyone spends: the opcode 1.
+// The script of the funding output, which anyone can spend: the opcode 1.
 const SCRIPT: [u8; 1] = [0x51];
 
 // The preimage of the HTLC.
@@ -39,7 +39,7 @@ fn theirs(rt: &impl Abort, alloc: Global, terms: &Terms) -> KnownCommitment {
     built.expect(rt, "a commitment")
 }
 
-// What A knows of a channel whose funding output the chain grants.
+// What A knows of a channel whose funding output the chain creates by a grant.
 fn funded(rt: &impl Abort, alloc: Global, chain: &mut Index) -> Known {
     let granted = chain.grant(funding_output(rt, alloc));
     let terms = terms_on(rt, granted.expect(rt, "a grant"));
@@ -70,7 +70,7 @@ fn close(rt: &impl Abort, alloc: Global, chain: &mut Index, known: &Known) {
     assert!(rt; chain.connect(Vec::new(alloc)).is_ok());
 }
 
-// How many claims a block gives.
+// The number of claims that a block gives.
 fn count(
     rt: &impl Abort,
     alloc: Global,
@@ -83,7 +83,7 @@ fn count(
     sight.claims.len()
 }
 
-// to_remote is due at the close, and the HTLC once its preimage is known; both are due again where the close was taken off and comes again.
+// to_remote is due at the close, and the HTLC once its preimage is known. Both are due again after the close is taken off and mined again.
 fn gives_each_claim_once(rt: &impl Abort, alloc: Global, blocks: &[Block], lookout: &mut Lookout) {
     assert_eq!(rt; blocks.len(), 3);
     assert_eq!(rt; count(rt, alloc, lookout, 0, &blocks[0]), 0);

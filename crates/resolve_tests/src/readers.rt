@@ -10,7 +10,7 @@ use side::{ReadParts, Reader};
 use std::alloc::{AllocError, Global};
 use watch::Watch;
 
-// A reader of one channel, which learnt one preimage before.
+// A reader of one channel, which has learnt one preimage before.
 fn reader_of_one(alloc: Global) -> Result<Reader, AllocError>
     ensures { IfOk result (λ r. length r.seen ≡ 1) }
 {
@@ -21,14 +21,15 @@ fn reader_of_one(alloc: Global) -> Result<Reader, AllocError>
     Reader::new(alloc, fundings, watches, learnt)
 }
 
-// What it has once a block is read by what it was told.
+// The parts of a reader after it has read a block by this knowledge.
 fn read_by(alloc: Global, block: &Block, known: Known) -> Result<ReadParts, AllocError> {
     let mut reader = reader_of_one(alloc)?;
     reader.answer(0, known)?;
     reader.read(alloc, 0, block)?.into_parts()
 }
 
-// Of a channel whose funding output stands nothing is asked, and a block without transactions makes nothing due.
+// Nothing is asked for a channel whose funding output is unspent, and a block without transactions makes nothing
+// due.
 #[test]
 fn reads_a_block(rt: HostRuntime) {
     let chain = Index::new(rt.alloc()).expect(&rt, "memory");

@@ -1,4 +1,4 @@
-//! The chain of a scenario, made anew by its calls.
+//! Rebuilds the chain of a scenario with calls of its own.
 
 use anyhow::Result;
 use chain::{Block, Coins, Command, Index, Scan, replay_commands};
@@ -7,7 +7,7 @@ use std::alloc::Global;
 use std::io::Write;
 use world::World;
 
-/// The grants in a block.
+/// Adds the calls that make a block's grants.
 fn push_grants(calls: &mut Vec<Command>, block: &Block) -> Result<()> {
     for output in block.granted() {
         calls.push(Command::Grant(output.copy()?))?;
@@ -15,7 +15,7 @@ fn push_grants(calls: &mut Vec<Command>, block: &Block) -> Result<()> {
     Ok(())
 }
 
-/// The block of the same transactions.
+/// Adds the call that makes a block with the same transactions.
 fn push_block(alloc: Global, calls: &mut Vec<Command>, block: &Block) -> Result<()> {
     let mut txs = Vec::new(alloc);
     for confirmed in block.transactions() {
@@ -25,7 +25,8 @@ fn push_block(alloc: Global, calls: &mut Vec<Command>, block: &Block) -> Result<
     Ok(())
 }
 
-/// The blocks after the first one, which every chain begins with.
+/// Adds the calls for the blocks after the first one, which every
+/// chain begins with.
 fn push_blocks(alloc: Global, calls: &mut Vec<Command>, blocks: &[Block]) -> Result<()> {
     for block in blocks {
         push_block(alloc, calls, block)?;
@@ -34,7 +35,7 @@ fn push_blocks(alloc: Global, calls: &mut Vec<Command>, blocks: &[Block]) -> Res
     Ok(())
 }
 
-/// What is asked of the chain at the end.
+/// Adds the questions that are asked of the chain at the end.
 fn push_questions(calls: &mut Vec<Command>) -> Result<()> {
     calls.push(Command::Height)?;
     calls.push(Command::Unspent)?;
@@ -42,7 +43,7 @@ fn push_questions(calls: &mut Vec<Command>) -> Result<()> {
     Ok(())
 }
 
-/// The calls that make these blocks, and the questions.
+/// Adds the calls that make these blocks, and the questions.
 fn push_all(alloc: Global, calls: &mut Vec<Command>, blocks: &[Block]) -> Result<()> {
     if let Some((first, others)) = blocks.split_first() {
         push_grants(calls, first)?;
@@ -78,13 +79,15 @@ fn show_on<C: Coins, W: Write>(
     Ok(())
 }
 
-/// Prints what a scan of the blocks answers, and then an index.
+/// Prints the answers of a scan of the
+/// blocks, and then those of an index.
 fn show_both<W: Write>(alloc: Global, out: &mut W, calls: &[Command]) -> Result<()> {
     show_on(alloc, out, &mut Scan::new(alloc)?, calls)?;
     show_on(alloc, out, &mut Index::new(alloc)?, calls)
 }
 
-/// Prints what both answer to the calls that make a scenario's chain.
+/// Prints the answers of both to the
+/// calls that make a scenario's chain.
 pub fn show<W: Write>(alloc: Global, out: &mut W, line: &str) -> Result<()> {
     let mut calls = Vec::new(alloc);
     push_played(alloc, &mut calls, line)?;

@@ -1,8 +1,8 @@
-//! Plays scenarios: a line of its input is one, and it prints what `enforce run` prints of it.
+//! Plays scenarios: each line of its input is one, and it prints what `enforce run` prints for it.
 //!
-//! A line `== NAME` is printed again. After a line `== chains` it prints, for the next scenario, what both ways to
-//! keep a chain answer to the calls that make the blocks with which it ends. Nothing stands on the program: it calls
-//! `enforce_words`, and `world` and `chain` for the blocks.
+//! A line `== NAME` is printed again. After a line `== chains`, the program rebuilds the chain of the next
+//! scenario's end with calls. It prints what both ways to keep a chain answer to these calls. No crate depends on
+//! the program. It calls `enforce_words`, and `world` and `chain` for the blocks.
 #![tactic(auto)]
 
 mod chains;
@@ -12,7 +12,7 @@ use enforce_words::run_words;
 use std::alloc::Global;
 use std::io::Write;
 
-/// What is shown of a scenario.
+/// What to print for a scenario.
 #[derive(Clone, Copy, PartialEq, Eq)]
 enum Shown {
     Lines,

@@ -177,7 +177,7 @@ module _ (funding : OutPoint) (hash : List ℕ) where
   abbrev coin_of : Claimable → Coin
   coin_of o = record { output = output_at o.place; height = 1; spent = false }
 
-  -- an input with this sequence and witness, and a transaction of it alone
+  -- an input with this sequence and witness, and a transaction with only this input
   abbrev input_on : Claimable → ℕ → List (List ℕ) → TxIn
   input_on o sequence witness = record { outpoint = o.place.outpoint; sequence = sequence; witness = witness }
 
@@ -315,7 +315,7 @@ module _ (funding : OutPoint) (hash : List ℕ) where
   same_timeout : digest_of (spend_on on_htlc (timeout timed_out) timed_out) ≡ timeout_digest
   same_timeout = ap sha256 (ap sha256 (sym (unsigned_list (timeout timed_out) timed_out (spelling on_htlc.form.ops) on_htlc.place.value)))
 
-  -- the empty item hashes to another hash than the revocation key's
+  -- the empty item has another HASH160 than the revocation key
   no_revocation : bytes_eq (hash160 []) (hash160 c.keys.revocation) ≡ false
   unfolding commitment_of keys_of revocation_key point_of sha256 digest_bytes hash_after compress rounds schedule first_words left_words right_words left_rotations right_rotations left_constants right_constants block_words left_line right_line blocks ripemd_compress ripemd_hash_after ripemd_bytes ripemd160
   no_revocation = refl

@@ -1,4 +1,4 @@
--- What a revoked state's commitment and its HTLC transactions keep, so that a digest signs one of them.
+-- The limits that a revoked state's commitment and its HTLC transactions keep, so that a digest signs one of them.
 use Rattle.std.proofs.Common.{◌≡◌, ℕ, ◌+◌, ◌^◌, ◌<◌, ◌≤◌, Bool, true, false, List, [], ◌∷◌, map, length, Some, None, ap, refl, arith}
 use Rattle.std.specs.Prelude.{nat_le, if◌then◌else◌}
 use Rattle.std.specs.List.{All, Contains, cons_option}
@@ -61,7 +61,7 @@ htlc_short c Received h k l =
 
 -- ---- what can be claimed
 
--- its script is one, and its value that of an output
+-- its script has at most 10,000 bytes, and its value is at most max_value
 pub record IsPlain (o : Claimable) : Type 0 where
   pub short : length (spelling o.form.ops) ≤ max_script_size
   pub low : o.place.value ≤ max_value

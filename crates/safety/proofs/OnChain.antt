@@ -1,4 +1,4 @@
--- Who spends on a chain: what the chain's test of an input says beside the run.
+-- Who spends on a chain: what the chain's test of an input says besides the run.
 use Rattle.std.proofs.Common.{◌≡◌, ℕ, ◌+◌, ◌%◌, ◌^◌, ◌≤◌, Bool, true, false, Option, Some, None, sym, ap, ◌∙◌, refl, arith}
 use Rattle.std.specs.Prelude.{◌&&◌, ◌||◌, not, nat_lt}
 use Rattle.std.proofs.lemmas.Bool.{leb-true, le-ltb, false≢true}

@@ -32,7 +32,7 @@ front_is (c ∷ a) (d ∷ b) x y len e =
     let r = front_is a b x y (omega (arith, len)) tails in
     (rw (heads, r.0) refl, r.1)
 
--- two hashes of strings that are hashed for keys: the strings are one, or collide
+-- two equal hashes of strings that are hashed for keys: the strings are the same, or they collide
 apart : (r q : Rights) (a b : List ℕ) → IsHashed r a → IsHashed q b → sha256 a ≡ sha256 b → (a ≡ b → KeysCollide r q) → KeysCollide r q
 apart r q a b g h e f = by (bytes_eq a b) refl
   where
@@ -56,7 +56,7 @@ same_secret r q b c n e =
     apart r q (codes "base" ++ r.seed ++ number_of b ∷ []) (codes "base" ++ q.seed ++ number_of c ∷ []) (of_secret b refl) (of_secret c refl) e
     (λ s. absurd (n (same_seed r.seed q.seed (number_of b) (number_of c) s)))
 
--- keys are one where their hashes are
+-- equal keys have equal hashes
 same_hash : (a b : List ℕ) → 2 ∷ sha256 a ≡ 2 ∷ sha256 b → sha256 a ≡ sha256 b
 same_hash a b e = cc
 
@@ -92,7 +92,7 @@ tagged tag k m p t len e =
     let h = front_is (tag ++ k) (tag ++ m) p t (omega (arith, len, length-append tag k, length-append tag m)) e in
     (front_is tag tag k m refl h.0).1
 
--- one string that both hash: the base keys in it are one
+-- a string that both hash has the same base key of both, which shows a collision
 both : (r q : Rights) (a b : List ℕ) → r.seed ≢ q.seed → IsHashed r a → IsHashed q b → a ≡ b → KeysCollide r q
 both r q a b n (of_secret x e) (of_secret y f) s = absurd (n (same_seed r.seed q.seed (number_of x) (number_of y) (sym e ∙ s ∙ f)))
 both r q a b n (of_base x e) (of_base y f) s = same_secret r q x y n (front_is (codes "point") (codes "point") _ _ refl (sym e ∙ s ∙ f)).1

@@ -72,7 +72,7 @@ input_passed blocks height t (i ∷ is) e input c =
     let b = both_passed (input_refusal blocks height t i) (inputs_refusal blocks height t is) e in
     ⊎_elim (λ (s : i ≡ input). ap (λ x. input_refusal blocks height t x) (sym s) ∙ b.0) (λ (d : Contains is input). input_passed blocks height t is b.1 input d) (contains_cases i is input c)
 
--- behind the transactions before it in its block
+-- after the transactions before it in its block
 next_found : (older : List Contents) (t : Transaction) (ts : List Transaction) → transaction_refusal (record { transactions = ts; granted = [] } ∷ older) t ≡ None
     → (input : TxIn) → Contains t.inputs input → IsFound (created_of older ++ created_by_all (length older) ts) (length older) t input
 next_found older t ts e input c =

@@ -25,7 +25,7 @@ pair_of {A} x y a b e =
     let f = ok_is {A = A × List ℕ} (x, a) (y, b) e in
     (ap (λ (p : A × List ℕ). p.0) f, ap (λ (p : A × List ℕ). p.1) f)
 
--- what is read back is told apart from what follows it
+-- a field that can be read back determines where it ends
 fronts : {A : Type 0} (read : List ℕ → Field A) (spell : A → List ℕ) (Good : A → Type 0) → Reads read spell Good → (x y : A) (a b : List ℕ) → Good x → Good y → spell x ++ a ≡ spell y ++ b → (x ≡ y) × (a ≡ b)
 fronts read spell Good r x y a b g h e = pair_of x y a b (sym (r.again x a g) ∙ ap read e ∙ r.again y b h)
 
@@ -58,7 +58,7 @@ points i j a b g h e =
 same_input : (i j : TxIn) → i.outpoint ≡ j.outpoint → i.sequence ≡ j.sequence → signed_input i [] ≡ signed_input j []
 same_input i j e f = ap (λ (o : OutPoint). record { outpoint = o; sequence = i.sequence; witness = [] }) e ∙ ap (λ (n : ℕ). record { outpoint = j.outpoint; sequence = n; witness = [] }) f
 
--- no number is spelt in no byte
+-- the bytes of a number are not empty
 not_empty : (k n : ℕ) (a : List ℕ) → length (number k n) ≡ k → 0 < k → [] ≡ number k n ++ a → ⊥
 not_empty k n a l h e = omega (arith, l, h, ap length e, length-append (number k n) a)
 

@@ -110,7 +110,7 @@ spends_to_remote Late c place e t input counted height run =
     (key_hash_satisfied (hash160 c.keys.remote) (length-ripemd160 _) (spend_of t input (spelling (key_hash (hash160 c.keys.remote))) place.value) input.witness counted height
     (ran_key t input c.keys.remote place.value counted height (on_program t input place _ counted height e run)))
 
--- an HTLC's output, once its opcodes are read, and are opened by a key of the revocation key's hash or by the peer's HTLC key
+-- an HTLC's output, once its opcodes are read: it is spent by a key of the revocation key's hash or by the peer's HTLC key
 spends_by : {More : Type 0} (Late : Type 0) (c : Contents) (direction : Direction) (h : Htlc) (place : Place) (t : Transaction) (input : TxIn) (counted height : ℕ)
     → (r : Ran t input (spelling (htlc_form c.keys direction h).ops) place.value (htlc_form c.keys direction h).ops counted height)
     → HasKeyOf (spend_of t input (spelling (htlc_form c.keys direction h).ops) place.value) r.items (hash160 c.keys.revocation) ⊎ (HasToken (spend_of t input (spelling (htlc_form c.keys direction h).ops) place.value) r.items c.keys.remote_htlc × More)

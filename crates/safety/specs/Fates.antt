@@ -37,8 +37,8 @@ SignedWithCommitment = (c : Contents) (h : HtlcOutput) → htlc_digest c h ≡ d
 abbrev pub signed_by_peer : Contents → List Signed → List Signed
 signed_by_peer c own = map (htlc_signed c) (htlcs_of c) ++ own
 
--- the input is of the HTLC transaction of the HTLC at the outpoint that it names, whatever its witness. HTLC-timeout stands above the expiry of the HTLC, which
--- the owner offered (BIP 65); and the only output is one that the peer can claim again
+-- the input is of the HTLC transaction of the HTLC at the outpoint that it names, whatever its witness. HTLC-timeout is in a block above the expiry of the
+-- HTLC, which the owner offered (BIP 65). The only output is one that the peer can claim again
 pub record IsHtlcTransaction (state : RevokedState) (height : ℕ) (t : Transaction) (input : TxIn) : Type 0 where
   pub htlc : HtlcOutput
   pub among : Contains (htlcs_of (commitment_in state)) htlc
@@ -57,26 +57,26 @@ pub data Fate (state : RevokedState) (o : Claimable) (since height : ℕ) (t : T
   by_twin : ShowsTwin (commitment_in state) o input → Fate state o since height t input own
   by_collision : Any (ListsCollide (spend_on o t input)) (signed_by_peer (commitment_in state) own) → Fate state o since height t input own
 
--- it has a fate, whatever the peer signed of its own, where each signature of the peer's in it is over one that the peer signed
+-- it has a fate, whatever inputs of its own the peer signed, if each signature of the peer's in it is over an input that the peer signed
 abbrev pub HasFate : RevokedState → Claimable → (since height : ℕ) → Transaction → TxIn → Type 0
 HasFate state o since height t input =
     (own : List Signed) → All IsSignable own → IsAsSigned (commitment_in state).keys (signed_by_peer (commitment_in state) own) (spend_on o t input)
     → Fate state o since height t input own
 
--- of any coin that is one of the outputs that a revoked state lets the peer claim
+-- this holds of any coin that is one of the outputs that a revoked state lets the peer claim
 abbrev pub NothingEscapes : Type 0
 NothingEscapes =
     (state : RevokedState) → HasShortDelay state
     → (o : Claimable) (height : ℕ) (t : Transaction) (input : TxIn) (coin : Coin) → Takes state o height t input coin
     → HasFate state o coin.height height t input
 
--- of any transaction that a block of this height may hold above these blocks
+-- this holds of any transaction that a block of this height may hold above these blocks
 abbrev pub NothingEscapesAbove : List Block → ℕ → RevokedState → Type 0
 NothingEscapesAbove blocks height state =
     (o : Claimable) (t : Transaction) (input : TxIn) (coin : Coin) → coin_at blocks input.outpoint ≡ Some coin → Takes state o height t input coin
     → HasFate state o coin.height height t input
 
--- of each transaction on a chain that passed its tests, by the coin that its input names
+-- this holds of each transaction on a chain that passed its tests, by the coin that its input names
 abbrev pub NothingEscapesOnChains : Type 0
 NothingEscapesOnChains =
     (state : RevokedState) → HasShortDelay state → (o : Claimable) → Contains (claimable_of state) o

@@ -1,4 +1,4 @@
--- That only the owner's peer may sign with its keys: up to collisions, no signer of another seed may, whatever it learnt.
+-- Only the owner's peer may sign with its keys: up to collisions, no signer of another seed may, whatever it learnt.
 use Rattle.std.specs.Prelude.{◌≡◌, ◌≢◌, ℕ, List, [], ◌∷◌, ◌++◌, codes}
 use Rattle.std.specs.List.{Contains}
 use Rattle.sha2.specs.Sha256.{sha256}
@@ -29,7 +29,7 @@ pub record KeysCollide (r q : Rights) : Type 0 where
   pub of_second : IsHashed q second
   pub collide : Collide sha256 first second
 
--- the rights of a seed, once it learnt the state's secret and its point
+-- the rights of a seed, once it has learnt the state's secret and its point
 abbrev pub peer_rights : List ℕ → RevokedState → Rights
 peer_rights seed state = record { seed = seed; points = point_of state.secret ∷ []; secrets = state.secret ∷ [] }
 
@@ -39,7 +39,7 @@ pub record AreOfSeed (seed : List ℕ) (bases : BaseKeys) : Type 0 where
   pub htlc : bases.htlc.bytes ≡ base_key seed Htlc
   pub revocation : bases.revocation.bytes ≡ base_key seed Revocation
 
--- where the peer's base keys are of one seed, whoever has another and may sign with a key of the peer's shows a collision
+-- where the peer's base keys are of one seed, a signer of another seed that may sign with a key of the peer's shows a collision
 abbrev pub OnlyPeerSigns : Type 0
 OnlyPeerSigns =
     (state : RevokedState) (seed : List ℕ) (r : Rights) → r.seed ≢ seed → AreOfSeed seed (party (other state.owner) state.terms).bases

@@ -54,8 +54,8 @@ OfferedSatisfied =
     (revocation_hash remote local payment_hash : List ℕ) → length revocation_hash ≡ 20 → length payment_hash ≡ 20 → is_key remote ≡ true → is_key local ≡ true
     → OnSatisfied (offered revocation_hash remote local payment_hash) (SatisfiesOffered revocation_hash remote local payment_hash)
 
--- a key of the revocation hash, with its token; or the remote key's token, and with it the local key's token and the preimage, or a lock time
--- that CHECKLOCKTIMEVERIFY accepts for the expiry (BIP 65)
+-- a key of the revocation hash, with its token; or the remote key's token. With the latter comes either the local key's token and the
+-- preimage, or a lock time that CHECKLOCKTIMEVERIFY accepts for the expiry (BIP 65)
 abbrev pub SatisfiesReceived : (revocation_hash remote local payment_hash : List ℕ) (expiry : ℕ) → Spend → List (List ℕ) → Type 0
 SatisfiesReceived revocation_hash remote local payment_hash expiry spend witness =
     HasKeyOf spend witness revocation_hash

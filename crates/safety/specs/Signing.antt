@@ -7,7 +7,7 @@ use Rattle.tx.specs.Parts.{IsBounded}
 use Rattle.tx.specs.Fields.{Transaction, IsInput, KeepsLimits, signed_input, unsigned_transaction}
 use Rattle.sighash.specs.Signing.{all_outpoints, all_sequences, all_outputs, signed_list}
 
--- two byte strings collide: they differ, and have one hash
+-- two byte strings collide: they differ, and have the same hash
 abbrev pub Collide : (List ℕ → List ℕ) → List ℕ → List ℕ → Type 0
 Collide hash a b = (a ≢ b) × (hash a ≡ hash b)
 
@@ -46,11 +46,11 @@ pub data ListsCollide (s z : Signed) : Type 0 where
   sequences : Collide sha256d (all_sequences s.transaction.inputs) (all_sequences z.transaction.inputs) → ListsCollide s z
   outputs : Collide sha256d (all_outputs s.transaction.outputs) (all_outputs z.transaction.outputs) → ListsCollide s z
 
--- one digest is over one input of one transaction
+-- a digest is over one input of one transaction, up to collisions
 abbrev pub OneDigest : Type 0
 OneDigest = (s z : Signed) → IsSignable s → IsSignable z → digest_of s ≡ digest_of z → AreSame s z ⊎ ListsCollide s z
 
--- and one token is of one key, over one digest
+-- a token is of one key, and over one input of one transaction, up to collisions
 abbrev pub OneToken : Type 0
 OneToken =
     (key other : List ℕ) (s z : Signed) → length key ≡ length other → IsSignable s → IsSignable z → token_of key (digest_of s) ≡ token_of other (digest_of z)

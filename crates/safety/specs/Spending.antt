@@ -1,4 +1,4 @@
--- What an input has that spends an output which a revoked commitment lets the owner's peer claim.
+-- What an input has that spends an output which the owner's peer can claim by a revoked commitment.
 use Rattle.std.specs.Prelude.{◌≡◌, ◌⊎◌, ℕ, ◌+◌, ◌%◌, ◌^◌, ◌<◌, ◌≤◌, false, List, [], ◌∷◌, Some, None}
 use Rattle.std.specs.List.{Contains}
 use Rattle.sha2.specs.Sha256.{sha256}
@@ -50,7 +50,7 @@ pub data ShowsTwin (c : Contents) (o : Claimable) (input : TxIn) : Type 0 where
   of_script : HasTwin sha256 (spelling o.form.ops) input.witness → ShowsTwin c o input
   of_key : (key : List ℕ) → IsPeerKeyOn c o key → HasTwin hash160 key input.witness → ShowsTwin c o input
 
--- the owner's way, which to_local's form alone has: the delayed key's token, and then `Late` holds
+-- the owner's way, which only to_local's form has: the delayed key's token, and `Late` holds
 pub record IsOwners (Late : Type 0) (c : Contents) (o : Claimable) (t : Transaction) (input : TxIn) : Type 0 where
   pub form : o.form ≡ to_local_form c.keys.revocation c.delay c.keys.delayed
   pub token : IsSignedBy c.keys.delayed (spend_on o t input)
@@ -62,14 +62,14 @@ pub data CanSpend (Late : Type 0) (c : Contents) (o : Claimable) (t : Transactio
   by_owner : IsOwners Late c o t input → CanSpend Late c o t input
   by_twin : ShowsTwin c o input → CanSpend Late c o t input
 
--- the input's sequence is a relative lock of at least this many blocks, and binds (BIP 68)
+-- the input's sequence is a relative lock of at least this many blocks, and the lock is enforced (BIP 68)
 pub record Waits (t : Transaction) (input : TxIn) (delay : ℕ) : Type 0 where
   pub version : 2 ≤ t.version
   pub on : bit_at 31 input.sequence ≡ false
   pub blocks : bit_at 22 input.sequence ≡ false
   pub enough : delay ≤ input.sequence % 2 ^ 16
 
--- whatever input runs clean on an output that a revoked state lets the peer claim
+-- whatever input runs clean on an output that a revoked state lets the peer claim spends it in one of these ways
 abbrev pub AreSpentSo : RevokedState → Type 0
 AreSpentSo state =
     (o : Claimable) → Contains (claimable_of state) o
@@ -86,7 +86,7 @@ pub record Takes (state : RevokedState) (o : Claimable) (height : ℕ) (t : Tran
 abbrev pub IsLate : RevokedState → (since height : ℕ) → Type 0
 IsLate state since height = since + (commitment_in state).delay ≤ height
 
--- whatever input passes the chain's test of such an output
+-- whatever input passes the chain's test of such an output spends it in one of these ways
 abbrev pub AreTakenSo : RevokedState → Type 0
 AreTakenSo state =
     (o : Claimable) (height : ℕ) (t : Transaction) (input : TxIn) (coin : Coin) → Takes state o height t input coin

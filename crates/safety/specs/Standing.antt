@@ -1,4 +1,4 @@
--- What is known of an input on a chain that passed its tests.
+-- What an input on a chain that passed its tests satisfies.
 use Rattle.std.specs.Prelude.{◌≡◌, ℕ, true, false, List, reverse, slice_get, Some, None}
 use Rattle.std.specs.List.{Contains}
 use Rattle.tx.specs.declared.input.TxIn.{TxIn}
@@ -8,7 +8,7 @@ use Rattle.chain.specs.Checks.{coin_refusal}
 use Rattle.chain.specs.Checked.{is_checked}
 use Rattle.chain.specs.Indexing.{marked}
 
--- the transaction stands in the block of this height
+-- the transaction is in the block of this height
 pub record StandsAt (blocks : List Contents) (height : ℕ) (t : Transaction) : Type 0 where
   pub block : Contents
   pub there : slice_get (reverse blocks) height ≡ Some block

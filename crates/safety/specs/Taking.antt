@@ -14,20 +14,21 @@ use Rattle.safety.specs.Spending.{spend_on, IsSignedBy, peer_keys, ShowsTwin, Is
 abbrev pub ShowsOnly : KeyBytes → List Signed → Signed → Type 0
 ShowsOnly k signed s = (key : List ℕ) → Contains (peer_keys k) key → IsSignedBy key s → Any (λ z. digest_of s ≡ digest_of z) signed
 
--- an input of a transaction that keeps the limits, each signature of the peer's in it over one that the peer signed
+-- an input of a transaction that keeps the limits; each signature of the peer's in it is over an input that the peer signed
 pub record IsAsSigned (k : KeyBytes) (signed : List Signed) (s : Signed) : Type 0 where
   pub limits : KeepsLimits s.transaction
   pub among : Contains s.transaction.inputs s.input
   pub shows : ShowsOnly k signed s
 
--- what an input is that takes, in a block of one height, an output that stands since a block of another: one that the peer signed, whatever its witness; or the owner's after the delay; or a collision
+-- an input takes, in a block of one height, an output of a block of another height. The input is one that the peer signed, whatever its witness; or the owner's after the delay; or it shows a
+-- collision
 pub data IsTaken (state : RevokedState) (o : Claimable) (since height : ℕ) (t : Transaction) (input : TxIn) (signed : List Signed) : Type 0 where
   as_signed : Any (AreSame (spend_on o t input)) signed → IsTaken state o since height t input signed
   by_owner : IsOwners (IsLate state since height) (commitment_in state) o t input → IsTaken state o since height t input signed
   by_twin : ShowsTwin (commitment_in state) o input → IsTaken state o since height t input signed
   by_collision : Any (ListsCollide (spend_on o t input)) signed → IsTaken state o since height t input signed
 
--- of each output that a revoked state lets the peer claim, whatever the peer signed
+-- this holds of each output that a revoked state lets the peer claim, whatever the peer signed
 abbrev pub OnlyAsSigned : Type 0
 OnlyAsSigned =
     (state : RevokedState) → HasShortDelay state

@@ -1,4 +1,4 @@
-//! Laws over the definitions alone, and the same of a state at hand.
+//! Laws over the definitions alone, and two of them for a given state.
 
 ghost use Rattle.std.specs.Prelude.{◌<◌, ◌^◌, ℕ, List};
 ghost use Rattle.chain.specs.Blocks.{Contents as Block};
@@ -24,27 +24,28 @@ pub fn who_satisfies_a_key_hash()
     ensures { KeyHashSatisfied }
 {}
 
-/// Whatever runs clean on an HTLC's script has a key of the revocation key's hash and that key's token, or a token of the remote key. In the second case it also has,
-/// for an offered HTLC, the local key's token or the preimage; for a received one, both of these, or a lock time that CHECKLOCKTIMEVERIFY accepts for the expiry.
+/// Whatever runs clean on an HTLC's script has a key of the revocation key's hash and that key's token, or a token of the remote key. The second case asks for more.
+/// For an offered HTLC that is the local key's token or the preimage. For a received one it is both of these, or a lock time that CHECKLOCKTIMEVERIFY accepts for the
+/// expiry.
 pub fn who_satisfies_an_htlc()
     ensures offered { OfferedSatisfied }
     ensures received { ReceivedSatisfied }
 {}
 
-/// Whatever input runs clean on an output that a revoked state lets the owner's peer claim is of one of three kinds. It has a token of one of the peer's keys over
-/// its own digest, a key that the output's script names. Or, on the form of to_local alone, it has a token of the delayed key and a relative lock of at least the
-/// delay. Or it shows other bytes with the hash of the script, or with that of one of the peer's keys. The delay is below 2^16.
+/// Any input that runs clean on an output that a revoked state lets the owner's peer claim is of one of three kinds. It has a token, over its own digest, of one of the
+/// peer's keys that the output's script names. Or, only on the form of to_local, it has a token of the delayed key and a relative lock of at least the delay. Or it
+/// shows other bytes with the hash of the script, or with that of one of the peer's keys. The delay is below 2^16.
 pub fn who_can_spend()
     ensures { WhoCanSpend }
 {}
 
-/// The same of an input that passes the chain's test of a coin: the delayed key's token takes the coin no earlier than the delay's blocks above it. With a delay of
-/// 0 nobody waits.
+/// The same for an input that passes the chain's test of a coin. With the delayed key's token, it takes the coin no earlier than the delay in blocks above the coin's
+/// block. With a delay of 0 nobody waits.
 pub fn who_spends()
     ensures { WhoSpends }
 {}
 
-/// The same two of a state at hand: its delay is below 2^16 by its type.
+/// The last two laws for a given state: its delay is below 2^16 by its type.
 pub fn who_spends_of(state: &RevokedState)
     ensures runs { AreSpentSo state.now }
     ensures chain { AreTakenSo state.now }
@@ -58,15 +59,15 @@ fn fits(number: u16)
     ensures { number < 2 ^ 16 }
 {}
 
-/// One digest is over one input of one transaction, with one script code and one value, whatever the witnesses; or two byte strings that are hashed for it
-/// collide. So is one token, of one key. The fields fit into their bytes.
+/// A digest is over one input of one transaction, with one script code and one value, whatever the witnesses; or two byte strings that are hashed for it collide. The
+/// same holds of a token, which is also of one key. The fields fit into their bytes.
 pub fn what_is_signed()
     ensures digest { OneDigest }
     ensures token { OneToken }
 {}
 
-/// The keys of the peer's are its own: where its base keys are of one seed, no signer of another seed may sign with one of them, whatever points and secrets it learnt;
-/// or a byte string that one of both hashes for its keys collides with one of the other's.
+/// Only the peer may sign with its keys. Where its base keys are of one seed, no signer of another seed may sign with one of them, whatever points and secrets it
+/// learnt. The one exception: a byte string that one of the two hashes for its keys collides with one of the other's.
 pub fn only_the_peer_signs()
     ensures { OnlyPeerSigns }
 {}
@@ -76,15 +77,20 @@ pub fn inputs_have_passed()
     ensures { HavePassed }
 {}
 
-/// Where each token of the peer's keys in a witness is over what the peer signed: an input that passes the chain's test is one that the peer signed, whatever its
-/// witness; or the owner's after the delay; or named byte strings collide.
+/// Suppose that each token of the peer's keys in a witness is over what the peer signed. Then an input that passes the chain's test is one that the peer signed,
+/// whatever its witness; or it is the owner's after the delay; or named byte strings collide.
 pub fn only_as_signed()
     ensures { OnlyAsSigned }
 {}
 
-/// Where each token of the peer's keys in a witness is one of `commitment_signed` for an HTLC transaction, or over an input that the peer signed of its own: an input
-/// that passes the chain's test is of an HTLC transaction, whose only output the peer can claim again; or one of the peer's own; or the owner's after the delay; or
-/// named byte strings collide. So it is of any transaction in the next block, and of each transaction on a chain that passed its tests.
+/// Suppose that each token of the peer's keys in a witness is over what the peer signed: an HTLC transaction, by `commitment_signed`, or an input of its own. Then for
+/// an input that passes the chain's test, one of four things holds:
+/// - it is of an HTLC transaction, whose only output the peer can claim again;
+/// - it is one of the peer's own;
+/// - it is the owner's after the delay;
+/// - named byte strings collide.
+///
+/// This holds of any transaction in the next block, and of each transaction on a chain that passed its tests.
 pub fn nothing_escapes()
     ensures digests { SignedWithCommitment }
     ensures fates { NothingEscapes }

@@ -1,4 +1,4 @@
--- Events and scenarios with unlike values in all their parts, and values that are near their forms.
+-- Events and scenarios with distinct values in all their parts, and values that just miss the shape.
 use Rattle.std.proofs.Common.{◌≡◌, ℕ, List, [], ◌∷◌, Some, None, codes, refl}
 use Rattle.std.specs.Prelude.{replicate}
 use Rattle.hex.proofs.OnLiterals.{hex_on_literals}
@@ -13,7 +13,7 @@ use Rattle.scenario.specs.Scenarios.{scenario_of}
 abbrev n : ℕ → Data
 n k = number (unsigned k)
 
--- an array with a name at its front
+-- an array whose first item is a name
 abbrev tagged : List ℕ → List Data → Data
 tagged name ds = array (item (string name) (items ds))
   where

@@ -1,4 +1,4 @@
--- The limits on both sides, the order of the refusals, and whole texts.
+-- Values on both sides of the limits, the order of the refusals, and whole texts.
 use Rattle.std.proofs.Common.{◌≡◌, ℕ, true, false, List, [], ◌∷◌, ◌++◌, replicate, map, Ok, Err, codes, refl}
 use Rattle.std.specs.Str.{chars, is_utf8}
 use Rattle.hex.proofs.OnLiterals.{hex_on_literals}
@@ -28,7 +28,7 @@ refusals = refl
 seeds : (seed_of A (record { a = 1 ∷ []; b = 2 ∷ [] }) ≡ 1 ∷ []) × (seed_of B (record { a = 1 ∷ []; b = 2 ∷ [] }) ≡ 2 ∷ [])
 seeds = (refl, refl)
 
--- no other event has blocks, whatever its numbers
+-- only `Blocks` counts: the numbers of all other events are not limited
 abbrev hash : List ℕ
 hash = replicate 32 9
 
@@ -38,7 +38,7 @@ blocks : (map has_few_blocks (Blocks 0 ∷ Blocks 10000 ∷ Blocks 10001 ∷ Blo
     × (map has_few_blocks (Broadcast A 20000 20000 ∷ BroadcastHtlc A 20000 20000 20000 ∷ Look A ∷ Take A 20000 ∷ Release A 20000 ∷ Reorg 20000 20000 ∷ []) ≡ replicate 6 true)
 blocks = (refl, refl, refl)
 
--- terms whose sides begin with 999 and this many millisatoshis, of one satoshi
+-- terms of a capacity of one satoshi, whose sides begin with 999 and with this number of millisatoshis
 abbrev terms : ℕ → ProposedTerms
 terms b = record {
   capacity = 1;
@@ -59,7 +59,7 @@ within : (is_within_limits (replicate 8 (terms 1)) [] ≡ true)
     × (is_within_limits [] (Blocks 1 ∷ Blocks 10001 ∷ []) ≡ false)
 within = (refl, refl, refl, refl, refl, refl)
 
--- limits come before terms, and the first bad terms are named
+-- limits are tested before terms, and the first bad terms are named
 tests : (tested (scenario [] []) ≡ Ok (scenario [] []))
     × (tested (scenario (terms 1 ∷ terms 1 ∷ []) (Sign A 9 ∷ [])) ≡ Ok (scenario (terms 1 ∷ terms 1 ∷ []) (Sign A 9 ∷ [])))
     × (tested (scenario (terms 2 ∷ terms 1 ∷ []) []) ≡ Err (BadTerms 0))
@@ -69,7 +69,7 @@ tests : (tested (scenario [] []) ≡ Ok (scenario [] []))
     × (tested (scenario (replicate 9 (terms 2)) []) ≡ Err OverLimit)
 tests = (refl, refl, refl, refl, refl, refl, refl)
 
--- bytes that are no JSON or not in UTF-8, and other values
+-- bytes that are invalid JSON or not UTF-8, and values of another shape
 no_scenarios : (scenario_in [] ≡ Err NotJson)
     × (scenario_in (codes "{") ≡ Err NotJson)
     × (scenario_in (34 ∷ 255 ∷ 34 ∷ []) ≡ Err NotJson)
@@ -79,7 +79,7 @@ no_scenarios : (scenario_in [] ≡ Err NotJson)
 unfolding scenario_in scenario_of chars is_utf8 serde_json_on_literals
 no_scenarios = (refl, refl, refl, refl, refl, refl)
 
--- whole texts: the front has both seeds
+-- whole texts: `front` has both seeds
 abbrev front : List ℕ
 front = codes "{\"seeds\":[\"0a0a0a0a0a0a0a0a0a0a0a0a0a0a0a0a0a0a0a0a0a0a0a0a0a0a0a0a0a0a0a0a\",\"0b0b0b0b0b0b0b0b0b0b0b0b0b0b0b0b0b0b0b0b0b0b0b0b0b0b0b0b0b0b0b0b\"],"
 

@@ -1,4 +1,4 @@
--- The value that bytes are, by what the reader of `serde_json` says of them.
+-- The value that bytes spell, in terms of the reader of `serde_json`.
 use Rattle.std.proofs.Common.{◌≡◌, ℕ, Bool, true, false, if◌then◌else◌, List, Some, None, refl}
 use Rattle.std.specs.Str.{IsUtf8, is_utf8}
 use Rattle.std.proofs.lemmas.Str.{IsUtf8-from_is_utf8, is_utf8-from_IsUtf8}

@@ -1,4 +1,4 @@
--- The events of a scenario in a text: arrays with the event's name at the front, which `event_of` looks at.
+-- The events of a scenario in JSON: arrays whose first item is the event's name, by which `event_of` tells them.
 use Rattle.std.specs.Prelude.{ℕ, if◌then◌else◌, List, Option, Some, codes}
 use Rattle.std.specs.Str.{bytes_eq}
 use Rattle.serde_json.specs.Data.{Data}
@@ -7,7 +7,7 @@ use Rattle.scenario.specs.declared.events.Event.TheVariants.{Own, Sign, Deliver,
 use Rattle.texts.specs.Values.{◌>>=◌, first_some, array_of, item_of, tag_of, u64_of, side_of}
 use Rattle.texts.specs.Steps.{own_named}
 
--- an update of a side: behind its name stand the side and the channel, and then what a book's step has there, too
+-- an update of a side: its name, the side, the channel, and then the fields that a book's step has there, too
 unfoldable pub own_of : List ℕ → Data → Option Event
 own_of name d = do
   side ← item_of 1 side_of d
@@ -49,7 +49,7 @@ commitment_of d = do
   number ← item_of 3 u64_of form
   Some (Broadcast side channel number)
 
--- an HTLC transaction is
+-- an HTLC transaction is broadcast
 unfoldable pub htlc_transaction_of : Data → Option Event
 htlc_transaction_of d = do
   form ← array_of 5 d
@@ -75,7 +75,7 @@ release_of d = do
   count ← item_of 2 u64_of form
   Some (Release side count)
 
--- blocks give way
+-- a reorganisation replaces the newest blocks
 unfoldable pub reorg_of : Data → Option Event
 reorg_of d = do
   form ← array_of 3 d
@@ -83,7 +83,7 @@ reorg_of d = do
   forgotten ← item_of 2 u64_of form
   Some (Reorg depth forgotten)
 
--- blocks are made
+-- the chain grows
 unfoldable pub blocks_of : Data → Option Event
 blocks_of d = do
   form ← array_of 2 d
@@ -101,7 +101,7 @@ look_of d = do
 unfoldable pub broadcast_of : Data → Option Event
 broadcast_of d = first_some (commitment_of d) (htlc_transaction_of d)
 
--- the events by their names
+-- reads an event by its name
 unfoldable pub event_named : List ℕ → Data → Option Event
 event_named name d =
     if bytes_eq name (codes "sign") then sign_of d
@@ -115,6 +115,6 @@ event_named name d =
     else if bytes_eq name (codes "reorg") then reorg_of d
     else own_of name d
 
--- an array with the event's name at its front
+-- an array whose first item is the event's name
 unfoldable pub event_of : Data → Option Event
 event_of d = tag_of d >>= (λ name. event_named name d)

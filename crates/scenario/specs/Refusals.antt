@@ -1,4 +1,4 @@
--- The refusals by their numbers.
+-- The numbers of the refusals.
 use Rattle.std.specs.Prelude.{ℕ}
 use Rattle.scenario.specs.declared.errors.ScenarioError.{ScenarioError}
 use Rattle.scenario.specs.declared.errors.ScenarioError.TheVariants.{NoMemory, NotJson, BadShape, OverLimit, BadTerms}

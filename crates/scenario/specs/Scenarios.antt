@@ -1,4 +1,4 @@
--- Scenarios in a text.
+-- Scenarios in JSON.
 use Rattle.std.specs.Prelude.{ℕ, Option, Some, codes}
 use Rattle.serde_json.specs.Data.{Data}
 use Rattle.scenario.specs.declared.plain.PlainScenario.{PlainScenario}

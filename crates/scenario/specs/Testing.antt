@@ -1,4 +1,4 @@
--- What is tested of a scenario that has the form: its limits first, and then the terms of its channels in order.
+-- The tests of a plain scenario: its limits first, and then the terms of its channels in order.
 use Rattle.std.specs.Prelude.{ℕ, Bool, not, ◌&&◌, nat_le, if◌then◌else◌, List, length, Option, Some, None, Result, Ok, Err}
 use Rattle.std.specs.List.{list_all, position_from}
 use Rattle.terms.specs.declared.proposals.ProposedTerms.{ProposedTerms}
@@ -10,7 +10,7 @@ use Rattle.scenario.specs.declared.errors.ScenarioError.{ScenarioError}
 use Rattle.scenario.specs.declared.errors.ScenarioError.TheVariants.{OverLimit, BadTerms}
 use Rattle.scenario.specs.Limits.{max_channels, max_events, max_blocks}
 
--- the blocks by which the chain is to grow in an event
+-- the number of blocks by which an event grows the chain
 abbrev pub blocks_of : Event → ℕ
 blocks_of (Blocks count) = count
 blocks_of event = 0

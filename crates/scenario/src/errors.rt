@@ -1,11 +1,11 @@
-//! Why a text is not taken as a scenario.
+//! Why a text is refused as a scenario.
 
 ghost use Rattle.std.specs.Prelude.{◌≡◌};
 ghost use Rattle.scenario.specs.Refusals.{refusal_number};
 
 use thiserror::Error;
 
-/// Why a text is not taken as a scenario. Channels are counted from 0.
+/// Why a text is refused as a scenario. Channels are counted from 0.
 #[derive(Clone, Copy, Debug, PartialEq, Eq, Drop, Error)]
 pub enum ScenarioError {
     /// Memory ran out.
@@ -14,13 +14,13 @@ pub enum ScenarioError {
     /// Invalid JSON.
     #[error("NotJson")]
     NotJson,
-    /// The value is no scenario.
+    /// The JSON value does not have the shape of a scenario.
     #[error("BadShape")]
     BadShape,
-    /// There are more than 8 channels, 10,000 events, or 10,000 blocks in one event.
+    /// There are more than 8 channels, more than 10,000 events, or more than 10,000 blocks in one event.
     #[error("OverLimit")]
     OverLimit,
-    /// The two sides can't agree on the terms of this channel, and can on those of each channel before it.
+    /// The first channel on whose terms the two sides can't agree.
     #[error("BadTerms {0}")]
     BadTerms(usize),
 }

@@ -28,7 +28,7 @@ pub enum Event {
         side: Side,
         channel: u64,
     },
-    /// A side files the penalties for a revoked commitment of its peer.
+    /// A side keeps the penalties for a revoked commitment of its peer.
     Keep {
         side: Side,
         channel: u64,
@@ -51,11 +51,11 @@ pub enum Event {
     Blocks {
         count: u64,
     },
-    /// A side reads all blocks that it has not read.
+    /// A side reads all blocks that it has not read yet.
     Look {
         side: Side,
     },
-    /// A side takes jobs.
+    /// A side takes jobs: claims that fell due.
     Take {
         side: Side,
         count: u64,
@@ -65,14 +65,14 @@ pub enum Event {
         side: Side,
         count: u64,
     },
-    /// The newest blocks give way to one more, and the last of their transactions are forgotten.
+    /// One block more replaces the newest `depth`, and drops their last `forgotten` transactions.
     Reorg {
         depth: u64,
         forgotten: u64,
     },
 }
 
-// An update of a side, by its name: the side and the channel stand before what belongs to it.
+// An update of a side, by its name. The side and the channel stand before its fields.
 #[tactic(auto, unfolding(crate::specs::Events::own_of))]
 fn own_of(name: &str, value: &Value) -> Option<Event>
     ensures { result ≡ own_of name.now (view value.now) }
@@ -208,7 +208,7 @@ fn reorg_of(value: &Value) -> Option<Event>
     })
 }
 
-/// An array with the event's name at its front.
+/// An array whose first item is the event's name.
 impl FromValue for Event {
     ghost use Rattle.scenario.specs.Events.{event_of};
 

@@ -1,11 +1,11 @@
-//! Scenarios: what happens between two sides and on their chain, as a text says it (RFC 8259).
+//! Scenarios: what two sides of channels and their chain do, read from JSON (RFC 8259).
 //!
-//! A [`Scenario`] has the two sides' [`Seeds`], what they propose for each channel, and the events: each [`Event`] is
-//! what a side does or what happens on the chain. [`Scenario::read`] takes a text as a scenario. It refuses, in this
-//! order, invalid JSON, a value of another shape, more of something than the limits allow, and the first channel on
-//! whose terms the two sides can't agree. What it tests a [`Scenario`] keeps by its type.
+//! A [`Scenario`] has the two sides' [`Seeds`], what they propose for each channel, and the events. Each [`Event`] is
+//! what a side does or what happens on the chain. [`Scenario::read`] reads a text. Its refusals come in this order:
+//! invalid JSON, a value of another shape, more of something than the limits allow, and the first channel on whose
+//! terms the two sides can't agree. The type of a [`Scenario`] keeps what was tested.
 //!
-//! `texts` reads the shapes that it stands on. `world` opens its channels and plays its events, and `enforce_words`
+//! `texts` reads the shapes that it is made of. `world` opens its channels and plays its events, and `enforce_words`
 //! reads it from standard input.
 //!
 //! ```rust

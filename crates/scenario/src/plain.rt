@@ -1,4 +1,4 @@
-//! Scenarios, as a text has them.
+//! Scenarios as read from JSON.
 
 use crate::events::Event;
 use lists::List;
@@ -7,8 +7,8 @@ use std::alloc::Global;
 use terms::ProposedTerms;
 use texts::{FromValue, ReadValue, ShapeError, member, object_of, read_member};
 
-/// A scenario as a text has it: the seeds of the two sides, the terms of their channels, and what happens. Whether there are too many of
-/// something, or the two sides do not agree on terms, is not tested yet.
+/// A scenario as read from JSON: the seeds of the two sides, the terms of their channels, and the events. The limits and the sides'
+/// agreement on terms are not tested yet.
 #[derive(Debug, Drop)]
 pub struct PlainScenario {
     pub seed_a: [u8; 32],

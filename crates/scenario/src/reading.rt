@@ -1,4 +1,4 @@
-// The plain scenario that a text has.
+// Reads plain scenarios.
 
 ghost use Rattle.std.specs.Prelude.{◌≡◌, ok_or};
 ghost use Rattle.serde_json.specs.View.{view};
@@ -11,7 +11,7 @@ use serde_json::Value;
 use std::alloc::Global;
 use texts::{ReadValue, ShapeError};
 
-// The value that bytes are.
+// Parses bytes as a JSON value.
 fn value_in(alloc: Global, bytes: &[u8]) -> Result<Value, ScenarioError>
     ensures { Reads view result (ok_or (value_in bytes.now) NotJson) }
 {
@@ -27,7 +27,7 @@ fn value_in(alloc: Global, bytes: &[u8]) -> Result<Value, ScenarioError>
     }
 }
 
-/// The plain scenario that bytes are: `NotJson`, or `BadShape` where the value has not the form.
+/// Reads a plain scenario: `NotJson`, or `BadShape` where the value does not have the shape.
 pub(crate) fn plain_in(alloc: Global, bytes: &[u8]) -> Result<PlainScenario, ScenarioError>
     ensures { Reads (λ s. s) result (plain_in bytes.now) }
 {

@@ -1,4 +1,4 @@
-//! Scenarios that keep their limits, and on whose terms the two sides can agree.
+//! Scenarios within the limits, on whose terms the two sides can agree.
 
 ghost use Rattle.std.specs.Prelude.{◌≡◌, ◌≤◌, length, IsTrue};
 ghost use Rattle.std.specs.List.{list_all};
@@ -16,7 +16,7 @@ use lists::List;
 use std::alloc::Global;
 use terms::ProposedTerms;
 
-/// A scenario.
+/// A scenario that passed all tests.
 #[derive(Debug, Drop)]
 pub struct Scenario {
     pub seeds: Seeds,
@@ -30,7 +30,7 @@ pub struct Scenario {
     pub ghost agreed: { IsTrue (list_all can_agree channels) },
 }
 
-// The blocks by which the chain is to grow.
+// The number of blocks by which an event grows the chain.
 fn blocks_of(event: &Event) -> u64
     ensures { result ≡ blocks_of event.now }
 {
@@ -67,7 +67,7 @@ impl Scenario {
     ghost use Rattle.scenario.specs.Testing.{tested};
     ghost use Rattle.scenario.specs.Reading.{Reads, plain_of, scenario_in};
 
-    // The scenario of a plain one.
+    // Tests a plain scenario.
     fn tested(plain: PlainScenario) -> Result<Scenario, ScenarioError>
         ensures { result_map_both plain_of (λ e. e) result ≡ tested plain }
     {
@@ -87,8 +87,8 @@ impl Scenario {
         })
     }
 
-    /// Reads a scenario. Refused are, in this order, invalid JSON (`NotJson`), a value that is no scenario (`BadShape`), more channels, events, or blocks
-    /// in one event than the limits allow (`OverLimit`), and the first channel on whose terms the two sides can't agree (`BadTerms`).
+    /// Reads a scenario. Its refusals come in this order: invalid JSON (`NotJson`), another shape (`BadShape`), more channels, events, or blocks in one
+    /// event than the limits allow (`OverLimit`), and the first channel on whose terms the two sides can't agree (`BadTerms`).
     #[tactic(auto, unfolding(crate::specs::Reading::scenario_in))]
     pub fn read(alloc: Global, bytes: &[u8]) -> Result<Scenario, ScenarioError>
         ensures { Reads plain_of result (scenario_in bytes.now) }

@@ -4,7 +4,7 @@ ghost use Rattle.std.specs.Prelude.{◌≡◌};
 
 use terms::Side;
 
-/// The seeds from which the two sides derive their keys, each channel's from a seed of its own.
+/// The two sides' seeds. Each channel's seed derives from them, and its keys from that seed.
 #[derive(Clone, Copy, Debug, PartialEq, Eq, Drop)]
 pub struct Seeds {
     pub a: [u8; 32],

@@ -102,7 +102,7 @@ joined : {a b c : Bool} {i j k : ℕ} {xs ys zs : List Op} {n m : ℕ} → Same 
 joined {n = n} {m = m} s t =
     let p = s.counted in let q = t.counted in record { counted = omega arith; seen = s.seen ∙ t.seen }
 
--- a search goes over a block, at a depth where it looks for no ELSE of that level
+-- a search goes over a block, at a depth where it does not look for an ELSE of that level
 abbrev pub Skips : Bool → Bool → ℕ → Type 0
 Skips false stop depth = Unit {0}
 Skips true false depth = Unit {0}
@@ -240,7 +240,7 @@ reaches stop closer xs n c l =
     let p = s.counted in let q = r.counted in let d = l.place in let g = ap (skip_length stop 0) l.same in
     record { counted = omega arith; seen = ap (found stop 0) l.same ∙ s.seen ∙ r.seen }
 
--- what is found stands after a block
+-- what is found comes after a block
 behind : (stop : Bool) (xs : List Op) (l : Nested stop xs) → LeadsAfter (not stop) l.closer xs (skip_length stop 0 xs)
 behind stop xs l =
     let h : LeadsAfter (not stop) l.closer xs (length l.block + 1) = record { block = l.block; after = l.after; same = l.same; closed = l.closed; place = refl } in
@@ -266,7 +266,7 @@ finding stop xs = by_seen (found stop 0 xs) refl
 not_behind : (stop : Bool) (closer : Op) (xs : List Op) → IsCloser stop closer → found stop 0 xs ≡ false → (n : ℕ) → LeadsAfter (not stop) closer xs n → ⊥
 not_behind stop closer xs c e n l = true≢false (sym ((reaches stop closer xs n c l).seen) ∙ e)
 
--- the function's jump is one
+-- the function's jump is allowed by the relation
 pub jumps_made : (move : Jump) (rest : List Op) → Jumps rest move (jump_length move rest)
 jumps_made Next rest = onward
 jumps_made AfterElse rest = by (finding true rest)

@@ -37,7 +37,7 @@ within_stands (suc k) (x ∷ xs) l = within_stands k xs (omega arith)
 abbrev pub point_after : Point → Effect → ℕ → Point
 point_after x done over = record { at = x.at + 1 + over; stack = done.stack; keys = x.keys + done.keys; height = max x.height (length done.stack) }
 
--- a step at an opcode that is known
+-- a step at a known opcode
 pub step_does : (spend : Spend) (ops : List Op) (x y : Point) (op : Op) (rest : List Op) (r : Result Effect Cause) → Steps spend ops x y → drop x.at ops ≡ op ∷ rest → effect spend (counted_in (take (x.at + 1) ops) + x.keys) op x.stack ≡ r → (done : Effect) × (r ≡ Ok done) × (y ≡ point_after x done (jump_length done.jump rest))
 step_does spend ops x y op rest r s h e =
     let f : s.op ≡ op = let g = s.here in cc in

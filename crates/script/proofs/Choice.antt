@@ -11,12 +11,12 @@ greedy [] keys digest = true
 greedy (s ∷ sigs) [] digest = false
 greedy (s ∷ sigs) (k ∷ keys) digest = if bytes_eq s (token_of k digest) then greedy sigs keys digest else greedy (s ∷ sigs) keys digest
 
--- one more key never hurts
+-- one more key does no harm
 more : (sigs : List (List ℕ)) (k : List ℕ) (keys : List (List ℕ)) (digest : List ℕ) → assigned sigs keys digest ≡ true → assigned sigs (k ∷ keys) digest ≡ true
 more [] k keys digest e = refl
 more (s ∷ sigs) k keys digest e = or_right (bytes_eq s (token_of k digest) && assigned sigs keys digest) (assigned (s ∷ sigs) keys digest) e
 
--- one signature fewer never hurts
+-- one signature fewer does no harm
 fewer : (s : List ℕ) (sigs keys : List (List ℕ)) (digest : List ℕ) → assigned (s ∷ sigs) keys digest ≡ true → assigned sigs keys digest ≡ true
 fewer s sigs [] digest e = absurd (false≢true e)
 fewer s sigs (k ∷ keys) digest e =

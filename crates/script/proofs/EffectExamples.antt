@@ -1,4 +1,4 @@
--- What each opcode does that is run: its operands, its checks in their order, and what it leaves (BIP 65, 112, 141, 147).
+-- What each opcode does when it runs: its operands, its checks in their order, and what it leaves (BIP 65, 112, 141, 147).
 use Rattle.std.proofs.Common.{◌≡◌, ℕ, true, false, List, [], ◌∷◌, ◌++◌, map, replicate, refl, Result, Ok, Err}
 use Rattle.digest.specs.Hash.{hash160}
 use Rattle.script.specs.declared.opcode.Op.{Op}
@@ -14,7 +14,7 @@ use Rattle.script.specs.declared.jumps.Jump.{Jump}
 use Rattle.script.specs.declared.jumps.Jump.TheVariants.{Next, AfterElse, AfterEndIf}
 use Rattle.script.specs.Step.{Elements, Effect, effect, multi_sig, truth, flag, lock_passes, age_passes}
 
--- the empty item and zero bytes are false, and so are zero bytes ended by 80; 80 is no zero anywhere else
+-- the empty item and zero bytes are false, and so are zero bytes followed by 80; 80 at any other position is true
 false_items : map truth ([] ∷ (0 ∷ []) ∷ (0x80 ∷ []) ∷ (0 ∷ 0 ∷ []) ∷ (0 ∷ 0x80 ∷ []) ∷ (0 ∷ 0 ∷ 0 ∷ []) ∷ (0 ∷ 0 ∷ 0x80 ∷ []) ∷ []) ≡ false ∷ false ∷ false ∷ false ∷ false ∷ false ∷ false ∷ []
 false_items = refl
 

@@ -111,7 +111,7 @@ locked_longer : outcome spend (Push (0xf5 ∷ 1 ∷ []) ∷ CheckLockTimeVerify 
 unfolding spend state_after effect number_of lock_passes
 locked_longer = refl
 
--- DUP and DROP so many times
+-- DUP and DROP, this number of times
 pairs : ℕ → List Op
 pairs n = flat_map (λ op. Dup ∷ Drop ∷ []) (replicate n Dup)
 
@@ -172,11 +172,11 @@ inner_else = after_else (record {
   place = refl;
 })
 
--- an IF with no ELSE is left after its ENDIF, and what follows that is not looked at
+-- from an IF with no ELSE a run jumps past the ENDIF; what follows that is ignored
 no_else : Jumps (Number 1 ∷ EndIf ∷ Else ∷ []) AfterElse 2
 no_else = after_endif_for_else (record { block = Number 1 ∷ []; after = Else ∷ []; same = refl; closed = one_more refl no_more; place = refl })
 
--- an ELSE is left after the ENDIF, whatever ELSEs come first
+-- from an ELSE a run jumps past the ENDIF, whatever ELSEs come first
 over_an_else : Jumps (Else ∷ EndIf ∷ Number 1 ∷ []) AfterEndIf 2
 over_an_else = after_endif (record { block = Else ∷ []; after = Number 1 ∷ []; same = refl; closed = an_else no_more; place = refl })
 

@@ -18,11 +18,11 @@ use Rattle.script.proofs.Chains.{drop_more, take_one_more, stands_within, point_
 use Rattle.script.proofs.Counting.{counted_in-append}
 use Rattle.script.proofs.Limit.{Within, effect_within}
 
--- where the chain stands when the function comes to opcode k
+-- where the chain is when the function comes to opcode k
 abbrev pub point_of : ℕ → RunState → ℕ → Point
 point_of k p keys = record { at = k + p.ahead; stack = p.stack; keys = keys; height = p.height }
 
--- the opcodes before k may stand where they stand
+-- the opcodes before k are allowed at their positions
 abbrev pub ArePlacedBefore : List Op → ℕ → Type 0
 ArePlacedBefore ops k = (j : ℕ) (op : Op) (rest : List Op) → j < k → drop j ops ≡ op ∷ rest → MayFollow (take j ops) op
 

@@ -6,7 +6,7 @@ use Rattle.script.specs.Step.{age_passes, lock_passes}
 abbrev timed : ℕ → ℕ → Spend
 timed lock_time sequence = record { version = 2; lock_time = lock_time; sequence = sequence; digest = replicate 32 7 }
 
--- a lock that is asked for, under a transaction's lock time
+-- the check of a lock, under a transaction's lock time
 abbrev under : ℕ → ℕ → Bool
 under n lock_time = lock_passes (timed lock_time 0) n
 
@@ -20,12 +20,12 @@ times : (under 500000000 500000000 ≡ true) × (under 500000000 500000001 ≡ t
 unfolding lock_passes
 times = (refl, refl, refl, refl, refl)
 
--- one against the other
+-- a time against a height, and a height against a time
 mixed : (under 499999999 500000000 ≡ false) × (under 0 500000000 ≡ false) × (under 0 4294967295 ≡ false) × (under 500000000 499999999 ≡ false)
 unfolding lock_passes
 mixed = (refl, refl, refl, refl)
 
--- an input of the greatest sequence has no lock, and of any other it has
+-- CHECKLOCKTIMEVERIFY fails for an input with the greatest sequence, and passes for any other
 final : map (λ sequence. lock_passes (timed 500 sequence) 500) (0xffffffff ∷ 0xfffffffe ∷ 0x7fffffff ∷ 0x80000000 ∷ 0 ∷ []) ≡ false ∷ true ∷ true ∷ true ∷ true ∷ []
 unfolding lock_passes
 final = refl
@@ -33,7 +33,7 @@ final = refl
 abbrev aged : ℕ → ℕ → Spend
 aged version sequence = record { version = version; lock_time = 0; sequence = sequence; digest = replicate 32 7 }
 
--- an age that is asked for, under the sequence of an input of version 2
+-- the check of an age, under the sequence of an input in a transaction of version 2
 abbrev of_age : ℕ → ℕ → Bool
 of_age n sequence = age_passes (aged 2 sequence) n
 
@@ -46,12 +46,12 @@ seconds : (of_age 0x400090 0x40008f ≡ false) × (of_age 0x400090 0x400090 ≡ 
 unfolding age_passes
 seconds = (refl, refl, refl, refl, refl, refl)
 
--- the low 16 bits are compared, and those between them and bit 22, and above it, are not read
+-- the low 16 bits are compared; the bits between them and bit 22, and those above it, are ignored
 read_bits : (of_age 0x8000 0 ≡ false) × (of_age 0x8000 0x8000 ≡ true) × (of_age 0x10000 0 ≡ true) × (of_age 1 0x10000 ≡ false) × (of_age 0x200000 0 ≡ true) × (of_age 1 0x200000 ≡ false) × (of_age 0x800000 0 ≡ true) × (of_age 1 0x800000 ≡ false) × (of_age 0x100000001 1 ≡ true) × (of_age 0x100000001 0 ≡ false)
 unfolding age_passes
 read_bits = (refl, refl, refl, refl, refl, refl, refl, refl, refl, refl)
 
--- bit 31 of the number switches the check off, whatever the version and the sequence are; bit 30 does not
+-- bit 31 of the number disables the check, whatever the version and the sequence are; bit 30 does not
 switched_off : (of_age 0x80000090 0 ≡ true) × (of_age 0x80000090 0xffffffff ≡ true) × (age_passes (aged 1 0) 0x80000090 ≡ true) × (age_passes (aged 0 0xffffffff) 0x80000000 ≡ true) × (of_age 0x40000001 0 ≡ false) × (of_age 0x40000001 1 ≡ true) × (of_age 0x100000090 0 ≡ false)
 unfolding age_passes
 switched_off = (refl, refl, refl, refl, refl, refl, refl)
@@ -61,7 +61,7 @@ without_lock : (of_age 0 0x80000000 ≡ false) × (of_age 0 0x8000ffff ≡ false
 unfolding age_passes
 without_lock = (refl, refl, refl, refl, refl)
 
--- locks of inputs are there from version 2 on
+-- relative locks apply from version 2 on
 versions : map (λ version. age_passes (aged version 144) 144) (0 ∷ 1 ∷ 2 ∷ 3 ∷ 0xffffffff ∷ []) ≡ false ∷ false ∷ true ∷ true ∷ true ∷ []
 unfolding age_passes
 versions = refl

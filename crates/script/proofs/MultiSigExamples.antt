@@ -31,7 +31,7 @@ bad_token = 2 ∷ replicate 65 9
 abbrev under : List ℕ
 under = 0xee ∷ []
 
--- this many opcodes are counted with it; the elements stand top first
+-- CHECKMULTISIG with this number of opcodes counted, itself included; the elements, the top first
 abbrev checks : ℕ → Elements → Result Effect Cause
 checks counted stack = effect spend counted CheckMultiSig stack
 
@@ -60,7 +60,7 @@ signed : (of_three 1 (token 1 ∷ []) ≡ yes 3) × (of_three 1 (token 3 ∷ [])
 unfolding effect multi_sig number_of token_of is_signature is_token is_key
 signed = (refl, refl, refl, refl, refl, refl, refl, refl, refl, refl)
 
--- no signature is due: true
+-- where no signature is required, the result is true
 none_due : (checks 1 ([] ∷ [] ∷ [] ∷ under ∷ []) ≡ yes 0) × (checks 1 ((1 ∷ []) ∷ key 1 ∷ [] ∷ [] ∷ under ∷ []) ≡ yes 1) × (checks 1 ((20 ∷ []) ∷ (replicate 20 (key 1) ++ ([] ∷ [] ∷ under ∷ []))) ≡ yes 20)
 unfolding effect multi_sig number_of is_key
 none_due = (refl, refl, refl)
@@ -80,7 +80,7 @@ twenty_one : checks 1 ((21 ∷ []) ∷ (replicate 21 (key 1) ++ ([] ∷ [] ∷ u
 unfolding effect multi_sig number_of
 twenty_one = refl
 
--- the keys may lift the count to 201, and what lifts it further stops before they are taken, also where they are missing
+-- the keys may raise the count to 201; a higher count stops the run before they are taken, even if they are missing
 counts : (checks 199 ((2 ∷ []) ∷ key 2 ∷ key 1 ∷ [] ∷ [] ∷ under ∷ []) ≡ yes 2) × (checks 200 ((2 ∷ []) ∷ key 2 ∷ key 1 ∷ [] ∷ [] ∷ under ∷ []) ≡ stops TooManyOps) × (checks 200 ((2 ∷ []) ∷ []) ≡ stops TooManyOps) × (checks 199 ((2 ∷ []) ∷ key 1 ∷ []) ≡ stops MissingOperand) × (checks 201 ([] ∷ [] ∷ [] ∷ under ∷ []) ≡ yes 0) × (checks 201 ((21 ∷ []) ∷ []) ≡ fails KeyCount)
 unfolding effect multi_sig number_of is_key
 counts = (refl, refl, refl, refl, refl, refl)
@@ -105,7 +105,7 @@ forms : (formed (key 1) (key 2) (token 1) (token 2) [] ≡ yes 2) × (formed (ke
 unfolding effect multi_sig number_of token_of is_signature is_token is_key
 forms = (refl, refl, refl, refl, refl, refl, refl, refl, refl)
 
--- the extra item has to be empty, also where no signature is due
+-- the extra item must be empty, also where no signature is required
 extras : (formed (key 1) (key 2) (token 1) (token 2) (0 ∷ []) ≡ fails Extra) × (formed (key 1) (key 2) [] [] (1 ∷ []) ≡ fails Extra) × (checks 1 ([] ∷ [] ∷ (0x80 ∷ []) ∷ under ∷ []) ≡ fails Extra)
 unfolding effect multi_sig number_of token_of is_signature is_token is_key
 extras = (refl, refl, refl)

@@ -89,7 +89,7 @@ module _ (spend : Spend) (ops : List Op) (witness : List (List ℕ)) (counted he
       let g : last ≡ clean.last = let p : last ∷ [] ≡ clean.last ∷ [] = sym e ∙ final_stack x r in cc in
       true≢false (sym clean.holds ∙ ap truth (sym g) ∙ f)
 
--- two clean ends are one
+-- two clean ends are the same
 same_clean : (spend : Spend) (ops : List Op) (witness : List (List ℕ)) (n h n' h' : ℕ) → IsClean spend ops witness n h → IsClean spend ops witness n' h' → Clean n h ≡ Clean n' h'
 same_clean spend ops witness n h n' h' a b =
     let p = one_run spend ops witness (length ops) (final_point ops a.last a.keys h) (final_point ops b.last b.keys h') a.runs b.runs in
@@ -98,7 +98,7 @@ same_clean spend ops witness n h n' h' a b =
     let f : n ≡ n' = a.sum ∙ ap (λ k. counted_in ops + k) k ∙ sym b.sum in
     cc
 
--- two stops are one
+-- two stops are the same
 module _ (spend : Spend) (ops : List Op) (witness : List (List ℕ)) where
   by_order : (k j : ℕ) (c d : Cause) → AreFaultless spend ops witness k → AreFaultless spend ops witness j → FaultAt spend ops witness k c → FaultAt spend ops witness j d → (k ≡ j) × (c ≡ d)
   by_order k j c d n m f g =

@@ -139,7 +139,7 @@ kept_on elses block (a_branch {op = op} {inner = inner} {rest = rest} h b b') if
     let s : r.0 ≡ ifs = end_kept q.0 r.0 k.0 ifs k.1 r.1 in
     kept_on elses rest b' ifs ifs' (ap (flags rest) (sym s) ∙ r.2)
 
--- what the flags say where an IF stands open
+-- what the flags say where an IF is open
 abbrev pub IsOpen : Bool → List Bool → Type 0
 IsOpen false ifs = (outer : List Bool) × (ifs ≡ false ∷ outer)
 IsOpen true ifs = (b : Bool) × (outer : List Bool) × (ifs ≡ b ∷ outer)

@@ -6,7 +6,7 @@ use Rattle.script.specs.Number.{unsigned, lowest, digits, minimal_bytes_of, numb
 use Rattle.script.proofs.Digits.{digits-zero, digits-suc}
 use Rattle.script.proofs.Numbers.{number_of-nil, number_of-good}
 
--- the items of n: its value, with room for the sign, and no byte too many
+-- the item of n: its value, with room for the sign, and no byte more than needed
 abbrev pub IsShortest : ℕ → List ℕ → Type 0
 IsShortest n [] = n ≡ 0
 IsShortest n (x ∷ xs) = (unsigned (x ∷ xs) ≡ n) × (n < 128 * 256 ^ length xs) × (256 ^ length xs ≤ 2 * n)

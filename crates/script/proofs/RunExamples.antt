@@ -31,7 +31,7 @@ after_endif = refl
 next : jump_length Next (Number 2 ∷ EndIf ∷ []) ≡ 0
 next = refl
 
--- the IFs that stand open, each with whether its ELSE has come
+-- the IFs that are open, each with whether its ELSE has come
 abbrev refused : Result (List Bool) Cause
 refused = Err OpenBranch
 
@@ -71,7 +71,7 @@ count_first : (runs (pairs 100 ++ (Number 1 ∷ Drop ∷ EndIf ∷ [])) ((1 ∷ 
 unfolding state_after effect
 count_first = (refl, refl, refl, refl)
 
--- opcodes that are jumped over count, and their branches have to be in order; what they do is not looked at
+-- opcodes that are jumped over count, and their branches have to be in order; what they do is ignored
 jumped : (runs (Push [] ∷ If ∷ (replicate 198 Drop ++ (EndIf ∷ Number 1 ∷ []))) [] ≡ Clean 200 1) × (runs (Push [] ∷ If ∷ (replicate 200 Drop ++ (EndIf ∷ Number 1 ∷ []))) [] ≡ Stopped 202 TooManyOps) × (runs (Push [] ∷ If ∷ Else ∷ Else ∷ EndIf ∷ []) [] ≡ Stopped 3 OpenBranch) × (runs (Push [] ∷ If ∷ EndIf ∷ Else ∷ []) [] ≡ Stopped 3 OpenBranch)
 unfolding state_after effect
 jumped = (refl, refl, refl, refl)

@@ -35,7 +35,7 @@ no_seventeen h = omega (arith, h.1)
 to_local : spelling (If ∷ Push (2 ∷ 9 ∷ []) ∷ Else ∷ Push (0x90 ∷ 0 ∷ []) ∷ CheckSequenceVerify ∷ Drop ∷ Push (3 ∷ 8 ∷ []) ∷ EndIf ∷ CheckSig ∷ []) ≡ 0x63 ∷ 0x02 ∷ 2 ∷ 9 ∷ 0x67 ∷ 0x02 ∷ 0x90 ∷ 0x00 ∷ 0xb2 ∷ 0x75 ∷ 0x02 ∷ 3 ∷ 8 ∷ 0x68 ∷ 0xac ∷ []
 to_local = refl
 
--- more than 10,000 bytes are too many
+-- more than 10,000 bytes are refused
 too_long : IsFault (replicate 10001 0x51) TooLong
 too_long = lit< tt
 

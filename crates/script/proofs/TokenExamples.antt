@@ -46,14 +46,15 @@ chosen : map (λ sigs. assigned sigs (key 1 ∷ key 2 ∷ key 3 ∷ []) digest) 
 unfolding token_of
 chosen = refl
 
--- a stranger's, in another order, one twice, an empty one, and more than there are keys
+-- by another key, in another order, one twice, an empty one, and more than there are keys
 not_chosen : map (λ sigs. assigned sigs (key 1 ∷ key 2 ∷ key 3 ∷ []) digest) (
     (token 4 ∷ []) ∷ (token 2 ∷ token 1 ∷ []) ∷ (token 3 ∷ token 1 ∷ []) ∷ (token 1 ∷ token 1 ∷ []) ∷ (token 1 ∷ token 4 ∷ []) ∷ ([] ∷ []) ∷ (token 1 ∷ [] ∷ []) ∷ (token 1 ∷ token 2 ∷ token 3 ∷ token 3 ∷ []) ∷ []) ≡
     false ∷ false ∷ false ∷ false ∷ false ∷ false ∷ false ∷ false ∷ []
 unfolding token_of
 not_chosen = refl
 
--- one key that stands twice serves two signatures; no key serves any; a token over another digest is none
+-- a key listed twice serves two signatures; without keys only the empty list of signatures is served; a token over
+-- another digest does not fit
 chosen_twice : (assigned (token 1 ∷ token 1 ∷ []) (key 1 ∷ key 1 ∷ []) digest ≡ true) × (assigned (token 1 ∷ []) [] digest ≡ false) × (assigned [] [] digest ≡ true) × (assigned (token 1 ∷ []) (key 1 ∷ []) (replicate 32 8) ≡ false)
 unfolding token_of
 chosen_twice = (refl, refl, refl, refl)

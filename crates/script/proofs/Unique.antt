@@ -45,14 +45,14 @@ decoded-spelt CheckMultiSig rest h = refl
 decoded-spelt CheckLockTimeVerify rest h = refl
 decoded-spelt CheckSequenceVerify rest h = refl
 
--- two opcodes that begin one list are one
+-- two opcodes that begin the same list are the same
 same_op : (x y : Op) (r s : List ℕ) → IsOp x → IsOp y → code_of x ∷ (payload_of x ++ r) ≡ code_of y ∷ (payload_of y ++ s) → x ≡ y
 same_op x y r s hx hy e =
     let c : code_of x ≡ code_of y = cc in
     let p : payload_of x ++ r ≡ payload_of y ++ s = cc in
     sym (decoded-spelt x r hx) ∙ ap (λ b. decoded b (payload_of x ++ r)) c ∙ ap (decoded (code_of y)) p ∙ decoded-spelt y s hy
 
--- and what follows them is one
+-- and what follows them is the same
 same_rest : (x y : Op) (r s : List ℕ) → IsOp x → IsOp y → code_of x ∷ (payload_of x ++ r) ≡ code_of y ∷ (payload_of y ++ s) → r ≡ s
 same_rest x y r s hx hy e =
     let p : payload_of x ++ r ≡ payload_of y ++ s = cc in
@@ -115,7 +115,7 @@ short_splits (x ∷ xs) (y ∷ ys) b rest h k n l e =
 pub one_reading : (xs ys : List Op) (bytes : List ℕ) → Spells xs bytes → Spells ys bytes → xs ≡ ys
 one_reading xs ys bytes s t = spelling-unique xs ys s.each t.each (s.same ∙ sym t.same)
 
--- bytes that split into opcodes have no fault but their number
+-- bytes that split into opcodes have no fault except their length
 pub no_reading : (ops : List Op) (bytes : List ℕ) (e : ParseError) → Spells ops bytes → length bytes ≤ 10000 → IsFault bytes e → e ≡ NoMemory
 no_reading ops bytes NoMemory s l f = refl
 no_reading ops bytes (BadOpcode at) s l f = let r = f.1.2 in absurd (bad_splits ops r.ops f.1.0 f.1.1 s.each r.each f.1.3 (s.same ∙ sym r.same))

@@ -1,5 +1,5 @@
--- Runs of a script in the standard's own terms: steps between positions of the list of opcodes, chains of steps, clean runs, and the first
--- fault of any other (BIP 141, 65, 112, 147). The partners of IF, NOTIF, ELSE and ENDIF are found on the list, by nesting.
+-- Runs of a script in the standard's own terms (BIP 141, 65, 112, 147). There are steps between positions of the list of opcodes, chains
+-- of steps, clean runs, and the first fault of any other run. The partners of IF, NOTIF, ELSE and ENDIF are found in the list, by nesting.
 use Rattle.std.specs.Prelude.{◌≡◌, ◌≢◌, ℕ, ◌+◌, ◌<◌, ◌≤◌, max, Bool, true, false, IsTrue, IsFalse, List, [], ◌∷◌, ◌++◌, length, take, drop, reverse, Result, Ok, Err, All, Any, ◌↔◌}
 use Rattle.script.specs.declared.opcode.Op.{Op}
 use Rattle.script.specs.declared.opcode.Op.TheVariants.{If, NotIf, Else, EndIf}
@@ -19,7 +19,7 @@ is_opener If = true
 is_opener NotIf = true
 is_opener op = false
 
--- the opcode has no partner on the list
+-- the opcode has no partner in the list
 abbrev pub is_single : Op → Bool
 is_single If = false
 is_single NotIf = false
@@ -27,14 +27,14 @@ is_single Else = false
 is_single EndIf = false
 is_single op = true
 
--- a block, in which each IF and NOTIF has its ENDIF; the Bool says whether ELSEs may stand on the block's own level
+-- a block, in which each IF and NOTIF has its ENDIF; the Bool says whether ELSEs may occur on the block's own level
 pub data IsBlock : Bool → List Op → Type 0 where
   no_more : {elses : Bool} → IsBlock elses []
   one_more : {elses : Bool} {op : Op} {rest : List Op} → IsTrue (is_single op) → IsBlock elses rest → IsBlock elses (op ∷ rest)
   an_else : {rest : List Op} → IsBlock true rest → IsBlock true (Else ∷ rest)
   a_branch : {elses : Bool} {op : Op} {inner rest : List Op} → IsTrue (is_opener op) → IsBlock true inner → IsBlock elses rest → IsBlock elses (op ∷ (inner ++ EndIf ∷ rest))
 
--- a block stands first on the list and this opcode after it, and `counted` opcodes lead to what follows them both
+-- the list begins with a block and then this opcode, and n is the number of opcodes in both
 pub record LeadsAfter (elses : Bool) (closer : Op) (list : List Op) (n : ℕ) : Type 0 where
   pub block : List Op
   pub after : List Op
@@ -42,8 +42,8 @@ pub record LeadsAfter (elses : Bool) (closer : Op) (list : List Op) (n : ℕ) : 
   pub closed : IsBlock elses block
   pub place : n ≡ length block + 1
 
--- a run jumps over so many of the opcodes that follow: to the next one; after the ELSE, or after the ENDIF where it has no ELSE; after the
--- ENDIF; and to the end of the list where that closes what has no partner
+-- how many of the following opcodes a run jumps over. Next: none. AfterElse: up to and including the ELSE, or the ENDIF where there is no
+-- ELSE. AfterEndIf: up to and including the ENDIF. Where no partner is found, all of them.
 pub data Jumps (rest : List Op) : Jump → ℕ → Type 0 where
   onward : Jumps rest Next 0
   after_else : {n : ℕ} → LeadsAfter false Else rest n → Jumps rest AfterElse n
@@ -52,19 +52,19 @@ pub data Jumps (rest : List Op) : Jump → ℕ → Type 0 where
   after_endif : {n : ℕ} → LeadsAfter true EndIf rest n → Jumps rest AfterEndIf n
   to_list_end : ((n : ℕ) → LeadsAfter true EndIf rest n → ⊥) → Jumps rest AfterEndIf (length rest)
 
--- where a chain of steps has come to: the position in the list, the elements, the keys of the CHECKMULTISIGs so far, and the greatest number
--- of elements so far
+-- where a chain of steps has come to: the position in the list, the elements, the number of keys of the CHECKMULTISIGs so far, and the
+-- greatest number of elements so far
 pub record Point : Type 0 where
   pub at : ℕ
   pub stack : Elements
   pub keys : ℕ
   pub height : ℕ
 
--- the start, on the items of a witness, the last of which is the top
+-- the start, on the items of a witness, of which the last is the top
 abbrev pub start_on : List (List ℕ) → Point
 start_on witness = record { at = 0; stack = reverse witness; keys = 0; height = length witness }
 
--- one step: the opcode at the position does this, and the run goes on after what it jumps over
+-- one step: the opcode at the position has this effect, and the run goes on past what it jumps over
 pub record Steps (spend : Spend) (ops : List Op) (x y : Point) : Type 0 where
   pub op : Op
   pub rest : List Op
@@ -80,12 +80,12 @@ pub data Chain (spend : Spend) (ops : List Op) (k : ℕ) : Point → Point → T
   ends : {x : Point} → Chain spend ops k x x
   goes_on : {x y z : Point} → x.at < k → Steps spend ops x y → length y.stack ≤ max_stack_size → Chain spend ops k y z → Chain spend ops k x z
 
--- the run comes to position k, or jumps over it, and this is where its steps before k lead
+-- the run comes to position k, or jumps over it, and its steps before k lead to this point
 pub record RunsTo (spend : Spend) (ops : List Op) (witness : List (List ℕ)) (k : ℕ) (x : Point) : Type 0 where
   pub chain : Chain spend ops k (start_on witness) x
   pub reached : k ≤ x.at
 
--- an IF or NOTIF stands open at the end of the list; where `elses` is false, its ELSE has not come
+-- an IF or NOTIF is still open at the end of the list; where `elses` is false, its ELSE has not come
 pub record HasOpen (elses : Bool) (ops : List Op) : Type 0 where
   pub before : List Op
   pub opener : Op
@@ -94,7 +94,7 @@ pub record HasOpen (elses : Bool) (ops : List Op) : Type 0 where
   pub opens : IsTrue (is_opener opener)
   pub closed : IsBlock elses block
 
--- the opcode may stand after these
+-- the opcode is allowed after these
 abbrev pub MayFollow : List Op → Op → Type 0
 MayFollow before Else = HasOpen false before
 MayFollow before EndIf = HasOpen true before
@@ -115,7 +115,7 @@ ArePlaced ops = (before rest : List Op) (op : Op) → ops ≡ before ++ op ∷ r
 abbrev pub AreShort : List (List ℕ) → Type 0
 AreShort witness = All (λ item. length item ≤ max_element_size) witness
 
--- the script runs clean on the witness, with so many counted opcodes and n elements at most
+-- the script runs clean on the witness, with this number of counted opcodes, and `height` as the greatest number of elements
 pub record IsClean (spend : Spend) (ops : List Op) (witness : List (List ℕ)) (counted height : ℕ) : Type 0 where
   pub short : AreShort witness
   pub placed : ArePlaced ops
@@ -127,14 +127,14 @@ pub record IsClean (spend : Spend) (ops : List Op) (witness : List (List ℕ)) (
   pub sum : counted ≡ counted_in ops + keys
   pub limit : counted ≤ max_ops
 
--- the opcodes above 60 up to and with opcode k, and the keys of the CHECKMULTISIGs that were run before it, exceed 201
+-- the opcodes above 60 up to and including opcode k, together with the keys of the CHECKMULTISIGs that ran before it, exceed 201
 pub record PassesLimit (spend : Spend) (ops : List Op) (witness : List (List ℕ)) (k : ℕ) : Type 0 where
   pub within : k < length ops
   pub point : Point
   pub runs : RunsTo spend ops witness k point
   pub above : max_ops < counted_in (take (k + 1) ops) + point.keys
 
--- what an opcode did is a failure with this cause: its own, or more than 1,000 elements
+-- the opcode failed with this cause: its own, or more than 1,000 elements
 abbrev pub Fails : Result Effect Cause → Cause → Type 0
 Fails (Err c) cause = cause ≡ c
 Fails (Ok done) cause = (max_stack_size < length done.stack) × (cause ≡ StackTooTall)
@@ -159,8 +159,8 @@ pub data FaultAt (spend : Spend) (ops : List Op) (witness : List (List ℕ)) (k 
 abbrev pub AreFaultless : Spend → List Op → List (List ℕ) → ℕ → Type 0
 AreFaultless spend ops witness k = (j : ℕ) (cause : Cause) → j < k → FaultAt spend ops witness j cause → ⊥
 
--- the run stops at this position, for this cause: a long item; else the fault of the least position that has one; else what is wrong at the
--- end of the list
+-- the run stops at this position, for this cause. An item that is too long comes first, then the fault of the least position that has one,
+-- then what is wrong at the end of the list
 pub data StopsAt (spend : Spend) (ops : List Op) (witness : List (List ℕ)) : ℕ → Cause → Type 0 where
   long_item : Any (λ item. max_element_size < length item) witness → StopsAt spend ops witness 0 ItemTooLong
   least_fault : {k : ℕ} {cause : Cause} → AreShort witness → AreFaultless spend ops witness k → FaultAt spend ops witness k cause → StopsAt spend ops witness k cause
@@ -168,15 +168,15 @@ pub data StopsAt (spend : Spend) (ops : List Op) (witness : List (List ℕ)) : �
   not_one : {x : Point} → AreShort witness → AreFaultless spend ops witness (length ops) → (HasOpen true ops → ⊥) → RunsTo spend ops witness (length ops) x → length x.stack ≢ 1 → StopsAt spend ops witness (length ops) NotOneValue
   false_end : {x : Point} {last : List ℕ} → AreShort witness → AreFaultless spend ops witness (length ops) → (HasOpen true ops → ⊥) → RunsTo spend ops witness (length ops) x → x.stack ≡ last ∷ [] → IsFalse (truth last) → StopsAt spend ops witness (length ops) FalseEnd
 
--- each opcode jumps in one way from each place, and as far as the function says
+-- each opcode jumps in one way from each place, as far as the function says
 abbrev pub JumpIsExact : Type 0
 JumpIsExact = (rest : List Op) (move : Jump) (n : ℕ) → Jumps rest move n ↔ (n ≡ jump_length move rest)
 
--- the function that computes says of each clean run that it is one, with these numbers, and of no other
+-- the function that computes finds exactly the clean runs, with these numbers
 abbrev pub CleanIsExact : Type 0
 CleanIsExact = (spend : Spend) (ops : List Op) (witness : List (List ℕ)) (counted height : ℕ) → (outcome spend ops witness ≡ Clean counted height) ↔ IsClean spend ops witness counted height
 
--- and of any other where it stops and why
+-- and of any other run it finds exactly where it stops and why
 abbrev pub StopIsExact : Type 0
 StopIsExact = (spend : Spend) (ops : List Op) (witness : List (List ℕ)) (at : ℕ) (cause : Cause) → (outcome spend ops witness ≡ Stopped at cause) ↔ StopsAt spend ops witness at cause
 

@@ -1,10 +1,10 @@
--- Numbers as items: little-endian, with a sign bit in the last byte.
+-- Script numbers: little-endian, with a sign bit in the last byte.
 use Rattle.std.specs.Prelude.{ℕ, zero, suc, ◌+◌, ◌*◌, ◌/◌, ◌%◌, ◌^◌, ◌&&◌, nat_lt, nat_le, ◌==◌, if◌then◌else◌, false, List, [], ◌∷◌, ◌++◌, length, Option, Some, None}
 use Rattle.script.specs.declared.num.Number.{Number}
 use Rattle.script.specs.declared.num.Limit.{Limit}
 use Rattle.script.specs.declared.num.Limit.TheVariants.{Count, Lock}
 
--- how many bytes a number of this use may have
+-- how many bytes a number for this use may have
 abbrev pub bytes_in : Limit → ℕ
 bytes_in Count = 4
 bytes_in Lock = 5
@@ -22,8 +22,8 @@ sign_bit bs = 256 ^ length bs / 2
 abbrev pub magnitude_of : List ℕ → ℕ
 magnitude_of bs = unsigned bs % sign_bit bs
 
--- the number of an item of at most `limit` bytes, where no shorter item has it: its magnitude passes what one byte less
--- could hold
+-- the number that an item of at most `limit` bytes encodes, where no shorter item does: its magnitude is more than one
+-- byte less could hold
 unfoldable pub number_of : ℕ → List ℕ → Option Number
 number_of limit [] = Some (record { negative = false; magnitude = 0 })
 number_of limit (b ∷ bs) =
@@ -31,11 +31,11 @@ number_of limit (b ∷ bs) =
     then Some (record { negative = nat_le (sign_bit (b ∷ bs)) (unsigned (b ∷ bs)); magnitude = magnitude_of (b ∷ bs) })
     else None
 
--- the lowest digit of a number to the base 256, with a byte for the sign where it is the last one and has the sign bit
+-- the lowest digit of a number in base 256; the last digit gets one more byte for the sign if its highest bit is set
 abbrev pub lowest : ℕ → List ℕ
 lowest n = if nat_le 128 n && nat_lt n 256 then (n ∷ 0 ∷ []) else (n % 256 ∷ [])
 
--- the digits of a number, the lowest first; so many at most
+-- the digits of a number, the lowest first, at most this many
 unfoldable pub digits : ℕ → ℕ → List ℕ
 digits zero n = []
 digits (suc more) n = if n == 0 then [] else (lowest n ++ digits more (n / 256))

@@ -6,7 +6,7 @@ use Rattle.script.specs.declared.parse.ParseError.TheVariants.{NoMemory, BadOpco
 use Rattle.script.specs.declared.opcode.Op.TheVariants.{Push, Number, If, NotIf, Else, EndIf, Drop, Dup, Swap, Size, Equal, EqualVerify, Hash160, CheckSig, CheckMultiSig, CheckLockTimeVerify, CheckSequenceVerify}
 use Rattle.script.specs.Limits.{max_script_size}
 
--- the byte of an opcode, those of branches first: a push has its length
+-- the byte of an opcode, those of branches first; that of a push is its length
 abbrev pub code_of : Op → ℕ
 code_of If = 0x63
 code_of NotIf = 0x64
@@ -26,7 +26,7 @@ code_of CheckMultiSig = 0xae
 code_of CheckLockTimeVerify = 0xb1
 code_of CheckSequenceVerify = 0xb2
 
--- the bytes that follow it
+-- the bytes that follow the opcode's own
 abbrev pub payload_of : Op → List ℕ
 payload_of (Push item) = item
 payload_of op = []
@@ -47,39 +47,40 @@ pub record Spells (ops : List Op) (bytes : List ℕ) : Type 0 where
   pub each : All IsOp ops
   pub same : spelling ops ≡ bytes
 
--- no opcode has this byte
+-- no opcode begins with this byte
 abbrev pub StartsNone : ℕ → Type 0
 StartsNone b = (op : Op) → IsOp op → code_of op ≢ b
 
--- the bytes before `at` split into opcodes, and these come then
+-- the bytes before `at` split into opcodes, and `rest` is what follows them
 pub record SplitsUpTo (bytes : List ℕ) (at : ℕ) (rest : List ℕ) : Type 0 where
   pub ops : List Op
   pub each : All IsOp ops
   pub same : spelling ops ++ rest ≡ bytes
   pub place : length (spelling ops) ≡ at
 
--- the byte at `at` is the first that is no opcode
+-- the byte at `at` is the first that does not begin an opcode
 abbrev pub HasBadOpcode : List ℕ → ℕ → Type 0
 HasBadOpcode bytes at = (b : ℕ) × (rest : List ℕ) × SplitsUpTo bytes at (b ∷ rest) × StartsNone b
 
--- the push at `at` is the first whose bytes are not all there
+-- the push at `at` is the first with bytes missing
 abbrev pub HasShortPush : List ℕ → ℕ → Type 0
 HasShortPush bytes at = (b : ℕ) × (rest : List ℕ) × SplitsUpTo bytes at (b ∷ rest) × (b ≤ 75) × (length rest < b)
 
--- the bytes have this fault: they are too many, or else it is the first one from the left
+-- the bytes have this fault: there are more than 10,000, or else it is the first fault from the
+-- left
 abbrev pub IsFault : List ℕ → ParseError → Type 0
 IsFault bytes NoMemory = Unit {0}
 IsFault bytes (BadOpcode at) = (length bytes ≤ max_script_size) × HasBadOpcode bytes at
 IsFault bytes (Truncated at) = (length bytes ≤ max_script_size) × HasShortPush bytes at
 IsFault bytes TooLong = max_script_size < length bytes
 
--- the opcode begins with this byte and goes on in these
+-- the opcode begins with this byte and continues in these
 pub record Begins (first : ℕ) (after : List ℕ) (op : Op) : Type 0 where
   pub valid : IsOp op
   pub byte : code_of op ≡ first
   pub payload : payload_of op ++ drop (length (payload_of op)) after ≡ after
 
--- no opcode begins so, and the fault is at this place
+-- no opcode begins so, and the fault is at this position
 abbrev pub Refuses : ℕ → List ℕ → ℕ → ParseError → Type 0
 Refuses first after at NoMemory = Unit {0}
 Refuses first after at (BadOpcode k) = (k ≡ at) × StartsNone first

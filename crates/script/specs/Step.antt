@@ -1,4 +1,4 @@
--- What one opcode does that is run: by cases, after the table of opcodes (BIP 65, 112, 141, 147).
+-- What one opcode does when it runs: by cases, after the table of opcodes (BIP 65, 112, 141, 147).
 use Rattle.std.specs.Prelude.{ℕ, ◌+◌, ◌%◌, ◌/◌, ◌^◌, Bool, true, false, ◌&&◌, ◌||◌, not, nat_lt, nat_le, ◌==◌, if◌then◌else◌, List, [], ◌∷◌, length, take, drop, reverse, Option, Some, None, Result, Ok, Err}
 use Rattle.std.specs.Str.{bytes_eq}
 use Rattle.std.specs.List.{list_all}
@@ -21,18 +21,18 @@ use Rattle.script.specs.Token.{token_of, is_key, is_signature, assigned}
 abbrev pub Elements : Type 0
 Elements = List (List ℕ)
 
--- goes on where a step has a result
+-- continues if a step has a result
 infixl 10 ◌>>=◌
 abbrev pub ◌>>=◌ : {A B E : Type 0} → Result A E → (A → Result B E) → Result B E
 (Ok x) >>= f = f x
 (Err c) >>= f = Err c
 
--- goes on where a check holds
+-- continues if a check holds
 abbrev pub result_if : {A E : Type 0} → Bool → E → Result A E → Result A E
 result_if true c r = r
 result_if false c r = Err c
 
--- false is the empty item, zero bytes, and zero bytes ended by 80
+-- false is the empty item, zero bytes only, or zero bytes followed by a last byte 80 (hexadecimal)
 abbrev pub truth : List ℕ → Bool
 truth [] = false
 truth (b ∷ []) = not (b == 0 || b == 0x80)
@@ -56,7 +56,7 @@ magnitude_or_failure kind z = result_if (not z.negative) (FailedCheck kind) (Ok 
 abbrev pub count_or_failure : ℕ → Kind → Signed → Result ℕ Cause
 count_or_failure limit kind z = result_if (not z.negative && nat_le z.magnitude limit) (FailedCheck kind) (Ok z.magnitude)
 
--- n elements from the top, and the others
+-- the n topmost elements, and the others
 abbrev pub top_elements : ℕ → Elements → Result (Elements × Elements) Cause
 top_elements n stack = result_if (nat_le n (length stack)) MissingOperand (Ok (take n stack, drop n stack))
 
@@ -73,28 +73,28 @@ bit_at k n = n / 2 ^ k % 2 == 1
 abbrev pub alike : Bool → Bool → Bool
 alike a b = if a then b else not b
 
--- an absolute lock passes: it is of the kind of the transaction's lock time and not above it, and the input is not final (BIP 65)
+-- an absolute lock passes: it is of the same kind as the transaction's lock time and not above it, and the input is not final (BIP 65)
 unfoldable pub lock_passes : Spend → ℕ → Bool
 lock_passes spend n =
     alike (nat_lt n locktime_threshold) (nat_lt spend.lock_time locktime_threshold) && nat_le n spend.lock_time && not (spend.sequence == 0xffffffff)
 
--- a relative lock passes: it is switched off, or the transaction has version 2, the input's sequence is a lock of the same kind, and the
--- lock is not above it (BIP 112)
+-- a relative lock passes: it is disabled, or the transaction has version 2 or above, the input's sequence is a lock of the same kind,
+-- and the lock is not above it (BIP 112)
 unfoldable pub age_passes : Spend → ℕ → Bool
 age_passes spend n =
     bit_at 31 n || (nat_le 2 spend.version && not (bit_at 31 spend.sequence) && alike (bit_at 22 spend.sequence) (bit_at 22 n) && nat_le (n % 2 ^ 16) (spend.sequence % 2 ^ 16))
 
--- what an opcode leaves: where the run goes, the elements, and the keys that it counted
+-- what an opcode leaves: where the run goes, the elements, and the number of keys that it counted
 pub record Effect : Type 0 where
   pub jump : Jump
   pub stack : Elements
   pub keys : ℕ
 
--- to the next opcode, with these elements
+-- goes on to the next opcode, with these elements
 abbrev pub plain : Elements → Result Effect Cause
 plain stack = Ok (record { jump = Next; stack = stack; keys = 0 })
 
--- a branch that is run, or not
+-- the branch runs, or it does not
 abbrev pub branch_effect : Bool → Elements → Result Effect Cause
 branch_effect true stack = plain stack
 branch_effect false stack = Ok (record { jump = AfterElse; stack = stack; keys = 0 })
@@ -109,7 +109,7 @@ abbrev pub check_sigs_effect : Spend → Elements → Elements → List ℕ → 
 check_sigs_effect spend keys sigs extra stack =
     result_if (list_all is_signature sigs) (FailedCheck TokenForm) (result_if (list_all is_key keys) (FailedCheck KeyForm) (result_if (length extra == 0) (FailedCheck Extra) (Ok (record { jump = Next; stack = flag (assigned sigs keys spend.digest) ∷ stack; keys = length keys }))))
 
--- CHECKMULTISIG, where `counted` opcodes and keys are counted
+-- CHECKMULTISIG, where `counted` is the number of opcodes and keys counted so far, this opcode included
 unfoldable pub multi_sig : Spend → ℕ → Elements → Result Effect Cause
 multi_sig spend counted stack = do
   (top, below) ← top_element stack
@@ -123,7 +123,7 @@ multi_sig spend counted stack = do
   (extra, others) ← top_element below3
   check_sigs_effect spend (reverse keys) (reverse sigs) extra others
 
--- what an opcode does to the elements, where `counted` opcodes and keys are counted with it
+-- what an opcode does to the elements, where `counted` is the number of opcodes and keys counted so far, this opcode included
 unfoldable pub effect : Spend → ℕ → Op → Elements → Result Effect Cause
 effect spend counted (Push item) stack = plain (item ∷ stack)
 effect spend counted (SmallNumber n) stack = plain ((n ∷ []) ∷ stack)
@@ -148,5 +148,5 @@ effect spend counted CheckSequenceVerify (x ∷ stack) = do
   z ← number_or_failure (number_of 5 x)
   n ← magnitude_or_failure Sequence z
   result_if (age_passes spend n) (FailedCheck Sequence) (plain (x ∷ stack))
--- every other case: the opcode takes more elements than there are
+-- every other case: the opcode needs more elements than there are
 effect spend counted op stack = Err MissingOperand

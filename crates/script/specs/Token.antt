@@ -16,12 +16,12 @@ is_key item = length item == 33 && is_key_start (slice_index item 0)
 unfoldable pub is_token : List ℕ → Bool
 is_token item = length item == 66 && is_key_start (slice_index item 0) && slice_index item 65 == 1
 
--- a signature of good form: empty, or a token
+-- an item with the form of a signature: empty, or a token
 unfoldable pub is_signature : List ℕ → Bool
 is_signature item = length item == 0 || is_token item
 
--- whether an increasing choice of keys exists, each signature being the token of its key: the first key is that of the first
--- signature, or it is passed over
+-- whether an increasing choice of keys exists such that each signature is the token of its key: the first key is that of the
+-- first signature, or it is skipped
 abbrev pub assigned : List (List ℕ) → List (List ℕ) → List ℕ → Bool
 assigned [] keys digest = true
 assigned (s ∷ sigs) [] digest = false

@@ -1,4 +1,4 @@
-//! The IFs that stand open.
+//! The IFs that are open.
 
 ghost use Rattle.std.specs.Prelude.{IfOk};
 ghost use Rattle.script.specs.Run.{IsOpened};
@@ -7,9 +7,9 @@ use crate::opcode::Op;
 use lists::Stack;
 use std::alloc::AllocError;
 
-/// Goes past an opcode, which enters a branch, goes over to its ELSE, ends it, or does none of these. On the stack are the IFs that stand open,
-/// the innermost on top, each with whether its ELSE has come. `false` says that the opcode has no IF, and then the stack may be anything. The
-/// only error is that memory ran out.
+/// Passes an opcode that enters a branch, moves to its ELSE, ends it, or does none of these. The stack has the open IFs, the innermost on top,
+/// each with whether its ELSE has come. `false` means that the opcode has no matching IF; the stack is then unspecified. The only error is that
+/// memory ran out.
 pub fn pass_branch(op: &Op, ifs: &mut Stack<bool>) -> Result<bool, AllocError>
     ensures { IfOk result (IsOpened op.now ifs.old ifs.new) }
 {

@@ -5,8 +5,8 @@
 pub enum Jump {
     /// To the next opcode.
     Next,
-    /// After the ELSE of this IF, or after its ENDIF where it has no ELSE.
+    /// Past the ELSE of this IF, or past its ENDIF where it has no ELSE.
     AfterElse,
-    /// After the ENDIF of this ELSE.
+    /// Past the ENDIF of this ELSE.
     AfterEndIf,
 }

@@ -3,10 +3,10 @@
 //!
 //! Barring out-of-memory, [`Script::parse`] is Ok exactly where the bytes are at most 10,000 and split into opcodes
 //! of the table; else it names the first fault from the left. `specs/Clean.antt` says what a clean run is, in the
-//! standard's own terms, and [`laws::runs_are_exact`] that the definitions which compute agree with it.
+//! standard's own terms. [`laws::runs_are_exact`] says that the definitions which compute agree with it.
 //!
-//! The walk of a script begins here, as bytes. `machine` runs a [`Script`] on a witness, and `paths` lists the ways
-//! through it. Both are proved against this crate's one definition of a run.
+//! `machine` runs a [`Script`] on a witness, and `paths` lists the ways through it. Both are proved against this
+//! crate's one definition of a run.
 //!
 //! ```rust
 //! let script = Script::parse(alloc, &[0x52, 0x75, 0xac])?; // 2 DROP CHECKSIG

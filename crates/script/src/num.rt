@@ -1,4 +1,4 @@
-// Numbers as items: little-endian, with a sign bit in the last byte, minimally encoded.
+// Script numbers: little-endian, with a sign bit in the last byte, minimally encoded.
 
 ghost use Rattle.std.specs.Prelude.{◌≡◌, ◌<◌, ◌≤◌, ◌^◌, ◌++◌, Some, false, IfOk, OnOk};
 ghost use Rattle.script.specs.Number.{bytes_in, number_of, minimal_bytes_of, lowest};
@@ -6,14 +6,14 @@ ghost use Rattle.script.specs.Number.{bytes_in, number_of, minimal_bytes_of, low
 use lists::ByteString;
 use std::alloc::{AllocError, Global};
 
-/// A number with a sign: the magnitude, or its negative. Zero is not negative.
+/// A signed number: its magnitude and its sign. Zero is not negative.
 #[derive(Clone, Copy, PartialEq, Eq, Debug)]
 pub struct Number {
     pub negative: bool,
     pub magnitude: u64,
 }
 
-/// What a number is for, which says how many bytes its item may have.
+/// What a number is for, which limits its size in bytes.
 #[derive(Clone, Copy, PartialEq, Eq, Debug)]
 pub enum Limit {
     /// A count of keys or signatures, or a size: at most 4 bytes.
@@ -22,7 +22,8 @@ pub enum Limit {
     Lock,
 }
 
-/// The number of an item; `None` where the item is longer than its limit or not minimally encoded.
+/// The number that an item encodes; `None` where the item is longer than its limit or not minimally
+/// encoded.
 pub fn read(bytes: &[u8], limit: Limit) -> Option<Number>
     ensures { result ≡ number_of (bytes_in limit) bytes.now }
 {
@@ -32,7 +33,7 @@ pub fn read(bytes: &[u8], limit: Limit) -> Option<Number>
     }
 }
 
-// The number of an item of at most `limit` bytes.
+// The number that an item of at most `limit` bytes encodes.
 fn read_up_to(bytes: &[u8], limit: usize) -> Option<Number>
     requires { limit ≤ 5 }
     ensures { result ≡ number_of limit bytes.now }
@@ -68,7 +69,7 @@ fn read_up_to(bytes: &[u8], limit: usize) -> Option<Number>
 pub fn write(alloc: Global, n: u64) -> Result<ByteString, AllocError>
     ensures item { IfOk result (λ i. i ≡ minimal_bytes_of n) }
 
-    // It is read as the same number, where that is one of 32 bits.
+    // Reading it gives the same number, if that has at most 32 bits.
     ensures read { IfOk result (λ i. n < 2 ^ 32
         → number_of 5 i ≡ Some (record { negative = false; magnitude = n })) }
 {
@@ -83,7 +84,7 @@ pub fn write(alloc: Global, n: u64) -> Result<ByteString, AllocError>
     Ok(ByteString::from_vec(bytes))
 }
 
-// Puts the lowest digit at the end, with a byte for the sign where it needs one.
+// Appends the lowest digit, with a byte for the sign where it needs one.
 fn push_lowest(bytes: &mut Vec<u8>, n: u64) -> Result<(), AllocError>
     ensures { OnOk result (bytes.new.items ≡ bytes.old.items ++ lowest n) }
 {

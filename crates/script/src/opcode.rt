@@ -10,27 +10,27 @@ pub enum Op {
     Push(ByteString),
     /// Bytes 51 to 60: pushes a number from 1 to 16.
     Number(u8),
-    /// 63: runs what follows where the top is true.
+    /// 63: runs the branch if the top is true.
     If,
-    /// 64: runs what follows where the top is false.
+    /// 64: runs the branch if the top is false.
     NotIf,
     /// 67
     Else,
     /// 68
     EndIf,
-    /// 75: takes the top off.
+    /// 75: removes the top.
     Drop,
-    /// 76: pushes the top once more.
+    /// 76: duplicates the top.
     Dup,
     /// 7c: exchanges the two topmost elements.
     Swap,
-    /// 82: pushes the length of the top.
+    /// 82: pushes the length of the top in bytes, and keeps the top.
     Size,
-    /// 87: whether the two topmost elements are equal.
+    /// 87: replaces the two topmost elements by whether they are equal.
     Equal,
-    /// 88: the same, and fails where they differ.
+    /// 88: removes the two topmost elements, and fails if they differ.
     EqualVerify,
-    /// a9: RIPEMD-160 of SHA-256 of the top.
+    /// a9: replaces the top by RIPEMD-160 of its SHA-256.
     Hash160,
     /// ac
     CheckSig,
@@ -72,7 +72,7 @@ impl Op {
         }
     }
 
-    /// How many bytes follow the opcode's own: the item of a push.
+    /// How many bytes follow the opcode's own: those of a push's item.
     pub fn payload_len(&self) -> usize
         ensures { result ≡ length (payload_of self.now) }
     {
@@ -82,7 +82,7 @@ impl Op {
         }
     }
 
-    /// How much the opcode adds to the counted opcodes of a run: 1 where its byte is above 60 (in hexadecimal), else 0.
+    /// What the opcode adds to the counted opcodes of a run: 1 if its byte is above 60 (hexadecimal), else 0.
     pub fn weight(&self) -> usize
         ensures value { result ≡ weight_of self.now }
         ensures bound { result ≤ 1 }
@@ -90,7 +90,7 @@ impl Op {
         if self.code() > 0x60 { 1 } else { 0 }
     }
 
-    /// The same opcode once more. The only error is that memory ran out.
+    /// An equal opcode. The only error is that memory ran out.
     pub fn copy(&self) -> Result<Op, AllocError>
         ensures { IfOk result (λ op. op ≡ self.now) }
     {

@@ -13,16 +13,16 @@ use std::alloc::{AllocError, AllocFailed, Global};
 use std::marker::Model;
 use thiserror::Error;
 
-/// Why bytes are no script. Positions count bytes from 0.
+/// Why bytes are not a script. Positions count bytes from 0.
 #[derive(Debug, PartialEq, Eq, Drop, Error)]
 pub enum ParseError {
     /// Memory ran out.
     #[error("NoMemory")]
     NoMemory,
-    /// No opcode has the byte at this position.
+    /// The byte at this position is not an opcode.
     #[error("BadOpcode {0}")]
     BadOpcode(usize),
-    /// The push whose opcode stands at this position has too few bytes after it.
+    /// The push whose opcode is at this position has too few bytes after it.
     #[error("Truncated {0}")]
     Truncated(usize),
     /// There are more than 10,000 bytes.
@@ -56,7 +56,7 @@ impl ParseError {
     ghost use Rattle.std.specs.Prelude.{◌≡◌};
     ghost use Rattle.script.specs.Refusals.{refusal_number};
 
-    /// The number of the refusal; 0 is out of memory.
+    /// The refusal's number; 0 is out of memory.
     pub fn number(&self) -> u8
         ensures { result ≡ refusal_number self.now }
     {
@@ -70,13 +70,13 @@ impl ParseError {
 }
 
 impl Script {
-    /// Reads bytes as opcodes: `TooLong` where they are too many, else the first fault from the left.
+    /// Reads bytes as opcodes. The error is `TooLong` for more than 10,000 bytes, else the first fault from the left.
     pub fn parse(alloc: Global, bytes: &[u8]) -> Result<Self, ParseError>
         ensures ok { IfOk result (λ s. Spells s bytes.now) }
         ensures short { OnOk result (length bytes.now ≤ MAX_SCRIPT_SIZE) }
         ensures fault { IfErr result (IsFault bytes.now) }
 
-        // Bytes that are not too many and split into opcodes are refused for running out of memory alone, and split in one way.
+        // At most 10,000 bytes that split into opcodes are refused only if memory runs out, and split in one way only.
         ensures exact { (ops : List Opcode) → Spells ops bytes.now
             → length bytes.now ≤ MAX_SCRIPT_SIZE
             → MatchResult result (λ s. s ≡ ops) (λ e. e ≡ ParseError.NoMemory) }
@@ -102,7 +102,7 @@ impl Script {
         self.ops.as_slice()
     }
 
-    /// How many opcodes of the whole script count towards the limit of 201: those with a byte above 60 (in hexadecimal).
+    /// How many opcodes of the whole script count towards the limit of 201: those with a byte above 60 (hexadecimal).
     pub fn counted(&self) -> usize
         ensures { result ≡ counted_in self.now }
     {
@@ -113,7 +113,7 @@ impl Script {
         counted
     }
 
-    /// The same script once more. The only error is that memory ran out.
+    /// An equal script. The only error is that memory ran out.
     pub fn copy(&self) -> Result<Self, AllocError>
         ensures { IfOk result (λ s. s ≡ self.now) }
     {
@@ -151,7 +151,7 @@ fn read(alloc: Global, bytes: &[u8]) -> Result<Script, ParseError>
     })
 }
 
-// The opcode that begins with `first`, which stands at `at`, and goes on in `after`.
+// The opcode that begins with the byte `first` at position `at` and continues in `after`.
 fn read_op(alloc: Global, first: u8, after: &[u8], at: usize) -> Result<Op, ParseError>
     ensures ok { IfOk result (Begins first after.now) }
     ensures err { IfErr result (Refuses first after.now at) }
@@ -169,7 +169,7 @@ fn read_op(alloc: Global, first: u8, after: &[u8], at: usize) -> Result<Op, Pars
     }
 }
 
-// The opcode of one byte.
+// The opcode that consists of this one byte.
 fn plain(byte: u8) -> Option<Op>
     requires low { 75 < byte }
     requires high { byte < 81 ⊎ 96 < byte }

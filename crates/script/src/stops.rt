@@ -11,28 +11,28 @@ pub enum Kind {
     /// EQUALVERIFY of two items that differ.
     #[error("Verify")]
     Verify,
-    /// An element that is not a number: too long, or not minimally encoded.
+    /// An element is not a number: it is too long, or not minimally encoded.
     #[error("Number")]
     Number,
-    /// A number of keys that is negative or above 20.
+    /// The number of keys is negative or above 20.
     #[error("KeyCount")]
     KeyCount,
-    /// A number of signatures that is negative or above that of the keys.
+    /// The number of signatures is negative or above the number of keys.
     #[error("SigCount")]
     SigCount,
-    /// A signature that is neither empty nor a token.
+    /// A signature is neither empty nor a token.
     #[error("TokenForm")]
     TokenForm,
-    /// A key of bad form.
+    /// A key is not 33 bytes that begin with 02 or 03.
     #[error("KeyForm")]
     KeyForm,
-    /// An extra item of CHECKMULTISIG that is not empty (BIP 147).
+    /// The extra item of CHECKMULTISIG is not empty (BIP 147).
     #[error("Extra")]
     Extra,
-    /// CHECKLOCKTIMEVERIFY (BIP 65).
+    /// CHECKLOCKTIMEVERIFY fails (BIP 65).
     #[error("LockTime")]
     LockTime,
-    /// CHECKSEQUENCEVERIFY (BIP 112).
+    /// CHECKSEQUENCEVERIFY fails (BIP 112).
     #[error("Sequence")]
     Sequence,
 }
@@ -52,22 +52,22 @@ pub enum Cause {
     /// More than 201 opcodes are counted.
     #[error("TooManyOps")]
     TooManyOps,
-    /// More than 1,000 elements stand on the stack after an opcode.
+    /// More than 1,000 elements are on the stack after an opcode.
     #[error("StackTooTall")]
     StackTooTall,
     /// An item of the witness has more than 520 bytes.
     #[error("ItemTooLong")]
     ItemTooLong,
-    /// The run ends with another number of elements than one.
+    /// The run ends with a number of elements other than one.
     #[error("NotOneValue")]
     NotOneValue,
-    /// The run ends with one element, which is false.
+    /// The run ends with one element, and it is false.
     #[error("FalseEnd")]
     FalseEnd,
 }
 
 impl Cause {
-    /// The number of the refusal, from 1.
+    /// The refusal's number, from 1.
     pub fn number(&self) -> u8
         ensures { result ≡ stop_number self.now }
     {

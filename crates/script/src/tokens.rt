@@ -4,7 +4,7 @@ ghost use Rattle.std.specs.Prelude.{◌≡◌, length};
 ghost use Rattle.std.specs.Str.{bytes_eq};
 ghost use Rattle.script.specs.Token.{is_key, is_token, is_signature, token_of};
 
-/// Whether an item has the form of a key.
+/// Whether an item has the form of a key: 33 bytes, the first of them 02 or 03.
 #[tactic(auto, unfolding(crate::specs::Token::is_key))]
 pub fn has_key_form(item: &[u8]) -> bool
     ensures { result ≡ is_key item.now }

@@ -7,7 +7,7 @@ ghost use Rattle.script.specs.Step.{truth, flag as flag_of};
 use lists::ByteString;
 use std::alloc::{AllocError, Global};
 
-/// Whether an item counts as true: some byte is not zero, other than a last byte of 80 (in hexadecimal).
+/// Whether an item counts as true: some byte is not zero, not counting a last byte of 80 (hexadecimal).
 pub fn is_true(item: &[u8]) -> bool
     ensures { result ≡ truth item.now }
 {
@@ -24,7 +24,7 @@ fn has_nonzero(bytes: &[u8]) -> bool
     bytes.iter().any(|byte| *byte != 0)
 }
 
-/// The element that a test pushes: 01 where it holds, else the empty one. The only error is that memory ran out.
+/// The element that a test pushes: 01 if it holds, else the empty one. The only error is that memory ran out.
 pub fn flag(alloc: Global, holds: bool) -> Result<ByteString, AllocError>
     ensures { IfOk result (λ x. x ≡ flag_of holds) }
 {

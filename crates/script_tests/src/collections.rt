@@ -1,9 +1,9 @@
-//! That the collections find memory which is there.
+//! That the collections never fail under ample memory.
 
 use lists::{ByteString, List, Stack};
 use std::test::Fail;
 
-// The example of the page of `lists`.
+// The example in the documentation of `lists`.
 #[test]
 fn the_top_comes_back_first(rt: HostRuntime) -> Result<(), Fail> {
     let mut stack = Stack::new(rt.alloc());
@@ -12,7 +12,7 @@ fn the_top_comes_back_first(rt: HostRuntime) -> Result<(), Fail> {
     Ok(())
 }
 
-// No length is refused where memory is there.
+// No length fails under ample memory.
 #[test]
 fn finds_memory_for_every_length(rt: HostRuntime) {
     let (mut list, mut stack) = (List::new(rt.alloc()), Stack::new(rt.alloc()));

@@ -1,4 +1,4 @@
-//! Values that several modules test with.
+//! Values that several test modules use.
 
 use lists::ByteString;
 use std::alloc::Global;

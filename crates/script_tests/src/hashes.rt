@@ -1,4 +1,4 @@
-//! Digests from outside.
+//! Digests from outside sources.
 
 ghost use Rattle.std.specs.Prelude.{◌<◌};
 
@@ -6,12 +6,12 @@ use digest::{Ripemd160, hash160, ripemd160, ripemd160_of_pieces, sha256, sha256d
 use hex::FromHex;
 use std::process::Abort;
 
-// The 20 bytes that a hexadecimal text spells.
+// The 20 bytes of a hexadecimal text.
 fn bytes(rt: &impl Abort, text: &str) -> [u8; 20] {
     <[u8; 20] as FromHex>::from_hex(text).expect(rt, "40 hex digits")
 }
 
-// The digest of a message that comes in pieces of `size` bytes, the last one shorter.
+// The digest of a message that is hashed in pieces of `size` bytes; the last one may be shorter.
 fn in_pieces(message: &[u8], size: usize) -> [u8; 20]
     requires { 0 < size }
 {
@@ -22,7 +22,8 @@ fn in_pieces(message: &[u8], size: usize) -> [u8; 20]
     hasher.finalize()
 }
 
-// The digests that the designers give, whole, a byte at a time, and cut at 55, before the padding's last place.
+// The designers' own digests: hashed whole, a byte at a time, and cut after 55 bytes, the most whose padding fits in
+// one block.
 #[test]
 fn digests_of_the_designers(rt: HostRuntime) {
     for (message, text) in [
@@ -54,7 +55,7 @@ fn digests_of_the_designers(rt: HostRuntime) {
     }
 }
 
-// `abc` as a list of pieces, an empty one among them, by a hasher made by `default`, and by a list of no pieces.
+// `abc` as a list of pieces, one of which is empty; by a hasher from `default`; and a list of no pieces.
 #[test]
 fn pieces_in_a_list(rt: HostRuntime) {
     let wanted = ripemd160(b"abc");
@@ -73,7 +74,7 @@ const BLOCK: [u8; 64] = [
     50, 51, 52, 53, 54, 55, 56, 57, 58, 59, 60, 61, 62, 63,
 ];
 
-// Whether the message has this digest in pieces of each size from 1 to 64.
+// Whether the message has this digest when it is cut into pieces of each size from 1 to 64.
 fn has_one_digest(message: &[u8], wanted: &[u8; 20]) -> bool {
     for size in 1..65 {
         if in_pieces(message, size) != *wanted {
@@ -83,7 +84,7 @@ fn has_one_digest(message: &[u8], wanted: &[u8; 20]) -> bool {
     true
 }
 
-// The last length whose padding fits its block, the first whose padding does not, and a whole block.
+// The greatest length whose padding fits in its block, the least one whose padding does not, and a whole block.
 #[test]
 fn lengths_about_a_block(rt: HostRuntime) {
     for (len, text) in [
@@ -107,7 +108,7 @@ fn digest_of_a_million_letters(rt: HostRuntime) {
     assert_eq!(rt; hasher.finalize(), wanted);
 }
 
-// HASH160 of the generator of secp256k1 as a compressed key, as it stands in a witness program of BIP 173's examples.
+// HASH160 of the generator of secp256k1 as a compressed key, as in a witness program of BIP 173's examples.
 #[test]
 fn hash_of_a_public_key(rt: HostRuntime) {
     let key = "0279be667ef9dcbbac55a06295ce870b07029bfcdb2dce28d959f2815b16f81798";

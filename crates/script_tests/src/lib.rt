@@ -1,7 +1,8 @@
-//! Tests of the libraries that scripts stand on, and of those that read and run them: `lists`, `digest`, `secrets`,
+//! Tests of the libraries under the scripts, and of those that read and run scripts: `lists`, `digest`, `secrets`,
 //! `script`, `machine` and `facts`.
 //!
-//! They stand apart so that each library is proved without them. The examples of the libraries' pages are among them.
+//! They are a crate of their own, so that each library is proved without them. They include the examples in the
+//! libraries' documentation.
 #![tactic(auto)]
 
 #[cfg(test)]

@@ -1,4 +1,5 @@
-//! Runs in which a hash is compared. The rows that compare none are facts of `script`: a run is exactly what is defined there.
+//! Runs that compare a hash. All other rows are proved from the definitions of `script`, since a run is exactly what is
+//! defined there.
 
 mod elements;
 mod shapes;
@@ -16,7 +17,7 @@ const SPEND: Spend = Spend {
     digest: [0x77; 32],
 };
 
-// What a run of a script gives on the items of a witness, the last of which is the top, all in hexadecimal.
+// The result of a script on the items of a witness, of which the last is the top; all in hexadecimal.
 fn ran(rt: &impl Abort, alloc: Global, code: &str, items: &[&str]) -> Result<Run, Stop> {
     let mut witness = Vec::new(alloc);
     for item in items {
@@ -44,7 +45,7 @@ fn runs_the_script_of_a_key_hash(rt: HostRuntime) {
     assert_eq!(rt; ran(&rt, rt.alloc(), code, &[token, key]), clean);
 }
 
-// The HTLC that a commitment offers (BOLT 3), with hashes that no item here has.
+// An offered HTLC (BOLT 3), with hashes that no item here has.
 const OFFERED_HTLC: &str =
     "76a91433333333333333333333333333333333333333338763ac67210211111111111111111111111111111111111111111111111111111111111111117c820120876475527c2102222222222222222222222222222222222222222222222222222222222222222252ae67a914444444444444444444444444444444444444444488ac6868";
 

@@ -1,4 +1,5 @@
-//! What no clause of `script` says: the bytes that are opcodes, every printed name, and that memory which is there is found.
+//! What no clause of `script` says: the bytes that are opcodes, every printed name, and that calls succeed under ample
+//! memory.
 
 use lists::ByteString;
 use script::{Cause, Kind, Op, ParseError, Script, num, truths};
@@ -11,7 +12,7 @@ const OTHERS: [u8; 15] = [
     0x63, 0x64, 0x67, 0x68, 0x75, 0x76, 0x7c, 0x82, 0x87, 0x88, 0xa9, 0xac, 0xae, 0xb1, 0xb2,
 ];
 
-// Whether the bytes are a script, which then has a copy; else no opcode has the first of them.
+// Whether the bytes are a script, which then has a copy; otherwise the first byte must be one that no opcode has.
 fn is_script(rt: &impl Abort, alloc: Global, bytes: &[u8]) -> bool {
     match Script::parse(alloc, bytes) {
         Ok(script) => {
@@ -26,7 +27,7 @@ fn is_script(rt: &impl Abort, alloc: Global, bytes: &[u8]) -> bool {
     }
 }
 
-// Each byte stands before 75 empty pushes: a push of n bytes takes n of them.
+// Each byte comes before 75 empty pushes, so a push of n bytes takes n of them.
 #[test]
 fn reads_the_opcodes_of_the_table_alone(rt: HostRuntime) {
     for byte in 0u8..=255 {
@@ -51,7 +52,7 @@ fn copies_every_length(rt: HostRuntime) {
     }
 }
 
-// Each number of bytes, with and without one for the sign.
+// Numbers of every length in bytes, with and without a byte for the sign.
 #[test]
 fn writes_every_length(rt: HostRuntime) {
     for n in [
@@ -118,7 +119,7 @@ fn prints_every_refusal(rt: HostRuntime) {
     }
 }
 
-// The example of the page of `script`.
+// The example in the documentation of `script`.
 #[test]
 fn reads_opcodes(rt: HostRuntime) -> Result<(), Fail> {
     let alloc = rt.alloc();

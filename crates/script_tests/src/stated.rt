@@ -1,4 +1,5 @@
-//! The printed numbers of facts: the rest of their texts is a fact of the definition. That memory which is there is found.
+//! The printed numbers of facts (the rest of their texts is proved from the definition), and that calls succeed under
+//! ample memory.
 
 mod shapes;
 
@@ -41,7 +42,7 @@ fn prints_numbers_of_keys(rt: HostRuntime) {
     prints(&rt, alloc, Fact::Assigned(slots, keys), text);
 }
 
-// The example of the page of `facts`.
+// The example in the documentation of `facts`.
 #[test]
 fn prints_a_truth(rt: HostRuntime) -> Result<(), Fail> {
     let truth = Stated {

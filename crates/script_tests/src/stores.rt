@@ -1,13 +1,13 @@
-//! The generation and storage tests of BOLT 3's appendix D, and what a store says of small cases.
+//! The generation and storage tests of BOLT 3, appendix D, and what a store answers in small cases.
 
 use hex::FromHex;
 use secrets::{Store, StoreError, from_seed};
 use std::process::Abort;
 
-/// The greatest index, that of the first commitment.
+/// The greatest index, which is that of the first commitment.
 const FIRST: u64 = 281474976710655;
 
-/// The secrets of the all-ones seed, from the first index down.
+/// The secrets of the all-ones seed, from the first index downwards.
 const RIGHT: [&str; 8] = [
     "7cc854b54e3e0dcdb010d7a3fee464a9687be6e8db3be6854c475621e007a5dc",
     "c7518c8ae4660ed02894df8976fa1a3659c1a8b4b5bec0c4b872abeba4cb8964",
@@ -19,7 +19,7 @@ const RIGHT: [&str; 8] = [
     "05cde6323d949933f7f7b78776bcc1ea6d9b31447732e3802e1f7ac44b650e17",
 ];
 
-/// The secrets of the all-zeros seed, from the first index down.
+/// The secrets of the all-zeros seed, from the first index downwards.
 const WRONG: [&str; 8] = [
     "02a40c85b6f28da08dfdbe0926c53fab2de6d28c10301f8f7c4073d5e42e3148",
     "dddc3a8d14fddf2b68fa8c7fbad2748274937479dd0f8930d5ebb4ab6bd866a3",
@@ -66,7 +66,8 @@ fn generates_the_secrets_of_a_seed(rt: HostRuntime) {
     }
 }
 
-/// Which of eight insertions is refused, 8 for none: `w` stands for the wrong seed's secret.
+/// Which of eight insertions is refused, from 0, or 8 for none. `w` stands for a secret of the
+/// wrong seed.
 fn refused_at(rt: &impl Abort, seeds: &[u8; 8]) -> usize {
     let mut store = Store::new();
     for (n, seed) in seeds.iter().enumerate() {
@@ -112,7 +113,7 @@ fn counts_down_from_the_greatest_index(rt: HostRuntime) {
     assert_eq!(rt; store.get(FIRST - 1), None);
 }
 
-// The example of the page of `secrets`: a store of the first `count` secrets of a seed.
+// The example in the documentation of `secrets`: a store of the first `count` secrets of a seed.
 fn store_of(seed: &[u8; 32], count: u64) -> Result<Store, StoreError> {
     let mut store = Store::new();
     for n in 0..count.min(1 << 48) {

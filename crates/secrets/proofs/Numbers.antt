@@ -19,7 +19,7 @@ bit_at_multiple q b c h = subst (λ (n : ℕ). bit_at n c ≡ 0) (omega arith) (
 pub floor_of-sum : (a c r : ℕ) → r < 2 ^ c → floor_of c (a * 2 ^ c + r) ≡ a * 2 ^ c
 floor_of-sum a c r h = ap (λ (n : ℕ). n * 2 ^ c) (shr_high a c r h)
 
--- a multiple of 2^b is one of each lower power
+-- a multiple of 2^b is also a multiple of each lower power
 pub multiple_of_lower : (q b c : ℕ) → c ≤ b → q * 2 ^ b ≡ q * 2 ^ (b - c) * 2 ^ c
 multiple_of_lower q b c h =
     let e : b ≡ (b - c) + c = omega arith in
@@ -38,7 +38,7 @@ floor_of-higher j b d =
 apart_by : (b c : ℕ) → b < c → (d : ℕ) × (c ≡ b + suc d)
 apart_by b c h = let e : c ≡ b + suc (c - b - 1) = omega arith in (c - b - 1, e)
 
--- an odd multiple of 2^b is no index with more bits cleared
+-- an odd multiple of 2^b is not an index with more than b bits cleared
 pub odd_is_no_floor : (x b c j : ℕ) → b < c → floor_of c j ≢ (2 * x + 1) * 2 ^ b
 odd_is_no_floor x b c j h e =
     let split = apart_by b c h in
@@ -75,7 +75,7 @@ floor_above_odd x b j h =
     let m : (2 * x + 2) * 2 ^ b ≤ g / 2 * 1 * 2 * 2 ^ b = mul-le-mul_right (2 ^ b) le in
     omega (arith, f', m, pow_pos b)
 
--- a number as a multiple of the power of its trailing zeros, by an odd factor where not all of its k digits are zeros
+-- a number as a multiple of the power of its trailing zeros; the factor is odd unless all k digits are zeros
 pub record Splits (k n b : ℕ) : Type 0 where
   pub high : ℕ
   pub is : n ≡ high * 2 ^ b
@@ -100,7 +100,7 @@ trailing_splits (suc k) n = at (n % 2) refl (trailing_splits k (n / 2))
         let o : n ≡ 2 * (n / 2) + 1 = omega arith in
         record { high = n; is = omega arith; odd = inr (n / 2, o) }
 
--- fewer digits looked at: no more zeros
+-- where fewer digits are read, no more zeros are counted
 pub trailing-fewer : (j d n : ℕ) → count_trailing_zeros j n ≡ min (count_trailing_zeros (j + d) n) j
 unfolding count_trailing_zeros
 trailing-fewer zero d n = omega arith

@@ -77,7 +77,7 @@ inserted_at-below e m j within low =
     cond-true (nat_lt j (2 ^ 48)) (slice_get (secrets_of e m) (2 ^ 48 - 1 - j)) None (lt-ltb j (2 ^ 48) (omega arith))
     ∙ slice_get_past (secrets_of e m) (2 ^ 48 - 1 - j) (omega (arith, length-secrets_of e m))
 
--- what a secret found tells
+-- what finding a secret says
 pub record IsFound (e : List (List ℕ)) (m j : ℕ) (t : List ℕ) : Type 0 where
   pub low : m ≤ j
   pub high : j < 2 ^ 48
@@ -368,7 +368,7 @@ reached-is e m secrets i p is low high so_far here =
     ∙ inserted_at-is e m i low high
     ∙ ap Some (so_far ∙ from-at e m i p here ∙ ap (λ (t : List ℕ). derived_secret t p i) (unwrap_or-slice_get e p []))
 
--- two shifts clear the lowest bits, and lose none above
+-- two shifts clear the lowest bits, and lose none above them
 floor-is : (i p : ℕ) → i < 2 ^ 48 → i / 2 ^ p * 2 ^ p % 2 ^ 64 ≡ floor_of p i
 floor-is i p high =
     let le : i / 2 ^ p * 2 ^ p ≤ i = div-mul-le_self i (2 ^ p) in

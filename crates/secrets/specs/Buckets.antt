@@ -1,10 +1,11 @@
--- What the secrets in 49 buckets stand for: each secret inserted is derived from the one at the highest bucket that reaches it.
+-- What the secrets in 49 buckets stand for: each secret inserted derives from the one in the highest bucket that reaches its
+-- index.
 use Rattle.std.specs.Prelude.{ℕ, zero, suc, ◌-◌, ◌*◌, ◌/◌, ◌^◌, Bool, true, false, nat_le, List, [], map}
 use Rattle.std.specs.List.{slice_get, range_with_len}
 use Rattle.std.specs.Option.{unwrap_or}
 use Rattle.secrets.specs.Derivation.{derived_secret}
 
--- the secret kept at a bucket
+-- the secret kept in a bucket
 abbrev pub kept_at : List (List ℕ) → ℕ → List ℕ
 kept_at entries bucket = unwrap_or (slice_get entries bucket) []
 

@@ -12,12 +12,12 @@ inserted_at secrets i = if nat_lt i (2 ^ 48) then slice_get secrets (2 ^ 48 - 1 
 abbrev pub IsNext : List (List ℕ) → ℕ → Type 0
 IsNext secrets i = i + length secrets + 1 ≡ 2 ^ 48
 
--- each secret inserted whose index begins with the leading bits of i, those above its trailing zeros, is derived from s
+-- each secret inserted whose index begins with the leading bits of i, those above its trailing zeros, derives from s
 unfoldable pub LeadsTo : List ℕ → ℕ → List (List ℕ) → Type 0
 LeadsTo s i secrets =
     let b = count_trailing_zeros 48 i in
     (j : ℕ) (t : List ℕ) → inserted_at secrets j ≡ Some t → j / 2 ^ b ≡ i / 2 ^ b → t ≡ derived_secret s b j
 
--- each secret inserted is the seed's
+-- each secret inserted is the one that the seed derives at its index
 unfoldable pub AreOfSeed : List ℕ → List (List ℕ) → Type 0
 AreOfSeed seed secrets = (j : ℕ) (t : List ℕ) → inserted_at secrets j ≡ Some t → t ≡ commitment_secret seed j

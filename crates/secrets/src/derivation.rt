@@ -9,10 +9,10 @@ use digest::sha256;
 /// How many bits an index of a commitment secret has.
 pub(crate) const INDEX_BITS: usize = 48;
 
-/// The per-commitment secret of index `i`, of which the lowest 48 bits count, from a seed (BOLT 3).
+/// Derives the per-commitment secret of index `i` from a seed (BOLT 3). Only the lowest 48 bits of `i` count.
 ///
-/// Commitment number n has the index 2^48 - 1 - n. A secret whose lowest bits of the index are 0 leads to the
-/// secrets of all indices that have its other bits.
+/// Commitment number n has index 2^48 - 1 - n. The secret of an index that ends in k zero bits derives the
+/// secrets of all indices that differ from it in the lowest k bits only.
 pub fn from_seed(seed: &[u8; 32], i: u64) -> [u8; 32]
     ensures value { result ≡ commitment_secret seed.now i }
     ensures leads { (b j : ℕ) → b ≤ 48 → i % 2 ^ b ≡ 0 → j / 2 ^ b ≡ i / 2 ^ b →

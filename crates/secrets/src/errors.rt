@@ -11,7 +11,7 @@ pub enum StoreError {
     /// The index is not the next one.
     #[error("OutOfTurn")]
     OutOfTurn,
-    /// A stored secret is not derived from this one.
+    /// A stored secret that should derive from this one does not.
     #[error("NotOfThisSeed")]
     NotOfThisSeed,
 }

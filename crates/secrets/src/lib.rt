@@ -1,12 +1,12 @@
 //! The per-commitment secrets of BOLT 3: their derivation from a seed, and the store of a peer's secrets in 49
 //! buckets.
 //!
-//! The main contract is that of [`Store::insert`]: it takes the secret of the next index, counted down from 2^48 - 1,
-//! exactly where it leads to all secrets that were inserted below its prefix. [`Store::get`] then gives exactly what
-//! was inserted. Nothing here takes memory.
+//! The main contract is that of [`Store::insert`]. It takes the secret of the next index, counted down from 2^48 - 1,
+//! exactly where all secrets that were inserted below its prefix derive from it. [`Store::get`] then returns exactly
+//! what was inserted. Nothing here allocates.
 //!
-//! `digest` has the hash. `channel` derives its own secrets by [`from_seed`], and keeps in a [`Store`] those with
-//! which its peer revoked.
+//! `digest` provides the hash. `channel` derives its own secrets by [`from_seed`], and keeps the secrets that its
+//! peer revealed to revoke commitments in a [`Store`].
 //!
 //! ```rust
 //! /// A store of the first `count` secrets of a seed.

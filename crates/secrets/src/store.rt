@@ -16,9 +16,10 @@ const BUCKETS: usize = INDEX_BITS + 1;
 /// One more than the greatest index.
 const INDEX_END: u64 = 1 << INDEX_BITS;
 
-/// The secrets of one seed, inserted by falling index from 2^48 - 1, in 49 buckets of 32 bytes.
+/// The secrets of one seed, inserted in the order of falling indices from 2^48 - 1, and kept in 49 buckets of 32
+/// bytes.
 ///
-/// In clauses it is the list of all secrets inserted, the secret of index 2^48 - 1 first.
+/// A contract sees it as the list of all secrets inserted, the secret of index 2^48 - 1 first.
 #[derive(Drop)]
 pub struct Store {
     // the lowest index inserted, or 2^48
@@ -39,7 +40,7 @@ impl Model for Store {
 }
 
 impl Store {
-    /// A store without secrets, whose next index is 2^48 - 1.
+    /// A store with no secrets, whose next index is 2^48 - 1.
     pub fn new() -> Store
         ensures empty { result ≡ [] }
         ensures of_any_seed { (seed : List ℕ) → AreOfSeed seed result }
@@ -50,7 +51,7 @@ impl Store {
         }
     }
 
-    /// An equal store. It takes no memory.
+    /// An equal store. It allocates nothing.
     pub fn copy(&self) -> Store
         ensures { result ≡ self.now }
     {
@@ -62,9 +63,9 @@ impl Store {
 
     /// Inserts the secret of index `i`.
     ///
-    /// A refusal leaves the store as it was. `OutOfTurn` where `i` is not the next index: they are counted down from
-    /// 2^48 - 1, and 0 is the last one. Else `NotOfThisSeed` where a stored secret whose index begins with the bits of
-    /// `i` above its trailing zeros is not derived from this one.
+    /// A refusal leaves the store as it was. It is `OutOfTurn` where `i` is not the next index: indices count down
+    /// from 2^48 - 1, and 0 is the last. Else it is `NotOfThisSeed` where a stored secret does not derive from this
+    /// one, though its index begins with the bits of `i` above the trailing zeros.
     pub fn insert(&mut self, i: u64, secret: &[u8; 32]) -> Result<(), StoreError>
         ensures ok { IsOk result ↔ (IsNext self.old i × LeadsTo secret.now i self.old) }
         ensures out_of_turn { IsErrOf result StoreError.OutOfTurn ↔ (¬ IsNext self.old i) }
@@ -117,14 +118,15 @@ impl Store {
     }
 }
 
-/// The bucket of the secret of index `i`: its count of trailing zeros, of its 48 bits.
+/// The bucket of the secret of index `i`: the number of trailing zeros of the index's 48 bits.
 fn bucket_of(i: u64) -> usize
     ensures { result ≡ count_trailing_zeros 48 i }
 {
     (i.trailing_zeros() as usize).min(INDEX_BITS)
 }
 
-/// Whether each of the lowest buckets holds what the secret leads to: its hash with the bit of the bucket flipped.
+/// Whether each of these lowest buckets holds what the secret derives for it: the hash of the secret with the bucket's
+/// bit flipped.
 fn leads_to(secret: &[u8; 32], lowest_entries: &[[u8; 32]]) -> bool
     requires { length lowest_entries.now ≤ 48 }
     ensures { IsTrue result

@@ -1,4 +1,4 @@
--- The call that takes each message, and the messages that each answer has.
+-- The call that takes each message, and the messages in each reply.
 use Rattle.std.proofs.Common.{◌≡◌, ℕ, List, [], ◌∷◌, map, Ok, Err, refl}
 use Rattle.updates.specs.declared.changes.Update.{Update}
 use Rattle.filling.specs.Filled.{Filling}

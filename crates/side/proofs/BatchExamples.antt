@@ -10,7 +10,7 @@ numbers : map batch_error_number (MixedChannels ∷ OverValue ∷ []) ≡ 1 ∷ 
 numbers = refl
 
 module _ (x y : ClaimParts) where
-  -- a claim in a channel, worth so many satoshis
+  -- a claim in a channel, worth `value` satoshis
   abbrev due : ℕ → ℕ → DueClaim
   due channel value = record { channel = channel; claim = record x { place = record x.place { value = value } }; preimages = [] }
 
@@ -21,7 +21,7 @@ module _ (x y : ClaimParts) where
   worth : map value_of ([] ∷ (due 3 5 ∷ []) ∷ (due 3 5 ∷ due 4 7 ∷ due 3 11 ∷ []) ∷ []) ≡ 0 ∷ 5 ∷ 23 ∷ []
   worth = refl
 
-  -- 21,000,000 bitcoins and one satoshi more; claims of two channels are told first
+  -- 21,000,000 bitcoins, and one satoshi more; claims of two channels are reported first
   refusals : map (batch_refusal 3)
       ((due 3 5 ∷ due 3 7 ∷ []) ∷ (due 3 2100000000000000 ∷ []) ∷ (due 3 2100000000000000 ∷ due 3 1 ∷ []) ∷ (due 3 5 ∷ due 4 7 ∷ []) ∷ (due 4 2100000000000000 ∷ due 3 1 ∷ []) ∷ [])
       ≡ None ∷ None ∷ Some OverValue ∷ Some MixedChannels ∷ Some MixedChannels ∷ []
@@ -37,7 +37,7 @@ module _ (x y : ClaimParts) where
   preimages : preimages_for wanting ≡ (1 ∷ 2 ∷ []) ∷ (3 ∷ []) ∷ (4 ∷ []) ∷ []
   preimages = refl
 
-  -- the whole value goes to the program of the key
+  -- the whole value goes to the key's program
   paid : (key : List ℕ) → output_for key (due 3 5 ∷ due 3 7 ∷ []) ≡ record { value = 12; script = key_hash_program key }
   paid key = refl
 

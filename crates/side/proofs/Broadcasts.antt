@@ -1,4 +1,4 @@
--- One's own commitments, as they are known, are those that the channel recorded.
+-- The known commitments of a side are those that its channel recorded.
 use Rattle.std.proofs.Common.{◌≡◌, ℕ, zero, suc, ◌+◌, ◌≤◌, Bool, List, [], ◌∷◌, ◌++◌, length, map, take, Option, Some, None, refl, sym, ap, subst, ◌∙◌, arith}
 use Rattle.std.specs.Prelude.{slice_get, option_map, option_and_then}
 use Rattle.std.specs.List.{cons_option}
@@ -21,14 +21,14 @@ use Rattle.publish.proofs.Kept.{may_sign_funding, may_sign_htlc}
 use Rattle.book.specs.Knowing.{below, Signed, signed_parts, signed_by_peer, own_at, IsKnownOf}
 use Rattle.side.specs.Broadcasting.{Publishes}
 
--- one more of the beginning of a list
+-- the first n + 1 elements of a list
 one_more : {A B : Type 0} (f : A → B) (xs : List A) (n : ℕ) → map f (take n xs) ++ cons_option (option_map f (slice_get xs n)) [] ≡ map f (take (suc n) xs)
 one_more f [] zero = refl
 one_more f [] (suc n) = refl
 one_more f (x ∷ xs) zero = refl
 one_more f (x ∷ xs) (suc n) = ap (λ ys. f x ∷ ys) (one_more f xs n)
 
--- what is made of a list, at the numbers below one
+-- the images of a list's elements at the numbers below n
 below_is : {A B : Type 0} (f : A → B) (xs : List A) (n : ℕ) → below (λ i. option_map f (slice_get xs i)) n ≡ map f (take n xs)
 below_is f xs zero = refl
 below_is f xs (suc n) = ap (λ ys. ys ++ cons_option (option_map f (slice_get xs n)) []) (below_is f xs n) ∙ one_more f xs n
@@ -37,7 +37,7 @@ map_append : {A B : Type 0} (f : A → B) (xs ys : List A) → map f (xs ++ ys) 
 map_append f [] ys = refl
 map_append f (x ∷ xs) ys = ap (λ zs. f x ∷ zs) (map_append f xs ys)
 
--- the older ones and the newest after them are those of a list that ends with the newest
+-- the older ones, followed by the newest, are the elements of a list that ends with the newest
 all_are : {A B C : Type 0} (f : A → B) (g : C → B) (older : List A) (own : A) (xs : List C) (n : ℕ) → length xs ≡ n + 1 → Some (f own) ≡ option_map g (slice_get xs n)
     → map f older ≡ below (λ i. option_map g (slice_get xs i)) n → map f (older ++ own ∷ []) ≡ map g xs
 all_are f g older own xs n count newest rest =
@@ -45,11 +45,11 @@ all_are f g older own xs n count newest rest =
     map_append f older (own ∷ []) ∙ ap (λ ys. ys ++ f own ∷ []) rest ∙ ap (λ o. below (λ i. option_map g (slice_get xs i)) n ++ cons_option o []) newest
     ∙ below_is g xs (suc n) ∙ ap (map g) (take_all (suc n) xs short)
 
--- so one stands at a number where the other does
+-- so the elements at a number are equal
 each_is : {A B C : Type 0} (f : A → B) (g : C → B) (ys : List A) (xs : List C) (i : ℕ) → map f ys ≡ map g xs → option_map f (slice_get ys i) ≡ option_map g (slice_get xs i)
 each_is f g ys xs i e = sym (slice_get-map f ys i) ∙ ap (λ zs. slice_get zs i) e ∙ slice_get-map g xs i
 
--- what a value was made of
+-- the value that an image is of
 made_of : {A B : Type 0} (g : A → B) (o : Option A) (y : B) → Some y ≡ option_map g o → (x : A) × (o ≡ Some x) × (y ≡ g x)
 made_of g None y e = absurd (cc)
 made_of g (Some x) y e = let same : y ≡ g x = cc in (x, refl, same)
@@ -62,7 +62,7 @@ then_mapped : {A B C : Type 0} (f : A → B) (g : B → Option C) (o : Option A)
 then_mapped f g None = refl
 then_mapped f g (Some x) = refl
 
--- an answer is what is wanted, where the right is there whenever something is
+-- the result is what is wanted, if the right is there whenever something is wanted
 agrees : (right : Type 0) (wanted answer : Option Transaction) → ((t : Transaction) → wanted ≡ Some t → right) → IsSignedWhere right wanted answer → answer ≡ wanted
 agrees right (Some t) answer r is = (is t).1 (r t refl, refl)
 agrees right None None r is = refl

@@ -15,7 +15,7 @@ use Rattle.side.specs.Following.{seen_in, known_in, unanswered, told, taught_in,
 use Rattle.side.specs.Reading.{FindsBlock}
 use Rattle.side.proofs.Readings.{asked_from, asked_step, Onward, onward_step, onward_end}
 
--- ---- of which nobody answered
+-- ---- channels without an answer
 
 seen_unanswered : (xs : List Seen) → map seen_in (map unanswered xs) ≡ xs
 seen_unanswered [] = refl
@@ -62,7 +62,7 @@ answers fundings fs learnt due c f known told_known l e k =
 -- ---- a block
 
 module _ (height : ℕ) (txs : List Transaction) (old : List Followed) where
-  -- the channels below a number are read, what is known of each is as it was
+  -- the channels below number i are read, and what is known of each is as it was
   pub record IsReadUpTo (i : ℕ) (now : List Followed) (jobs : List DueClaim) (shown : List (List ℕ)) : Type 0 where
     pub onward : Onward height txs i (map known_in old) (map seen_in old) (map seen_in now) jobs shown
     pub known : map known_in now ≡ map known_in old

@@ -11,7 +11,7 @@ use Rattle.side.specs.declared.due.DueClaim.{DueClaim}
 use Rattle.side.specs.Due.{FindsIf, taught}
 use Rattle.side.specs.Reading.{Reader, is_to_ask, numbers_to_ask, FindsBlock, no_more, channel, IsRead}
 
--- the claims of due claims are accepted ones
+-- the claims of due claims were accepted
 abbrev pub AreWhole : List DueClaim → Type 0
 AreWhole due = AllByRecursion (λ j. IsWhole j.claim) due
 
@@ -25,11 +25,11 @@ first_asked true c rest = refl
 first_asked false c rest = refl
 
 module _ (fundings : List OutPoint) (seen : List Seen) (knowns : List (Option Known)) (txs : List Transaction) where
-  -- the numbers from a channel on
+  -- the numbers that are asked, from channel i on
   abbrev pub asked_from : ℕ → List ℕ
   asked_from i = numbers_to_ask i (drop i fundings) (drop i seen) (drop i knowns) txs
 
-  -- one channel more
+  -- one more channel
   pub asked_step : (i : ℕ) (o : OutPoint) (s : Seen) (k : Option Known) (asks : Bool) (found more whole : List ℕ) → i < length fundings → i < length seen → i < length knowns → o ≡ get_or fundings i o
       → s ≡ get_or seen i s → k ≡ get_or knowns i k → asks ≡ is_to_ask o s k txs → more ≡ found ++ (if asks then i ∷ [] else []) → found ++ asked_from i ≡ whole → more ++ asked_from (i + 1) ≡ whole
   asked_step i o s k asks found more whole lf ls lk f e d a m h =
@@ -42,7 +42,7 @@ module _ (fundings : List OutPoint) (seen : List Seen) (knowns : List (Option Kn
       ∙ ap (λ (b : Bool). (if b then i ∷ [] else []) ++ rest) (sym a) in
       ap (λ xs. xs ++ rest) m ∙ append_assoc found (if asks then i ∷ [] else []) rest ∙ ap (λ xs. found ++ xs) (sym here) ∙ h
 
--- past the last channel nothing is left to ask
+-- after the last channel, nothing is left to ask
 none_left : (c : ℕ) (fundings : List OutPoint) (knowns : List (Option Known)) (txs : List Transaction) → numbers_to_ask c fundings [] knowns txs ≡ []
 none_left c [] knowns txs = refl
 none_left c (o ∷ fundings) knowns txs = refl
@@ -54,7 +54,7 @@ asked_end i fundings seen knowns txs found whole l h =
     ap (λ (xs : List Seen). numbers_to_ask i (drop i fundings) xs (drop i knowns) txs) (drop_all i seen l) ∙ none_left i (drop i fundings) (drop i knowns) txs in
     sym (append-nil found) ∙ ap (λ xs. found ++ xs) (sym none) ∙ h
 
--- each number is a channel's
+-- a property of each element
 all_cons : {A : Type 0} (P : A → Type 0) (x : A) (xs : List A) → P x → All P xs → All P (x ∷ xs)
 all_cons P x xs h t zero d l = h
 all_cons P x xs h t (suc k) d l = t k d (omega (arith, l))
@@ -73,7 +73,7 @@ all_asked n c (o ∷ fundings) (s ∷ seen) (k ∷ knowns) txs l =
 
 -- ---- a block
 
--- reading the channels from a number on makes what was read of those below it the whole
+-- what was read of the channels below i, with what is read from i on, is the whole
 abbrev pub Onward : ℕ → List Transaction → ℕ → List (Option Known) → List Seen → List Seen → List DueClaim → List (List ℕ) → Type 0
 Onward height txs i knowns older seen jobs shown =
     (newer : List Seen) (more : List DueClaim) (more_shown : List (List ℕ)) → FindsBlock height txs i (drop i knowns) (drop i seen) newer more more_shown

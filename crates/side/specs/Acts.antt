@@ -1,4 +1,4 @@
--- Messages, as calls of a book take and answer them.
+-- Messages between peers, as calls of a book take and answer them.
 use Rattle.std.specs.Prelude.{ℕ, List, [], ◌∷◌, Ok}
 use Rattle.channel.specs.declared.messages.Message.{Message}
 use Rattle.channel.specs.declared.messages.Message.TheVariants.{Updated, CommitmentSigned, RevokeAndAck}
@@ -13,7 +13,7 @@ call_of c (Updated u) = calls.Step c (UpdatedStep u)
 call_of c (CommitmentSigned tokens) = calls.Step c (Signed tokens)
 call_of c (RevokeAndAck secret point) = calls.Revoke c secret point
 
--- the messages that a book answers
+-- the messages in a book's reply
 abbrev pub messages_in : Reply → List Message
 messages_in (stepped (Ok messages)) = messages
 messages_in (signed (Ok message)) = message ∷ []

@@ -1,4 +1,4 @@
--- What is due in a block by what is known of a channel.
+-- The claims that a block makes due, by what is known of a channel.
 use Rattle.std.specs.Prelude.{◌≡◌, ℕ, List, [], ◌++◌, map, Option, Some, None}
 use Rattle.std.specs.List.{find, filter_map}
 use Rattle.std.specs.Str.{bytes_eq}
@@ -14,32 +14,33 @@ use Rattle.side.specs.declared.due.DueClaim.{DueClaim}
 
 -- ---- claims
 
--- the first preimage of the hash that a slot asks for, and those of a claim's slots, in their order
+-- the first known preimage of the hash that a slot asks for; other slots ask for none
 abbrev pub wanted_by : List (List ℕ) → Slot → Option (List ℕ)
 wanted_by preimages (Preimage hash) = find (λ p. bytes_eq (sha256 p) hash) preimages
 wanted_by preimages slot = None
 
--- claims on a channel's outputs as due claims, each with the known preimages that it wants
+-- claims on a channel's outputs, as due claims, each with the known preimages that its slots need
 abbrev pub due_claims_of : ℕ → List (List ℕ) → List ClaimParts → List DueClaim
 due_claims_of c preimages claims = map (λ x. record { channel = c; claim = x; preimages = filter_map (wanted_by preimages) x.slots }) claims
 
 -- ---- one channel
 
--- what is found by what is known: what was seen of the channel then, the due claims, and the preimages that the block shows
+-- what a block gives by what is known of a channel: what was seen of the
+-- channel after it, the due claims, and the preimages that the block shows
 pub record Finds (known : Known) (height : ℕ) (txs : List Transaction) (c : ℕ) (older newer : Seen) (jobs : List DueClaim) (shown : List (List ℕ)) : Type 0 where
   pub claims : List ClaimParts
   pub sight : IsSight older height txs known claims shown
   pub seen : newer ≡ seen_after older height txs known
   pub jobs_are : jobs ≡ due_claims_of c known.preimages claims
 
--- the same, or nothing, where nobody asked
+-- the same; nothing is found without an answer
 abbrev pub FindsIf : Option Known → ℕ → List Transaction → ℕ → Seen → Seen → List DueClaim → List (List ℕ) → Type 0
 FindsIf None height txs c older newer jobs shown = (newer ≡ older) × (jobs ≡ []) × (shown ≡ [])
 FindsIf (Some known) height txs c older newer jobs shown = Finds known height txs c older newer jobs shown
 
 -- ---- what is known
 
--- what is known has more preimages
+-- adds preimages to what is known
 abbrev pub with_preimages : List (List ℕ) → Known → Known
 with_preimages shown known = record known { preimages = known.preimages ++ shown }
 

@@ -1,4 +1,4 @@
-//! Messages, as a book takes and answers them.
+//! Messages between peers, as a book takes and answers them.
 
 ghost use Rattle.std.specs.Prelude.{◌≡◌, true, false, [], IfOk, MatchResult};
 ghost use Rattle.std.specs.List.{cons_option};
@@ -11,7 +11,7 @@ use channel::{Message, Tokens};
 use lists::List;
 use std::alloc::{AllocError, Global};
 
-/// The call by which a book takes a message in a channel, with a copy of the message. The only error is that memory ran out.
+/// The call by which a book takes a message in a channel; it copies the message. The only error is that memory ran out.
 pub fn call_of(alloc: Global, channel: u64, message: &Message) -> Result<Call, AllocError>
     ensures { IfOk result (λ c. c ≡ call_of channel message.now) }
 {
@@ -36,7 +36,8 @@ pub fn call_of(alloc: Global, channel: u64, message: &Message) -> Result<Call, A
     }
 }
 
-/// The message that an accepted reply has for the peer, if there is one: of all that a release gives nothing is left. A refused reply is handed back.
+/// The message that an accepted reply has for the peer, if there is one. The
+/// transactions of a release are dropped. A refused reply is returned as it is.
 pub fn message_of(reply: Reply) -> Result<Option<Message>, Reply>
     ensures { let form = reply_form reply
         in MatchResult result (λ m. (is_accepted form ≡ true)

@@ -1,4 +1,4 @@
-//! The batch by which claims that are due are released.
+//! The batch by which due claims are released.
 
 ghost use Rattle.std.specs.Prelude.{◌≡◌, ◌+◌, ◌*◌, ◌≤◌, ◌^◌, [], ◌∷◌, map, fold, length, None, Some, IfOk, OnOk, MatchResult};
 ghost use Rattle.std.specs.List.{flat_map};
@@ -17,7 +17,7 @@ use std::alloc::{AllocError, Global};
 use thiserror::Error;
 use tx::{MAX_VALUE, TxOut};
 
-/// Why claims are not released together. It is tested for these in this order.
+/// Why claims are not released together. Checked in this order.
 #[derive(Clone, Copy, Debug, PartialEq, Eq, Drop, Error)]
 pub enum BatchError {
     /// The claims are not all of one channel.
@@ -32,7 +32,7 @@ impl BatchError {
     ghost use Rattle.std.specs.Prelude.{◌≡◌};
     ghost use Rattle.side.specs.Batches.{batch_error_number};
 
-    /// The number of the refusal; no number is 0, which is out of memory, since the test takes none.
+    /// The number of the refusal. None is 0, which stands for out of memory: the test does not allocate.
     pub fn number(&self) -> u8
         ensures { result ≡ batch_error_number self.now }
     {
@@ -43,7 +43,7 @@ impl BatchError {
     }
 }
 
-// Whether the claims are all of a channel.
+// Whether the claims are all of this channel.
 fn are_of(channel: u64, due: &[&DueClaim]) -> bool
     ensures { result ≡ are_of channel (map (λ d. d.now) due.now) }
 {
@@ -55,7 +55,7 @@ fn are_of(channel: u64, due: &[&DueClaim]) -> bool
     true
 }
 
-// What the claims are worth, in satoshis. No number of them passes the width.
+// What the claims are worth, in satoshis. The sum cannot overflow 128 bits.
 fn value_of(due: &[&DueClaim]) -> u128
     ensures value { result ≡ value_of (map (λ d. d.now) due.now) }
     ensures bound { result ≤ length due.now * 2 ^ 64 }
@@ -68,7 +68,7 @@ fn value_of(due: &[&DueClaim]) -> u128
     total
 }
 
-/// What claims are worth together, in satoshis, where they can be released in one transaction of a channel: MixedChannels, OverValue. It takes no memory.
+/// What claims are worth together, in satoshis, if one transaction of a channel can release them. Refused, in this order, with `MixedChannels` and `OverValue`. Does not allocate.
 pub fn worth_of(channel: u64, due: &[&DueClaim]) -> Result<u64, BatchError>
     ensures { let all = map (λ d. d.now) due.now
         in MatchResult result (λ v. (batch_refusal channel all ≡ None) × (v ≡ value_of all))
@@ -95,7 +95,7 @@ fn claims_of(alloc: Global, due: &[&DueClaim]) -> Result<List<Claim>, AllocError
     Ok(claims)
 }
 
-// A preimage goes to the end, where it does not stand there yet. Where memory ran out, all is as before.
+// Appends a preimage, unless it stands there already. If memory runs out, nothing changes.
 fn push_once(preimages: &mut List<[u8; 32]>, preimage: &[u8; 32]) -> Result<(), AllocError>
     ensures { OnOk result (preimages.new ≡ with_new preimages.old preimage.now) }
 {
@@ -105,7 +105,7 @@ fn push_once(preimages: &mut List<[u8; 32]>, preimage: &[u8; 32]) -> Result<(), 
     preimages.push(*preimage)
 }
 
-// The preimages of a claim, each where it does not stand there yet.
+// Appends each preimage of a claim, unless it stands there already.
 fn push_each_once(preimages: &mut List<[u8; 32]>, wanted: &[[u8; 32]]) -> Result<(), AllocError>
     ensures { OnOk result (preimages.new ≡ fold with_new preimages.old wanted.now) }
 {
@@ -115,7 +115,7 @@ fn push_each_once(preimages: &mut List<[u8; 32]>, wanted: &[[u8; 32]]) -> Result
     Ok(())
 }
 
-// The preimages that the claims want, each once. The only error is that memory ran out.
+// The preimages that the claims need, each once. The only error is that memory ran out.
 fn preimages_of(alloc: Global, due: &[&DueClaim]) -> Result<List<[u8; 32]>, AllocError>
     ensures { IfOk result (λ preimages. preimages ≡ each_once
         (flat_map (λ d. d.preimages) (map (λ d. d.now) due.now))) }
@@ -127,7 +127,7 @@ fn preimages_of(alloc: Global, due: &[&DueClaim]) -> Result<List<[u8; 32]>, Allo
     Ok(preimages)
 }
 
-// The output that pays a value to the hash of a key. The only error is that memory ran out.
+// The output that pays a value to the hash of a key (P2WPKH). The only error is that memory ran out.
 fn payment_of(alloc: Global, payment: &Key, value: u64) -> Result<TxOut, AllocError>
     requires { value ≤ max_value }
     ensures { IfOk result (λ o. o ≡ record {
@@ -143,8 +143,8 @@ fn payment_of(alloc: Global, payment: &Key, value: u64) -> Result<TxOut, AllocEr
     }
 }
 
-/// The batch of claims that are worth this value. It pays the whole of it to the hash of the payment key; a claim with a fixed transaction keeps that one's output. It has the preimages that the
-/// claims want, each once. The only error is that memory ran out.
+/// The batch of claims that are worth `value` satoshis. Its one output pays the whole value to the hash of the payment key (P2WPKH). A claim with a fixed transaction keeps the outputs of that
+/// transaction. The batch has the preimages that the claims need, each once. The only error is that memory ran out.
 pub fn batch_of(
     alloc: Global,
     payment: &Key,

@@ -3,12 +3,12 @@
 use claim::Claim;
 use lists::List;
 
-/// A claim on an output of a channel's commitment or HTLC transaction that is to be filled.
+/// A claim that fell due on an output of a commitment or HTLC transaction, not yet filled.
 #[derive(Drop)]
 pub struct DueClaim {
     /// The index of the channel.
     pub channel: u64,
     pub claim: Claim,
-    /// The preimages that the claim's slots want, in their order, where they are known.
+    /// The known preimages that the claim's slots need, in the order of the slots.
     pub preimages: List<[u8; 32]>,
 }

@@ -13,9 +13,9 @@ use watch::{Lookout, Watch};
 /// A channel as a reader follows it.
 #[derive(Drop)]
 pub(crate) enum Followed {
-    /// Nobody answered yet what is known of it: its watch reads nothing.
+    /// The channel has no answer yet: its watch reads nothing.
     Alone(Watch),
-    /// It is read by what is known of it.
+    /// The channel has an answer, and blocks are read with it.
     Known(Lookout),
 }
 
@@ -24,7 +24,7 @@ impl Followed {
     ghost use Rattle.side.specs.Reading.{is_to_ask};
     ghost use Rattle.side.specs.Following.{seen_in, known_in, taught_in};
 
-    /// Whether it is to be asked what is known of it before a block is read.
+    /// Whether to ask what is known of the channel before a block is read.
     pub(crate) fn is_to_ask(&self, funding: &OutPoint, block: &Block) -> bool
         ensures { result ≡ is_to_ask funding.now (seen_in self.now) (known_in self.now)
             (reverse block.now.transactions) }
@@ -35,7 +35,7 @@ impl Followed {
         }
     }
 
-    /// Its watch.
+    /// The channel's watch.
     pub(crate) fn into_watch(self) -> Watch
         ensures { result ≡ seen_in self }
     {
@@ -45,7 +45,7 @@ impl Followed {
         }
     }
 
-    /// Takes more preimages, where it is read by what is known of it. The only error is that memory ran out.
+    /// Adds preimages to the answer, if there is one. The only error is that memory ran out.
     pub(crate) fn teach(&mut self, shown: &[[u8; 32]]) -> Result<(), AllocError>
         ensures { OnOk result (self.new ≡ taught_in shown.now self.old) }
     {
@@ -56,7 +56,7 @@ impl Followed {
     }
 }
 
-/// It is read by this from now on. It takes no memory.
+/// From now on the channel is read by `known`. Does not allocate.
 pub(crate) fn tell(alloc: Global, followed: &mut Followed, known: Known)
     ensures { followed.new ≡ told known followed.old }
 {
@@ -65,7 +65,7 @@ pub(crate) fn tell(alloc: Global, followed: &mut Followed, known: Known)
     *followed = Followed::Known(Lookout::new(watch, known));
 }
 
-/// All take more preimages. The only error is that memory ran out.
+/// Adds preimages to the answer of each channel that has one. The only error is that memory ran out.
 pub(crate) fn teach_all(channels: &mut [Followed], shown: &[[u8; 32]]) -> Result<(), AllocError>
     ensures { OnOk result (channels.new ≡ map (taught_in shown.now) channels.old) }
 {
@@ -75,7 +75,7 @@ pub(crate) fn teach_all(channels: &mut [Followed], shown: &[[u8; 32]]) -> Result
     Ok(())
 }
 
-/// Channels of which nobody answered yet what is known. The only error is that memory ran out.
+/// Channels without an answer. The only error is that memory ran out.
 pub(crate) fn unanswered(alloc: Global, watches: Vec<Watch>) -> Result<Vec<Followed>, AllocError>
     ensures { IfOk result (λ v. v.items ≡ map unanswered watches.items) }
 {
@@ -86,7 +86,7 @@ pub(crate) fn unanswered(alloc: Global, watches: Vec<Watch>) -> Result<Vec<Follo
     Ok(channels)
 }
 
-/// Their watches. The only error is that memory ran out.
+/// The channels' watches. The only error is that memory ran out.
 pub(crate) fn watches_of(alloc: Global, channels: Vec<Followed>) -> Result<Vec<Watch>, AllocError>
     ensures { IfOk result (λ v. v.items ≡ map seen_in channels.items) }
 {

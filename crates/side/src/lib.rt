@@ -1,15 +1,16 @@
 //! What one node does between its book and the chain.
 //!
-//! A [`Reader`] reads blocks for all channels of a node: [`Reader::to_ask`] says before each block of which channels
-//! more has to be known, [`Reader::answer`] takes it, and [`Reader::read`] reads. The main contract is that of
-//! `read`: barring out-of-memory, it gives just what each channel's watch finds by what was answered (`IsRead`).
-//! [`DueClaim`] is a claim that fell due, with the preimages that its slots want. [`worth_of`] and [`batch_of`] make
-//! the batch by which due claims of a channel are released, and [`set_of`] builds the penalty set of a revoked
-//! commitment. [`call_of`] is the call by which a book takes a message, and [`message_of`] what a reply has for the
-//! peer. [`laws::known_publishes`] says that what is known of a channel broadcasts what the channel itself would.
+//! A [`Reader`] reads blocks for all channels of a node. Before each block, [`Reader::to_ask`] says of which channels
+//! more has to be known, and [`Reader::answer`] takes it; then [`Reader::read`] reads the block. The main contract is
+//! that of `read`: barring out-of-memory, it finds exactly what each channel's watch finds with what is known
+//! (`IsRead`). [`DueClaim`] is a claim that fell due, with the preimages that its slots need. [`worth_of`] and
+//! [`batch_of`] make the batch by which due claims of a channel are released, and [`set_of`] builds the penalty set
+//! of a revoked commitment. [`call_of`] is the call by which a book takes a message, and [`message_of`] what a reply
+//! has for the peer. [`laws::known_publishes`] says that what is known of a channel suffices to broadcast what the
+//! channel itself would.
 //!
-//! It has two callers: `world`, which owns its books, and threads, which reach theirs over a lock. So no book, no
-//! channel and no seat stands in its signatures.
+//! It has two callers: `world`, which owns its books, and threads, which reach theirs through a lock. So its
+//! signatures have no book, no channel and no seat.
 //!
 //! A message comes from a peer's `channel`, and goes to `book` as a call. A block comes from `chain` to a `watch` for
 //! each channel; what these find goes to `book` as a batch to release.

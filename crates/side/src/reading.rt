@@ -1,4 +1,4 @@
-//! The reading of blocks, in two halves: what is to be asked before a block is read, and what is read by the answers.
+//! Reads blocks in two steps: what to ask before a block is read, and what is found with the answers.
 
 ghost use Rattle.std.specs.Prelude.{◌≡◌, if◌then◌else◌, ◌∷◌, ◌++◌, [], map, reverse, IfOk, OnOk};
 ghost use Rattle.std.specs.List.{AllByRecursion, cons_option, filter_map};
@@ -20,10 +20,10 @@ use std::marker::Model;
 use tx::OutPoint;
 use watch::{Lookout, Watch};
 
-/// A reader of blocks for all channels of a node. By channel it has the funding output, the watch, and what is known of the channel, where that was answered; beside these the preimages that
-/// blocks showed so far, and the claims that they made due.
+/// A reader of blocks for all channels of a node. For each channel it has the funding output, the watch, and what is known of the channel, once that was answered. It also has the preimages that
+/// blocks showed so far, and the claims that fell due.
 ///
-/// Before it reads a block, [`to_ask`](Reader::to_ask) says of which channels it wants to know more, and each is answered: a channel that nobody answered is read as one that stands.
+/// Before a block is read, [`to_ask`](Reader::to_ask) says of which channels it wants to know more, and each is answered. A channel without an answer is read as one that is still open.
 #[derive(Drop)]
 pub struct Reader {
     fundings: Vec<OutPoint>,
@@ -44,25 +44,25 @@ impl Model for Reader {
     ghost invariant = { λ r. length r.fundings.items ≡ length r.channels.items };
 }
 
-/// What a reader has once it is done.
+/// What a reader holds at the end.
 #[derive(Drop)]
 pub struct ReadParts {
-    /// By channel.
+    /// The watch of each channel.
     pub watches: Vec<Watch>,
-    /// The preimages that blocks showed, those that the reader began with first.
+    /// The preimages that blocks showed, after those that the reader began with.
     pub learnt: Vec<[u8; 32]>,
-    /// The claims that the blocks made due, in their order.
+    /// The claims that the blocks made due, in order.
     pub due: VecDeque<DueClaim>,
 }
 
-/// What blocks give: claims to be filled, and preimages.
+/// What a block gives: claims to be filled, and preimages.
 #[derive(Drop)]
 struct Found {
     due: VecDeque<DueClaim>,
     learnt: Vec<[u8; 32]>,
 }
 
-// Nothing, which takes no memory.
+// Nothing found. Does not allocate.
 fn nothing_found(alloc: Global) -> Found
     ensures due { result.due.items ≡ [] }
     ensures learnt { result.learnt.items ≡ [] }
@@ -73,7 +73,7 @@ fn nothing_found(alloc: Global) -> Found
     }
 }
 
-// The first of the preimages that a slot asks for.
+// The first of the preimages that has the hash a slot asks for.
 fn wanted_by(preimages: &[[u8; 32]], slot: &Slot) -> Option<[u8; 32]>
     ensures { result ≡ wanted_by preimages.now slot.now }
 {
@@ -88,7 +88,7 @@ fn wanted_by(preimages: &[[u8; 32]], slot: &Slot) -> Option<[u8; 32]>
     None
 }
 
-// Puts a preimage at the end, where there is one.
+// Appends a preimage, if there is one.
 fn push_some(preimages: &mut List<[u8; 32]>, preimage: Option<[u8; 32]>) -> Result<(), AllocError>
     ensures { OnOk result (preimages.new ≡ preimages.old ++ cons_option preimage []) }
 {
@@ -98,7 +98,7 @@ fn push_some(preimages: &mut List<[u8; 32]>, preimage: Option<[u8; 32]>) -> Resu
     Ok(())
 }
 
-// The preimages that slots ask for, in their order. The only error is that memory ran out.
+// The preimages that slots ask for, in order. The only error is that memory ran out.
 fn wanted_in(
     alloc: Global,
     preimages: &[[u8; 32]],
@@ -113,7 +113,7 @@ fn wanted_in(
     Ok(wanted)
 }
 
-// Claims on a channel's outputs as due claims. The only error is that memory ran out.
+// Claims on a channel's outputs, as due claims. The only error is that memory ran out.
 fn due_claims_of(
     alloc: Global,
     channel: u64,
@@ -134,7 +134,7 @@ fn due_claims_of(
     Ok(due)
 }
 
-// Puts preimages at the end. The only error is that memory ran out.
+// Appends preimages. The only error is that memory ran out.
 fn push_all(preimages: &mut List<[u8; 32]>, more: &[[u8; 32]]) -> Result<(), AllocError>
     ensures { OnOk result (preimages.new ≡ preimages.old ++ more.now) }
 {
@@ -144,7 +144,7 @@ fn push_all(preimages: &mut List<[u8; 32]>, more: &[[u8; 32]]) -> Result<(), All
     Ok(())
 }
 
-// What is known of a channel, with these preimages too. The only error is that memory ran out.
+// Adds preimages to what is known of a channel. The only error is that memory ran out.
 fn with_preimages(shown: &[[u8; 32]], known: Known) -> Result<Known, AllocError>
     ensures { IfOk result (λ k. k ≡ with_preimages shown.now known) }
 {
@@ -153,7 +153,7 @@ fn with_preimages(shown: &[[u8; 32]], known: Known) -> Result<Known, AllocError>
     Ok(known)
 }
 
-// A block is read for a channel by what is known of it. The only error is that memory ran out.
+// Reads a block for a channel, with what is known of it. The only error is that memory ran out.
 fn look_by(
     alloc: Global,
     height: u64,
@@ -175,7 +175,7 @@ fn look_by(
     })
 }
 
-// A block is read for one channel: nothing, where nobody answered what is known of it. The only error is that memory ran out.
+// Reads a block for a channel; finds nothing if it has no answer. The only error is that memory ran out.
 fn read_channel(
     alloc: Global,
     height: u64,
@@ -194,7 +194,7 @@ fn read_channel(
     }
 }
 
-// Puts more at the end of what was found. The only error is that memory ran out.
+// Appends what was found. The only error is that memory ran out.
 fn add(found: &mut Found, more: Found) -> Result<(), AllocError>
     ensures due { OnOk result (found.new.due.items ≡ found.old.due.items ++ more.due.items) }
     ensures learnt { OnOk result (found.new.learnt.items ≡ found.old.learnt.items
@@ -206,7 +206,7 @@ fn add(found: &mut Found, more: Found) -> Result<(), AllocError>
     Ok(())
 }
 
-// A block is read for all channels, by what is known of each. The only error is that memory ran out.
+// Reads a block for all channels, with what is known of each. The only error is that memory ran out.
 fn read_channels(
     alloc: Global,
     height: u64,
@@ -228,7 +228,7 @@ fn read_channels(
     Ok(found)
 }
 
-// What the claims of due claims are, for proofs: accepted ones.
+// Tells the proof that the claims of due claims were accepted.
 fn hold_whole(due: &VecDeque<DueClaim>)
     ensures { AllByRecursion (λ j. IsWhole j.claim) due.now.items }
 {
@@ -237,7 +237,7 @@ fn hold_whole(due: &VecDeque<DueClaim>)
     }
 }
 
-// Puts a number at the end, where a test holds.
+// Appends a number, if a test holds.
 fn push_if(numbers: &mut Vec<u64>, number: u64, holds: bool) -> Result<(), AllocError>
     ensures { OnOk result (numbers.new.items ≡ numbers.old.items
         ++ (if holds then number ∷ [] else [])) }
@@ -254,8 +254,8 @@ impl Reader {
     ghost use Rattle.claim.specs.Claims.{IsWhole};
     ghost use Rattle.side.specs.Reading.{IsInStep, begun, numbers_to_ask, with_answer, IsRead};
 
-    /// A reader that has read nothing yet, from the funding outputs and the watches by channel, of which there are as many, and the preimages that blocks showed before. The only error is that
-    /// memory ran out.
+    /// A reader that has read nothing yet: the funding output and the watch of each channel, as many of the one as of the other, and the preimages that blocks showed before. The only error is
+    /// that memory ran out.
     pub fn new(
         alloc: Global,
         fundings: Vec<OutPoint>,
@@ -274,7 +274,7 @@ impl Reader {
         })
     }
 
-    /// The channels, rising, of which it is to be asked what is known before a block is read: nobody answered yet, and a transaction that spends the funding output was read or stands in the
+    /// The channels, in increasing order, of which to ask what is known before a block is read. These have no answer yet, and a transaction that spends the funding output was read or is in the
     /// block. The only error is that memory ran out.
     pub fn to_ask(&self, alloc: Global, block: &Block) -> Result<Vec<u64>, AllocError>
         ensures exact { IfOk result (λ v. v.items ≡ numbers_to_ask 0 self.now.fundings self.now.seen
@@ -292,7 +292,7 @@ impl Reader {
         Ok(channels)
     }
 
-    /// Takes what is known of a channel, to which the preimages go that blocks showed so far. The only error is that memory ran out, which leaves the reader as it was.
+    /// Takes what is known of a channel, and adds the preimages that blocks showed so far. If memory runs out, the only error, the reader stays as it was.
     pub fn answer(&mut self, channel: u64, known: Known) -> Result<(), AllocError>
         requires { channel < length self.old.seen }
         ensures ok { OnOk result (self.new ≡ with_answer channel known self.old) }
@@ -304,7 +304,7 @@ impl Reader {
         Ok(())
     }
 
-    // The same as `read`, in place: after a refusal the reader is of no more use.
+    // The same as `read`, in place. After an error the reader must not be used.
     fn read_on(&mut self, alloc: Global, height: u64, block: &Block) -> Result<(), AllocError>
         ensures { OnOk result (IsRead height (reverse block.now.transactions) self.old self.new) }
     {
@@ -315,8 +315,8 @@ impl Reader {
         Ok(())
     }
 
-    /// Reads the block at a height, above the blocks that it read before, by what was answered of each channel: what is due comes to the due claims, each with the preimages that its slots want,
-    /// where they are known. What the block shows is known of all channels from the next block on. The only error is that memory ran out, which lets the reader go.
+    /// Reads the block at a height, above the blocks read before, with what was answered of each channel. Claims that fall due are queued, each with the known preimages that its slots need.
+    /// What the block shows is known of all channels from the next block on. The only error is that memory ran out, which drops the reader.
     pub fn read(self, alloc: Global, height: u64, block: &Block) -> Result<Reader, AllocError>
         ensures { IfOk result (IsRead height (reverse block.now.transactions) self) }
     {
@@ -327,7 +327,7 @@ impl Reader {
         }
     }
 
-    /// What it has once it is done. The claims are accepted ones. The only error is that memory ran out.
+    /// What the reader holds at the end. The claims are accepted ones. The only error is that memory ran out.
     pub fn into_parts(self) -> Result<ReadParts, AllocError>
         ensures watches { IfOk result (λ p. p.watches.items ≡ self.seen) }
         ensures learnt { IfOk result (λ p. p.learnt.items ≡ self.learnt) }

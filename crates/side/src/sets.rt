@@ -9,7 +9,8 @@ use lists::List;
 use penalty::{RevokedState, penalties};
 use std::alloc::{AllocError, Global};
 
-/// The penalty set of a revoked commitment, as a book keeps it. The only error is that memory ran out.
+/// Builds the penalty set of a revoked commitment, as a
+/// book keeps it. The only error is that memory ran out.
 pub fn set_of(alloc: Global, state: &RevokedState) -> Result<List<Claim>, AllocError>
     ensures { IfOk result (AreClaimsOn (claimable_of state.now)) }
 {

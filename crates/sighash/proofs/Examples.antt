@@ -1,4 +1,4 @@
--- The definitions at work on known values.
+-- The definitions on known values.
 use Rattle.std.proofs.Common.{◌≡◌, List, ℕ, [], ◌∷◌, ◌++◌, true, false, refl, replicate}
 use Rattle.digest.specs.Hash.{sha256d}
 use Rattle.tx.specs.declared.input.TxIn.{TxIn}

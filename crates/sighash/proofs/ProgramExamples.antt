@@ -12,12 +12,12 @@ opcodes : map single_op (0x51 ∷ 0x52 ∷ 0x5f ∷ 0x60 ∷ 0x63 ∷ 0x64 ∷ 0
 unfolding single_op
 opcodes = refl
 
--- bytes next to those of the table are none
+-- bytes next to those of the table are not opcodes
 no_opcodes : map single_op (0x00 ∷ 0x4b ∷ 0x4c ∷ 0x50 ∷ 0x61 ∷ 0x62 ∷ 0x65 ∷ 0x66 ∷ 0x69 ∷ 0xad ∷ 0xaf ∷ 0xb0 ∷ 0xb3 ∷ 0xff ∷ []) ≡ replicate 14 None
 unfolding single_op
 no_opcodes = refl
 
--- a script with pushes of no byte, of two and of 75, and one that is cut short or has a byte that is no opcode
+-- scripts with pushes of 0, 2 and 75 bytes, with pushes that are cut short, and with bytes that are not opcodes
 scripts : (script_ops (0x63 ∷ 0x00 ∷ 0x67 ∷ 0x02 ∷ 0x90 ∷ 0x00 ∷ 0xb2 ∷ 0x68 ∷ []) ≡ Some (If ∷ Push [] ∷ Else ∷ Push (0x90 ∷ 0x00 ∷ []) ∷ CheckSequenceVerify ∷ EndIf ∷ []))
     × (script_ops (0x4b ∷ replicate 75 7) ≡ Some (Push (replicate 75 7) ∷ []))
     × (script_ops [] ≡ Some [])
@@ -60,7 +60,7 @@ bip173_script = refl
 abbrev program_of : ℕ → ℕ → ℕ → List ℕ
 program_of version push n = version ∷ push ∷ replicate n 0x11
 
--- a key's hash has 20 bytes, a script's 32, after 0x00 and that number; another length, version or number, or an empty program, is none
+-- a key's hash has 20 bytes, a script's 32, after 0x00 and that number; another length, version or number is refused, and so is an empty program
 key_hash_forms : map is_key_hash_program (program_of 0x00 0x14 20 ∷ program_of 0x00 0x14 19 ∷ program_of 0x00 0x14 21 ∷ program_of 0x00 0x14 32
     ∷ program_of 0x51 0x14 20 ∷ program_of 0x01 0x14 20 ∷ program_of 0x00 0x13 20 ∷ program_of 0x00 0x15 20 ∷ program_of 0x00 0x20 20 ∷ program_of 0x00 0x20 32 ∷ [] ∷ [])
     ≡ true ∷ replicate 10 false
@@ -76,7 +76,7 @@ recognised : (is_key_hash_program (0x00 ∷ 0x14 ∷ 0x1d ∷ 0x0f ∷ 0x17 ∷ 
     × (is_script_hash_program (0x00 ∷ 0x20 ∷ 0x5d ∷ 0x1b ∷ 0x56 ∷ 0xb6 ∷ 0x3d ∷ 0x71 ∷ 0x4e ∷ 0xeb ∷ 0xe5 ∷ 0x42 ∷ 0x30 ∷ 0x95 ∷ 0x25 ∷ 0xf4 ∷ 0x84 ∷ 0xb7 ∷ 0xe9 ∷ 0xd6 ∷ 0xf6 ∷ 0x86 ∷ 0xb3 ∷ 0x78 ∷ 0x1b ∷ 0x6f ∷ 0x61 ∷ 0xef ∷ 0x92 ∷ 0x5d ∷ 0x66 ∷ 0xd6 ∷ 0xf6 ∷ 0xa0 ∷ []) ≡ true)
 recognised = (refl, refl)
 
--- a key hash wants just two items, and another program none
+-- a key hash takes exactly two items, a script hash at least one; another program gives nothing
 given : (given_of (0x00 ∷ 0x14 ∷ hash) ((1 ∷ []) ∷ (2 ∷ []) ∷ []) ≡ Some (record { script = (0x76 ∷ 0xa9 ∷ 0x14 ∷ []) ++ hash ++ (0x88 ∷ 0xac ∷ []); items = (1 ∷ []) ∷ (2 ∷ []) ∷ [] }))
     × (given_of (0x00 ∷ 0x14 ∷ hash) ((1 ∷ []) ∷ []) ≡ None)
     × (given_of (0x00 ∷ 0x14 ∷ hash) ((1 ∷ []) ∷ (2 ∷ []) ∷ (3 ∷ []) ∷ []) ≡ None)

@@ -40,7 +40,7 @@ abbrev run_under : ℕ → ℕ → List (List ℕ) → Option Outcome
 run_under version sequence witness =
     let input = input_of sequence witness in run_of (spending version input) input (record { value = 1000; script = program })
 
--- clean in this order alone, with version 2 alone, and with the input's own sequence
+-- clean in this order only, with version 2 and not 1, and with the sequence of the input only
 runs : (run_under 2 1 ((2 ∷ []) ∷ (1 ∷ []) ∷ script ∷ []) ≡ Some (Clean 3 3))
     × (run_under 2 1 ((1 ∷ []) ∷ (2 ∷ []) ∷ script ∷ []) ≡ Some (Stopped 2 (FailedCheck Verify)))
     × (run_under 1 1 ((2 ∷ []) ∷ (1 ∷ []) ∷ script ∷ []) ≡ Some (Stopped 1 (FailedCheck Sequence)))

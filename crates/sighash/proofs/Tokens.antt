@@ -4,7 +4,7 @@ use Rattle.std.proofs.lemmas.List.{take_at, drop_at}
 use borrow.Rule.Slice.PartMut.{put_mid}
 use Rattle.script.specs.Token.{token_of}
 
--- 32 bytes after 33 are written over
+-- 32 bytes after the first 33 are overwritten
 pub written : (front key digest tail : List ℕ) → length key ≡ 33 → front ≡ key → drop 32 tail ≡ 1 ∷ [] → put_mid 33 32 (front ++ tail) digest ≡ token_of key digest
 unfolding token_of
 written front key digest tail len is last =

@@ -1,4 +1,4 @@
--- Digests do not look at witnesses.
+-- Digests do not depend on witnesses.
 use Rattle.std.proofs.Common.{◌≡◌, ℕ, zero, suc, List, [], ◌∷◌, ◌++◌, Option, Some, None, refl, sym, ap, ◌∙◌}
 use Rattle.std.specs.Prelude.{slice_get, option_map}
 use Rattle.digest.specs.Hash.{sha256d}

@@ -1,4 +1,4 @@
--- The version 0 witness programs of outputs (BIP 141): the script that a program and a witness give to be run, and what it is run under.
+-- The version 0 witness programs of outputs (BIP 141): the script that a program and a witness determine, and what it runs under.
 use Rattle.std.specs.Prelude.{ℕ, zero, suc, Bool, ◌&&◌, nat_le, ◌==◌, if◌then◌else◌, List, [], ◌∷◌, ◌++◌, length, take, drop, reverse, Option, Some, None, option_map, option_and_then}
 use Rattle.std.specs.List.{find}
 use Rattle.std.specs.Str.{bytes_eq}
@@ -22,15 +22,15 @@ single_ops =
     ∷ Number 1 ∷ Number 2 ∷ Number 3 ∷ Number 4 ∷ Number 5 ∷ Number 6 ∷ Number 7 ∷ Number 8
     ∷ Number 9 ∷ Number 10 ∷ Number 11 ∷ Number 12 ∷ Number 13 ∷ Number 14 ∷ Number 15 ∷ Number 16 ∷ []
 
--- the opcode with this byte, where it is one byte alone
+-- the opcode that consists of this byte alone
 unfoldable pub single_op : ℕ → Option Op
 single_op b = find (λ op. code_of op == b) single_ops
 
--- an opcode before those of what follows it
+-- an opcode, followed by those of what comes after it
 abbrev pub op_before : Op → Option (List Op) → Option (List Op)
 op_before op ops = option_map (λ others. op ∷ others) ops
 
--- the opcodes that bytes split into, where they do and are at most so many: a byte up to 75 pushes as many of those behind it
+-- the opcodes that bytes split into, where they do and there are at most this many: a byte up to 75 pushes that many of the bytes after it
 abbrev pub ops_within : ℕ → List ℕ → Option (List Op)
 ops_within zero [] = Some []
 ops_within zero (b ∷ rest) = None
@@ -40,7 +40,7 @@ ops_within (suc n) (b ∷ rest) =
     then (if nat_le b (length rest) then op_before (Push (take b rest)) (ops_within n (drop b rest)) else None)
     else option_and_then (λ op. op_before op (ops_within n rest)) (single_op b)
 
--- the opcodes of a script, where the bytes are one: at most 10,000, and split into opcodes
+-- the opcodes of a script; nothing where the bytes are more than 10,000 or do not split into opcodes
 unfoldable pub script_ops : List ℕ → Option (List Op)
 script_ops bytes = if nat_le (length bytes) max_script_size then ops_within (length bytes) bytes else None
 
@@ -74,7 +74,7 @@ abbrev pub given_by_hash : List ℕ → List (List ℕ) → Option Given
 given_by_hash hash [] = None
 given_by_hash hash (script ∷ below) = if bytes_eq (sha256 script) hash then Some (record { script = script; items = reverse below }) else None
 
--- what a program and a witness give to be run, where the witness has the program's form
+-- the script and items that a program and a witness determine, where the witness has the program's form
 unfoldable pub given_of : List ℕ → List (List ℕ) → Option Given
 given_of program witness =
     if is_key_hash_program program
@@ -86,10 +86,10 @@ given_of program witness =
 abbrev pub spend_of : Transaction → TxIn → List ℕ → ℕ → Spend
 spend_of t input code value = record { version = t.version; lock_time = t.lock_time; sequence = input.sequence; digest = sha256d (signed_list t input code value) }
 
--- how the script runs on which an input is spent, where it is one
+-- the outcome of the script that spends an input, where its bytes are a script
 abbrev pub run_of_given : Transaction → TxIn → ℕ → Given → Option Outcome
 run_of_given t input value given = option_map (λ ops. outcome (spend_of t input given.script value) ops given.items) (script_ops given.script)
 
--- how the program of an output runs on the witness of an input; nothing where program, witness or script has no good form
+-- how the program of an output runs on the witness of an input; nothing where program, witness or script is malformed
 unfoldable pub run_of : Transaction → TxIn → Output → Option Outcome
 run_of t input output = option_and_then (run_of_given t input output.value) (given_of output.script input.witness)

@@ -3,6 +3,6 @@ use Rattle.std.specs.Prelude.{ℕ}
 use Rattle.sighash.specs.declared.errors.DigestError.{DigestError}
 use Rattle.sighash.specs.declared.errors.DigestError.TheVariants.{NoSuchInput}
 
--- 0, that memory ran out, is not there: a digest takes none
+-- there is no 0 (out of memory): a digest allocates nothing
 abbrev pub refusal_number : DigestError → ℕ
 refusal_number NoSuchInput = 1

@@ -30,6 +30,6 @@ signed_list t input code value =
     ++ number 4 t.lock_time
     ++ number 4 1
 
--- the digest for the input of that index, where there is one
+-- the digest for the input at this index, where there is one
 abbrev pub sighash : Transaction → ℕ → List ℕ → ℕ → Option (List ℕ)
 sighash t index code value = option_map (λ input. sha256d (signed_list t input code value)) (slice_get t.inputs index)

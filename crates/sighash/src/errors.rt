@@ -8,7 +8,7 @@ use thiserror::Error;
 /// Why there is no digest.
 #[derive(Clone, Copy, Debug, PartialEq, Eq, Drop, Error)]
 pub enum DigestError {
-    /// The transaction has no input of that index.
+    /// The transaction has no input at this index.
     #[error("NoSuchInput")]
     NoSuchInput,
 }

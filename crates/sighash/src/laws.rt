@@ -11,8 +11,8 @@ pub fn one_key_and_digest()
         → token_of key digest ≡ token_of other another → (key ≡ other) × (digest ≡ another) }
 {}
 
-/// A digest does not look at witnesses: two transactions that are equal once stripped of them have the same digests, so that signing one
-/// input leaves the digests of all as they were.
+/// A digest does not depend on witnesses: two transactions that are equal once stripped have the same digests. So signing one input
+/// leaves the digests of all inputs as they were.
 pub fn digests_ignore_witnesses()
     ensures { (t u : Transaction) (index : ℕ) (code : List ℕ) (value : ℕ)
         → unsigned_transaction t ≡ unsigned_transaction u

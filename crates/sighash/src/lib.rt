@@ -2,14 +2,15 @@
 //! and of a script hash (BIP 141).
 //!
 //! The main contract is that of [`digest_of`]: it is SHA-256 twice over the list of fields of BIP 143 for hash type
-//! ALL. Whoever signs more than one input of a transaction makes a [`SighashCache`] first. A [`Token`] names one key
-//! and one digest. [`programs`] makes and recognises the two programs for all crates.
+//! ALL. To sign more than one input of a transaction, make a [`SighashCache`] first. A [`Token`] names one key and
+//! one digest. [`programs`] makes and recognises the two programs for all crates.
 //!
-//! `tx` hands it transactions. `keys` makes the token of a digest where a signer has the right, `commit` pays to the
-//! programs, and `chain` reads the program of each spent output and runs its script under the digest.
+//! `tx` provides the transactions. `keys` makes the token of a key over a digest where a signer has the right.
+//! `commit` pays to the programs. `chain` reads the program of each spent output and runs its script with the
+//! digest.
 //!
 //! ```rust
-//! /// A token for each input of a transaction, which spend outputs of one value to one script.
+//! /// A token for each input of a transaction whose inputs spend outputs of one value to one script.
 //! fn sign_all(alloc: Global, tx: &Tx, key: &[u8; 33], code: &[u8], value: u64) -> Result<Vec<Token>, AllocError> {
 //!     let cache = SighashCache::new(tx);
 //!     let mut tokens = Vec::new(alloc);

@@ -1,4 +1,4 @@
-//! The witness programs of version 0 (BIP 141, "Witness program"), which stand in outputs for a key (P2WPKH) or for a script (P2WSH).
+//! The version 0 witness programs of outputs (BIP 141, "Witness program"): for a key (P2WPKH) and for a script (P2WSH).
 
 ghost use Rattle.std.specs.Prelude.{◌≡◌, length, IfOk};
 ghost use Rattle.sighash.specs.Programs.{key_hash_program, script_hash_program, is_key_hash_program, is_script_hash_program};
@@ -7,8 +7,8 @@ use digest::{hash160, sha256};
 use lists::ByteString;
 use std::alloc::{AllocError, Global};
 
-/// The program of a key's hash (BIP 141, P2WPKH): 22 bytes, which are 0x00, 0x14 and the key's HASH160 in the hash's own byte order. An output with it is spent
-/// by a signature and the key, which has 33 bytes (BIP 143, "Restrictions on public key type"); here the key may be any bytes. The only error is that memory ran
+/// The program of a key's hash (BIP 141, P2WPKH), 22 bytes: 0x00, 0x14 and the key's HASH160 in the hash's own byte order. An output with it is spent by a
+/// signature and the key, which has 33 bytes (BIP 143, "Restrictions on public key type"); here the key may be any bytes. The only error is that memory ran
 /// out.
 #[tactic(auto, unfolding(crate::specs::Programs::key_hash_program))]
 pub fn key_hash_program(alloc: Global, key: &[u8]) -> Result<ByteString, AllocError>
@@ -21,8 +21,8 @@ pub fn key_hash_program(alloc: Global, key: &[u8]) -> Result<ByteString, AllocEr
     Ok(ByteString::from_vec(program))
 }
 
-/// The program of a script's hash (BIP 141, P2WSH): 34 bytes, which are 0x00, 0x20 and the script's SHA-256 in the hash's own byte order. An output with it is
-/// spent by what the script wants and, as the witness's last item, the script. The only error is that memory ran out.
+/// The program of a script's hash (BIP 141, P2WSH), 34 bytes: 0x00, 0x20 and the script's SHA-256 in the hash's own byte order. An output with it is spent by
+/// the items that the script requires, followed by the script as the last item of the witness. The only error is that memory ran out.
 #[tactic(auto, unfolding(crate::specs::Programs::script_hash_program))]
 pub fn script_hash_program(alloc: Global, script: &[u8]) -> Result<ByteString, AllocError>
     ensures value { IfOk result (λ program. program ≡ script_hash_program script.now) }

@@ -45,8 +45,8 @@ fn hash_outputs(outputs: &[TxOut]) -> [u8; 32]
     sha256(&hasher.finalize())
 }
 
-/// A transaction with the three hashes that the digests of all its inputs share. With it the digests of all
-/// inputs cost a time in proportion to the transaction, and no memory beyond the three hashes.
+/// A transaction with the three hashes that the digests of all its inputs share. With it, computing the digests of all inputs takes time
+/// in proportion to the size of the transaction, and no memory beyond the three hashes.
 #[derive(Debug, Drop)]
 pub struct SighashCache<'a> {
     tx: &'a Tx,
@@ -83,8 +83,8 @@ impl<'a> SighashCache<'a> {
         }
     }
 
-    /// The digest for the input `index`, from 0, with hash type ALL. `code` is the script code without its
-    /// length, and `value` the satoshis of the output that the input spends.
+    /// The digest for the input `index`, from 0, with hash type ALL (BIP 143). `code` is the script code without its length, and `value`
+    /// the value in satoshis of the output that the input spends.
     pub fn digest_of(&self, index: usize, code: &[u8], value: u64) -> Result<[u8; 32], DigestError>
         ensures { result ≡ ok_or (sighash self.now index code.now value) DigestError.NoSuchInput }
     {
@@ -114,7 +114,7 @@ impl<'a> SighashCache<'a> {
 }
 
 /// The digest for one input of a transaction, as [`SighashCache::digest_of`] gives it. Each call hashes all inputs and all outputs of the
-/// transaction: for more than one input make a [`SighashCache`] once, and ask it.
+/// transaction: for more than one input, make one [`SighashCache`] and use that.
 pub fn digest_of(tx: &Tx, index: usize, code: &[u8], value: u64) -> Result<[u8; 32], DigestError>
     ensures { result ≡ ok_or (sighash tx.now index code.now value) DigestError.NoSuchInput }
 {

@@ -23,7 +23,7 @@ impl Model for Token {
 }
 
 impl Token {
-    /// The token of a key for a digest.
+    /// The token of a key over a digest.
     pub fn new(key: &[u8; 33], digest: &[u8; 32]) -> Self
         ensures { result ≡ token_of key.now digest.now }
     {
@@ -33,8 +33,8 @@ impl Token {
         Token { bytes }
     }
 
-    /// The token with these bytes, if they have a token's form: 66 bytes, of which the first is 2 or 3 and
-    /// the last 1.
+    /// The token with these bytes; `None` where they do not have a token's form: 66 bytes, the first 2 or
+    /// 3 and the last 1.
     #[tactic(auto, unfolding(script::specs::Token::is_token))]
     pub fn read(bytes: &[u8]) -> Option<Self>
         ensures { result ≡ (if is_token bytes.now then Some bytes.now else None) }

@@ -1,4 +1,5 @@
--- Terms are what their fields are, and two sides agree on proposed ones where the terms can be made.
+-- Terms are determined by their fields, and two sides agree on proposed ones exactly where the terms
+-- can be made.
 use Rattle.std.proofs.Common.{◌≡◌, ◌≤◌, ◌+◌, ◌*◌, Bool, true, false, true≢false, Some, None, refl, sym, ap, ◌∙◌, subst}
 use Rattle.std.specs.Prelude.{◌==◌, ◌&&◌, nat_le}
 use Rattle.std.proofs.lemmas.Bool.{and_from, and_parts, le-leb, leb-true, eq-eqb, eqb-true}

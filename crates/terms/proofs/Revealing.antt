@@ -1,4 +1,4 @@
--- A number comes back from the fields that carry it, and such fields are those of a number.
+-- A number is found in the fields that carry it, and such fields are those of a number.
 use Rattle.std.proofs.Common.{◌≡◌, ℕ, ◌+◌, ◌*◌, ◌/◌, ◌%◌, ◌^◌, ◌<◌, Bool, true, false, eqb, ◌&&◌, cond, List, [], ◌∷◌, Option, Some, None, sym, ap, ◌∙◌, refl, arith, eq-eqb, bit_xor, length, get_or}
 use Rattle.std.specs.Prelude.{◌↔◌}
 use Rattle.std.specs.Int.Bits.{xor_assoc, xor_self, xor_zero_r}

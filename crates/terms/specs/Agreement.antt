@@ -8,7 +8,7 @@ use Rattle.terms.specs.declared.sides.Side.TheVariants.{A, B}
 use Rattle.terms.specs.declared.agreement.Party.{Party}
 use Rattle.terms.specs.declared.agreement.Terms.{Terms}
 
--- of a capacity in satoshis, and what the two sides begin with in millisatoshis
+-- two sides can agree on this capacity in satoshis, with these starting balances in millisatoshis
 pub record CanAgree (capacity a b : ℕ) : Type 0 where
   pub limited : capacity ≤ max_value
   pub whole : a + b ≡ MSAT_PER_SAT * capacity
@@ -22,7 +22,7 @@ pub record HasFields (t : Terms) (funding : OutPoint) (capacity : ℕ) (opener :
   pub a_is : t.a ≡ a
   pub b_is : t.b ≡ b
 
--- what a side brought to the terms
+-- a side's part of the terms
 abbrev pub party : Side → Terms → Party
 party A t = t.a
 party B t = t.b

@@ -14,11 +14,13 @@ low_48_bits hash =
     2 ^ 40 * slice_index hash 26 + 2 ^ 32 * slice_index hash 27 + 2 ^ 24 * slice_index hash 28
     + 2 ^ 16 * slice_index hash 29 + 2 ^ 8 * slice_index hash 30 + slice_index hash 31
 
--- the mask of a channel's numbers: of the opener's payment base key, then the accepter's
+-- the mask of a channel's commitment numbers: the low 48 bits of SHA-256 of the opener's payment base key, then the
+-- accepter's
 unfoldable pub mask_of : Terms → ℕ
 mask_of t = low_48_bits (sha256 ((party t.opener t).bases.payment.bytes ++ (party (other t.opener) t).bases.payment.bytes))
 
--- the fields that carry 48 bits: the low half below the byte 20 (hexadecimal), and the high half below the byte 80
+-- the fields that carry 48 bits: the low half under the top byte 20 (hexadecimal), and the high half under the top
+-- byte 80
 abbrev pub fields_of : ℕ → Obscured
 fields_of hidden = record { lock_time = 0x20 * 2 ^ 24 + hidden % 2 ^ 24; sequence = 0x80 * 2 ^ 24 + hidden / 2 ^ 24 % 2 ^ 24 }
 
@@ -33,7 +35,7 @@ revealed mask lock_time sequence =
     then Some (bit_xor (sequence % 2 ^ 24 * 2 ^ 24 + lock_time % 2 ^ 24) mask)
     else None
 
--- a transaction is by its form the channel's commitment of a number
+-- a transaction is, by its form, the channel's commitment of this number
 pub record HasNumber (terms : Terms) (t : Transaction) (n : ℕ) : Type 0 where
   pub range : n < 2 ^ 48
   pub input : TxIn
@@ -41,11 +43,11 @@ pub record HasNumber (terms : Terms) (t : Transaction) (n : ℕ) : Type 0 where
   pub spends : input.outpoint ≡ terms.funding
   pub carries : obscured (mask_of terms) n ≡ record { lock_time = t.lock_time; sequence = input.sequence }
 
--- each number comes back from its fields
+-- each number is found in its fields
 abbrev pub NumbersComeBack : Type 0
 NumbersComeBack = (mask n : ℕ) → mask < 2 ^ 48 → n < 2 ^ 48 → revealed mask (obscured mask n).lock_time (obscured mask n).sequence ≡ Some n
 
--- fields that carry a number are those of the number, which is below 2^48
+-- fields that carry a number are those of that number, which is below 2^48
 abbrev pub FieldsComeBack : Type 0
 FieldsComeBack =
     (mask n lock_time sequence : ℕ) → mask < 2 ^ 48 → revealed mask lock_time sequence ≡ Some n

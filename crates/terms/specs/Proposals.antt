@@ -10,11 +10,11 @@ use Rattle.terms.specs.declared.agreement.Terms.{Terms}
 use Rattle.terms.specs.declared.proposals.ProposedParty.{ProposedParty}
 use Rattle.terms.specs.declared.proposals.ProposedTerms.{ProposedTerms}
 
--- the capacity is within the limit of a value, and what the two sides begin with is the capacity
+-- the capacity is at most the greatest value of an output, and the two starting balances sum to it
 abbrev pub can_agree : ProposedTerms → Bool
 can_agree t = nat_le t.capacity max_value && t.a.start + t.b.start == MSAT_PER_SAT * t.capacity
 
--- what a side with these base keys brings
+-- a side's part of the terms, with these base keys
 abbrev pub party_of : ProposedParty → BaseKeys → Party
 party_of p bases = record { dust = p.dust; delay = p.delay; minimum = p.minimum; start = p.start; bases = bases }
 

@@ -3,6 +3,6 @@ use Rattle.std.specs.Prelude.{ℕ}
 use Rattle.terms.specs.declared.errors.TermsError.{TermsError}
 use Rattle.terms.specs.declared.errors.TermsError.TheVariants.{BadTerms}
 
--- 0, that memory ran out, is not there: terms take none
+-- there is no 0 (out of memory): terms allocate nothing
 abbrev pub refusal_number : TermsError → ℕ
 refusal_number BadTerms = 1

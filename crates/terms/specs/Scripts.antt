@@ -6,11 +6,11 @@ use Rattle.script.specs.declared.opcode.Op.{Op}
 use Rattle.script.specs.declared.opcode.Op.TheVariants.{Push, Number, If, NotIf, Else, EndIf, Drop, Dup, Swap, Size, Equal, EqualVerify, Hash160, CheckSig, CheckMultiSig, CheckLockTimeVerify, CheckSequenceVerify}
 use Rattle.script.specs.Number.{minimal_bytes_of}
 
--- the push of a number from 0 on, minimally encoded
+-- the push of a number that is not negative, minimally encoded
 unfoldable pub number_push : ℕ → Op
 number_push n = if n == 0 then Push [] else (if nat_le n 16 then Number n else Push (minimal_bytes_of n))
 
--- one key stands before another, byte by byte
+-- one key is less than another, byte by byte
 abbrev pub is_lesser : List ℕ → List ℕ → Bool
 is_lesser a b = is_lt (slice_cmp nat_cmp a b)
 
@@ -18,7 +18,7 @@ is_lesser a b = is_lt (slice_cmp nat_cmp a b)
 abbrev pub two_of_two : List ℕ → List ℕ → List Op
 two_of_two first second = Number 2 ∷ Push first ∷ Push second ∷ Number 2 ∷ CheckMultiSig ∷ []
 
--- the funding output: both keys sign, the lesser one first
+-- the funding output: both keys sign, the lesser key first
 abbrev pub funding : List ℕ → List ℕ → List Op
 funding key other = if is_lesser other key then two_of_two other key else two_of_two key other
 

@@ -42,16 +42,16 @@ impl BaseKeys {
     }
 }
 
-/// What one side brings to the terms.
+/// One side's part of the terms.
 #[derive(Clone, Copy, Debug, PartialEq, Eq, Drop)]
 pub struct Party {
-    /// Satoshis below which its own commitments have no output (`dust_limit_satoshis`).
+    /// The dust limit of its own commitments in satoshis: they have no output below it (`dust_limit_satoshis`).
     pub dust: u64,
-    /// Blocks that it waits for its own delayed outputs (the peer's `to_self_delay`).
+    /// The delay of its own delayed outputs in blocks (the peer's `to_self_delay`).
     pub delay: u16,
-    /// Millisatoshis that an HTLC offered to it has at least (`htlc_minimum_msat`).
+    /// The least amount of an HTLC offered to it, in millisatoshis (`htlc_minimum_msat`).
     pub minimum: u64,
-    /// Millisatoshis that it begins with.
+    /// Its starting balance in millisatoshis.
     pub start: u64,
     pub bases: BaseKeys,
 }
@@ -59,13 +59,13 @@ pub struct Party {
 /// The terms of a channel.
 #[derive(Clone, Copy, Debug, PartialEq, Eq, Drop)]
 pub struct Terms {
-    /// The output that the channel spends.
+    /// The funding output, which the commitments spend.
     pub funding: OutPoint,
-    /// Its value in satoshis.
+    /// The value of the funding output in satoshis.
     pub capacity: u64,
-    /// Who opened the channel, pays the fee of its commitments, and alone may change the feerate.
+    /// The side that opened the channel. It pays the fee of the commitments, and it alone may change the feerate.
     pub opener: Side,
-    /// Satoshis for 1,000 units of weight, until the first change (`feerate_per_kw`).
+    /// The feerate until the first change, in satoshis per 1,000 units of weight (`feerate_per_kw`).
     pub feerate: u32,
     pub a: Party,
     pub b: Party,
@@ -77,8 +77,8 @@ impl Terms {
     ghost use Rattle.std.specs.Prelude.{◌≡◌, ◌↔◌, IsOk, IfOk};
     ghost use Rattle.terms.specs.Agreement.{CanAgree, HasFields, party};
 
-    /// The terms of these values: BadTerms where the capacity is above 21,000,000 bitcoins, or what the two sides begin with is not the
-    /// capacity.
+    /// The terms with these values. The error is BadTerms where the capacity is above 21,000,000 bitcoins, or the two starting balances
+    /// do not sum to it.
     pub fn new(
         funding: OutPoint,
         capacity: u64,
@@ -108,7 +108,7 @@ impl Terms {
         })
     }
 
-    /// What a side brought to the terms.
+    /// A side's part of the terms.
     pub fn party(&self, side: Side) -> &Party
         ensures { result.now ≡ party side self.now }
     {

@@ -1,4 +1,4 @@
 //! Units of value.
 
-/// Millisatoshis of a satoshi (BOLT 2).
+/// Millisatoshis in a satoshi (BOLT 2).
 pub const MSAT_PER_SAT: u64 = 1000;

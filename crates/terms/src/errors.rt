@@ -8,7 +8,7 @@ use thiserror::Error;
 /// Why terms are refused.
 #[derive(Clone, Copy, Debug, PartialEq, Eq, Drop, Error)]
 pub enum TermsError {
-    /// The capacity is above 21,000,000 bitcoins, or is not what the two sides begin with.
+    /// The capacity is above 21,000,000 bitcoins, or the two starting balances do not sum to it.
     #[error("BadTerms")]
     BadTerms,
 }

@@ -2,8 +2,8 @@
 
 ghost use Rattle.terms.specs.Numbers.{NumbersComeBack, FieldsComeBack};
 
-/// Hiding a number in the fields and finding it there invert each other: each number below 2^48 comes back from the fields that carry it, and
-/// fields that carry a number are those of the number.
+/// Hiding a number in the fields and finding it there are inverse to each other. Each number below 2^48 is found in the fields that carry it,
+/// and fields that carry a number are those of that number.
 pub fn numbers_come_back()
     ensures numbers { NumbersComeBack }
     ensures fields { FieldsComeBack }

@@ -2,15 +2,15 @@
 //! BOLT 3).
 //!
 //! [`Terms`] are the values of `open_channel` and `accept_channel`, the funding outpoint and both sides' base keys.
-//! Their type keeps what everything above rests on: the capacity is at most 21,000,000 bitcoins, and what the two
-//! sides begin with is the capacity. [`ProposedTerms`], with a [`ProposedParty`] for each side, are what a channel's
-//! opening proposes, before there are a funding output and keys; two sides may be unable to agree on them. A [`View`]
-//! is what one commitment pays: each side's balance, its HTLCs, and the feerate. [`mask`], [`obscure`] and
-//! [`number_of`] are the number of a commitment and the fields of its transaction that carry it. `specs/Scripts.antt`
-//! has the opcodes of BOLT 3's five scripts, for `commit` to spell and `forms` to list.
+//! Their type guarantees what all crates above rely on: the capacity is at most 21,000,000 bitcoins, and the two
+//! starting balances sum to it. [`ProposedTerms`], with a [`ProposedParty`] for each side, are the terms that are
+//! proposed before there are a funding output and keys; two sides may be unable to agree on them. A [`View`] is what
+//! one commitment pays: each side's balance, its HTLCs, and the feerate. [`mask`], [`obscure`] and [`number_of`]
+//! handle the number of a commitment and the fields of its transaction that carry it. `specs/Scripts.antt` has the
+//! opcodes of BOLT 3's five scripts, which `commit` spells and `forms` lists.
 //!
-//! `keys` has the base keys. `updates` makes the views, `commit` the commitment of a view, and `texts` reads and
-//! writes what is proposed.
+//! `keys` provides the base keys. `updates` makes the views, `commit` the commitment of a view, and `texts` reads and
+//! writes proposed terms.
 //!
 //! ```rust
 //! /// Whether a transaction is commitment number `n` of the channel.

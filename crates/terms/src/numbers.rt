@@ -10,9 +10,9 @@ use tx::{OutPoint, Tx, TxIn};
 /// The fields of a commitment transaction that carry its number.
 #[derive(Clone, Copy, Debug, PartialEq, Eq, Drop)]
 pub struct Obscured {
-    /// The lock time: 20 in the top byte (hexadecimal), which makes it a time long past, and the low 24 bits.
+    /// The lock time: the top byte 20 (hexadecimal), which makes it a time long past, and the low 24 bits of the obscured number.
     pub lock_time: u32,
-    /// The sequence of the only input: 80 in the top byte, which makes it no relative lock, and the high 24 bits.
+    /// The sequence of the only input: the top byte 80 (hexadecimal), which disables its relative lock, and the high 24 bits.
     pub sequence: u32,
 }
 
@@ -30,7 +30,8 @@ fn low_48_bits(hash: &[u8; 32]) -> u64
     high * 0x1_0000_0000 + middle * 0x1_0000 + low
 }
 
-/// What hides the numbers of a channel's commitments: the low 48 bits of SHA-256 of the opener's payment base key, then the accepter's.
+/// The mask that hides the numbers of a channel's commitments: the low 48 bits of SHA-256 of the opener's payment base key, then the
+/// accepter's.
 #[tactic(auto, unfolding(crate::specs::Numbers::mask_of))]
 pub fn mask(terms: &Terms) -> u64
     ensures value { result ≡ mask_of terms.now }
@@ -44,7 +45,7 @@ pub fn mask(terms: &Terms) -> u64
     low_48_bits(&hasher.finalize())
 }
 
-/// The fields that carry commitment number `n` under a mask. Of both numbers the low 48 bits count.
+/// The fields that carry commitment number `n` under a mask. Only the low 48 bits of `n` and of the mask count.
 pub fn obscure(mask: u64, n: u64) -> Obscured
     ensures { result ≡ obscured mask n }
 {
@@ -74,8 +75,8 @@ fn spends(input: &TxIn, output: &OutPoint) -> bool
     input.outpoint == *output
 }
 
-/// The number of the channel's commitment that a transaction is by its form: its only input spends the funding output, and its lock time
-/// and sequence are those of the number. `None` where it is none.
+/// The number of the commitment that a transaction is by its form: its only input spends the funding output, and its lock time and
+/// sequence are those of the number. `None` where the transaction does not have this form.
 pub fn number_of(terms: &Terms, tx: &Tx) -> Option<u64>
     ensures { (n : ℕ) → (result ≡ Some n) ↔ HasNumber terms.now tx.now n }
 {

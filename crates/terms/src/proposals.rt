@@ -8,33 +8,33 @@ use crate::amounts::MSAT_PER_SAT;
 use crate::sides::Side;
 use tx::{MAX_VALUE, OutPoint};
 
-/// What one side would bring to the terms, without its keys.
+/// One side's part of proposed terms, without its keys.
 #[derive(Clone, Copy, Debug, PartialEq, Eq, Drop)]
 pub struct ProposedParty {
-    /// Satoshis below which its own commitments have no output (`dust_limit_satoshis`).
+    /// The dust limit of its own commitments in satoshis: they have no output below it (`dust_limit_satoshis`).
     pub dust: u64,
-    /// Blocks that it waits for its own delayed outputs (the peer's `to_self_delay`).
+    /// The delay of its own delayed outputs in blocks (the peer's `to_self_delay`).
     pub delay: u16,
-    /// Millisatoshis that an HTLC offered to it has at least (`htlc_minimum_msat`).
+    /// The least amount of an HTLC offered to it, in millisatoshis (`htlc_minimum_msat`).
     pub minimum: u64,
-    /// Millisatoshis that it begins with.
+    /// Its starting balance in millisatoshis.
     pub start: u64,
 }
 
 /// The terms of a channel without its funding output and keys. Two sides may be unable to agree on them.
 #[derive(Clone, Copy, Debug, PartialEq, Eq, Drop)]
 pub struct ProposedTerms {
-    /// Satoshis.
+    /// The value of the funding output in satoshis.
     pub capacity: u64,
-    /// Who opens the channel.
+    /// The side that opens the channel.
     pub opener: Side,
-    /// Satoshis for 1,000 units of weight.
+    /// The feerate in satoshis per 1,000 units of weight.
     pub feerate: u32,
     pub a: ProposedParty,
     pub b: ProposedParty,
 }
 
-// What a side with these base keys brings.
+// A side's part of the terms, with these base keys.
 fn party_of(proposed: &ProposedParty, bases: BaseKeys) -> Party
     ensures { result ≡ party_of proposed.now bases }
 {
@@ -52,7 +52,8 @@ impl ProposedTerms {
     ghost use Rattle.terms.specs.Agreement.{HasFields};
     ghost use Rattle.terms.specs.Proposals.{can_agree, party_of, agreed_terms};
 
-    /// Whether two sides can agree on the terms: the capacity is at most 21,000,000 bitcoins, and is what the two sides begin with.
+    /// Whether two sides can agree on the terms: the capacity is at most 21,000,000 bitcoins, and the two starting balances sum to
+    /// it.
     pub fn can_agree(&self) -> bool
         ensures { result ≡ can_agree self.now }
     {
@@ -62,7 +63,7 @@ impl ProposedTerms {
             && u128::from(a) + u128::from(b) == u128::from(MSAT_PER_SAT) * u128::from(capacity)
     }
 
-    /// The terms with a funding output and both sides' base keys; `None` where the sides can't agree.
+    /// The terms with a funding output and both sides' base keys; `None` where the sides cannot agree.
     pub fn agreed(&self, funding: OutPoint, a: BaseKeys, b: BaseKeys) -> Option<Terms>
         ensures terms { result ≡ agreed_terms funding a b self.now }
         ensures some { is_some result ≡ can_agree self.now }

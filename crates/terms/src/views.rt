@@ -10,9 +10,9 @@ use std::alloc::AllocError;
 /// What a commitment gives to one side.
 #[derive(Debug, Drop)]
 pub struct Share {
-    /// Millisatoshis.
+    /// The balance in millisatoshis.
     pub balance: u64,
-    /// The HTLCs that the side offered and that still stand, in the order of their ids.
+    /// The HTLCs that the side offered and that are still live, in the order of their ids.
     pub offered: List<Htlc>,
 }
 
@@ -21,7 +21,7 @@ pub struct Share {
 pub struct View {
     pub a: Share,
     pub b: Share,
-    /// Satoshis for 1,000 units of weight.
+    /// The feerate in satoshis per 1,000 units of weight.
     pub feerate: u32,
 }
 
@@ -46,7 +46,7 @@ impl View {
     ghost use Rattle.std.specs.Prelude.{◌≡◌, IfOk};
     ghost use Rattle.terms.specs.Views.{share};
 
-    /// What it gives to a side.
+    /// What the view gives to a side.
     pub fn share(&self, side: Side) -> &Share
         ensures { result.now ≡ share side self.now }
     {

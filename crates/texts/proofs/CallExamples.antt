@@ -1,4 +1,4 @@
--- Calls, entries and dumps with unlike values in all their parts, and values that are near their forms.
+-- Calls, entries and dumps with distinct values in all their parts, and values that just miss the shape.
 use Rattle.std.proofs.Common.{◌≡◌, ℕ, ◌+◌, ◌*◌, ◌^◌, true, false, List, [], ◌∷◌, ◌++◌, Option, Some, None, codes, refl}
 use Rattle.std.specs.Prelude.{replicate, is_some}
 use Rattle.hex.proofs.OnLiterals.{hex_on_literals}
@@ -69,7 +69,7 @@ signs : (call_of (two (text (codes "sign")) (n 3)) ≡ Some (Sign 3))
 unfolding call_of call_named sign_of
 signs = (refl, refl, refl, refl, refl, refl)
 
--- steps of one's own
+-- one's own steps
 own_steps : (call_of (array (item (text (codes "step")) (item (n 3) (item (text (codes "offer")) (item (n 4) (item hash_text (item (n 5) no_items))))))) ≡ Some (Step 3 (Own (Offer 4 (replicate 32 9) 5))))
     × (call_of (array (item (text (codes "step")) (item (n 3) (item (text (codes "offer")) (item (n 4) (item hash_text (item (n (2 ^ 32)) no_items))))))) ≡ None)
     × (call_of (five (text (codes "step")) (n 3) (text (codes "fulfil")) (n 4) hash_text) ≡ Some (Step 3 (Own (Fulfil 4 (replicate 32 9)))))
@@ -85,7 +85,7 @@ own_steps = (refl, refl, refl, refl, refl, refl, refl, refl, refl)
 abbrev received : Data → Data
 received message = four (text (codes "step")) (n 3) (text (codes "receive")) message
 
--- steps that receive a message, which is no revocation
+-- steps that receive a message other than a revocation
 received_steps : (call_of (received (two (text (codes "fail")) (n 4))) ≡ Some (Step 3 (Receive (Updated (Failing 4)))))
     × (call_of (received (three (text (codes "signed")) token_text (one token_text))) ≡ Some (Step 3 (Receive (Signed (record { commitment = token; htlcs = token ∷ [] })))))
     × (call_of (received (three (text (codes "signed")) key_text (one token_text))) ≡ None)
@@ -108,7 +108,7 @@ keeps : (call_of (four (text (codes "keep")) (n 3) (n 4) (array no_items)) ≡ S
 unfolding call_of call_named keep_of
 keeps = (refl, refl, refl)
 
--- one claim is the least, 4,000 claims and outputs are the most
+-- at least 1 claim, and at most 4,000 claims and outputs
 releases : (call_of (five (text (codes "release")) (n 3) (array no_items) (array no_items) (array no_items)) ≡ None)
     × (are_within 0 0 ≡ false)
     × (are_within 1 0 ≡ true)
@@ -195,7 +195,7 @@ dumps : (dump_of (dump 2 (array no_items)) ≡ Some (record { history = [] }))
 unfolding dump_of entry_of call_of call_named sign_of step_call_of step_of step_named own_named own_fee_of receive_of received_of received_named update_of update_named fee_of
 dumps = (refl, refl, refl, refl, refl, refl, refl, refl, refl, refl)
 
--- the key 02 and one byte over and over
+-- the key of 02 and 32 times one byte
 abbrev key_at : ℕ → Key
 unfolding is_key
 key_at k = record { bytes = 2 ∷ replicate 32 k; form = refl }
@@ -207,7 +207,7 @@ bases : base_keys_of (five key_text other_key_text (text (codes "023333333333333
 unfolding base_keys_of is_key hex_on_literals
 bases = refl
 
--- behind the channel of a release stand its claims, its outputs, its preimages
+-- the channel of a release is followed by its claims, its outputs and its preimages
 release_order : (o : Output) (p : List ℕ) → release_data 3 [] (o ∷ []) (p ∷ []) ≡ five (text (codes "release")) (n 3) (array no_items) (one (output_data o)) (one (bytes_data p))
 unfolding release_data
 release_order o p = refl

@@ -1,4 +1,4 @@
--- What a writer writes of a call, its reader reads as the same.
+-- A reader reads back the call that its writer wrote.
 use Rattle.std.proofs.Common.{◌≡◌, ℕ, ◌<◌, ◌^◌, ◌==◌, ◌&&◌, Bool, true, false, length, slice_index, List, [], ◌∷◌, map, Option, Some, None, refl, ap, subst, ◌∙◌, codes}
 use Rattle.std.specs.Prelude.{IsTrue}
 use Rattle.std.specs.List.{AllByRecursion}
@@ -72,7 +72,7 @@ pub signature_again : (s : PlainSignature) → token_bytes_of (bytes_data s.comm
 unfolding received_of received_named signature_in signature_data
 signature_again s commitment htlcs = rw (commitment, same_again bytes_data token_bytes_of s.htlcs htlcs) refl
 
--- of tokens that have their form
+-- if the tokens have their form
 pub signed_again : (s : PlainSignature) → (IsTrue (is_token s.commitment) → token_bytes_of (bytes_data s.commitment) ≡ Some s.commitment)
     → AllByRecursion (λ t. IsTrue (is_token t) → token_bytes_of (bytes_data t) ≡ Some t) s.htlcs → AreTokens s → received_of (signature_data s) ≡ Some (Signed s)
 signed_again s commitment htlcs (form, forms) = signature_again s (commitment form) (each s.htlcs htlcs forms)
@@ -152,7 +152,7 @@ release_again channel claims outputs preimages back outs images within =
     )
     refl
 
--- ---- and so it does for all calls
+-- ---- all calls come back
 
 pub openings_come_back : OpeningsComeBack
 openings_come_back o h =

@@ -1,4 +1,4 @@
--- Claims with unlike values in all their parts, and values that are near their forms.
+-- Claims with distinct values in all their parts, and values that just miss the shape.
 use Rattle.std.proofs.Common.{◌≡◌, ℕ, true, false, List, [], ◌∷◌, Option, Some, None, codes, refl}
 use Rattle.std.specs.Prelude.{replicate, is_some}
 use Rattle.hex.proofs.OnLiterals.{hex_on_literals}
@@ -50,7 +50,7 @@ slots : (slot_of (pair (text (codes "sig")) key_text) ≡ Some (Sig key))
 unfolding sig_of preimage_of exact_of slot_named slot_of is_key hex_on_literals
 slots = (refl, refl, refl, refl, refl, refl, refl)
 
--- 520 bytes are the most
+-- at most 520 bytes
 limits : (is_some (witness_item_of (text (replicate 1040 48))) ≡ true) × (is_some (witness_item_of (text (replicate 1042 48))) ≡ false)
 unfolding hex_on_literals
 limits = (refl, refl)

@@ -1,4 +1,4 @@
--- What a writer writes of a claim, its reader reads as the same.
+-- A reader reads back the claim that its writer wrote.
 use Rattle.std.proofs.Common.{◌≡◌, ℕ, zero, suc, ◌+◌, ◌*◌, ◌-◌, ◌/◌, ◌%◌, ◌^◌, ◌<◌, ◌≤◌, ◌==◌, if◌then◌else◌, Bool, true, false, List, [], ◌∷◌, ◌++◌, length, take, drop, get_or, map, Option, Some, None, decimal, refl, sym, ap, subst, ◌∙◌, arith, length-append, append_assoc}
 use Rattle.std.specs.Prelude.{slice_index}
 use Rattle.std.specs.Char.{is_ascii_digit}
@@ -71,7 +71,7 @@ digits_back n lt = decimal_by_steps (λ m ds. m < 2 ^ 32 → digits_from 0 ds �
         let whole : m / 10 * 10 + m % 10 ≡ m = omega arith in
         one_more 0 ds (48 + m % 10) ∙ rw front (last_digit (m / 10) (m % 10) (omega arith) (omega arith)) ∙ ap Some whole
 
--- no 0 stands before another digit
+-- no leading zero
 index_is : (ds : List ℕ) → 0 < length ds → (get_or ds 0 0 ≡ 48 → length ds ≡ 1) → index_in ds ≡ digits_from 0 ds
 index_is [] some lead = absurd (omega arith)
 index_is (c ∷ []) some lead = refl
@@ -140,7 +140,7 @@ slots_come_back (Sig key) each = sig_again key (key_back key each)
 slots_come_back (Preimage hash) h = preimage_again hash (hash_back hash h)
 slots_come_back (Exact bytes) each = exact_again bytes (item_again bytes (bytes_back bytes.item each))
 
--- the fixed transaction has its limits and no witness item
+-- the fixed transaction keeps the limits and has no witness item
 pub shell_again : (t : Transaction) → KeepsLimits t → has_witness t.inputs ≡ false → bytes_of (bytes_data (stripped_spelling t)) ≡ Some (stripped_spelling t)
     → shell_of (shell_data (Fixed t)) ≡ Some (Fixed t)
 unfolding shell_of shell_data
@@ -175,13 +175,13 @@ shells_come_back (Fixed t) (spelt, each) = shell_again t spelt.limits spelt.unsi
 
 -- ---- lists
 
--- each value comes back, as f
+-- each value is read back as its image under f
 pub each_again : {A B : Type 0} (writes : A → Data) (reads : Data → Option B) (f : A → B) (xs : List A) → AllByRecursion (λ x. reads (writes x) ≡ Some (f x)) xs
     → each_of reads (items_of (map writes xs)) ≡ Some (map f xs)
 each_again writes reads f [] h = refl
 each_again writes reads f (x ∷ xs) h = rw (h.0, each_again writes reads f xs h.1) refl
 
--- each value comes back
+-- each value is read back as the same
 pub same_again : {A : Type 0} (writes : A → Data) (reads : Data → Option A) (xs : List A) → AllByRecursion (λ x. reads (writes x) ≡ Some x) xs
     → each_of reads (items_of (map writes xs)) ≡ Some xs
 same_again writes reads [] h = refl

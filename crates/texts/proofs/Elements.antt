@@ -1,4 +1,4 @@
--- Reading the items of an array one after another: what was read, put onto what is left, is the whole.
+-- Reading the items of an array in order: what was read, followed by what is left, is the whole.
 use Rattle.std.proofs.Common.{◌≡◌, ℕ, List, ◌++◌, drop, Option, Some, None}
 use Rattle.serde_json.specs.Data.{Data}
 use Rattle.serde_json.specs.View.{items_view}

@@ -1,4 +1,4 @@
--- The forms with unlike values in all their parts, and values that are near a form.
+-- The shapes with distinct values in all their parts, and values that just miss a shape.
 use Rattle.std.proofs.Common.{◌≡◌, ℕ, List, [], ◌∷◌, Option, Some, None, codes, refl}
 use Rattle.std.specs.Prelude.{replicate}
 use Rattle.hex.proofs.OnLiterals.{hex_on_literals}
@@ -16,7 +16,7 @@ n k = number (unsigned k)
 abbrev pair : ℕ → ℕ → Data
 pair a b = array (item (n a) (item (n b) no_items))
 
--- the members of terms after `capacity`, of which each pair has two values
+-- the members of terms after `capacity`; each pair has two distinct values
 abbrev others : Members
 others =
     member (codes "delay") (pair 2 3) (member (codes "dust") (pair 4 5) (member (codes "feerate") (n 6) (member (codes "minimum") (pair 7 8)
@@ -37,7 +37,7 @@ terms : (terms_of (object (member (codes "capacity") (n 1) others)) ≡ Some (re
 unfolding terms_of
 terms = (refl, refl, refl, refl, refl, refl)
 
--- an array with a name at its front
+-- an array whose first item is a name
 abbrev tagged : List ℕ → List Data → Data
 tagged name ds = array (item (string name) (items ds))
   where

@@ -1,4 +1,4 @@
--- Names that differ, each of them in an object of as many members, are the names of all its members.
+-- If an object has a member for each of some distinct names, and no more members than names, these are the names of all its members.
 use Rattle.std.proofs.Common.{◌≡◌, ℕ, suc, ◌+◌, ◌<◌, ◌≤◌, ◌==◌, ◌||◌, Bool, true, false, true≢false, List, [], ◌∷◌, ◌++◌, length, Option, Some, None, is_some, Ordering, Less, Equal, Greater, is_eq, nat_cmp, bytes_eq, if◌then◌else◌, length-append, ⊎_elim, refl, sym, ap, ◌∙◌, arith}
 use Rattle.std.specs.Ordering.{match_ordering}
 use Rattle.std.specs.Set.{is_member}

@@ -1,4 +1,4 @@
--- What a writer writes, its reader reads as the same.
+-- A reader reads back what its writer wrote.
 use Rattle.std.proofs.Common.{◌≡◌, ℕ, ◌<◌, ◌≤◌, ◌^◌, Bool, true, false, List, length, Option, Some, None, Result, refl, sym, ap, ◌∙◌, codes}
 use Rattle.std.specs.Result.{result_ok}
 use Rattle.std.proofs.lemmas.Bool.{lt-ltb, le-ltb}
@@ -31,7 +31,7 @@ hash_back bytes (len, each) = ap result_ok (decode_sized-encode_lower bytes 32 l
 pub bytes_back : (bytes : List ℕ) → IsBytes bytes → bytes_of (bytes_data bytes) ≡ Some bytes
 bytes_back bytes each = ap result_ok (decode_of-encode_lower bytes each)
 
--- ---- a form comes back where its parts do
+-- ---- a value is read back if its parts are
 
 pub sized_back : (bytes : List ℕ) → IsBytes bytes → bytes_of_len (length bytes) (bytes_data bytes) ≡ Some bytes
 sized_back bytes each = ap result_ok (decode_sized-encode_lower bytes (length bytes) refl each)
@@ -61,7 +61,7 @@ pub fee_again : (rate : ℕ) → u32_of (number_data rate) ≡ Some rate → upd
 unfolding fee_of update_named update_of update_data
 fee_again rate small = rw (small) refl
 
--- ---- and so it does for all values of its type
+-- ---- all values of each type are read back
 
 pub terms_come_back : TermsComeBack
 terms_come_back t h = terms_again t (below_back _ _ h.delay_a, below_back _ _ h.delay_b) (below_back _ _ h.feerate) (side_back t.opener)

@@ -1,4 +1,4 @@
--- An item of a witness is what its bytes are: that there are at most 520 has one proof.
+-- Witness items with equal bytes are equal: the bound of 520 bytes has one proof.
 use Rattle.std.proofs.Common.{◌≡◌, ℕ, ◌<◌, ◌≤◌, Bool, true, false, true≢false, List, length, Option, Some, None, refl, sym, ap, ◌∙◌, arith}
 use Rattle.std.specs.Prelude.{nat_le}
 use Rattle.std.proofs.lemmas.Bool.{leb-true, le-leb}

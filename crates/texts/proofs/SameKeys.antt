@@ -1,4 +1,4 @@
--- A key is what its bytes are: that they have the form of one has one proof.
+-- Keys with equal bytes are equal: that the bytes have the form of a key has one proof.
 use Rattle.std.proofs.Common.{◌≡◌, ℕ, Bool, true, false, true≢false, List, Option, Some, None, refl, sym, ap, ◌∙◌}
 use Rattle.std.specs.Prelude.{IsTrue, IfSome, IfNone}
 use mathlib.Core.HLevel.{is_prop→PathP}

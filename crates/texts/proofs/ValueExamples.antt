@@ -1,4 +1,4 @@
--- The parts of forms at both sides of their limits.
+-- The parts of shapes on both sides of their limits.
 use Rattle.std.proofs.Common.{◌≡◌, ℕ, List, [], ◌∷◌, Option, Some, None, codes, refl}
 use Rattle.std.specs.Prelude.{negsuc, true}
 use Rattle.hex.proofs.OnLiterals.{hex_on_literals}
@@ -18,7 +18,7 @@ widths : (u16_of (n 65535) ≡ Some 65535) × (u16_of (n 65536) ≡ None)
     × (u64_of (n 18446744073709551615) ≡ Some 18446744073709551615)
 widths = (refl, refl, refl, refl, refl)
 
--- a negative number and values of other kinds are no numbers
+-- a negative number and values of other kinds are not read as numbers
 no_numbers : (u64_of (number (negative (negsuc 0))) ≡ None) × (u64_of null ≡ None) × (u64_of (boolean true) ≡ None)
     × (u64_of (text (codes "1")) ≡ None) × (u64_of (array (item (n 1) no_items)) ≡ None) × (u64_of (object no_members) ≡ None)
 no_numbers = (refl, refl, refl, refl, refl, refl)
@@ -59,7 +59,7 @@ indices : (index_in (codes "0") ≡ Some 0) × (index_in (codes "10") ≡ Some 1
 unfolding digits_from
 indices = (refl, refl, refl, refl, refl, refl, refl, refl, refl, refl)
 
--- the id's bytes stand as they are
+-- the id's bytes are not reversed
 outpoints : (outpoint_of (text (codes "00000000000000000000000000000000000000000000000000000000000000aB:12")) ≡ Some (record {
   txid = 0 ∷ 0 ∷ 0 ∷ 0 ∷ 0 ∷ 0 ∷ 0 ∷ 0 ∷ 0 ∷ 0 ∷ 0 ∷ 0 ∷ 0 ∷ 0 ∷ 0 ∷ 0 ∷ 0 ∷ 0 ∷ 0 ∷ 0 ∷ 0 ∷ 0 ∷ 0 ∷ 0 ∷ 0 ∷ 0 ∷ 0 ∷ 0 ∷ 0 ∷ 0 ∷ 0 ∷ 171 ∷ [];
   index = 12;

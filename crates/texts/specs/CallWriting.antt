@@ -36,11 +36,11 @@ key_data k = bytes_data k.bytes
 abbrev pub base_keys_data : BaseKeys → Data
 base_keys_data b = array (item (key_data b.funding) (item (key_data b.payment) (item (key_data b.delayed) (item (key_data b.htlc) (item (key_data b.revocation) no_items)))))
 
--- the values in order
+-- an array of the values, in order
 abbrev pub each_data : {A : Type 0} → (A → Data) → List A → Data
 each_data form xs = array (items_of (map form xs))
 
--- the front of a call: its name and its channel
+-- the first two items of a call: its name and its channel
 abbrev pub call_front : List ℕ → ℕ → List Data
 call_front name channel = string name ∷ number_data channel ∷ []
 
@@ -67,7 +67,7 @@ own_data channel (Fulfil id preimage) =
 own_data channel (Fail id) = array (item (string (codes "step")) (item (number_data channel) (item (string (codes "fail")) (item (number_data id) no_items))))
 own_data channel (SetFee rate) = array (item (string (codes "step")) (item (number_data channel) (item (string (codes "fee")) (item (number_data rate) no_items))))
 
--- of a message as it is written
+-- the step that receives a message, given the message as it is written
 unfoldable pub receive_data : ℕ → Data → Data
 receive_data channel message = array (item (string (codes "step")) (item (number_data channel) (item (string (codes "receive")) (item message no_items))))
 
@@ -84,15 +84,15 @@ unfoldable pub release_data : ℕ → List ClaimParts → List Output → List (
 release_data channel claims outputs preimages =
     array (item (string (codes "release")) (item (number_data channel) (item (each_data claim_data claims) (item (each_data output_data outputs) (item (each_data bytes_data preimages) no_items)))))
 
--- of a call as it is written
+-- an entry, given its call as it is written
 unfoldable pub entry_data : Data → ℕ → Data
 entry_data call seat = object (member (codes "call") call (member (codes "seat") (number_data seat) no_members))
 
--- of entries as they are written
+-- a dump, given its entries as they are written
 unfoldable pub dump_data : List Data → Data
 dump_data entries = object (member (codes "history") (array (items_of entries)) (member (codes "version") (number_data 2) no_members))
 
--- ---- what was written is read as the same
+-- ---- what was written is read back as the same
 
 abbrev pub IsKey : Key → Type 0
 IsKey k = IsBytes k.bytes
@@ -104,7 +104,7 @@ pub record AreBases (b : BaseKeys) : Type 0 where
   pub htlc : IsKey b.htlc
   pub revocation : IsKey b.revocation
 
--- the bytes of a token
+-- the bytes are those of a token
 abbrev pub IsTokenText : List ℕ → Type 0
 IsTokenText bytes = IsTrue (is_token bytes) × IsBytes bytes
 
@@ -134,11 +134,11 @@ IsRevocation r = Is32Bytes r.secret × IsKey r.next_point
 abbrev pub AreOutputTexts : List Output → Type 0
 AreOutputTexts outputs = AllByRecursion (λ o. IsOutput o × IsBytes o.script) outputs
 
--- the tokens of a signature
+-- all of a signature's tokens have a token's form
 abbrev pub AreTokens : PlainSignature → Type 0
 AreTokens s = IsTrue (is_token s.commitment) × AllByRecursion (λ t. IsTrue (is_token t)) s.htlcs
 
--- what a reader asks of an opening beside its form
+-- what a reader asks of an opening beside its shape
 abbrev pub CanOpen : PlainOpening → Type 0
 CanOpen o = (can_agree o.terms ≡ true) × IsTrue (is_token o.token)
 
@@ -148,7 +148,7 @@ OpeningsComeBack = (o : PlainOpening) → IsOpening o → call_of (open_data o) 
 abbrev pub OwnStepsComeBack : Type 0
 OwnStepsComeBack = (channel : ℕ) (u : OwnUpdate) → IsOwnUpdate u → call_of (own_data channel u) ≡ Some (Step channel (Own u))
 
--- an update that comes back does so as a message, too
+-- an update that is read back alone is also read back as a received message
 abbrev pub UpdatesAreReceived : Type 0
 UpdatesAreReceived = (u : Update) → update_of (update_data u) ≡ Some u → received_of (update_data u) ≡ Some (Updated u)
 

@@ -1,4 +1,4 @@
--- The calls of a book in a text, and the dump of its history. A call is an array with its name at the front.
+-- The calls of a book in JSON, and the dump of its history. A call is an array whose first item is its name.
 use Rattle.std.specs.Prelude.{ℕ, ◌==◌, Bool, true, false, not, ◌&&◌, ◌||◌, nat_le, nat_lt, if◌then◌else◌, List, length, Option, Some, None, codes}
 use Rattle.std.specs.Str.{bytes_eq}
 use Rattle.std.specs.List.{list_any}
@@ -26,7 +26,7 @@ use Rattle.texts.specs.Terms.{terms_of}
 use Rattle.texts.specs.Claims.{claim_of}
 use Rattle.texts.specs.Steps.{revocation_of, step_of}
 
--- of the peer: its five base keys, its points for the commitments 0 and 1, and its token on this side's commitment 0
+-- with the peer's five base keys, its points for the commitments 0 and 1, and its token on this side's commitment 0
 unfoldable pub opening_of : Data → Option PlainOpening
 opening_of d = do
   form ← array_of 8 d
@@ -69,7 +69,7 @@ keep_of d = do
   claims ← item_of 3 (list_of claim_of) form
   Some (Keep channel number claims)
 
--- as many claims and outputs as one transaction takes, and at least one claim
+-- at least one claim, and no more claims and outputs than one transaction may have
 abbrev pub are_within : ℕ → ℕ → Bool
 are_within claims outputs = nat_lt 0 claims && nat_le claims max_inputs && nat_le outputs max_outputs
 
@@ -130,7 +130,7 @@ has_fee (Release channel claims outputs preimages) = false
 abbrev pub any_fee : List PlainEntry → Bool
 any_fee history = list_any (λ e. has_fee e.call) history
 
--- a version that has these calls: the first one has no change of the feerate
+-- whether a version has these calls: version 1 has no change of the feerate
 abbrev pub is_version : ℕ → List PlainEntry → Bool
 is_version version history = version == 2 || (version == 1 && not (any_fee history))
 

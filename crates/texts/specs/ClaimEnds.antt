@@ -1,4 +1,4 @@
--- The members of a claim in a text that are read last.
+-- The members of a claim in JSON that are read last.
 use Rattle.std.specs.Prelude.{ℕ, Result, Option, Some, codes}
 use Rattle.serde_json.specs.Data.{Data}
 use Rattle.claim.specs.declared.parts.Place.{Place}
@@ -16,6 +16,6 @@ claim_from path place form = do
   shell ← member_of (codes "shell") shell_of form
   Some (record { script = script; path = path; slots = slots; place = place; shell = shell })
 
--- what was read ends the claim, whatever was read before
+-- the result completes the claim, with any path and place
 abbrev pub Ends : Result ClaimEnd ShapeError → Data → Type 0
 Ends result form = (path : ℕ) (place : Place) → Gives (λ (end : ClaimEnd). record { script = end.script; path = path; slots = end.slots; place = place; shell = end.shell }) result (claim_from path place form)

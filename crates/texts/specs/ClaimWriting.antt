@@ -39,18 +39,18 @@ claim_data c =
     (member (codes "script") (bytes_data (spelling c.ways.ops)) (member (codes "shell") (shell_data c.shell) (member (codes "slots") (array (items_of (map slot_data c.slots)))
     (member (codes "value") (number_data c.place.value) no_members)))))))
 
--- ---- what was written is read as the same
+-- ---- what was written is read back as the same
 
 abbrev pub IsOutPoint : OutPoint → Type 0
 IsOutPoint o = Is32Bytes o.txid × (o.index < 2 ^ 32)
 
--- the bytes of a slot
+-- the parts of a slot are bytes, of a hash 32 of them
 abbrev pub IsSlot : Slot → Type 0
 IsSlot (Sig key) = IsBytes key.bytes
 IsSlot (Preimage hash) = Is32Bytes hash
 IsSlot (Exact bytes) = IsBytes bytes.item
 
--- a fixed transaction that has bytes of its own
+-- a fixed transaction has no witness item, and its spelling is bytes
 abbrev pub IsShell : Shell → Type 0
 IsShell Open = ⊤
 IsShell (Fixed t) = IsStripped t (stripped_spelling t) × IsBytes (stripped_spelling t)

@@ -1,4 +1,4 @@
--- Claims in a text.
+-- Claims in JSON.
 use Rattle.std.specs.Prelude.{◌≡◌, ℕ, nat_le, Bool, true, false, refl, length, if◌then◌else◌, List, Option, Some, None, codes}
 use Rattle.std.specs.Str.{bytes_eq}
 use Rattle.std.specs.Result.{result_ok}
@@ -17,7 +17,7 @@ use Rattle.texts.specs.Values.{◌>>=◌, first_some, array_of, object_of, item_
 use Rattle.texts.specs.Keys.{key_of}
 use Rattle.texts.specs.Outpoints.{outpoint_of}
 
--- an item that a witness may hold
+-- a witness item, of at most 520 bytes
 abbrev pub item_if : (bytes : List ℕ) (short : Bool) → nat_le (length bytes) max_element_size ≡ short → Option WitnessItem
 item_if bytes true h = Some (record { item = bytes; short = leb-true (length bytes) max_element_size h })
 item_if bytes false h = None
@@ -46,7 +46,7 @@ exact_of d = do
   bytes ← item_of 1 witness_item_of form
   Some (Exact bytes)
 
--- the fillings of slots by their names
+-- reads a slot by the name of its filling
 unfoldable pub slot_named : List ℕ → Data → Option Slot
 slot_named name d =
     if bytes_eq name (codes "sig") then sig_of d

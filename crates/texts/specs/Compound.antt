@@ -5,10 +5,10 @@ use Rattle.serde_json.specs.View.{view, members_view}
 use Rattle.texts.specs.declared.compound.ArrayWriter.{ArrayWriter}
 use Rattle.texts.specs.declared.compound.ObjectWriter.{ObjectWriter}
 
--- the items so far
+-- the items written so far
 abbrev pub items_in : ArrayWriter → List Data
 items_in w = map view w.items.items
 
--- the members so far
+-- the members written so far
 abbrev pub members_in : ObjectWriter → Members
 members_in w = members_view w.members.entries

@@ -1,4 +1,4 @@
--- Keys and tokens in a text.
+-- Keys and tokens in JSON.
 use Rattle.std.specs.Prelude.{◌≡◌, ℕ, Bool, true, false, refl, if◌then◌else◌, List, Option, Some, None}
 use Rattle.serde_json.specs.Data.{Data}
 use Rattle.script.specs.Token.{is_key, is_token}
@@ -10,7 +10,7 @@ abbrev pub key_if : (bytes : List ℕ) (form : Bool) → is_key bytes ≡ form �
 key_if bytes true h = Some (record { bytes = bytes; form = h })
 key_if bytes false h = None
 
--- the key of these bytes, where they have the form of one
+-- the key of these bytes, if they have the form of one
 abbrev pub key_in : List ℕ → Option Key
 key_in bytes = key_if bytes (is_key bytes) refl
 

@@ -1,4 +1,4 @@
--- Updates in a text, as messages have them (BOLT 2): arrays with the message's name at the front.
+-- Updates in JSON, with the fields of BOLT 2's messages: arrays whose first item is the message's name.
 use Rattle.std.specs.Prelude.{ℕ, if◌then◌else◌, List, Option, Some, None, codes}
 use Rattle.std.specs.Str.{bytes_eq}
 use Rattle.serde_json.specs.Data.{Data}
@@ -34,7 +34,7 @@ fee_of d = do
   rate ← item_of 1 u32_of form
   Some (Fee rate)
 
--- the updates by their names
+-- reads an update by its name
 unfoldable pub update_named : List ℕ → Data → Option Update
 update_named name d =
     if bytes_eq name (codes "add") then add_of d

@@ -1,4 +1,4 @@
--- An object that has as many members as a list has names, and has each of these names, has no other member.
+-- An object with as many members as a list has names, and with a member for each of them, has no other member.
 use Rattle.std.specs.Prelude.{◌≡◌, ℕ, Bool, true, List, length, is_some}
 use Rattle.std.specs.Str.{bytes_eq}
 use Rattle.std.specs.Set.{is_member}

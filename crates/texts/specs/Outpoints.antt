@@ -1,4 +1,4 @@
--- Outpoints in a text.
+-- Outpoints in JSON.
 use Rattle.std.specs.Prelude.{ℕ, ◌+◌, ◌-◌, ◌*◌, ◌^◌, ◌==◌, ◌&&◌, ◌||◌, not, nat_lt, Bool, if◌then◌else◌, List, [], ◌∷◌, length, take, drop, slice_index, Option, Some, None}
 use Rattle.std.specs.Char.{is_ascii_digit}
 use Rattle.std.specs.Result.{result_ok}
@@ -8,12 +8,12 @@ use Rattle.serde_json.specs.Find.{as_str}
 use Rattle.tx.specs.declared.input.OutPoint.{OutPoint}
 use Rattle.texts.specs.Values.{◌>>=◌, below}
 
--- the number that decimal digits spell after a number, if it is below 2^32
+-- reads decimal digits that continue a number n; the result is below 2^32
 unfoldable pub digits_from : ℕ → List ℕ → Option ℕ
 digits_from n [] = Some n
 digits_from n (c ∷ cs) = if is_ascii_digit c then (below (2 ^ 32) (n * 10 + (c - 48)) >>= (λ m. digits_from m cs)) else None
 
--- the index of an output: at least one digit, and no 0 before another
+-- the index of an output: at least one digit, and no leading zero
 abbrev pub index_in : List ℕ → Option ℕ
 index_in [] = None
 index_in (c ∷ []) = digits_from 0 (c ∷ [])

@@ -1,4 +1,4 @@
--- Outputs of transactions in a text.
+-- Outputs of transactions in JSON.
 use Rattle.std.specs.Prelude.{ℕ, length, ◌||◌, nat_lt, if◌then◌else◌, Option, Some, None}
 use Rattle.serde_json.specs.Data.{Data}
 use Rattle.tx.specs.Limits.{max_value, max_bytes}

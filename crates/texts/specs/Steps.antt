@@ -1,4 +1,4 @@
--- Messages and steps of a channel in a text. A message is an array with its name at the front (BOLT 2); a step is the part of a call behind the channel's number.
+-- Messages and steps of a channel in JSON. A message is an array whose first item is its name (BOLT 2). A step follows the call's name and its channel.
 use Rattle.std.specs.Prelude.{ℕ, if◌then◌else◌, List, Option, Some, None, codes}
 use Rattle.std.specs.Str.{bytes_eq}
 use Rattle.serde_json.specs.Data.{Data}
@@ -25,7 +25,7 @@ signature_in d = do
   htlcs ← item_of 2 (list_of token_bytes_of) form
   Some (record { commitment = commitment; htlcs = htlcs })
 
--- the secret of the revoked commitment, and the point for the number after the next
+-- the secret of the revoked commitment, and the point for the number two above its
 unfoldable pub revocation_in : Data → Option PlainRevocation
 revocation_in d = do
   form ← array_of 3 d
@@ -36,7 +36,7 @@ revocation_in d = do
 unfoldable pub revocation_of : Data → Option PlainRevocation
 revocation_of d = tag_of d >>= (λ name. if bytes_eq name (codes "revoke") then revocation_in d else None)
 
--- a message that a step receives: one that is no revocation
+-- a message that a step receives: any but a revocation
 unfoldable pub received_named : List ℕ → Data → Option PlainReceived
 received_named name d =
     if bytes_eq name (codes "signed") then (signature_in d >>= (λ s. Some (Signed s)))
@@ -45,7 +45,7 @@ received_named name d =
 unfoldable pub received_of : Data → Option PlainReceived
 received_of d = tag_of d >>= (λ name. received_named name d)
 
--- ---- steps: behind the call's name and the channel stand the step's name and what belongs to it
+-- ---- steps: the step's name and its fields follow the call's name and the channel
 
 unfoldable pub own_offer_of : Data → Option OwnUpdate
 own_offer_of d = do
@@ -74,7 +74,7 @@ own_fee_of d = do
   rate ← item_of 3 u32_of form
   Some (SetFee rate)
 
--- one's own updates by their names
+-- reads one's own update by its name
 unfoldable pub own_named : List ℕ → Data → Option OwnUpdate
 own_named name d =
     if bytes_eq name (codes "offer") then own_offer_of d

@@ -1,4 +1,4 @@
--- The terms of a channel in a text.
+-- The terms of a channel in JSON.
 use Rattle.std.specs.Prelude.{ℕ, Option, Some, codes}
 use Rattle.serde_json.specs.Data.{Data}
 use Rattle.terms.specs.declared.proposals.ProposedParty.{ProposedParty}
@@ -8,7 +8,7 @@ use Rattle.texts.specs.Values.{◌>>=◌, object_of, member_of, pair_of, u64_of,
 abbrev pub party_of : ℕ → ℕ → ℕ → ℕ → ProposedParty
 party_of dust delay minimum start = record { dust = dust; delay = delay; minimum = minimum; start = start }
 
--- an object of these seven members, of which the pairs have the value of side A first
+-- an object of these seven members; each pair has the value of side A first
 unfoldable pub terms_of : Data → Option ProposedTerms
 terms_of d = do
   form ← object_of 7 d

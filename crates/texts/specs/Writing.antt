@@ -1,4 +1,4 @@
--- The values of the forms, as they are written: hexadecimal in lower case.
+-- The values as they are written: hexadecimal in lower case.
 use Rattle.std.specs.Prelude.{◌≡◌, ℕ, ◌<◌, ◌^◌, List, Some, length, codes, ⊤}
 use Rattle.hex.specs.Hex.{encode_lower, IsBytes}
 use Rattle.serde_json.specs.Data.{Data, Members, no_members, member, Items, no_items, item, number, unsigned, string, array, object}
@@ -23,7 +23,7 @@ abbrev pub side_data : Side → Data
 side_data A = string (codes "A")
 side_data B = string (codes "B")
 
--- two values of one form, that of side A first
+-- two values of one shape, that of side A first
 abbrev pub pair_data : {A : Type 0} → (A → Data) → A × A → Data
 pair_data form pair = array (item (form pair.0) (item (form pair.1) no_items))
 
@@ -45,9 +45,9 @@ update_data (Fulfil id preimage) = array (item (string (codes "fulfil")) (item (
 update_data (Fail id) = array (item (string (codes "fail")) (item (number_data id) no_items))
 update_data (Fee rate) = array (item (string (codes "fee")) (item (number_data rate) no_items))
 
--- ---- what was written is read as the same
+-- ---- what was written is read back as the same
 
--- the widths of the numbers of terms
+-- the numbers of proposed terms fit their types
 pub record HasWidths (t : ProposedTerms) : Type 0 where
   pub feerate : t.feerate < 2 ^ 32
   pub delay_a : t.a.delay < 2 ^ 16
@@ -57,7 +57,7 @@ pub record HasWidths (t : ProposedTerms) : Type 0 where
 abbrev pub Is32Bytes : List ℕ → Type 0
 Is32Bytes bytes = (length bytes ≡ 32) × IsBytes bytes
 
--- the widths of the parts of an update
+-- the parts of an update fit their types
 abbrev pub IsUpdate : Update → Type 0
 IsUpdate (Add htlc) = Is32Bytes htlc.hash × (htlc.expiry < 2 ^ 32)
 IsUpdate (Fulfil id preimage) = Is32Bytes preimage

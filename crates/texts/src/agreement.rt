@@ -1,4 +1,4 @@
-//! The proposed terms of a channel.
+//! The proposed terms of a channel, read from JSON.
 
 use crate::allocating::ReadValue;
 use crate::errors::ShapeError;

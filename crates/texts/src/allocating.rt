@@ -1,4 +1,5 @@
-//! Forms that take memory: bytes of any number, and arrays of one form.
+//! Readers that allocate: byte strings of
+//! any length, and arrays of one shape.
 
 ghost use Rattle.std.specs.Prelude.{◌≡◌, Option};
 ghost use Rattle.serde_json.specs.Data.{Data};
@@ -11,17 +12,18 @@ use lists::{ByteString, List};
 use serde_json::Value;
 use std::alloc::Global;
 
-/// A type whose values some JSON values stand for, and that may take memory.
+/// A type that is read from a JSON value, by a reader that may allocate.
 pub trait ReadValue: Sized {
-    // what a value stands for, if it has the form
+    // the value read, or `None` if the JSON value does not have the shape
     ghost reads: { Data → Option Self };
 
-    /// What the value stands for; `BadShape` where it has not the form.
+    /// Reads the value; `BadShape` if the
+    /// JSON value does not have the shape.
     fn read_value(alloc: Global, value: &Value) -> Result<Self, ShapeError>
         ensures { Gives (λ x. x) result (reads (view value.now)) };
 }
 
-// The values that stand in a list.
+// Reads each value of a list.
 fn each_of<T: ReadValue + Drop>(alloc: Global, values: &[Value]) -> Result<Vec<T>, ShapeError>
     ensures { Gives (λ xs. xs.items) result (each_of T.reads (items_view values.now)) }
 {
@@ -32,7 +34,7 @@ fn each_of<T: ReadValue + Drop>(alloc: Global, values: &[Value]) -> Result<Vec<T
     Ok(list)
 }
 
-/// The values of an array.
+/// Reads an array whose items all have one shape.
 pub fn list_of<T: ReadValue + Drop>(alloc: Global, value: &Value) -> Result<Vec<T>, ShapeError>
     ensures { Gives (λ xs. xs.items) result (list_of T.reads (view value.now)) }
 {
@@ -42,7 +44,7 @@ pub fn list_of<T: ReadValue + Drop>(alloc: Global, value: &Value) -> Result<Vec<
     each_of(alloc, array)
 }
 
-/// The bytes of a text in hexadecimal, in both letter cases.
+/// Decodes a string of hexadecimal digits, in both letter cases.
 pub fn bytes_of(alloc: Global, value: &Value) -> Result<Vec<u8>, ShapeError>
     ensures { Gives (λ bytes. bytes.items) result (bytes_of (view value.now)) }
 {
@@ -56,7 +58,7 @@ pub fn bytes_of(alloc: Global, value: &Value) -> Result<Vec<u8>, ShapeError>
     }
 }
 
-/// What an array has at an index.
+/// Reads the item of an array at an index.
 pub fn read_item<T: ReadValue + Drop>(
     alloc: Global,
     array: &Value,
@@ -70,7 +72,7 @@ pub fn read_item<T: ReadValue + Drop>(
     }
 }
 
-/// What an object has under a name.
+/// Reads the member of an object with this name.
 pub fn read_member<T: ReadValue + Drop>(
     alloc: Global,
     object: &Value,
@@ -84,7 +86,7 @@ pub fn read_member<T: ReadValue + Drop>(
     }
 }
 
-/// Bytes in hexadecimal, in both letter cases.
+/// A string of hexadecimal digits, in both letter cases.
 impl ReadValue for ByteString {
     ghost use Rattle.texts.specs.Values.{bytes_of};
 
@@ -95,7 +97,7 @@ impl ReadValue for ByteString {
     }
 }
 
-/// An array of values of one form.
+/// An array whose items all have one shape.
 impl<T: ReadValue + Drop> ReadValue for List<T> {
     ghost use Rattle.texts.specs.Values.{list_of};
 

@@ -29,7 +29,7 @@ use terms::BaseKeys;
 use tx::TxOut;
 use updates::OwnUpdate;
 
-/// The bytes in hexadecimal.
+/// A string of hexadecimal digits.
 impl WriteValue for Key {
     ghost use Rattle.std.specs.Prelude.{◌≡◌, Some};
     ghost use Rattle.texts.specs.Keys.{key_of};
@@ -45,7 +45,7 @@ impl WriteValue for Key {
     }
 }
 
-/// The bytes in hexadecimal.
+/// A string of hexadecimal digits.
 impl WriteValue for Token {
     ghost use Rattle.std.specs.Prelude.{◌≡◌, Some, IsTrue};
     ghost use Rattle.script.specs.Token.{is_token};
@@ -62,7 +62,7 @@ impl WriteValue for Token {
     }
 }
 
-/// The message that signs: an array of `signed`, the token on the commitment and the array of those on its HTLC transactions.
+/// A `commitment_signed`: an array of `signed`, the token on the commitment and the array of those on its HTLC transactions.
 #[tactic(auto, unfolding(crate::specs::CallWriting::signature_data))]
 pub fn write_signature(
     alloc: Global,
@@ -164,14 +164,14 @@ impl WriteValue for PlainOpening {
     }
 }
 
-// The front of a call: its name and its channel.
+// The first two items of a call: its name and its channel.
 fn call(alloc: Global, name: &str, channel: u64) -> Result<ArrayWriter, AllocError>
     ensures { IfOk result (λ w. items_in w ≡ call_front name.now channel) }
 {
     ArrayWriter::named(alloc, name)?.item(&channel)
 }
 
-// The front of a step: `step`, its channel and its own name.
+// The first three items of a step: `step`, its channel and its own name.
 fn step(alloc: Global, channel: u64, name: &str) -> Result<ArrayWriter, AllocError>
     ensures { IfOk result (λ w. items_in w ≡ call_front (codes "step") channel ++ string name.now
         ∷ []) }
@@ -180,7 +180,7 @@ fn step(alloc: Global, channel: u64, name: &str) -> Result<ArrayWriter, AllocErr
     call(alloc, "step", channel)?.value(name)
 }
 
-/// The step that makes an update.
+/// Writes the step that makes an update.
 #[tactic(auto, unfolding(crate::specs::CallWriting::own_data), using(crate::proofs::CallReturning::offer_again, crate::proofs::CallReturning::own_fulfil_again, crate::proofs::CallReturning::own_fail_again, crate::proofs::CallReturning::own_fee_again))]
 pub fn write_own(alloc: Global, channel: u64, update: &OwnUpdate) -> Result<Value, AllocError>
     ensures form { IfOk result (λ v. view v ≡ own_data channel update.now) }
@@ -208,7 +208,7 @@ pub fn write_own(alloc: Global, channel: u64, update: &OwnUpdate) -> Result<Valu
     }
 }
 
-/// The step that receives a message, of the message as it is written.
+/// Writes the step that receives a message, given the message as it is written.
 #[tactic(auto, unfolding(crate::specs::CallWriting::receive_data), using(crate::proofs::CallReturning::receive_again))]
 pub fn write_receive(alloc: Global, channel: u64, message: Value) -> Result<Value, AllocError>
     ensures form { IfOk result (λ v. view v ≡ receive_data channel (view message)) }
@@ -219,7 +219,7 @@ pub fn write_receive(alloc: Global, channel: u64, message: Value) -> Result<Valu
     Ok(call.finish())
 }
 
-/// The call that signs.
+/// Writes the call that signs.
 #[tactic(auto, unfolding(crate::specs::CallWriting::sign_data), using(crate::proofs::CallReturning::sign_again))]
 pub fn write_sign(alloc: Global, channel: u64) -> Result<Value, AllocError>
     ensures form { IfOk result (λ v. view v ≡ sign_data channel) }
@@ -228,7 +228,7 @@ pub fn write_sign(alloc: Global, channel: u64) -> Result<Value, AllocError>
     Ok(call(alloc, "sign", channel)?.finish())
 }
 
-/// The call that receives a revocation.
+/// Writes the call that receives a revocation.
 #[tactic(auto, unfolding(crate::specs::CallWriting::revoke_data), using(crate::proofs::CallReturning::revoke_again))]
 pub fn write_revoke(
     alloc: Global,
@@ -243,7 +243,7 @@ pub fn write_revoke(
     Ok(call.finish())
 }
 
-/// The call that keeps the penalties of a revoked commitment.
+/// Writes the call that keeps the penalties of a revoked commitment.
 #[tactic(auto, unfolding(crate::specs::CallWriting::keep_data), using(crate::proofs::CallReturning::keep_again))]
 pub fn write_keep(
     alloc: Global,
@@ -259,7 +259,7 @@ pub fn write_keep(
     Ok(call.finish())
 }
 
-/// The call that releases claims.
+/// Writes the call that releases claims.
 #[tactic(auto, unfolding(crate::specs::CallWriting::release_data), using(crate::proofs::CallReturning::release_again))]
 pub fn write_release(
     alloc: Global,
@@ -281,7 +281,7 @@ pub fn write_release(
     Ok(call.finish())
 }
 
-/// An entry of a history, of its call as it is written.
+/// Writes an entry of a history, given its call as it is written.
 #[tactic(auto, unfolding(crate::specs::CallWriting::entry_data), using(crate::proofs::CallReturning::entry_again))]
 pub fn write_entry(alloc: Global, call: Value, seat: u32) -> Result<Value, AllocError>
     ensures form { IfOk result (λ v. view v ≡ entry_data (view call) seat) }
@@ -294,7 +294,7 @@ pub fn write_entry(alloc: Global, call: Value, seat: u32) -> Result<Value, Alloc
     Ok(entry.finish())
 }
 
-/// A dump of version 2, of the entries as they are written, the oldest first.
+/// Writes a dump of version 2, given its entries as they are written, the oldest first.
 #[tactic(auto, unfolding(crate::specs::CallWriting::dump_data), using(crate::proofs::CallReturning::dumps_come_back))]
 pub fn write_dump(alloc: Global, entries: Vec<Value>) -> Result<Value, AllocError>
     ensures form { IfOk result (λ v. view v ≡ dump_data (map view entries.items)) }

@@ -1,4 +1,4 @@
-//! The calls of a book and the dump of its history, as a text has them.
+//! The calls of a book and the dump of its history, as read from JSON.
 
 ghost use Rattle.std.specs.Prelude.{◌≡◌, length};
 ghost use Rattle.serde_json.specs.View.{view};
@@ -19,7 +19,7 @@ use terms::{BaseKeys, ProposedTerms, Side};
 use tx::{MAX_INPUTS, MAX_OUTPUTS, OutPoint, TxOut};
 use updates::{OwnUpdate, Update};
 
-/// How a side opens a channel, as a text has it: the terms without what its own seed gives, and what its peer sent before the channel is there.
+/// How a side opens a channel, as read from JSON: the proposed terms, this side's seed, and what its peer sent before the channel was opened.
 #[derive(Clone, Copy, Debug)]
 pub struct PlainOpening {
     pub terms: ProposedTerms,
@@ -32,13 +32,13 @@ pub struct PlainOpening {
     pub bases: BaseKeys,
     /// The peer's per-commitment point for number 0.
     pub first_point: Key,
-    /// And for number 1.
+    /// The peer's per-commitment point for number 1.
     pub next_point: Key,
     /// The peer's token on this side's commitment 0.
     pub token: Token,
 }
 
-/// A call of a book as a text has it. Channels are named by their index in the order in which they were opened.
+/// A call of a book as read from JSON. Channels are named by their index in the order in which they were opened.
 #[derive(Debug, Drop)]
 pub enum PlainCall {
     Open(PlainOpening),
@@ -59,7 +59,7 @@ pub enum PlainCall {
         number: u64,
         claims: List<PlainClaim>,
     },
-    /// At least one claim, and no more claims and outputs than a transaction has.
+    /// At least one claim, and no more claims and outputs than a transaction may have.
     Release {
         channel: u64,
         claims: List<PlainClaim>,
@@ -68,7 +68,7 @@ pub enum PlainCall {
     },
 }
 
-/// An entry of a history as a text has it.
+/// An entry of a history as read from JSON.
 #[derive(Debug, Drop)]
 pub struct PlainEntry {
     pub call: PlainCall,
@@ -76,7 +76,7 @@ pub struct PlainEntry {
     pub seat: u32,
 }
 
-/// The dump of a book as a text has it, of version 1 or 2, with the oldest entry first.
+/// The dump of a book as read from JSON, of version 1 or 2, with the oldest entry first.
 #[derive(Debug, Drop)]
 pub struct PlainDump {
     pub history: List<PlainEntry>,
@@ -92,8 +92,8 @@ impl<const N: usize> ReadValue for [u8; N] {
     }
 }
 
-/// An array of `open`, the terms, the funding outpoint, the side, the seed, the peer's five base keys, its two points, and its token. The terms are ones that two
-/// sides can agree on.
+/// An array of `open`, the terms, the funding outpoint, the side, the seed, the peer's five base keys, its two points, and its token. Terms on which the two
+/// sides cannot agree are refused.
 impl FromValue for PlainOpening {
     ghost use Rattle.texts.specs.Calls.{opening_of};
 
@@ -176,7 +176,7 @@ fn keep_of(alloc: Global, value: &Value) -> Result<PlainCall, ShapeError>
     })
 }
 
-// Whether one transaction takes as many claims and outputs, and there is a claim.
+// Whether there is a claim, and one transaction can take this number of claims and outputs.
 fn are_within(claims: usize, outputs: usize) -> bool
     ensures { result ≡ are_within claims outputs }
 {
@@ -203,7 +203,7 @@ fn release_of(alloc: Global, value: &Value) -> Result<PlainCall, ShapeError>
     })
 }
 
-/// An array with the call's name at its front.
+/// An array whose first item is the call's name.
 impl ReadValue for PlainCall {
     ghost use Rattle.texts.specs.Calls.{call_of};
 

@@ -7,7 +7,7 @@ use serde_json::Value;
 use std::alloc::{AllocError, Global};
 use tx::{OutPoint, encode_stripped};
 
-/// The text `txid:index`.
+/// The string `txid:index`.
 impl WriteValue for OutPoint {
     ghost use Rattle.std.specs.Prelude.{◌≡◌, Some};
     ghost use Rattle.texts.specs.Outpoints.{outpoint_of};
@@ -25,7 +25,7 @@ impl WriteValue for OutPoint {
     }
 }
 
-/// The bytes in hexadecimal.
+/// A string of hexadecimal digits.
 impl WriteValue for WitnessItem {
     ghost use Rattle.std.specs.Prelude.{◌≡◌, Some};
     ghost use Rattle.texts.specs.Writing.{bytes_data};

@@ -1,4 +1,4 @@
-//! Claims, as a text has them.
+//! Claims, as read from JSON.
 
 ghost use Rattle.std.specs.Prelude.{◌≡◌};
 ghost use Rattle.serde_json.specs.View.{view};
@@ -15,7 +15,8 @@ use serde_json::Value;
 use std::alloc::Global;
 use tx::{DecodeError, decode_stripped};
 
-/// A claim as a text has it: the parts that `accept` takes, with the bytes of the script in place of its paths. Nothing of it is tested yet.
+/// A claim as read from JSON: the parts that `accept` takes, with the
+/// bytes of the script in place of its paths. Nothing of it is tested yet.
 #[derive(Debug, Drop)]
 pub struct PlainClaim {
     /// The witness script of the claimed output.
@@ -24,7 +25,7 @@ pub struct PlainClaim {
     pub path: usize,
     /// How the path's slots are filled, the top of the stack first.
     pub slots: List<Slot>,
-    /// Where the claimed output stands.
+    /// Where the claimed output stands: its outpoint, value and program.
     pub place: Place,
     /// The transaction round the claim.
     pub shell: Shell,
@@ -54,7 +55,7 @@ fn exact_of(alloc: Global, value: &Value) -> Result<Slot, ShapeError>
     Ok(Slot::Exact(read_item(alloc, form, 1)?))
 }
 
-/// Bytes in hexadecimal, at most 520.
+/// A string of hexadecimal digits, for at most 520 bytes.
 impl ReadValue for WitnessItem {
     ghost use Rattle.texts.specs.Claims.{witness_item_of};
 
@@ -91,7 +92,7 @@ impl ReadValue for Slot {
     }
 }
 
-/// `null` for an open shell, or the bytes of the fixed transaction in the form over which its id is taken.
+/// `null` for an open shell, or the bytes of the fixed transaction in the form over which its id is taken (BIP 141).
 impl ReadValue for Shell {
     ghost use Rattle.texts.specs.Claims.{shell_of};
 

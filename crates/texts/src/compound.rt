@@ -12,7 +12,7 @@ use crate::writing::{WriteValue, write_bytes, write_each};
 use serde_json::{Map, Value};
 use std::alloc::{AllocError, Global};
 
-/// What is written so far of an array. The only error of a step is that memory ran out.
+/// An array that is being written. The only error of a step is that memory ran out.
 #[derive(Drop)]
 pub(crate) struct ArrayWriter {
     alloc: Global,
@@ -30,7 +30,7 @@ impl ArrayWriter {
         }
     }
 
-    /// An array with this name at its front.
+    /// An array whose first item is this name.
     pub(crate) fn named(alloc: Global, name: &str) -> Result<Self, AllocError>
         ensures { IfOk result (λ w. items_in w ≡ string name.now ∷ []) }
     {
@@ -38,7 +38,7 @@ impl ArrayWriter {
         ArrayWriter::new(alloc).value(name)
     }
 
-    /// With this value at its end.
+    /// Appends a value.
     pub(crate) fn value(mut self, value: Value) -> Result<Self, AllocError>
         ensures { IfOk result (λ w. items_in w ≡ items_in self ++ view value ∷ []) }
     {
@@ -46,7 +46,7 @@ impl ArrayWriter {
         Ok(self)
     }
 
-    /// With the form of this at its end.
+    /// Appends what is written of an item.
     pub(crate) fn item<T: WriteValue>(self, item: &T) -> Result<Self, AllocError>
         ensures form { IfOk result (λ w. items_in w ≡ items_in self ++ T.writes item.now ∷ []) }
         ensures back { IfOk result (λ _. T.comes_back item.now) }
@@ -55,7 +55,7 @@ impl ArrayWriter {
         self.value(value)
     }
 
-    /// With an array of these at its end.
+    /// Appends an array of these items.
     pub(crate) fn each<T: WriteValue>(self, items: &[T]) -> Result<Self, AllocError>
         ensures form { IfOk result (λ w. items_in w ≡ items_in self ++ array
             (items_of (map T.writes items.now)) ∷ []) }
@@ -65,7 +65,7 @@ impl ArrayWriter {
         self.value(value)
     }
 
-    /// The array.
+    /// The finished array.
     pub(crate) fn finish(self) -> Value
         ensures { view result ≡ array (items_of (items_in self)) }
     {
@@ -73,7 +73,7 @@ impl ArrayWriter {
     }
 }
 
-/// What is written so far of an object. The only error of a step is that memory ran out.
+/// An object that is being written. The only error of a step is that memory ran out.
 #[derive(Drop)]
 pub(crate) struct ObjectWriter {
     alloc: Global,
@@ -91,7 +91,7 @@ impl ObjectWriter {
         }
     }
 
-    /// With this value under a name.
+    /// Adds a value under a name.
     pub(crate) fn value(mut self, name: &str, value: Value) -> Result<Self, AllocError>
         ensures { IfOk result (λ w. members_in w ≡ put name.now (view value) (members_in self)) }
     {
@@ -99,7 +99,7 @@ impl ObjectWriter {
         Ok(self)
     }
 
-    /// With the form of this under a name.
+    /// Adds what is written of a value under a name.
     pub(crate) fn member<T: WriteValue>(self, name: &str, member: &T) -> Result<Self, AllocError>
         ensures form { IfOk result (λ w. members_in w ≡ put name.now (T.writes member.now)
             (members_in self)) }
@@ -109,7 +109,7 @@ impl ObjectWriter {
         self.value(name, value)
     }
 
-    /// With these bytes under a name.
+    /// Adds bytes in hexadecimal under a name.
     pub(crate) fn bytes(self, name: &str, bytes: &[u8]) -> Result<Self, AllocError>
         ensures form { IfOk result (λ w. members_in w ≡ put name.now (bytes_data bytes.now)
             (members_in self)) }
@@ -119,7 +119,7 @@ impl ObjectWriter {
         self.value(name, value)
     }
 
-    /// With an array of these under a name.
+    /// Adds an array of these items under a name.
     pub(crate) fn each<T: WriteValue>(self, name: &str, items: &[T]) -> Result<Self, AllocError>
         ensures form { IfOk result (λ w. members_in w ≡ put name.now
             (array (items_of (map T.writes items.now))) (members_in self)) }
@@ -129,7 +129,7 @@ impl ObjectWriter {
         self.value(name, value)
     }
 
-    /// The object.
+    /// The finished object.
     pub(crate) fn finish(self) -> Value
         ensures { view result ≡ object (members_in self) }
     {

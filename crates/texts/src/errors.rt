@@ -13,7 +13,7 @@ pub enum ShapeError {
     /// Memory ran out.
     #[error("NoMemory")]
     NoMemory,
-    /// The value has not the form.
+    /// The JSON value does not have the shape.
     #[error("BadShape")]
     BadShape,
 }

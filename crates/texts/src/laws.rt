@@ -5,13 +5,13 @@ ghost use Rattle.texts.specs.Writing.{TermsComeBack, OutputsComeBack, UpdatesCom
 ghost use Rattle.texts.specs.CallWriting.{OpeningsComeBack, OwnStepsComeBack, UpdatesAreReceived, ReceivedStepsComeBack, SignsComeBack, RevokesComeBack, KeepsComeBack, ReleasesComeBack, EntriesComeBack, DumpsComeBack};
 ghost use Rattle.texts.specs.ClaimWriting.{OutpointsComeBack, SlotsComeBack, ShellsComeBack, ClaimsComeBack};
 
-/// Where an object has as many members as there are names, no two of them equal, and has each of these names, it has no member beside them:
-/// so a reader that asks for all its members leaves none unread.
+/// An object with as many members as there are names, all distinct, and with a member for each name, has no other member. So a reader that
+/// asks for all its members leaves none unread.
 pub fn names_are_all()
     ensures { NamesAreAll }
 {}
 
-/// What a writer writes, its reader reads as the same value.
+/// A reader reads back the value that its writer wrote.
 pub fn what_is_written_comes_back()
     ensures terms { TermsComeBack }
     ensures outputs { OutputsComeBack }
@@ -22,7 +22,7 @@ pub fn what_is_written_comes_back()
     ensures claims { ClaimsComeBack }
 {}
 
-/// What is written of a book's calls, of an entry and of a dump is read as the same, of claims with their scripts in place of their paths.
+/// The calls of a book, an entry and a dump are read back as they were written. Their claims come back with scripts in place of paths.
 pub fn what_is_dumped_comes_back()
     ensures openings { OpeningsComeBack }
     ensures own_steps { OwnStepsComeBack }

@@ -2,12 +2,12 @@
 //! (RFC 8259).
 //!
 //! A value is read exactly where it has the shape, barring out-of-memory. A missing member, a member that the shape
-//! lacks, or one of another kind refuses the whole value. Readers check shape only; callers test what was read, as
-//! `claim` does a claim and `book` a call. What takes no memory is read by [`FromValue`], the rest by [`ReadValue`];
-//! [`WriteValue`] writes the value that is read as the same.
+//! lacks, or one of another kind refuses the whole value. Readers check shape only; callers validate, as `claim`
+//! does a claim and `book` a call. [`FromValue`] reads what needs no allocation, [`ReadValue`] the rest.
+//! [`WriteValue`] writes the value that is read back as the same.
 //!
-//! `serde_json` has the values, and `terms`, `updates` and `claim` the types that are read and written. `scenario`
-//! reads scenarios with these shapes, and `book` writes and loads its dump.
+//! `serde_json` has the JSON values, and `terms`, `updates` and `claim` the types that are read and written.
+//! `scenario` reads scenarios with these shapes, and `book` writes and loads its dump.
 //!
 //! ```rust
 //! let value = Value::from_str(alloc, "[\"fail\",1]")?;

@@ -1,4 +1,4 @@
-//! Updates, as messages have them.
+//! Updates of a channel, as BOLT 2's messages have them.
 
 ghost use Rattle.std.specs.Prelude.{◌≡◌};
 ghost use Rattle.serde_json.specs.View.{view};
@@ -51,7 +51,7 @@ fn fee_of(value: &Value) -> Option<Update>
     })
 }
 
-/// An array with `add`, `fulfil`, `fail` or `fee` at its front, and the fields of the message.
+/// An array of `add`, `fulfil`, `fail` or `fee`, and then the fields of the message.
 impl FromValue for Update {
     ghost use Rattle.texts.specs.Messages.{update_of};
 

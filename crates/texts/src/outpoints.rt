@@ -24,7 +24,7 @@ fn digits_from(digits: &[u8]) -> Option<u32>
     Some(number)
 }
 
-// The index of an output in decimal digits, of which no 0 stands before another.
+// The index of an output in decimal digits, without leading zeros.
 fn index_in(digits: &[u8]) -> Option<u32>
     ensures { result ≡ index_in digits.now }
 {
@@ -48,8 +48,8 @@ fn outpoint_in(text: &[u8]) -> Option<OutPoint>
     Some(OutPoint { txid, index })
 }
 
-/// The text `txid:index`: the id's 32 bytes in hexadecimal, in both letter cases and in the hash's own byte order, and the index in decimal
-/// digits.
+/// The string `txid:index`: the id's 32 bytes in hexadecimal, in both letter cases and in the hash's own byte order (not reversed), and the
+/// index in decimal digits.
 impl FromValue for OutPoint {
     ghost use Rattle.texts.specs.Outpoints.{outpoint_of};
 

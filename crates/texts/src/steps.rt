@@ -1,4 +1,4 @@
-//! Messages and steps of a channel, as a text has them.
+//! Messages and steps of a channel, as read from JSON.
 
 ghost use Rattle.std.specs.Prelude.{◌≡◌};
 ghost use Rattle.serde_json.specs.View.{view};
@@ -15,7 +15,7 @@ use sighash::Token;
 use std::alloc::Global;
 use updates::{OwnUpdate, Update};
 
-/// A `commitment_signed` as a text has it (BOLT 2).
+/// A `commitment_signed` as read from JSON (BOLT 2).
 #[derive(Debug, Drop)]
 pub struct PlainSignature {
     /// The token on the commitment.
@@ -24,23 +24,23 @@ pub struct PlainSignature {
     pub htlcs: List<Token>,
 }
 
-/// A `revoke_and_ack` as a text has it (BOLT 2).
+/// A `revoke_and_ack` as read from JSON (BOLT 2).
 #[derive(Clone, Copy, Debug)]
 pub struct PlainRevocation {
     /// The per-commitment secret of the revoked commitment.
     pub secret: [u8; 32],
-    /// The point for the second number after it.
+    /// The per-commitment point for the number two above the revoked one's.
     pub next_point: Key,
 }
 
-/// A message that a step receives: one that is no revocation.
+/// A message that a step receives: any but a revocation, which has a call of its own.
 #[derive(Debug, Drop)]
 pub enum PlainReceived {
     Updated(Update),
     Signed(PlainSignature),
 }
 
-/// A step of a channel as a text has it.
+/// A step of a channel as read from JSON.
 #[derive(Debug, Drop)]
 pub enum PlainStep {
     /// An update of this side.
@@ -156,7 +156,7 @@ fn own_fee_of(value: &Value) -> Option<OwnUpdate>
     })
 }
 
-/// An update of a side, by its name: what belongs to it stands from the fourth item on.
+/// Reads an update of one's own by its name. Its fields stand from the fourth item of the array on.
 #[tactic(auto, unfolding(crate::specs::Steps::own_named))]
 pub fn own_named(name: &str, value: &Value) -> Option<OwnUpdate>
     ensures { result ≡ own_named name.now (view value.now) }
@@ -182,7 +182,7 @@ fn receive_of(alloc: Global, value: &Value) -> Result<PlainStep, ShapeError>
     Ok(PlainStep::Receive(read_item(alloc, form, 3)?))
 }
 
-/// An array with the step's name behind `step` and the channel: `offer`, `fulfil`, `fail` or `fee` and what belongs to it, or `receive` and a message.
+/// An array of `step`, the channel and the step's name: `offer`, `fulfil`, `fail` or `fee` and its fields, or `receive` and a message.
 impl ReadValue for PlainStep {
     ghost use Rattle.texts.specs.Steps.{step_of};
 

@@ -1,4 +1,4 @@
-//! The parts of forms that take no memory: numbers, sides, bytes of a stated number, and arrays and objects by their parts.
+//! Readers that do not allocate: numbers, sides, byte strings of a given length, and the parts of arrays and objects.
 
 ghost use Rattle.std.specs.Prelude.{◌≡◌, Option, option_map};
 ghost use Rattle.serde_json.specs.Data.{Data};
@@ -10,17 +10,17 @@ use hex::FromHex;
 use serde_json::Value;
 use terms::Side;
 
-/// A type whose values some JSON values stand for. It takes no memory to read one.
+/// A type that is read from a JSON value, without allocating.
 pub trait FromValue: Sized {
-    // what a value stands for, if it has the form
+    // the value read, or `None` if the JSON value does not have the shape
     ghost reads: { Data → Option Self };
 
-    /// What the value stands for; `None` where it has not the form.
+    /// Reads the value; `None` if the JSON value does not have the shape.
     fn from_value(value: &Value) -> Option<Self>
         ensures { result ≡ reads (view value.now) };
 }
 
-/// A number with no sign, fraction or exponent, of at most 64 bits.
+/// A number without sign, fraction or exponent, of at most 64 bits.
 impl FromValue for u64 {
     ghost use Rattle.texts.specs.Values.{u64_of};
 
@@ -31,7 +31,7 @@ impl FromValue for u64 {
     }
 }
 
-/// A number with no sign, fraction or exponent, of at most 32 bits.
+/// A number without sign, fraction or exponent, of at most 32 bits.
 impl FromValue for u32 {
     ghost use Rattle.texts.specs.Values.{u32_of};
 
@@ -42,7 +42,7 @@ impl FromValue for u32 {
     }
 }
 
-/// A number with no sign, fraction or exponent, of at most 16 bits.
+/// A number without sign, fraction or exponent, of at most 16 bits.
 impl FromValue for u16 {
     ghost use Rattle.texts.specs.Values.{u16_of};
 
@@ -53,7 +53,7 @@ impl FromValue for u16 {
     }
 }
 
-/// `N` bytes in hexadecimal, in both letter cases.
+/// A string of hexadecimal digits for `N` bytes, in both letter cases.
 impl<const N: usize> FromValue for [u8; N] {
     ghost use Rattle.texts.specs.Values.{bytes_of_len};
 
@@ -64,7 +64,7 @@ impl<const N: usize> FromValue for [u8; N] {
     }
 }
 
-/// The text `A` or `B`.
+/// The string `A` or `B`.
 impl FromValue for Side {
     ghost use Rattle.texts.specs.Values.{side_of};
 
@@ -79,7 +79,7 @@ impl FromValue for Side {
     }
 }
 
-/// An array of two, that of side A first.
+/// An array of two items, the one of side A first.
 impl<T: FromValue + Drop> FromValue for (T, T) {
     ghost use Rattle.texts.specs.Values.{pair_of};
 
@@ -91,7 +91,7 @@ impl<T: FromValue + Drop> FromValue for (T, T) {
     }
 }
 
-/// The value, where it is an array of `count` items.
+/// The value, if it is an array of `count` items.
 #[tactic(auto, using(crate::proofs::Counts::items_counted))]
 pub fn array_of(value: &Value, count: usize) -> Option<&Value>
     ensures { option_map (λ v. view v.now) result ≡ array_of count (view value.now) }
@@ -102,7 +102,7 @@ pub fn array_of(value: &Value, count: usize) -> Option<&Value>
     Some(value)
 }
 
-/// The value, where it is an object of `count` members.
+/// The value, if it is an object of `count` members.
 #[tactic(auto, using(crate::proofs::Counts::members_counted))]
 pub fn object_of(value: &Value, count: usize) -> Option<&Value>
     ensures { option_map (λ v. view v.now) result ≡ object_of count (view value.now) }
@@ -113,28 +113,28 @@ pub fn object_of(value: &Value, count: usize) -> Option<&Value>
     Some(value)
 }
 
-/// What an array has at an index.
+/// Reads the item of an array at an index.
 pub fn item<T: FromValue>(array: &Value, index: usize) -> Option<T>
     ensures { result ≡ item_of index T.reads (view array.now) }
 {
     T::from_value(array.get(index)?)
 }
 
-/// What an object has under a name.
+/// Reads the member of an object with this name.
 pub fn member<T: FromValue>(object: &Value, name: &str) -> Option<T>
     ensures { result ≡ member_of name.now T.reads (view object.now) }
 {
     T::from_value(object.get(name)?)
 }
 
-/// The text that an array has at an index.
+/// The string that an array has at an index.
 pub fn name_at(array: &Value, index: usize) -> Option<&str>
     ensures { option_map (λ t. t.now) result ≡ item_of index as_str (view array.now) }
 {
     array.get(index)?.as_str()
 }
 
-/// The text at the front of an array, which says what the rest of it is.
+/// The string at the front of an array, which says what the rest of it is.
 pub fn tag_of(value: &Value) -> Option<&str>
     ensures { option_map (λ t. t.now) result ≡ tag_of (view value.now) }
 {

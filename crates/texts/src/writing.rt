@@ -1,4 +1,5 @@
-//! Writers: each writes the value that its reader reads as the same.
+//! Writers: each writes the value that
+//! its reader reads back as the same.
 
 ghost use Rattle.std.specs.Prelude.{◌≡◌, Some, map, length, IfOk, string_bytes};
 ghost use Rattle.std.specs.List.{AllByRecursion};
@@ -18,15 +19,15 @@ use terms::{Htlc, ProposedTerms, Side};
 use tx::TxOut;
 use updates::Update;
 
-/// A type whose values have a form.
+/// A type that is written as a JSON value.
 pub trait WriteValue {
-    // the value of the form
+    // the value that is written
     ghost writes: { Self → Data };
 
-    // that the value of the form is read as the same
+    // that the value is read back as the same
     ghost comes_back: { Self → Type 0 };
 
-    /// The value of the form. The only error is that memory ran out.
+    /// Writes the value. The only error is that memory ran out.
     fn write_value(&self, alloc: Global) -> Result<Value, AllocError>
         ensures form { IfOk result (λ v. view v ≡ writes self.now) }
         ensures back { IfOk result (λ _. comes_back self.now) };
@@ -108,7 +109,7 @@ impl WriteValue for u16 {
     }
 }
 
-/// The bytes in hexadecimal.
+/// A string of hexadecimal digits.
 impl WriteValue for [u8; 32] {
     ghost use Rattle.std.specs.Prelude.{◌≡◌, Some};
     ghost use Rattle.texts.specs.Values.{bytes_of_len};
@@ -123,7 +124,7 @@ impl WriteValue for [u8; 32] {
     }
 }
 
-/// The bytes in hexadecimal.
+/// A string of hexadecimal digits.
 impl WriteValue for ByteString {
     ghost use Rattle.std.specs.Prelude.{◌≡◌, Some};
     ghost use Rattle.texts.specs.Values.{bytes_of};
@@ -138,7 +139,7 @@ impl WriteValue for ByteString {
     }
 }
 
-/// The text `A` or `B`.
+/// The string `A` or `B`.
 impl WriteValue for Side {
     ghost use Rattle.std.specs.Prelude.{◌≡◌, Some};
     ghost use Rattle.texts.specs.Values.{side_of};
@@ -156,7 +157,7 @@ impl WriteValue for Side {
     }
 }
 
-/// An array of two, that of side A first.
+/// An array of two items, the one of side A first.
 impl<T: WriteValue> WriteValue for (T, T) {
     ghost use Rattle.texts.specs.Writing.{pair_data};
 
@@ -214,7 +215,7 @@ impl WriteValue for TxOut {
     }
 }
 
-// The message of an offered HTLC.
+// Writes the message of an offered HTLC.
 #[tactic(auto, unfolding(crate::specs::Writing::add_data), using(crate::proofs::Returning::add_again))]
 fn write_add(alloc: Global, htlc: &Htlc) -> Result<Value, AllocError>
     ensures form { IfOk result (λ v. view v ≡ add_data htlc.now) }
@@ -228,7 +229,7 @@ fn write_add(alloc: Global, htlc: &Htlc) -> Result<Value, AllocError>
     Ok(message.finish())
 }
 
-/// An array with the message's name at its front.
+/// An array whose first item is the message's name.
 impl WriteValue for Update {
     ghost use Rattle.std.specs.Prelude.{◌≡◌, Some};
     ghost use Rattle.texts.specs.Messages.{update_of};

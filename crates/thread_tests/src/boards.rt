@@ -1,4 +1,4 @@
-//! What no clause of `board` says: that calls succeed, and what threads find in one another's marks and tickets.
+//! What the clauses of `board` do not say: that calls succeed, and what threads see of one another's marks and tickets.
 
 ghost use Rattle.board.specs.Seats.{IsSeatOf, IsNewSeatOf};
 ghost use Rattle.std.specs.Prelude.{All};
@@ -12,7 +12,7 @@ const fn mark(round: u32, height: u32) -> Mark {
     Mark { round, height }
 }
 
-// So many tickets of one seat, in the order in which they were drawn.
+// Draws `count` tickets for one seat, in order.
 fn draw_many(alloc: Global, board: &Board, seat: &mut Seat, count: u32) -> Option<Vec<u64>>
     requires { IsSeatOf board.now seat.old }
     ensures { IsSeatOf board.now seat.new }
@@ -25,7 +25,7 @@ fn draw_many(alloc: Global, board: &Board, seat: &mut Seat, count: u32) -> Optio
     Some(tickets)
 }
 
-// Marks each ticket, and says whether each was new and the tickets rise.
+// Marks each ticket, and returns whether each was new and they increase.
 fn are_new(seen: &mut Vec<bool>, tickets: &[u64]) -> bool {
     let mut next = 0;
     for ticket in tickets {
@@ -41,7 +41,7 @@ fn are_new(seen: &mut Vec<bool>, tickets: &[u64]) -> bool {
     true
 }
 
-// The seat at the end of a list of seats that are all one board's.
+// The last of a list of seats at one board.
 fn next_seat(rt: &impl Abort, board: &Board, seats: &mut Vec<Seat>) -> Seat
     requires { All (IsNewSeatOf board.now) seats.old.items }
     ensures all { All (IsNewSeatOf board.now) seats.new.items }
@@ -50,7 +50,7 @@ fn next_seat(rt: &impl Abort, board: &Board, seats: &mut Vec<Seat>) -> Seat
     seats.pop().expect(rt, "a seat")
 }
 
-// Asserts what a look from this seat gives.
+// Asserts the mark that this seat looks up.
 fn looks(rt: &impl Abort, board: &Board, seat: &mut Seat, round: u32, height: u32)
     requires { IsSeatOf board.now seat.old }
     ensures { IsSeatOf board.now seat.new }
@@ -58,7 +58,7 @@ fn looks(rt: &impl Abort, board: &Board, seat: &mut Seat, round: u32, height: u3
     assert_eq!(rt; board.look(seat), mark(round, height));
 }
 
-// Asserts that a look from this seat gives at least so much.
+// Asserts that this seat looks up at least this mark.
 fn reaches(rt: &impl Abort, board: &Board, seat: &mut Seat, round: u32, height: u32)
     requires { IsSeatOf board.now seat.old }
     ensures { IsSeatOf board.now seat.new }
@@ -66,7 +66,7 @@ fn reaches(rt: &impl Abort, board: &Board, seat: &mut Seat, round: u32, height: 
     assert!(rt; board.look(seat) >= mark(round, height));
 }
 
-// Asserts which ticket this seat draws.
+// Asserts the ticket that this seat draws.
 fn draws(rt: &impl Abort, board: &Board, seat: &mut Seat, ticket: u64)
     requires { IsSeatOf board.now seat.old }
     ensures { IsSeatOf board.now seat.new }
@@ -74,7 +74,7 @@ fn draws(rt: &impl Abort, board: &Board, seat: &mut Seat, ticket: u64)
     assert_eq!(rt; board.draw(seat).expect(rt, "a ticket"), ticket);
 }
 
-// The example of the page of `board`.
+// The example in the documentation of `board`.
 #[test]
 fn an_older_round_is_no_match(rt: HostRuntime) {
     let (board, mut seats) = Board::new(rt.alloc(), 2).expect(&rt, "memory");
@@ -92,7 +92,7 @@ fn an_older_round_is_no_match(rt: HostRuntime) {
     draws(&rt, &board, &mut watcher, 1);
 }
 
-// A lower height of the same round leaves the top; both halves of the word are used in full.
+// A lower height in the same round does not change the top; both halves of the word are used in full.
 #[test]
 fn the_greatest_stays(rt: HostRuntime) {
     let (board, mut seats) = Board::new(rt.alloc(), 1).expect(&rt, "memory");
@@ -124,7 +124,7 @@ fn the_refusal_is_named_and_numbered(rt: HostRuntime) {
     assert_eq!(rt; text.as_str(), "SeatSpent");
 }
 
-// Asserts that the tickets of two seats are 0 to 1999, each once, and that each seat's rise.
+// Asserts that the tickets of two seats are 0 to 1999, each once, and that each seat's tickets increase.
 fn each_once(rt: &impl Abort, alloc: Global, ours: &[u64], theirs: &[u64]) {
     let mut seen = vec![in alloc; false; 2000].expect(rt, "memory");
     assert!(rt; are_new(&mut seen, ours));
@@ -132,8 +132,8 @@ fn each_once(rt: &impl Abort, alloc: Global, ours: &[u64], theirs: &[u64]) {
     assert!(rt; seen.iter().all(|mark| *mark));
 }
 
-// Two seats that draw 1,000 tickets each from their own threads get 0 to 1999, each once, and each seat's tickets rise.
-// A seat that draws once both have ended gets 2000.
+// Two seats that draw 1,000 tickets each in their own threads get 0 to 1999, each once, and each seat's tickets increase. A seat that draws after both
+// have ended gets 2000.
 #[test]
 fn each_ticket_once(rt: HostRuntime) {
     let alloc = rt.alloc();
@@ -152,7 +152,7 @@ fn each_ticket_once(rt: HostRuntime) {
     draws(&rt, &board, &mut last, 2000);
 }
 
-// After a mark was raised in a thread that was joined, another seat looks up nothing below it. A join runs one of its closures in a thread of its own.
+// After a mark was raised in a thread that was joined, another seat looks up no lower mark. A join runs one of its closures in a thread of its own.
 #[test]
 fn raised_in_a_joined_thread(rt: HostRuntime) {
     let (board, mut seats) = Board::new(rt.alloc(), 3).expect(&rt, "memory");

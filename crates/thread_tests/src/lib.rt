@@ -1,6 +1,7 @@
 //! Tests of what threads share: `board` and `jobs`.
 //!
-//! They stand apart so that each library is proved without them.
+//! They are in a crate of their own, so that each library is
+//! proved without them.
 #![tactic(auto)]
 
 #[cfg(test)]

@@ -1,4 +1,4 @@
-//! What no clause of `jobs` says: that calls succeed and return, in one thread and in many.
+//! What the clauses of `jobs` do not say: that calls succeed and return, in one thread and in many.
 
 ghost use Rattle.jobs.specs.Ends.{PutsWith, TakesWith, IsOneQueue};
 
@@ -9,7 +9,7 @@ use std::sync::Wait;
 use std::thread;
 use std::thread::{JoinHandle, Threads};
 
-// Puts so many jobs from `first` on, each one more, and says how many were put before one came back.
+// Puts `count` jobs, numbered from `first`, and returns how many were put before one came back.
 fn put_many<R: Wait>(
     rt: &R,
     sender: &JobSender<u32>,
@@ -28,7 +28,7 @@ fn put_many<R: Wait>(
     count
 }
 
-// Takes so many jobs, or all that there are until the queue is closed and empty.
+// Takes `count` jobs, or all that come until the queue is closed and empty.
 fn take_many<R: Wait>(
     rt: &R,
     alloc: Global,
@@ -49,7 +49,7 @@ fn take_many<R: Wait>(
     Ok(taken)
 }
 
-// The example of the page of `jobs`.
+// The example in the documentation of `jobs`.
 #[test]
 fn first_in_first_out(rt: HostRuntime) {
     let (sender, taker, mut mine) = job_queue(rt.alloc()).expect(&rt, "memory");
@@ -62,7 +62,7 @@ fn first_in_first_out(rt: HostRuntime) {
     assert_eq!(rt; taker.take(&rt, &mut theirs), None);
 }
 
-// Puts 64 jobs, each of which is to be taken in, and then takes 64, which are to be those, in order.
+// Puts 64 jobs, each of which must be taken in, and then takes 64, which must be the same in order.
 fn fill_and_empty<R: Wait>(
     rt: &R,
     alloc: Global,
@@ -88,7 +88,8 @@ fn fill_and_empty<R: Wait>(
     )
 }
 
-// With both ends open, 64 puts of one thread are each Ok, and then 64 takes give the 64 jobs in order; and once more, past the end of the ring.
+// With both ends open, 64 puts of one thread succeed, and then 64 takes
+// return the 64 jobs in order. This is done twice, so that the ring wraps.
 #[test]
 fn sixty_four_jobs(rt: HostRuntime) {
     let alloc = rt.alloc();
@@ -104,7 +105,7 @@ fn sixty_four_jobs(rt: HostRuntime) {
     );
 }
 
-// Where no taker is left, a job comes back.
+// If all takers are dropped, a job comes back.
 fn no_taker<R: Wait + Abort>(rt: &R, alloc: Global) {
     let (sender, taker, mut mine) = job_queue(alloc).expect(rt, "memory");
     let second = taker.copy().expect(rt, "memory");
@@ -114,7 +115,7 @@ fn no_taker<R: Wait + Abort>(rt: &R, alloc: Global) {
     assert_eq!(rt; sender.put(rt, &mut mine, 2), Err(2));
 }
 
-// Where no sender is left and the queue is empty, there is no job.
+// If all senders are dropped and the queue is empty, there is no job.
 fn no_sender<R: Wait + Abort>(rt: &R, alloc: Global) {
     let (sender, taker, mut mine) = job_queue(alloc).expect(rt, "memory");
     let second = sender.copy().expect(rt, "memory");
@@ -174,7 +175,7 @@ fn start_taker<R: Threads + Wait + Abort + Copy + Send + 'static>(
     .expect(&rt, "a thread")
 }
 
-// Marks each job that was taken, and says whether each was new.
+// Marks each job that was taken, and returns whether each was new.
 fn mark(seen: &mut Vec<bool>, taken: &[u32]) -> bool {
     for job in taken {
         match seen.get_mut(*job as usize) {
@@ -190,7 +191,7 @@ fn has_put<R: Threads + Abort>(rt: &R, putter: JoinHandle<u32>) {
     assert_eq!(rt; putter.join(rt), 10_000);
 }
 
-// Asserts that each job which a taker has taken is new, and marks it.
+// Asserts that each job of a taker is new, and marks it.
 fn has_taken<R: Threads + Abort>(
     rt: &R,
     taker: JoinHandle<Result<Vec<u32>, AllocError>>,

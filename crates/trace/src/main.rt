@@ -1,8 +1,8 @@
-//! The program `trace` tells what stands in scripts and who can spend an output to one, what becomes of the inputs of a
-//! transaction, and what each event of a scenario changes, for programs and for people.
+//! The program `trace` explains scripts, and who can spend an output to one, what becomes of the inputs of a transaction,
+//! and what each event of a scenario changes, for programs and for people.
 //!
-//! `trace_words`, `trace_witness` and `trace_scenario` do what the words say, and answer a status of at most 2. Here
-//! stand the streams and the arguments alone.
+//! `trace_words`, `trace_witness` and `trace_scenario` do what the words say, and return a status of at most 2. This file
+//! has only the streams and the arguments.
 #![tactic(auto)]
 
 use std::alloc::Global;
@@ -11,12 +11,12 @@ use std::io::{self, Read, Write};
 use std::process::ExitCode;
 use trace_words::{refuse_memory, refuse_words};
 
-/// The words behind the program's name.
+/// The words after the program's name.
 fn words<R: Env + Alloc>(rt: &R) -> io::Result<Vec<String<R::A>, R::A>> {
     Ok(env::args(rt)?.skip(1).collect(rt.alloc())?)
 }
 
-/// Does what the words say: the first of them says which library has them.
+/// Does what the words say. The first word names the library that does it.
 fn run<R: Read, W: Write, E: Write>(
     alloc: Global,
     words: &[String],
@@ -33,7 +33,7 @@ fn run<R: Read, W: Write, E: Write>(
     }
 }
 
-/// Runs the words that the program was called with. Words that are no text are wrong words.
+/// Runs the words that the program was called with. Arguments that are not UTF-8 are wrong words.
 fn main(rt: HostRuntime) -> ExitCode {
     let status = match words(&rt) {
         Ok(words) => run(

@@ -9,7 +9,7 @@ use terms::Side;
 use trace_words::Line;
 use world::World;
 
-// How a claim spends its output.
+// The name of the way in which a claim spends its output.
 fn way(due: &DueClaim) -> &'static str {
     let claim = &due.claim;
     let path = claim.path();
@@ -28,7 +28,8 @@ fn way(due: &DueClaim) -> &'static str {
     "revocation"
 }
 
-// The height of the first block that can take a claim on an output that came in one of this height.
+// The height of the first block that can take a claim,
+// if the claimed output is in a block of this height.
 fn due_height(claim: &Claim, height: u64) -> u64 {
     let lock = claim.needs_height();
     let aged = height.saturating_add(u64::from(claim.needs_age()));
@@ -38,7 +39,7 @@ fn due_height(claim: &Claim, height: u64) -> u64 {
     aged.max(lock.saturating_add(1))
 }
 
-// A claim of a side.
+// Writes a claim of a side.
 fn tell_claim(line: &mut Line, coins: &Coins, side: Side, due: &DueClaim) {
     let place = due.claim.place();
     line.open("{");
@@ -58,7 +59,7 @@ fn tell_claim(line: &mut Line, coins: &Coins, side: Side, due: &DueClaim) {
     line.close("}");
 }
 
-/// A look gave so many claims.
+/// Writes the claims that a look gave.
 pub fn tell_claims(line: &mut Line, coins: &Coins, world: &World, side: Side, count: u64) {
     let jobs = world.jobs(side);
     let before = (jobs.len() as u64).saturating_sub(count);
@@ -69,7 +70,7 @@ pub fn tell_claims(line: &mut Line, coins: &Coins, world: &World, side: Side, co
     line.close("]");
 }
 
-/// How many claims of a side nobody took yet, and how many were taken and not released yet.
+/// Writes how many jobs a side has, and how many claims it took and did not release yet.
 pub fn tell_jobs(line: &mut Line, world: &World, side: Side) {
     line.begin("jobs", "{");
     tell_side(line, "side", side);

@@ -1,4 +1,4 @@
-//! Commitments that close a channel.
+//! Commitments that close a channel, when a block takes them.
 
 use crate::coins::{Coin, Coins, Kind};
 use crate::outputs::{outpoint_of, tell_kind, tell_output};
@@ -17,7 +17,7 @@ struct Closing {
     is_revoked: bool,
     /// The height of the block.
     height: u64,
-    /// The blocks that its holder waits.
+    /// The delay of the holder's to_local output, in blocks.
     delay: u64,
 }
 
@@ -45,7 +45,7 @@ fn coin_of(closing: &Closing, value: u64, kind: Kind, owner: Side, due: u64) -> 
     }
 }
 
-// What an output of a commitment is.
+// The coin of an output of a commitment.
 fn output_coin(closing: &Closing, output: &CommitmentOutput) -> Coin {
     let (value, height) = (output.value, closing.height);
     let holder = closing.holder;
@@ -59,14 +59,14 @@ fn output_coin(closing: &Closing, output: &CommitmentOutput) -> Coin {
     }
 }
 
-// What an HTLC's output has beside others, where it is the `k`-th.
+// Writes what only an HTLC's output has; it is the `k`-th of the HTLCs.
 fn tell_htlc_output(line: &mut Line, htlc: &Htlc, k: u64) {
     line.count("id", htlc.id);
     line.count("expiry", u64::from(htlc.expiry));
     line.count("index", k);
 }
 
-// The outputs of a commitment.
+// Writes the outputs of a commitment.
 fn tell_outputs(
     coins: &mut Coins,
     line: &mut Line,
@@ -88,7 +88,7 @@ fn tell_outputs(
     line.close("]");
 }
 
-// A commitment of a number.
+// Writes a commitment of a number.
 fn tell_closing(
     world: &World,
     coins: &mut Coins,
@@ -108,7 +108,7 @@ fn tell_closing(
     tell_outputs(coins, line, &closing, commitment.outputs(), confirmed);
 }
 
-// A transaction is told as a side's commitment, where it is one.
+// Writes a transaction as a side's commitment, if it is one.
 fn tell_if_of(
     alloc: Global,
     world: &World,
@@ -144,7 +144,8 @@ fn tell_if_of(
     }
 }
 
-/// A transaction that spends the funding output of a channel: whose commitment it is, and its outputs.
+/// Writes a transaction that spends the funding output of
+/// a channel: whose commitment it is, and its outputs.
 pub fn tell_commitment(
     alloc: Global,
     world: &World,

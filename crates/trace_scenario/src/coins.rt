@@ -1,4 +1,4 @@
-//! The outputs that came, and what is undone where a block is taken off.
+//! The outputs on the chain, and how to undo their changes when a block is disconnected.
 
 use crate::writer::tell_both;
 use std::alloc::Global;
@@ -7,30 +7,30 @@ use terms::Side;
 use trace_words::Line;
 use tx::{OutPoint, Tx};
 
-/// What an output is.
+/// The kind of an output.
 #[derive(Clone, Copy, PartialEq, Eq, Drop)]
 pub enum Kind {
-    /// That of a channel.
+    /// The funding output of a channel.
     Funding,
     ToLocal,
     ToRemote,
     Htlc,
-    /// That of an HTLC transaction.
+    /// The output of an HTLC transaction.
     SecondStage,
-    /// To a side's own payment key.
+    /// An output to a side's own payment key.
     Wallet,
 }
 
-/// An output that came.
+/// An output on the chain.
 #[derive(Clone, Copy, Drop)]
 pub struct Coin {
     pub channel: u64,
-    /// Satoshis.
+    /// In satoshis.
     pub value: u64,
     pub kind: Kind,
-    /// Whose it is; of an HTLC, who offered it.
+    /// The side that owns it; of an HTLC, the side that offered it.
     pub owner: Side,
-    /// Whose commitment it comes from.
+    /// The side whose commitment it comes from.
     pub holder: Side,
     /// Whether that commitment was revoked.
     pub is_revoked: bool,
@@ -40,27 +40,28 @@ pub struct Coin {
     pub due: u64,
 }
 
-// What a block changed.
+// A change that a block made.
 #[derive(Clone, Copy, Drop)]
 enum Change {
     Came(OutPoint),
     Went(OutPoint),
-    /// The changes before it are those of a transaction of this id, in a block of this height.
+    /// The changes before it are those of the transaction
+    /// with this id, in a block of this height.
     Mined { height: u64, txid: [u8; 32] },
 }
 
-/// All outputs that stood on the chain, and what became of them, in order.
+/// All outputs that were ever on the chain, and their changes in order.
 #[derive(Drop)]
 pub struct Coins {
     coins: BTreeMap<OutPoint, Coin>,
     changes: Vec<Change>,
-    /// What is each side's alone.
+    /// The value that is each side's alone.
     pub alone: Alone,
-    // as it was told last
+    // as it was written last
     told: Alone,
 }
 
-/// Satoshis on the chain that are each side's alone, at once and for good.
+/// The satoshis on the chain that only one side can ever spend, and at once.
 #[derive(Clone, Copy, PartialEq, Eq, Drop)]
 pub struct Alone {
     pub a: u64,
@@ -68,14 +69,14 @@ pub struct Alone {
 }
 
 impl Coin {
-    // Whether nobody but its owner can ever spend it.
+    // Whether only its owner can ever spend it.
     fn is_alone(&self) -> bool {
         self.kind == Kind::Wallet || self.kind == Kind::ToRemote
     }
 }
 
 impl Coins {
-    /// No outputs. It takes no memory.
+    /// No outputs. Does not allocate.
     pub fn new(alloc: Global) -> Coins {
         Coins {
             coins: BTreeMap::new(alloc),
@@ -85,12 +86,12 @@ impl Coins {
         }
     }
 
-    /// The output that stood at an outpoint.
+    /// The output that was at an outpoint.
     pub fn get(&self, outpoint: &OutPoint) -> Option<Coin> {
         self.coins.get(outpoint).copied()
     }
 
-    // An output counts for its owner.
+    // Adds an output to its owner's value.
     fn count_in(&mut self, coin: &Coin) {
         if coin.is_alone() {
             match coin.owner {
@@ -100,7 +101,7 @@ impl Coins {
         }
     }
 
-    // It counts no more.
+    // Subtracts an output from its owner's value.
     fn count_out(&mut self, coin: &Coin) {
         if coin.is_alone() {
             match coin.owner {
@@ -110,28 +111,28 @@ impl Coins {
         }
     }
 
-    // Notes a change.
+    // Records a change.
     fn note(&mut self, line: &mut Line, change: Change) {
         if self.changes.push(change).is_err() {
             line.fail();
         }
     }
 
-    /// An output stands on the chain that no block takes off.
+    /// Adds an output that no reorganisation takes off.
     pub fn begin(&mut self, line: &mut Line, outpoint: &OutPoint, coin: Coin) {
         if self.coins.insert(*outpoint, coin).is_err() {
             line.fail();
         }
     }
 
-    /// An output came.
+    /// Adds an output.
     pub fn come(&mut self, line: &mut Line, outpoint: &OutPoint, coin: Coin) {
         self.count_in(&coin);
         self.begin(line, outpoint, coin);
         self.note(line, Change::Came(*outpoint));
     }
 
-    /// An output went.
+    /// Spends an output.
     pub fn go(&mut self, line: &mut Line, outpoint: &OutPoint) {
         if let Some(coin) = self.get(outpoint) {
             self.count_out(&coin);
@@ -139,7 +140,7 @@ impl Coins {
         self.note(line, Change::Went(*outpoint));
     }
 
-    /// All that came and went since the transaction before is that of this one.
+    /// Assigns the changes since the last transaction to this one.
     pub fn mined(&mut self, line: &mut Line, height: u64, txid: &[u8; 32]) {
         self.note(
             line,
@@ -150,7 +151,7 @@ impl Coins {
         );
     }
 
-    // A change is undone.
+    // Undoes a change.
     fn undo(&mut self, line: &mut Line, change: &Change) {
         match change {
             Change::Mined { txid, .. } => line.bytes(txid),
@@ -167,7 +168,7 @@ impl Coins {
         }
     }
 
-    // Whether a change stands in a block of at most this height.
+    // Whether the last change is in a block of at most this height.
     fn is_within(&self, height: u64) -> bool {
         match self.changes.last() {
             Some(Change::Mined { height: at, .. }) => *at <= height,
@@ -175,7 +176,8 @@ impl Coins {
         }
     }
 
-    /// The blocks above a height are taken off: the ids of their transactions, the last first.
+    /// Disconnects the blocks above a height, and writes
+    /// the ids of their transactions, the last first.
     pub fn back_to(&mut self, line: &mut Line, height: u64) {
         for _ in 0..self.changes.len() {
             if self.is_within(height) {
@@ -187,7 +189,7 @@ impl Coins {
         }
     }
 
-    /// What is each side's alone, where it is not as it was told last.
+    /// Writes the value that is each side's alone, if it changed since it was written last.
     pub fn tell_alone(&mut self, line: &mut Line) {
         if self.alone != self.told {
             tell_both(line, "onchain", self.alone.a, self.alone.b);
@@ -195,7 +197,7 @@ impl Coins {
         }
     }
 
-    /// What the outputs are worth that a transaction spends, in satoshis.
+    /// The total value of the outputs that a transaction spends, in satoshis.
     pub fn worth(&self, tx: &Tx) -> u64 {
         let mut worth = 0u64;
         for input in tx.inputs() {

@@ -1,4 +1,4 @@
-//! What a side's newest commitment gives.
+//! What changes with a side's newest commitment.
 
 use crate::writer::{tell_both, tell_side};
 use channel::CommitmentState;
@@ -6,7 +6,7 @@ use terms::{Htlc, Side, View};
 use trace_words::Line;
 use world::World;
 
-// An HTLC by its name.
+// Writes an HTLC's name: its offerer and its id.
 fn tell_htlc_name(line: &mut Line, offerer: Side, htlc: &Htlc) {
     line.open("{");
     tell_side(line, "offerer", offerer);
@@ -14,7 +14,8 @@ fn tell_htlc_name(line: &mut Line, offerer: Side, htlc: &Htlc) {
     line.close("}");
 }
 
-// How many of the HTLCs before stand still. New ones come at the end, so these are the first ones now.
+// How many of the HTLCs from before still stand. New
+// ones are appended, so these are the first ones now.
 fn kept(before: &[Htlc], now: &[Htlc]) -> usize {
     let mut kept = 0usize;
     for htlc in before {
@@ -25,7 +26,7 @@ fn kept(before: &[Htlc], now: &[Htlc]) -> usize {
     kept
 }
 
-// The HTLCs that stand now and did not before.
+// Writes the HTLCs that stand now and did not before.
 fn tell_in(line: &mut Line, offerer: Side, before: &View, now: &View) {
     let (before, now) = (before.share(offerer), now.share(offerer));
     let kept = kept(before.offered.values(), now.offered.values());
@@ -34,7 +35,7 @@ fn tell_in(line: &mut Line, offerer: Side, before: &View, now: &View) {
     }
 }
 
-// The HTLCs that stood before and do not now.
+// Writes the HTLCs that stood before and do not now.
 fn tell_out(line: &mut Line, offerer: Side, before: &View, now: &View) {
     let mut kept = now.share(offerer).offered.values().iter();
     let mut next = kept.next();
@@ -47,7 +48,7 @@ fn tell_out(line: &mut Line, offerer: Side, before: &View, now: &View) {
     }
 }
 
-// A commitment is its owner's newest one, after another.
+// Writes that a commitment is its owner's newest one, and what changed from the one before.
 fn tell_newest(line: &mut Line, channel: u64, before: &CommitmentState, now: &CommitmentState) {
     let view = &now.view;
     line.begin("held", "{");
@@ -67,7 +68,7 @@ fn tell_newest(line: &mut Line, channel: u64, before: &CommitmentState, now: &Co
     line.close("}");
 }
 
-/// A side has a new newest commitment in a channel.
+/// Writes a side's new newest commitment in a channel.
 pub fn tell_held(line: &mut Line, world: &World, side: Side, channel: u64) {
     let Some(own) = world.book(side).channel(channel) else {
         return;

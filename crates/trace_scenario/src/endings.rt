@@ -9,7 +9,7 @@ use terms::Side;
 use trace_words::Line;
 use world::World;
 
-// The chain's height, its unspent outputs and its fees. The only error is that memory ran out.
+// Writes the chain's height, its unspent outputs and its fees. The only error is that memory ran out.
 fn tell_chain(line: &mut Line, chain: &Index) -> Result<(), AllocError> {
     let unspent = chain.unspent()?;
     let fees = chain.fees()?;
@@ -22,7 +22,7 @@ fn tell_chain(line: &mut Line, chain: &Index) -> Result<(), AllocError> {
     Ok(())
 }
 
-// The revoked commitments of a channel whose penalties a book keeps.
+// Writes the revoked commitments of a channel whose penalties a book keeps.
 fn tell_kept_in(line: &mut Line, book: &Book, channel: u64) {
     for number in 0..u64::MAX {
         match book.keeps(channel, number) {
@@ -38,7 +38,7 @@ fn tell_kept_in(line: &mut Line, book: &Book, channel: u64) {
     }
 }
 
-// Those of all channels.
+// Writes those of all channels.
 fn tell_kept(line: &mut Line, name: &str, book: &Book) {
     line.begin(name, "[");
     for channel in 0..book.channel_count() {
@@ -47,7 +47,8 @@ fn tell_kept(line: &mut Line, name: &str, book: &Book) {
     line.close("]");
 }
 
-/// The end: the chain, the penalties that each side keeps, how long their histories are, and what is each side's alone.
+/// Writes the end: the chain, the penalties that each side keeps, the lengths of their histories, and the value that is
+/// each side's alone.
 pub fn tell_end(line: &mut Line, coins: &Coins, world: &World) {
     let (a, b) = (world.book(Side::A), world.book(Side::B));
     line.open("{");

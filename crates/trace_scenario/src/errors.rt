@@ -13,7 +13,7 @@ pub enum TraceError {
     WriteFailed,
     /// Memory ran out, or the input can't be read or is too long.
     Input(InputError),
-    /// The input is no scenario.
+    /// The input is not a scenario.
     Scenario(ScenarioError),
     /// The world of the scenario does not begin.
     World(WorldError),

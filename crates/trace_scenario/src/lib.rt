@@ -1,12 +1,11 @@
-//! The word `scenario` of the program `trace`: a scenario that is played, and told in JSON event by event.
+//! The word `scenario` of the program `trace`: it plays a scenario and writes what happens as JSON, event by event.
 //!
-//! [`run`] reads a scenario, plays one event after another, and writes one JSON object a line, each at once: the
-//! opening, what became of each event and what it changed, and the end. It answers a status of at most 1. Each event is
-//! played by `World::play`, so that its answer is the one that `enforce run` prints; how the lines are laid out is
-//! tested. What a line tells is what its event changed: new entries of the books, messages, transactions and claims.
+//! [`run`] reads a scenario, plays one event after another, and writes one JSON object a line, each at once: the opening, the outcome of each
+//! event and what it changed, and the end. It returns a status of at most 1. Each event is played by `World::play`, so its outcome is the one that
+//! `enforce run` prints. The layout of the lines is tested, not proved. A line has what its event changed: new entries of the books, messages,
+//! transactions and claims.
 //!
-//! `world` plays what `scenario` reads, and has the books, the chain and the pool that are told. The program `trace`
-//! hands it its streams.
+//! `world` plays what `scenario` reads, and has the books, the chain and the pool. The program `trace` passes its streams.
 //!
 //! ```rust
 //! let status = run(alloc, &mut input, &mut out);
@@ -43,7 +42,7 @@ use std::io::{Read, Write};
 use trace_words::{InputError, Line, read_all, write_told};
 use world::World;
 
-// Writes a line at once, which is empty then.
+// Writes a line at once, and clears it.
 fn write_line<W: Write>(out: &mut W, line: &mut Line) -> Result<(), TraceError> {
     let Some(text) = line.text() else {
         return Err(TraceError::Input(InputError::NoMemory));
@@ -55,7 +54,7 @@ fn write_line<W: Write>(out: &mut W, line: &mut Line) -> Result<(), TraceError> 
     Ok(())
 }
 
-// An event is played and told.
+// Plays an event, and writes its line.
 fn trace_event<W: Write>(
     alloc: Global,
     out: &mut W,
@@ -75,7 +74,7 @@ fn trace_event<W: Write>(
     write_line(out, line)
 }
 
-// The lines of a world in which events happen, of which nothing is told yet.
+// Writes the lines of a world and its events, by a line and a state that are new.
 fn trace_events<W: Write>(
     alloc: Global,
     out: &mut W,
@@ -96,7 +95,7 @@ fn trace_events<W: Write>(
     write_line(out, line)
 }
 
-// The lines of a world in which events happen.
+// Writes the lines of a world and its events.
 fn trace_world<W: Write>(
     alloc: Global,
     out: &mut W,
@@ -109,7 +108,7 @@ fn trace_world<W: Write>(
     trace_events(alloc, out, &mut line, world, &mut told, events, words)
 }
 
-// The events as the text has them.
+// The events of a scenario as JSON values.
 fn words_in(value: &Value) -> &[Value] {
     match value.get("events") {
         Some(events) => match events.as_array() {
@@ -120,7 +119,7 @@ fn words_in(value: &Value) -> &[Value] {
     }
 }
 
-// The lines of a scenario, which is this value as JSON.
+// Writes the lines of a scenario, of which `value` is the JSON.
 fn trace_scenario<W: Write>(
     alloc: Global,
     out: &mut W,
@@ -139,7 +138,7 @@ fn trace_scenario<W: Write>(
     }
 }
 
-// The lines of a scenario that was read from these bytes.
+// Writes the lines of a scenario that was read from these bytes.
 fn trace_read<W: Write>(
     alloc: Global,
     out: &mut W,
@@ -152,7 +151,7 @@ fn trace_read<W: Write>(
     }
 }
 
-// The lines of the scenario that bytes are.
+// Writes the lines of the scenario in the bytes.
 fn trace_bytes<W: Write>(alloc: Global, out: &mut W, bytes: &[u8]) -> Result<(), TraceError> {
     match Scenario::read(alloc, bytes) {
         Ok(scenario) => trace_read(alloc, out, &scenario, bytes),
@@ -160,7 +159,7 @@ fn trace_bytes<W: Write>(alloc: Global, out: &mut W, bytes: &[u8]) -> Result<(),
     }
 }
 
-// The lines of the scenario that the input is.
+// Writes the lines of the scenario in the input.
 fn trace_input<R: Read, W: Write>(
     alloc: Global,
     input: &mut R,
@@ -172,7 +171,7 @@ fn trace_input<R: Read, W: Write>(
     }
 }
 
-// Answers that the input is refused, or that memory ran out.
+// Writes that the input is refused, or that memory ran out.
 fn refuse<W: Write>(alloc: Global, out: &mut W, error: &TraceError) {
     let mut line = Line::new(alloc);
     match error {
@@ -187,7 +186,8 @@ fn refuse<W: Write>(alloc: Global, out: &mut W, error: &TraceError) {
     let _ = write_told(out, &line, 1);
 }
 
-/// Plays the scenario that the input is, and answers the status: 0 when all is told, 1 for refused input, a failed write, or where memory ran out.
+/// Plays the scenario in the input, and returns the status: 0 when all lines
+/// are written, 1 for refused input, a failed write, or if memory ran out.
 pub fn run<R: Read, W: Write>(alloc: Global, input: &mut R, out: &mut W) -> u8
     ensures { result ≤ 1 }
 {

@@ -1,4 +1,4 @@
-//! Messages between the sides, and what they bring about.
+//! Messages between the sides, and their effects.
 
 use crate::commitments::tell_held;
 use crate::writer::tell_side;
@@ -19,7 +19,7 @@ fn update_name(update: &Update) -> &'static str {
     }
 }
 
-// A message came to a side, or is on its way to it.
+// Writes that a message was delivered to a side, or is on its way to it.
 fn tell_message(line: &mut Line, world: &World, what: &str, to: Side, channel: u64, message: &str) {
     line.begin(what, "{");
     tell_side(line, "to", to);
@@ -31,7 +31,8 @@ fn tell_message(line: &mut Line, world: &World, what: &str, to: Side, channel: u
     line.close("}");
 }
 
-// The HTLC of an update comes to a next stage, whose names are those of an offer, a fulfilment and a failure.
+// Writes the next stage of the HTLC in an update, by the names
+// of the stages for an offer, a fulfilment and a failure.
 fn tell_htlc(line: &mut Line, channel: u64, by: Side, update: &Update, stages: [&str; 3]) {
     let [offered, fulfilled, failed] = stages;
     match update {
@@ -55,7 +56,7 @@ fn tell_htlc(line: &mut Line, channel: u64, by: Side, update: &Update, stages: [
     }
 }
 
-// The object of an HTLC that comes to a next stage begins.
+// Begins the object of an HTLC that reaches a next stage.
 fn tell_stage(line: &mut Line, channel: u64, offerer: Side, id: u64, stage: &str) {
     line.begin("htlc", "{");
     line.count("channel", channel);
@@ -64,7 +65,7 @@ fn tell_stage(line: &mut Line, channel: u64, offerer: Side, id: u64, stage: &str
     line.member("stage", stage);
 }
 
-/// A side made an update.
+/// Writes an update that a side made.
 pub fn tell_own(line: &mut Line, world: &World, side: Side, channel: u64) {
     let to = side.other();
     let Some(inbox) = world.inbox(to, channel) else {
@@ -77,7 +78,7 @@ pub fn tell_own(line: &mut Line, world: &World, side: Side, channel: u64) {
     }
 }
 
-// An owner's commitment of a number is signed or revoked.
+// Writes that an owner's commitment of a number is signed or revoked.
 fn tell_commitment(line: &mut Line, what: &str, channel: u64, owner: Side, number: u64) {
     line.begin(what, "{");
     line.count("channel", channel);
@@ -86,7 +87,7 @@ fn tell_commitment(line: &mut Line, what: &str, channel: u64, owner: Side, numbe
     line.close("}");
 }
 
-/// A side signed.
+/// Writes that a side signed.
 pub fn tell_signed(line: &mut Line, world: &World, side: Side, channel: u64) {
     let to = side.other();
     tell_message(line, world, "sent", to, channel, "commitment_signed");
@@ -97,21 +98,21 @@ pub fn tell_signed(line: &mut Line, world: &World, side: Side, channel: u64) {
     }
 }
 
-// A side received an update.
+// Writes that a side received an update.
 fn tell_updated(line: &mut Line, world: &World, side: Side, channel: u64, update: &Update) {
     tell_message(line, world, "delivered", side, channel, update_name(update));
     let stages = ["received", "fulfil_received", "fail_received"];
     tell_htlc(line, channel, side.other(), update, stages);
 }
 
-// A side received a signature, and answered by a revocation.
+// Writes that a side received a signature, and answered with a revocation.
 fn tell_signature(line: &mut Line, world: &World, side: Side, channel: u64) {
     tell_message(line, world, "delivered", side, channel, "commitment_signed");
     tell_message(line, world, "sent", side.other(), channel, "revoke_and_ack");
     tell_held(line, world, side, channel);
 }
 
-// A side received a revocation.
+// Writes that a side received a revocation.
 fn tell_revoked(line: &mut Line, world: &World, side: Side, channel: u64) {
     tell_message(line, world, "delivered", side, channel, "revoke_and_ack");
     if let Some(own) = world.book(side).channel(channel) {
@@ -120,7 +121,7 @@ fn tell_revoked(line: &mut Line, world: &World, side: Side, channel: u64) {
     }
 }
 
-/// A side received a message, which its book took.
+/// Writes that a side received a message, which its book took.
 pub fn tell_delivered(line: &mut Line, world: &World, side: Side, channel: u64) {
     let Some(entry) = world.book(side).entries().last() else {
         return;
@@ -136,7 +137,7 @@ pub fn tell_delivered(line: &mut Line, world: &World, side: Side, channel: u64) 
     }
 }
 
-/// A side keeps penalties.
+/// Writes that a side keeps penalties.
 pub fn tell_kept(line: &mut Line, side: Side, channel: u64, number: u64) {
     line.begin("kept", "{");
     tell_side(line, "side", side);

@@ -1,4 +1,4 @@
-//! The transactions of new blocks, and what their outputs are.
+//! The transactions of new blocks, and the kinds of their outputs.
 
 use crate::closing::tell_commitment;
 use crate::coins::{Coin, Coins, Kind};
@@ -12,7 +12,7 @@ use trace_words::Line;
 use tx::{Tx, TxOut, total_value};
 use world::World;
 
-// The side to whose payment key a claim in a channel pays.
+// The side whose payment key a claim in a channel pays.
 fn payee(alloc: Global, world: &World, line: &mut Line, channel: u64, output: &TxOut) -> Side {
     let Some(own) = world.book(Side::A).channel(channel) else {
         return Side::B;
@@ -28,7 +28,7 @@ fn payee(alloc: Global, world: &World, line: &mut Line, channel: u64, output: &T
     Side::B
 }
 
-// The blocks that a side waits for its delayed outputs in a channel.
+// The delay of a side's to_local outputs in a channel, in blocks.
 fn delay(world: &World, channel: u64, side: Side) -> u64 {
     match world.book(side).channel(channel) {
         Some(own) => u64::from(own.terms().party(side).delay),
@@ -36,7 +36,8 @@ fn delay(world: &World, channel: u64, side: Side) -> u64 {
     }
 }
 
-// What an output is whose transaction, in a block of this height, spends this coin.
+// The coin of an output whose transaction, in
+// a block of this height, spends this coin.
 fn output_coin(
     alloc: Global,
     world: &World,
@@ -60,7 +61,7 @@ fn output_coin(
     coin
 }
 
-// What is told of an HTLC transaction or a claim: whose it is, and its outputs.
+// Writes an HTLC transaction or a claim: the side that made it, and its outputs.
 fn tell_follower(
     alloc: Global,
     world: &World,
@@ -86,20 +87,21 @@ fn tell_follower(
     line.close("]");
 }
 
-// The outputs that a transaction spends go.
+// Removes the outputs that a transaction spends.
 fn spend(coins: &mut Coins, line: &mut Line, tx: &Tx) {
     for input in tx.inputs() {
         coins.go(line, &input.outpoint);
     }
 }
 
-// What a transaction pays for fees.
+// The fee of a transaction, in satoshis.
 fn fee(coins: &Coins, tx: &Tx) -> u64 {
     let paid = u64::try_from(total_value(tx.outputs())).unwrap_or(u64::MAX);
     coins.worth(tx).saturating_sub(paid)
 }
 
-// A transaction in a block of this height, whose first input spends this coin.
+// Writes a transaction in a block of this
+// height, whose first input spends this coin.
 fn tell_tx(
     alloc: Global,
     world: &World,
@@ -131,7 +133,7 @@ fn tell_tx(
     coins.mined(line, height, confirmed.id());
 }
 
-// The transactions of a block of this height.
+// Writes the transactions of a block of this height.
 fn tell_block(
     alloc: Global,
     world: &World,
@@ -149,7 +151,7 @@ fn tell_block(
     }
 }
 
-/// The transactions of the blocks above a height.
+/// Writes the transactions of the blocks above a height.
 pub fn tell_mined(alloc: Global, world: &World, coins: &mut Coins, line: &mut Line, above: u64) {
     line.begin("mined", "[");
     for (height, block) in world

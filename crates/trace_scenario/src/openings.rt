@@ -6,7 +6,7 @@ use terms::{Side, Terms};
 use trace_words::Line;
 use world::World;
 
-// A member that has two numbers, of A and of B, in an array.
+// Writes a member whose value is an array of two numbers, of A and of B.
 fn tell_pair(line: &mut Line, name: &str, a: u64, b: u64) {
     line.begin(name, "[");
     line.number(u128::from(a));
@@ -14,7 +14,7 @@ fn tell_pair(line: &mut Line, name: &str, a: u64, b: u64) {
     line.close("]");
 }
 
-// A channel begins with these terms.
+// Writes the terms of a new channel.
 fn tell_terms(line: &mut Line, terms: &Terms) {
     line.open("{");
     line.name("funding");
@@ -30,7 +30,7 @@ fn tell_terms(line: &mut Line, terms: &Terms) {
     line.close("}");
 }
 
-// The funding output of a channel.
+// The coin of a channel's funding output.
 fn funding_coin(channel: u64, terms: &Terms) -> Coin {
     Coin {
         channel,
@@ -44,7 +44,8 @@ fn funding_coin(channel: u64, terms: &Terms) -> Coin {
     }
 }
 
-/// The opening: the terms of each channel, whose funding outputs stand on the chain.
+/// Writes the opening: the terms of each channel,
+/// whose funding outputs are on the chain.
 pub fn tell_opening(line: &mut Line, coins: &mut Coins, world: &World, events: usize) {
     let book = world.book(Side::A);
     line.open("{");

@@ -1,4 +1,4 @@
-//! Outputs that come, and who can spend them when.
+//! New outputs, and who can spend them when.
 
 use crate::coins::{Coin, Coins, Kind};
 use crate::writer::{tell_outpoint, tell_side};
@@ -15,7 +15,7 @@ pub fn outpoint_of(confirmed: &Confirmed, index: usize) -> OutPoint {
     }
 }
 
-/// What a transaction is, and whose.
+/// Writes the kind of a transaction, and whose it is.
 pub fn tell_kind(line: &mut Line, kind: &str, channel: u64, owner: Side) {
     line.member("kind", kind);
     line.count("channel", channel);
@@ -34,7 +34,8 @@ fn kind_name(kind: Kind) -> &'static str {
     }
 }
 
-// A side can spend an output from a block of this height on.
+// Writes that a side can spend an output
+// from a block of this height on.
 fn tell_way(line: &mut Line, side: Side, by: &str, due: u64) {
     line.open("{");
     tell_side(line, "side", side);
@@ -43,7 +44,7 @@ fn tell_way(line: &mut Line, side: Side, by: &str, due: u64) {
     line.close("}");
 }
 
-// Who can spend an output, and when.
+// Writes who can spend an output, and when.
 fn tell_ways(line: &mut Line, coin: &Coin) {
     match coin.kind {
         Kind::Funding => {}
@@ -60,7 +61,7 @@ fn tell_ways(line: &mut Line, coin: &Coin) {
     }
 }
 
-/// An output comes. Its object is left open.
+/// Writes a new output, and leaves its object open.
 pub fn tell_output(line: &mut Line, coins: &mut Coins, outpoint: &OutPoint, coin: Coin) {
     line.open("{");
     line.name("outpoint");

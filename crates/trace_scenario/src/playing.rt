@@ -1,4 +1,4 @@
-//! Events that are played and told one after another.
+//! Plays events one after another, and writes what they change.
 
 ghost use Rattle.std.specs.Prelude.{IfOk, ◌∷◌, []};
 ghost use Rattle.world.specs.Theorem.{IsPlay};
@@ -17,7 +17,7 @@ use terms::Side;
 use trace_words::Line;
 use world::{Outcome, World};
 
-/// What has been told, as far as later lines depend on it.
+/// What was written so far, as far as later lines depend on it.
 #[derive(Drop)]
 pub struct Told {
     pub coins: Coins,
@@ -25,7 +25,7 @@ pub struct Told {
 }
 
 impl Told {
-    /// Nothing yet. It takes no memory.
+    /// Nothing yet. Does not allocate.
     pub fn new(alloc: Global) -> Told {
         Told {
             coins: Coins::new(alloc),
@@ -33,13 +33,13 @@ impl Told {
         }
     }
 
-    // New blocks came.
+    // Writes new blocks.
     fn tell_blocks(&mut self, alloc: Global, line: &mut Line, world: &World, above: u64) {
         self.pool.tell_left(line, world.pool());
         tell_mined(alloc, world, &mut self.coins, line, above);
     }
 
-    // The blocks above a height gave way to others.
+    // Writes a reorganisation of the blocks above a height.
     fn tell_reorganised(&mut self, alloc: Global, line: &mut Line, world: &World, above: u64) {
         self.pool.tell_all_left(line);
         self.pool.tell_joined(line, world.pool());
@@ -49,7 +49,7 @@ impl Told {
         tell_mined(alloc, world, &mut self.coins, line, above);
     }
 
-    // A side looked.
+    // Writes what a side found in a look.
     fn tell_look(&self, line: &mut Line, world: &World, side: Side, outcome: &Outcome) {
         if let Outcome::Looked { claims } = outcome {
             tell_claims(line, &self.coins, world, side, *claims);
@@ -57,13 +57,13 @@ impl Told {
         tell_jobs(line, world, side);
     }
 
-    // A side released claims.
+    // Writes that a side released claims.
     fn tell_release(&mut self, line: &mut Line, world: &World, side: Side) {
         tell_jobs(line, world, side);
         self.pool.tell_joined(line, world.pool());
     }
 
-    // What an event changed that was not refused. The chain stood at this height before it.
+    // Writes what an accepted event changed. The chain had height `before` when it came.
     fn tell_changes(
         &mut self,
         alloc: Global,
@@ -95,7 +95,7 @@ impl Told {
         }
     }
 
-    /// What became of an event, and what it changed. The chain stood at this height before it.
+    /// Writes the height, and what an event changed. The chain had height `before` when it came.
     pub fn tell_event(
         &mut self,
         alloc: Global,
@@ -113,7 +113,8 @@ impl Told {
     }
 }
 
-/// An event is played: what became of it, alone in a list. The only error is that no memory was there for it: then the event was not played.
+/// Plays an event, and returns its outcome as the only element of a list. The only error is that there was no memory for the list: then the
+/// event was not played.
 pub fn played(world: &mut World, event: &Event) -> Result<Vec<Outcome>, AllocError>
     ensures { IfOk result
         (λ outcomes. IsPlay world.old (event.now ∷ []) outcomes.items world.new) }
@@ -121,7 +122,7 @@ pub fn played(world: &mut World, event: &Event) -> Result<Vec<Outcome>, AllocErr
     world.play(slice::from_ref(event))
 }
 
-/// The number of an event, its words and what became of it.
+/// Writes the number of an event, its JSON and its outcome.
 pub fn tell_answer(line: &mut Line, index: usize, words: &Value, outcome: &Outcome) {
     line.open("{");
     line.count("event", index as u64);

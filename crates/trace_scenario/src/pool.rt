@@ -6,7 +6,7 @@ use std::mem;
 use trace_words::Line;
 use tx::{Tx, txid};
 
-/// The outputs that a transaction spends.
+/// Writes the outputs that a transaction spends.
 pub fn tell_spends(line: &mut Line, tx: &Tx) {
     line.begin("spends", "[");
     for input in tx.inputs() {
@@ -21,7 +21,8 @@ pub struct Pool {
     ids: Vec<[u8; 32]>,
 }
 
-// A transaction waits still, where it is the next of the pool behind those that were kept, or it left.
+// Keeps a transaction that still waits, which is then the next of the pool after those kept; else
+// writes that it left.
 fn keep_or_tell(line: &mut Line, pool: &[Tx], kept: &mut Vec<[u8; 32]>, id: &[u8; 32]) {
     let is_next = pool.get(kept.len()).is_some_and(|tx| txid(tx) == *id);
     if !is_next {
@@ -32,14 +33,14 @@ fn keep_or_tell(line: &mut Line, pool: &[Tx], kept: &mut Vec<[u8; 32]>, id: &[u8
 }
 
 impl Pool {
-    /// None. It takes no memory.
+    /// No transactions. Does not allocate.
     pub fn new(alloc: Global) -> Pool {
         Pool {
             ids: Vec::new(alloc),
         }
     }
 
-    // One more waits.
+    // Adds a transaction that waits, and writes it.
     fn tell_one(&mut self, line: &mut Line, tx: &Tx) {
         let id = txid(tx);
         line.open("{");
@@ -51,7 +52,7 @@ impl Pool {
         }
     }
 
-    /// Those behind the ones that wait joined.
+    /// Adds the transactions of the pool after those that wait already, and writes them.
     pub fn tell_joined(&mut self, line: &mut Line, pool: &[Tx]) {
         if self.ids.len() >= pool.len() {
             return;
@@ -63,7 +64,7 @@ impl Pool {
         line.close("]");
     }
 
-    /// Some left: what is there now are the others, in their order.
+    /// Removes the transactions that left the pool, and writes them; `pool` has the others, in order.
     pub fn tell_left(&mut self, line: &mut Line, pool: &[Tx]) {
         if self.ids.len() == pool.len() {
             return;
@@ -77,7 +78,7 @@ impl Pool {
         drop(mem::replace(&mut self.ids, kept));
     }
 
-    /// All left.
+    /// Removes all transactions, and writes them.
     pub fn tell_all_left(&mut self, line: &mut Line) {
         self.tell_left(line, &[]);
     }

@@ -1,4 +1,4 @@
-//! What tells of sides and outputs in lines of JSON.
+//! Writes sides and outpoints in lines of JSON.
 
 use terms::Side;
 use trace_words::Line;
@@ -12,12 +12,12 @@ pub fn side_name(side: Side) -> &'static str {
     }
 }
 
-/// A member that is a side.
+/// Writes a member that is a side.
 pub fn tell_side(line: &mut Line, name: &str, side: Side) {
     line.member(name, side_name(side));
 }
 
-/// A member that has two numbers, of A and of B.
+/// Writes a member that has two numbers, of A and of B.
 pub fn tell_both(line: &mut Line, name: &str, a: u64, b: u64) {
     line.begin(name, "{");
     line.count("A", a);
@@ -25,7 +25,7 @@ pub fn tell_both(line: &mut Line, name: &str, a: u64, b: u64) {
     line.close("}");
 }
 
-/// An outpoint.
+/// Writes an outpoint.
 pub fn tell_outpoint(line: &mut Line, outpoint: &OutPoint) {
     line.json("\"");
     line.push_hex(&outpoint.txid);

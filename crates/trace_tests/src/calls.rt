@@ -1,9 +1,10 @@
-//! What is printed for people, wrong words, input that is refused, and readers and writers that fail.
+//! The output for people, wrong words, input that is refused, and readers and writers that fail.
 
 use crate::fixtures::{Broken, Endless, prints, status_of};
 use trace_words::USAGE;
 
-// An IF with a lock of 144 blocks in its first branch; a fault; and a script without a path.
+// An IF with a lock of 144 blocks in its first branch,
+// a script with a fault, and a script without a path.
 const PAGES: &str = "    0  IF
     1    PUSH 9000 (number 144)
     4    CHECKSEQUENCEVERIFY
@@ -51,7 +52,7 @@ fn prints_answers(rt: HostRuntime) {
     }
 }
 
-// Calls, what they say of too long an input, and of one that can't be read. Wrong words are found before any of it is read.
+// Calls, their output for an input that is too long, and for one that can't be read. Wrong words are detected before any of it is read.
 const INPUTS: [(&[&str], &str, &str, u8); 5] = [
     (
         &["script"],

@@ -1,10 +1,11 @@
-//! Calls of the program, and readers and writers that end otherwise than they should.
+//! Calls of the program, and readers and writers that never end, or that fail.
 
 use std::alloc::Global;
 use std::io;
 use std::process::Abort;
 
-/// A reader that gives zero bytes without an end, or fails.
+/// A reader that returns zero
+/// bytes without an end, or fails.
 #[derive(Drop)]
 pub struct Endless {
     pub fails: bool,
@@ -44,7 +45,7 @@ fn words_of(rt: &impl Abort, alloc: Global, call: &[&str]) -> Vec<String> {
     words
 }
 
-/// The status of a call, as the program answers it.
+/// The status of a call, as the program returns it.
 pub fn status_of<R: io::Read, W: io::Write, E: io::Write>(
     rt: &impl Abort,
     alloc: Global,
@@ -63,7 +64,7 @@ pub fn status_of<R: io::Read, W: io::Write, E: io::Write>(
     }
 }
 
-/// Asserts what a call prints on both streams, one after another, and its status.
+/// Asserts the output of a call on both streams, one after the other, and its status.
 pub fn prints<R: io::Read>(
     rt: &impl Abort,
     alloc: Global,

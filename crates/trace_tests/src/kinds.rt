@@ -6,10 +6,10 @@ use std::alloc::{AllocError, Global};
 use std::process::Abort;
 use trace_words::Sentence;
 
-// How many kinds of facts there are.
+// The number of kinds of facts.
 const KINDS: usize = 10;
 
-// The sentences of a fact of each kind: where it holds, and where it does not.
+// The sentences of a fact of each kind: if it holds, and if it does not.
 const SENTENCES: [(&str, &str); KINDS] = [
     (
         "slot 7 is a preimage of the HASH160 0aff",
@@ -76,7 +76,7 @@ fn fact_of(alloc: Global, kind: usize) -> Result<Fact, AllocError> {
     }
 }
 
-// The number of a fact's kind: no kind is left out.
+// The number of a fact's kind. The match leaves out no kind.
 fn kind_of(fact: &Fact) -> usize {
     match fact {
         Fact::Hash(_, _) => 0,
@@ -92,7 +92,7 @@ fn kind_of(fact: &Fact) -> usize {
     }
 }
 
-// Asserts what a fact of a kind says.
+// Asserts the kind of a fact, and its sentence.
 fn says(
     rt: &impl Abort,
     alloc: Global,

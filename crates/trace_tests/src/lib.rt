@@ -1,8 +1,8 @@
-//! Tests of the words of `trace`: each kind of fact in a sentence, what is printed for people, a scenario that is told,
-//! the inputs of a transaction, and input that ends otherwise than it should. What is printed of scripts for programs is
-//! compared by the rows of the program, and what is told of more inputs by `bench/witnesses.py`.
+//! Tests of the words of `trace`: a sentence for each kind of fact, the output for people, a scenario's trace, the inputs
+//! of a transaction, and input that never ends or that fails. The output for programs is compared by the rows of the
+//! program, and that of more inputs by `bench/witnesses.py`.
 //!
-//! They stand apart so that the libraries are proved without them.
+//! They are in a crate of their own, so that the libraries are proved without them.
 #![tactic(auto)]
 
 #[cfg(test)]

@@ -1,4 +1,4 @@
-//! A scenario that is told.
+//! A scenario's trace.
 
 use crate::fixtures::{Broken, prints, status_of};
 

@@ -10,6 +10,6 @@ abbrev pub number_look : Option Number → Look
 number_look (Some n) = AsNumber n
 number_look None = Bytes
 
--- a key, a hash, a number of at most 5 bytes, or something else: what comes first here
+-- a key, a hash, a number of at most 5 bytes, or something else: the first of these that fits
 abbrev pub look_of : List ℕ → Look
 look_of item = if is_key item then Key else if (length item == 20 || length item == 32) then Hash else number_look (number_of 5 item)

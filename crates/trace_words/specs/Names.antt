@@ -1,9 +1,9 @@
--- The names of opcodes, and in how many branches one stands.
+-- The names of opcodes, and the number of branches that one is in.
 use Rattle.std.specs.Prelude.{ℕ, ◌+◌, ◌-◌, List, codes}
 use Rattle.script.specs.declared.opcode.Op.{Op}
 use Rattle.script.specs.declared.opcode.Op.TheVariants.{Push, Number, If, NotIf, Else, EndIf, Drop, Dup, Swap, Size, Equal, EqualVerify, Hash160, CheckSig, CheckMultiSig, CheckLockTimeVerify, CheckSequenceVerify}
 
--- an opcode's name; that of each push is one
+-- an opcode's name; all pushes have the same
 abbrev pub name_of : Op → List ℕ
 name_of (Push item) = codes "PUSH"
 name_of (Number n) = codes "PUSH"
@@ -23,13 +23,13 @@ name_of CheckMultiSig = codes "CHECKMULTISIG"
 name_of CheckLockTimeVerify = codes "CHECKLOCKTIMEVERIFY"
 name_of CheckSequenceVerify = codes "CHECKSEQUENCEVERIFY"
 
--- in how many branches an opcode stands, where as many IFs stand open before it
+-- the number of branches that an opcode is in, if `ifs` IFs are open before it
 abbrev pub shown_depth : Op → ℕ → ℕ
 shown_depth Else ifs = ifs - 1
 shown_depth EndIf ifs = ifs - 1
 shown_depth op ifs = ifs
 
--- how many IFs stand open after it
+-- the number of IFs that are open after it
 abbrev pub depth_after : Op → ℕ → ℕ
 depth_after If ifs = ifs + 1
 depth_after NotIf ifs = ifs + 1

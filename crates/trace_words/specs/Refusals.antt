@@ -3,7 +3,7 @@ use Rattle.std.specs.Prelude.{ℕ}
 use Rattle.trace_words.specs.declared.input.InputError.{InputError}
 use Rattle.trace_words.specs.declared.input.InputError.TheVariants.{NoMemory, ReadFailed, TooLong, BadHex}
 
--- why an input is refused before what stands in it is read
+-- why an input is refused before its content is looked at
 abbrev pub input_number : InputError → ℕ
 input_number NoMemory = 0
 input_number ReadFailed = 1

@@ -8,7 +8,7 @@ use Rattle.facts.specs.Texts.{hex_text, key_text, comma_separated}
 use Rattle.trace_words.specs.declared.sentences.Role.{Role}
 use Rattle.trace_words.specs.declared.sentences.Role.TheVariants.{Who, With, When}
 
--- a signature that is wanted says who spends, a lock when, and any other fact with what
+-- a signature that must be there says who spends, a lock says when, and any other fact says with what
 abbrev pub role_by : Fact → Bool → Role
 role_by (Token i key) true = Who
 role_by (Assigned slots keys) true = Who
@@ -58,11 +58,11 @@ age_words n =
     then codes "after " ++ (decimal (n % 0x10000) ++ codes " blocks")
     else codes "after " ++ (decimal (n % 0x10000) ++ codes " units of 512 seconds, which this profile never reaches")
 
--- what is said of a slot
+-- the words about one slot
 abbrev pub slot_words : ℕ → List ℕ → List ℕ → List ℕ
 slot_words i verb rest = codes "slot " ++ (decimal i ++ (codes " " ++ (verb ++ rest)))
 
--- what is said of several slots
+-- the words about several slots
 abbrev pub assigned_words : List ℕ → List ℕ → List KeySource → List ℕ
 assigned_words slots verb keys =
     codes "slots " ++ (comma_separated decimal slots ++ (codes " " ++ (verb ++ (codes " signatures by keys of " ++ (comma_separated key_text keys ++ codes " in their order")))))

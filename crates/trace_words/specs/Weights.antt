@@ -1,4 +1,4 @@
--- What the witness of a path weighs: a unit for each of its bytes (BIP 141).
+-- The weight of the witness of a path: one unit for each byte (BIP 141).
 use Rattle.std.specs.Prelude.{ℕ, zero, suc, ◌+◌, ◌*◌, ◌^◌, max, min, Bool, true, false, nat_lt, ◌==◌, ◌||◌, if◌then◌else◌, List, [], ◌∷◌, length, Option, Some, None}
 use Rattle.std.specs.List.{list_any}
 use Rattle.script.specs.Limits.{max_stack_size}
@@ -11,7 +11,7 @@ is_one_of i slots = list_any (λ j. j == i) slots
 abbrev pub some_if : Bool → ℕ → Option ℕ
 some_if b n = if b then Some n else None
 
--- how many bytes a fact asks of a slot, where it asks for a number of bytes
+-- the number of bytes that a fact asks of a slot, if it asks for one
 abbrev pub exact_size_by : Fact → ℕ → ℕ → Option ℕ
 exact_size_by (Is i item) slot signature = some_if (i == slot) (length item)
 exact_size_by (Size i n) slot signature = some_if (i == slot) n
@@ -23,7 +23,7 @@ exact_size_by fact slot signature = None
 abbrev pub exact_size : Stated → ℕ → ℕ → Option ℕ
 exact_size s slot signature = if s.holds then exact_size_by s.fact slot signature else None
 
--- the usual number of bytes: 32 of a preimage, and one of a true item
+-- the usual number of bytes: 32 for a preimage, and one for a true item
 abbrev pub least_size_by : Fact → ℕ → ℕ
 least_size_by (Hash i h) slot = if i == slot then 32 else 0
 least_size_by (Truth i) slot = if i == slot then 1 else 0
@@ -32,7 +32,7 @@ least_size_by fact slot = 0
 abbrev pub least_size : Stated → ℕ → ℕ
 least_size s slot = if s.holds then least_size_by s.fact slot else 0
 
--- how many bytes a slot has: those of the first fact that asks for a number of bytes, else the greatest usual number
+-- the number of bytes of a slot: what the first fact that asks for a number asks for, else the greatest usual number
 abbrev pub size_or : Option ℕ → ℕ → ℕ
 size_or (Some n) rest = n
 size_or None rest = rest
@@ -41,14 +41,14 @@ abbrev pub size_in : List Stated → ℕ → ℕ → ℕ → ℕ
 size_in [] slot signature least = least
 size_in (s ∷ facts) slot signature least = size_or (exact_size s slot signature) (size_in facts slot signature (max (least_size s slot) least))
 
--- the bytes of a number as a compactSize
+-- the number of bytes of a compactSize
 abbrev pub compact_size : ℕ → ℕ
 compact_size n = if nat_lt n 0xfd then 1 else if nat_lt n 0x10000 then 3 else if nat_lt n 0x100000000 then 5 else 9
 
 abbrev pub item_weight : ℕ → ℕ
 item_weight n = compact_size n + n
 
--- the first slots
+-- the weight of the first slots
 abbrev pub items_weight : List Stated → ℕ → ℕ → ℕ
 items_weight facts zero signature = 0
 items_weight facts (suc slot) signature = items_weight facts slot signature + item_weight (size_in facts slot signature 0)

@@ -1,4 +1,4 @@
-// The input, and why it is refused before what stands in it is read.
+// Reads the input.
 
 ghost use Rattle.std.specs.Prelude.{◌≤◌, IfOk, vec_len};
 
@@ -9,7 +9,7 @@ use thiserror::Error;
 /// The greatest number of bytes of an input.
 pub const MAX_INPUT: usize = 4_194_304;
 
-/// Why an input is refused before what stands in it is read.
+/// Why an input is refused before its content is looked at.
 #[derive(Clone, Copy, Debug, Error)]
 pub enum InputError {
     /// Memory ran out.
@@ -43,7 +43,7 @@ impl InputError {
     }
 }
 
-/// The bytes of an input. No more than one above the limit is read.
+/// Reads the whole input, but at most one byte above the limit.
 pub fn read_all<R: Read>(alloc: Global, input: &mut R) -> Result<Vec<u8>, InputError>
     ensures { IfOk result (λ bytes. vec_len bytes ≤ MAX_INPUT) }
 {

@@ -9,7 +9,7 @@ use facts::{Fact, KeySource, Stated};
 use paths::Path;
 use script::Op;
 
-// The members of a push beside its opcode.
+// Writes the members of a push besides its opcode.
 fn tell_push(line: &mut Line, item: &[u8]) {
     line.hex("hex", item);
     line.name("looks");
@@ -25,7 +25,7 @@ fn tell_push(line: &mut Line, item: &[u8]) {
     }
 }
 
-/// An opcode that begins at a byte and stands in a number of branches, an element of an array.
+/// Writes an opcode, an element of an array: it begins at this byte, and is in this number of branches.
 pub fn tell_op(line: &mut Line, op: &Op, byte: usize, depth: usize) {
     line.open("{");
     line.count("byte", byte as u64);
@@ -55,7 +55,7 @@ fn kind(fact: &Fact) -> &'static str {
     }
 }
 
-// The slots of a fact, the elements of an array.
+// Writes the slots of a fact, the elements of an array.
 fn tell_slots(line: &mut Line, fact: &Fact) {
     match fact {
         Fact::Hash(slot, _) | Fact::Is(slot, _) => line.number(*slot as u128),
@@ -71,7 +71,7 @@ fn tell_slots(line: &mut Line, fact: &Fact) {
     }
 }
 
-// A key: a text in hexadecimal, or the number of the slot that has it.
+// Writes a key: a text in hexadecimal, or the number of the slot that has it.
 fn tell_key(line: &mut Line, key: &KeySource) {
     match key {
         KeySource::Const(key) => line.bytes(key.bytes()),
@@ -79,7 +79,7 @@ fn tell_key(line: &mut Line, key: &KeySource) {
     }
 }
 
-// The keys of a fact, the elements of an array.
+// Writes the keys of a fact, the elements of an array.
 fn tell_keys(line: &mut Line, fact: &Fact) {
     match fact {
         Fact::Token(_, key) => tell_key(line, key),
@@ -92,7 +92,7 @@ fn tell_keys(line: &mut Line, fact: &Fact) {
     }
 }
 
-// What a fact compares with: bytes, a number, or nothing.
+// Writes the value that a fact compares with: bytes, a number, or nothing.
 fn tell_value(line: &mut Line, fact: &Fact) {
     match fact {
         Fact::Hash(_, bytes) | Fact::Is(_, bytes) => line.bytes(bytes.bytes()),
@@ -102,7 +102,7 @@ fn tell_value(line: &mut Line, fact: &Fact) {
     }
 }
 
-// A fact.
+// Writes a fact.
 fn tell_fact(line: &mut Line, stated: &Stated) {
     let fact = &stated.fact;
     line.open("{");
@@ -121,7 +121,7 @@ fn tell_fact(line: &mut Line, stated: &Stated) {
     line.close("}");
 }
 
-// A path through a script of a number of bytes, an element of an array.
+// Writes a path through a script of this number of bytes, an element of an array.
 fn tell_path(line: &mut Line, path: &Path, size: usize) {
     let facts = path.facts.values();
     line.open("{");
@@ -142,7 +142,7 @@ fn tell_path(line: &mut Line, path: &Path, size: usize) {
     line.close("}");
 }
 
-/// The paths through a script of a number of bytes, with which its object ends.
+/// Writes the paths through a script of this number of bytes, with which its object ends.
 pub fn tell_paths(line: &mut Line, paths: &[Path], size: usize) {
     line.begin("paths", "[");
     for path in paths {

@@ -1,19 +1,18 @@
-//! The words of the program `trace`, from which come a status and text.
+//! The words of the program `trace`, and the status and text that they lead to.
 //!
-//! `trace script HEX` tells the opcodes of a version 0 witness script and the ways through it, and `trace script` those
-//! of each script on standard input, one a line. Each script gives one JSON object on a line, or, after the word
-//! `--text`, lines for people. [`run_words`] does what the words say, over any reader and writers, and answers a status
-//! of at most 2. What an opcode is called, what a push looks like, each fact's sentence ([`Sentence`]) and each
-//! witness's weight ([`witness_weight`]) are proved; how they are laid out is tested.
+//! `trace script HEX` explains the opcodes of a version 0 witness script and the ways through it. `trace script` does so for each script on standard input,
+//! one a line. Each script gives one JSON object on a line, or, after the word `--text`, lines for people. [`run_words`] does what the words say, over any
+//! reader and writers, and returns a status of at most 2. The names of opcodes, what a push looks like, each fact's sentence ([`Sentence`]) and each
+//! witness's weight ([`witness_weight`]) are proved. Their layout is tested, not proved.
 //!
-//! `paths` lists the ways, and `facts` has what they ask for. The program `trace` hands it the words. `trace_scenario`
-//! and `trace_witness` write what they tell by its [`Line`], and read their input by its [`read_all`].
+//! `paths` lists the ways, and `facts` has what they ask for. The program `trace` passes it the words. `trace_scenario` and `trace_witness` write by its
+//! [`Line`], and read their input by its [`read_all`].
 //!
 //! ```rust
 //! let status = run_words(alloc, words, &mut input, &mut out, &mut err);
 //! ```
 //!
-//! Tested in `trace_tests`, and by the rows of the program.
+//! Tested in `trace_tests`, and by the recorded runs of the program `trace`.
 #![tactic(auto)]
 
 ghost use Rattle.std.specs.Prelude.{◌≡◌, ◌≤◌, ◌⊎◌};
@@ -45,11 +44,11 @@ use std::io::{Read, Write};
 pub use weights::{SIGNATURE_SIZE, TOKEN_SIZE, witness_weight};
 pub use writer::Line;
 
-/// The line that wrong words get.
+/// The line that is printed for wrong words.
 pub const USAGE: &str = "usage: trace scenario | script [--text] [HEX] | witness [--text]\n";
 
-/// Runs the program on its words (without its name) and answers its status: 0 when all scripts are listed, 1 for a refused script, refused input or a failed
-/// write, 2 for wrong words, which are found before any input is read. All that is told of a script is made before its first byte is written.
+/// Runs the program on its words (without its name) and returns its status: 0 when all scripts are listed, 1 for a refused script, refused input or a failed
+/// write, 2 for wrong words, which are detected before any input is read. All text about a script is made before its first byte is written.
 pub fn run_words<R: Read, W: Write, E: Write>(
     alloc: Global,
     words: &[String],
@@ -66,21 +65,21 @@ pub fn run_words<R: Read, W: Write, E: Write>(
     }
 }
 
-/// Answers wrong words.
+/// Handles wrong words.
 pub fn refuse_words<E: Write>(err: &mut E) -> u8
     ensures { result ≤ 2 }
 {
     written(err, USAGE, 2)
 }
 
-/// Answers that memory ran out.
+/// Reports that memory ran out.
 pub fn refuse_memory<W: Write>(out: &mut W) -> u8
     ensures { result ≡ 1 }
 {
     written(out, "refused NoMemory\n", 1)
 }
 
-/// Writes a text, and answers the status, or 1 where the write fails.
+/// Writes a text, and returns the status, or 1 if the write fails.
 pub fn written<W: Write>(out: &mut W, text: &str, status: u8) -> u8
     ensures { (result ≡ status) ⊎ (result ≡ 1) }
 {

@@ -1,4 +1,4 @@
-// What is told of the scripts on standard input.
+// Explains the scripts on standard input.
 
 ghost use Rattle.std.specs.Prelude.{◌≡◌, ◌≤◌, ◌⊎◌};
 
@@ -9,7 +9,7 @@ use crate::{refuse_memory, written};
 use std::alloc::Global;
 use std::io::{Read, Write};
 
-/// Writes what is told, and answers the status, or 1 where the write fails, or where memory ran out before: then this is said in its place.
+/// Writes what was explained, and returns the status. Returns 1 if the write fails, or if memory ran out before, which it then reports instead.
 pub fn write_told<W: Write>(out: &mut W, line: &Line, status: u8) -> u8
     ensures { (result ≡ status) ⊎ (result ≡ 1) }
 {
@@ -19,7 +19,7 @@ pub fn write_told<W: Write>(out: &mut W, line: &Line, status: u8) -> u8
     }
 }
 
-/// Tells of a script, and answers the status.
+/// Explains a script, and returns the status.
 pub fn told<W: Write>(alloc: Global, text: &str, form: Form, out: &mut W) -> u8
     ensures { result ≤ 1 }
 {
@@ -32,7 +32,7 @@ pub fn told<W: Write>(alloc: Global, text: &str, form: Form, out: &mut W) -> u8
     write_told(out, &line, status)
 }
 
-/// Tells of each script that the input has on a line of its own, at once, and answers the greatest status.
+/// Explains each script of the input, one a line and each at once, and returns the greatest status.
 pub fn tell_input<R: Read, W: Write>(alloc: Global, form: Form, input: &mut R, out: &mut W) -> u8
     ensures { result ≤ 1 }
 {
@@ -42,7 +42,7 @@ pub fn tell_input<R: Read, W: Write>(alloc: Global, form: Form, input: &mut R, o
     }
 }
 
-// Tells of each script of the bytes of a text.
+// Explains each script of the bytes of a text.
 fn tell_text<W: Write>(alloc: Global, bytes: &[u8], form: Form, out: &mut W) -> u8
     ensures { result ≤ 1 }
 {
@@ -52,7 +52,7 @@ fn tell_text<W: Write>(alloc: Global, bytes: &[u8], form: Form, out: &mut W) -> 
     }
 }
 
-// Tells of each script of a text.
+// Explains each script of a text.
 fn tell_lines<W: Write>(alloc: Global, text: &str, form: Form, out: &mut W) -> u8
     ensures { result ≤ 1 }
 {
@@ -65,7 +65,7 @@ fn tell_lines<W: Write>(alloc: Global, text: &str, form: Form, out: &mut W) -> u
     status
 }
 
-// Answers that the input is refused.
+// Reports that the input is refused.
 fn refuse_input<W: Write>(alloc: Global, form: Form, refusal: InputError, out: &mut W) -> u8
     ensures { result ≤ 1 }
 {

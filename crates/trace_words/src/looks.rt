@@ -10,7 +10,7 @@ pub enum Look {
     Key,
     /// A hash: 20 or 32 bytes.
     Hash,
-    /// A number of at most 5 bytes.
+    /// A number of at most 5 bytes, minimally encoded.
     Number(Number),
     /// Something else.
     Bytes,
@@ -20,7 +20,7 @@ impl Look {
     ghost use Rattle.std.specs.Prelude.{◌≡◌};
     ghost use Rattle.trace_words.specs.Looks.{look_of};
 
-    /// What bytes look like.
+    /// Classifies bytes.
     pub fn of(item: &[u8]) -> Look
         ensures { result ≡ look_of item.now }
     {

@@ -5,7 +5,7 @@ ghost use Rattle.trace_words.specs.Names.{name_of, shown_depth, depth_after as d
 
 use script::Op;
 
-/// The opcode's name, as the standards have it without `OP_`; `PUSH` for each push.
+/// The opcode's name in Bitcoin's standards, without `OP_`; `PUSH` for each push.
 pub fn opcode_name(op: &Op) -> &'static str
     ensures { result.now ≡ name_of op.now }
 {
@@ -29,7 +29,8 @@ pub fn opcode_name(op: &Op) -> &'static str
     }
 }
 
-/// In how many branches an opcode stands, where as many IFs stand open before it: ELSE and ENDIF stand where their IF does.
+/// The number of branches that an opcode is in, if `ifs` IFs are open
+/// before it. ELSE and ENDIF are shown at the level of their IF.
 pub fn depth(op: &Op, ifs: usize) -> usize
     ensures { result ≡ shown_depth op.now ifs }
 {
@@ -39,7 +40,7 @@ pub fn depth(op: &Op, ifs: usize) -> usize
     }
 }
 
-/// How many IFs stand open after an opcode.
+/// The number of IFs that are open after an opcode.
 pub fn depth_after(op: &Op, ifs: usize) -> usize
     requires { ifs + 1 < 2 ^ 64 }
     ensures { result ≡ depth_beyond op.now ifs }

@@ -9,7 +9,7 @@ use facts::Stated;
 use paths::Path;
 use script::Op;
 
-// The bytes of a push, and what they look like.
+// Writes the bytes of a push, and what they look like.
 fn tell_push(line: &mut Line, item: &[u8]) {
     if item.is_empty() {
         line.push(" - (the empty item, number 0)");
@@ -29,7 +29,7 @@ fn tell_push(line: &mut Line, item: &[u8]) {
     }
 }
 
-/// An opcode, on a line: the byte at which it begins, and its name, indented by two spaces for each branch.
+/// Writes an opcode on a line: the byte at which it begins, and its name, indented by branch.
 pub fn tell_op(line: &mut Line, op: &Op, byte: usize, depth: usize) {
     line.push_shown(format_args!("{byte:>5}  "));
     for _ in 0..depth {
@@ -44,7 +44,7 @@ pub fn tell_op(line: &mut Line, op: &Op, byte: usize, depth: usize) {
     line.push("\n");
 }
 
-// What stands before a sentence.
+// The text before a sentence.
 fn label(role: Role) -> &'static str {
     match role {
         Role::Who => "  who   ",
@@ -53,7 +53,7 @@ fn label(role: Role) -> &'static str {
     }
 }
 
-// The sentences of one role, a line each, or other lines where there is none.
+// Writes the sentences of one role, a line each, or another line if there are none.
 fn tell_role(line: &mut Line, facts: &[Stated], role: Role, otherwise: &str) {
     let mut is_told = false;
     for stated in facts {
@@ -69,7 +69,7 @@ fn tell_role(line: &mut Line, facts: &[Stated], role: Role, otherwise: &str) {
     }
 }
 
-// A path through a script of a number of bytes, by its number.
+// Writes a path through a script of this number of bytes, with its number.
 fn tell_path(line: &mut Line, path: &Path, number: usize, size: usize) {
     let facts = path.facts.values();
     line.push("path ");
@@ -86,7 +86,7 @@ fn tell_path(line: &mut Line, path: &Path, number: usize, size: usize) {
     tell_role(line, facts, Role::When, "  when  at once\n");
 }
 
-/// The paths through a script of a number of bytes.
+/// Writes the paths through a script of this number of bytes.
 pub fn tell_paths(line: &mut Line, paths: &[Path], size: usize) {
     if paths.is_empty() {
         line.push("no path: no witness opens this script\n");

@@ -7,7 +7,7 @@ use script::branches::pass_branch;
 use script::limits::MAX_OPS_PER_SCRIPT;
 use std::alloc::{AllocError, Global};
 
-/// The byte at which an opcode of a script begins; past the last one, the end.
+/// The byte at which an opcode begins; the end of the script for an index past the last one.
 pub fn byte_of(ops: &[Op], index: usize) -> u64 {
     let mut byte = 0u64;
     for (at, op) in ops.iter().enumerate() {
@@ -21,7 +21,7 @@ pub fn byte_of(ops: &[Op], index: usize) -> u64 {
     byte
 }
 
-// The first opcode that has no IF, or the end.
+// The index of the first opcode without its IF, or the number of opcodes.
 fn open_at(alloc: Global, ops: &[Op]) -> Result<usize, AllocError> {
     let mut ifs = Stack::new(alloc);
     for (at, op) in ops.iter().enumerate() {
@@ -32,7 +32,7 @@ fn open_at(alloc: Global, ops: &[Op]) -> Result<usize, AllocError> {
     Ok(ops.len())
 }
 
-// The opcode with which more than 201 are counted, if there is one.
+// The index of the opcode with which more than 201 are counted, if there is one.
 fn excess_at(ops: &[Op]) -> Option<usize> {
     let mut counted = 0;
     for (at, op) in ops.iter().enumerate() {
@@ -44,7 +44,7 @@ fn excess_at(ops: &[Op]) -> Option<usize> {
     None
 }
 
-/// The byte at which a script is refused, where it is refused for one of its opcodes or for its end.
+/// The byte at which a script is refused, if the reason is one of its opcodes or its end.
 pub fn place(alloc: Global, ops: &[Op], error: &CheckError) -> Result<Option<u64>, AllocError> {
     match error {
         CheckError::Undecided(at) => Ok(Some(byte_of(ops, *at))),

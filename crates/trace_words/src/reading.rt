@@ -1,4 +1,4 @@
-// A script that is read and told.
+// Reads and explains a script.
 
 use crate::input::InputError;
 use crate::names::{depth, depth_after};
@@ -12,7 +12,7 @@ use script::{Op, ParseError, Script};
 use std::alloc::Global;
 use std::fmt::Display;
 
-/// How an answer is written.
+/// The format of an answer.
 #[derive(Clone, Copy)]
 pub enum Form {
     /// One JSON object on a line.
@@ -21,7 +21,7 @@ pub enum Form {
     Text,
 }
 
-/// Tells of a script that is written in hexadecimal: its opcodes, then its paths, or why it is refused. Answers whether its paths are listed.
+/// Explains a script in hexadecimal: its opcodes, then its paths, or why it is refused. Returns whether its paths are listed.
 pub fn tell(alloc: Global, line: &mut Line, form: Form, text: &str) -> bool {
     match hex::decode(alloc, text) {
         Ok(bytes) => tell_bytes(alloc, line, form, bytes.as_slice()),
@@ -36,7 +36,7 @@ pub fn tell(alloc: Global, line: &mut Line, form: Form, text: &str) -> bool {
     }
 }
 
-// Tells of the bytes of a script.
+// Explains the bytes of a script.
 fn tell_bytes(alloc: Global, line: &mut Line, form: Form, bytes: &[u8]) -> bool {
     match Script::parse(alloc, bytes) {
         Ok(script) => tell_script(alloc, line, form, &script),
@@ -47,7 +47,7 @@ fn tell_bytes(alloc: Global, line: &mut Line, form: Form, bytes: &[u8]) -> bool 
     }
 }
 
-// Tells of bytes that are not a script: the opcodes before the fault.
+// Explains bytes that are not a script: the opcodes before the fault.
 fn tell_part(alloc: Global, line: &mut Line, form: Form, bytes: &[u8], error: ParseError) {
     let (read, fault) = match error {
         ParseError::NoMemory => {
@@ -66,7 +66,7 @@ fn tell_part(alloc: Global, line: &mut Line, form: Form, bytes: &[u8], error: Pa
     }
 }
 
-// Tells of a script, and answers whether its paths are listed.
+// Explains a script, and returns whether its paths are listed.
 fn tell_script(alloc: Global, line: &mut Line, form: Form, script: &Script) -> bool {
     let Ok(copy) = script.copy() else {
         line.fail();
@@ -84,7 +84,7 @@ fn tell_script(alloc: Global, line: &mut Line, form: Form, script: &Script) -> b
     }
 }
 
-// Tells of a script that is listed.
+// Explains a script that is listed.
 fn tell_listed(line: &mut Line, form: Form, script: &Script, paths: &[Path]) {
     let size = script.bytes().len();
     begin(line, form, Some(size as u64), script.ops());
@@ -94,7 +94,7 @@ fn tell_listed(line: &mut Line, form: Form, script: &Script, paths: &[Path]) {
     }
 }
 
-// Tells of a script that is not listed.
+// Explains a script that is not listed.
 fn tell_unlisted(alloc: Global, line: &mut Line, form: Form, script: &Script, error: CheckError) {
     if let CheckError::NoMemory = error {
         line.fail();
@@ -109,7 +109,7 @@ fn tell_unlisted(alloc: Global, line: &mut Line, form: Form, script: &Script, er
     }
 }
 
-// What is told of each script first: how many bytes it has, and its opcodes.
+// Writes what comes first of each script: its number of bytes, and its opcodes.
 fn begin(line: &mut Line, form: Form, bytes: Option<u64>, ops: &[Op]) {
     match form {
         Form::Json => {
@@ -123,7 +123,7 @@ fn begin(line: &mut Line, form: Form, bytes: Option<u64>, ops: &[Op]) {
     }
 }
 
-// The opcodes of a script.
+// Writes the opcodes of a script.
 fn tell_ops(line: &mut Line, form: Form, ops: &[Op]) {
     let (mut byte, mut ifs) = (0usize, 0usize);
     for op in ops {
@@ -137,7 +137,7 @@ fn tell_ops(line: &mut Line, form: Form, ops: &[Op]) {
     }
 }
 
-/// Tells of a script that is refused: how many bytes it has, the opcodes that were read, why it is refused, and at which byte.
+/// Explains a refusal: the script's number of bytes, the opcodes that were read, the reason, and the byte at which it is refused.
 pub fn refuse<D: Display + Drop>(
     line: &mut Line,
     form: Form,

@@ -10,14 +10,14 @@ use facts::{Fact, KeySource, Stated};
 use script::limits::LOCKTIME_THRESHOLD;
 use std::fmt;
 
-/// What a fact tells of a path.
+/// What a fact says about a path.
 #[derive(Clone, Copy, PartialEq, Eq, Drop)]
 pub enum Role {
-    /// Whose signature it takes.
+    /// Whose signature the path takes.
     Who,
     /// What else the witness has.
     With,
-    /// When it can be spent.
+    /// When the output can be spent.
     When,
 }
 
@@ -25,7 +25,7 @@ impl Role {
     ghost use Rattle.std.specs.Prelude.{◌≡◌};
     ghost use Rattle.trace_words.specs.Sentences.{role_of, role_text};
 
-    /// What a fact tells of its path.
+    /// What a fact says about its path.
     pub fn of(stated: &Stated) -> Role
         ensures { result ≡ role_of stated.now }
     {
@@ -36,7 +36,7 @@ impl Role {
         }
     }
 
-    /// The word for it.
+    /// The word for the role.
     pub fn text(self) -> &'static str
         ensures { result.now ≡ role_text self }
     {
@@ -62,7 +62,8 @@ fn are(holds: bool) -> &'static str
     if holds { "are" } else { "are not" }
 }
 
-// What a slot is that counts as true, or not.
+// The words for a slot that counts
+// as true, or that does not.
 fn truth(holds: bool) -> &'static str
     ensures { result.now ≡ truth_words holds }
 {
@@ -73,7 +74,7 @@ fn truth(holds: bool) -> &'static str
     }
 }
 
-// A key: its bytes, or the slot that has it.
+// A key: its bytes, or the slot that holds it.
 #[derive(Drop)]
 struct Key<'a>(&'a KeySource);
 
@@ -142,7 +143,7 @@ impl fmt::Display for Age {
     }
 }
 
-// Keys whose signatures are wanted in their order.
+// Keys whose signatures are needed in this order.
 #[derive(Drop)]
 struct KeysInOrder<'a>(&'a [KeySource]);
 
@@ -154,7 +155,7 @@ impl fmt::Display for KeysInOrder<'_> {
     }
 }
 
-// What a slot is or is not.
+// Writes what a slot is or is not.
 fn write_slot<W: fmt::Write>(
     f: &mut fmt::Formatter<W>,
     slot: usize,
@@ -166,7 +167,7 @@ fn write_slot<W: fmt::Write>(
     write!(f, "slot {slot} {verb}{rest}")
 }
 
-// That a slot is a preimage, or is not.
+// Writes that a slot is a preimage, or is not.
 fn write_hash<W: fmt::Write>(
     f: &mut fmt::Formatter<W>,
     slot: usize,
@@ -184,7 +185,7 @@ fn write_hash<W: fmt::Write>(
     )
 }
 
-// That slots are signatures, or are not.
+// Writes that slots are signatures, or are not.
 fn write_assigned<W: fmt::Write>(
     f: &mut fmt::Formatter<W>,
     slots: &[usize],
@@ -197,7 +198,7 @@ fn write_assigned<W: fmt::Write>(
     write!(f, "slots {} {verb}{}", Slots(slots), KeysInOrder(keys))
 }
 
-// That a slot has a size, or has not.
+// Writes that a slot has a size, or has not.
 fn write_size<W: fmt::Write>(
     f: &mut fmt::Formatter<W>,
     slot: usize,
@@ -210,7 +211,7 @@ fn write_size<W: fmt::Write>(
     write!(f, "slot {slot} {verb} {size} bytes long")
 }
 
-// That a slot is an item, or is not.
+// Writes that a slot is an item, or is not.
 fn write_item<W: fmt::Write>(
     f: &mut fmt::Formatter<W>,
     slot: usize,
@@ -223,7 +224,7 @@ fn write_item<W: fmt::Write>(
     write!(f, "slot {slot} {verb} {}", Item(item))
 }
 
-// That a slot is a signature by a key, or is not.
+// Writes that a slot is a signature by a key, or is not.
 fn write_token<W: fmt::Write>(
     f: &mut fmt::Formatter<W>,
     slot: usize,
@@ -236,7 +237,7 @@ fn write_token<W: fmt::Write>(
     write!(f, "slot {slot} {verb} a signature by {}", Key(key))
 }
 
-// That an absolute lock holds, or that its check fails.
+// Writes that an absolute lock holds, or that its check fails.
 fn write_lock<W: fmt::Write>(f: &mut fmt::Formatter<W>, lock: u64, holds: bool) -> fmt::Result
     ensures { WritesOnOk W.write_str_gives f.old result (lock_sentence lock holds) f.new }
 {
@@ -246,7 +247,7 @@ fn write_lock<W: fmt::Write>(f: &mut fmt::Formatter<W>, lock: u64, holds: bool) 
     write!(f, "while the check of the lock time {lock} fails")
 }
 
-// That a relative lock holds, or that its check fails.
+// Writes that a relative lock holds, or that its check fails.
 fn write_age<W: fmt::Write>(f: &mut fmt::Formatter<W>, age: u32, holds: bool) -> fmt::Result
     ensures { WritesOnOk W.write_str_gives f.old result (age_sentence age holds) f.new }
 {
@@ -256,7 +257,7 @@ fn write_age<W: fmt::Write>(f: &mut fmt::Formatter<W>, age: u32, holds: bool) ->
     write!(f, "while the check of the relative lock {age} fails")
 }
 
-/// A fact in a sentence.
+/// A fact, printed as a sentence.
 #[derive(Drop)]
 pub struct Sentence<'a>(pub &'a Stated);
 

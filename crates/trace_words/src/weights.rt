@@ -1,4 +1,4 @@
-// What the witness of a path weighs: a unit for each of its bytes (BIP 141).
+// The weight of the witness of a path: one unit for each byte (BIP 141).
 
 ghost use Rattle.std.specs.Prelude.{◌≡◌, ◌≤◌, ◌+◌, ◌*◌, ◌^◌};
 ghost use Rattle.trace_words.specs.Weights.{is_one_of, exact_size as exact_size_of, least_size as least_size_of, size_in, compact_size as compact_size_of, item_weight as item_weight_of, items_weight as items_weight_of, witness_weight as witness_weight_of};
@@ -6,10 +6,10 @@ ghost use Rattle.trace_words.specs.Weights.{is_one_of, exact_size as exact_size_
 use facts::{Fact, Stated};
 use script::limits::MAX_STACK_SIZE;
 
-/// The bytes of a token, which stands for a signature.
+/// The number of bytes of a token, which stands for a signature.
 pub const TOKEN_SIZE: u64 = 66;
 
-/// The bytes of a signature with its hash type, as BOLT 3 counts them.
+/// The number of bytes of a signature with its hash type, as BOLT 3 counts them.
 pub const SIGNATURE_SIZE: u64 = 73;
 
 // Whether a slot is among others.
@@ -19,7 +19,7 @@ fn is_among(slot: usize, slots: &[usize]) -> bool
     slots.contains(&slot)
 }
 
-// How many bytes a fact asks a slot to have, where it asks for a number of bytes.
+// The number of bytes that a fact asks of a slot, if it asks for one. A signature has `signature` bytes.
 fn exact_size(stated: &Stated, slot: usize, signature: u64) -> Option<u64>
     ensures { result ≡ exact_size_of stated.now slot signature }
 {
@@ -36,7 +36,7 @@ fn exact_size(stated: &Stated, slot: usize, signature: u64) -> Option<u64>
     }
 }
 
-// How many bytes a slot usually has that a fact asks for: 32 of a preimage, and one of a true item.
+// The usual number of bytes of a slot that a fact asks about: 32 for a preimage, and one for a true item.
 fn least_size(stated: &Stated, slot: usize) -> u64
     ensures { result ≡ least_size_of stated.now slot }
 {
@@ -50,7 +50,7 @@ fn least_size(stated: &Stated, slot: usize) -> u64
     }
 }
 
-// How many bytes a slot has: those of the first fact that asks for a number of bytes, else the usual number.
+// The number of bytes of a slot: what the first fact that asks for a number asks for, else the greatest usual number.
 fn slot_size(facts: &[Stated], slot: usize, signature: u64) -> u64
     ensures { result ≡ size_in facts.now slot signature 0 }
 {
@@ -64,7 +64,7 @@ fn slot_size(facts: &[Stated], slot: usize, signature: u64) -> u64
     least
 }
 
-// The bytes of a number as a compactSize.
+// The number of bytes of a compactSize.
 fn compact_size(n: u64) -> u128
     ensures value { result ≡ compact_size_of n }
     ensures bound { result ≤ 9 }
@@ -77,7 +77,7 @@ fn compact_size(n: u64) -> u128
     }
 }
 
-// What an item of this number of bytes weighs.
+// The weight of an item of this number of bytes, with its length.
 fn item_weight(size: u64) -> u128
     ensures value { result ≡ item_weight_of size }
     ensures bound { result ≤ 2 ^ 64 + 9 }
@@ -85,7 +85,7 @@ fn item_weight(size: u64) -> u128
     compact_size(size) + u128::from(size)
 }
 
-// What the first slots weigh.
+// The weight of the first slots.
 fn slots_weight(facts: &[Stated], slots: u16, signature: u64) -> u128
     ensures value { result ≡ items_weight_of facts.now slots signature }
     ensures bound { result ≤ slots * (2 ^ 64 + 9) }
@@ -97,7 +97,7 @@ fn slots_weight(facts: &[Stated], slots: u16, signature: u64) -> u128
     total
 }
 
-/// What the witness of a path weighs in weight units: the number of its items, the items, each a usual one, and the script, where a signature has this number of bytes.
+/// The weight of the witness of a path in weight units: the number of items, the items at their usual sizes, and the script. A signature has `signature` bytes.
 pub fn witness_weight(facts: &[Stated], arity: usize, script: usize, signature: u64) -> u128
     ensures { result ≡ witness_weight_of facts.now arity script signature }
 {

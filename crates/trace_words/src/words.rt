@@ -2,12 +2,12 @@
 
 use crate::reading::Form;
 
-/// What is asked for.
+/// The request that the words make.
 #[derive(Drop)]
 pub enum Command<'a> {
-    /// What a script is, in hexadecimal.
+    /// Explain a script in hexadecimal.
     Script(Form, &'a str),
-    /// What each script on standard input is, one a line.
+    /// Explain each script on standard input, one a line.
     Scripts(Form),
 }
 

@@ -1,4 +1,4 @@
--- Counts, texts and lists of fields: what is read is spelled so, and what is spelled so is read.
+-- Counts, texts and lists of fields: the bytes spell what is read, and what they spell is read.
 use Rattle.std.proofs.Common.{◌≡◌, ℕ, zero, suc, ◌^◌, ◌<◌, ◌≤◌, false, cond, ltb, eqb, List, [], ◌∷◌, ◌++◌, length, Result, Ok, Err, refl, ap, subst, ◌∙◌, append_assoc, arith, inl, inr}
 use Rattle.std.specs.List.{flat_map, AllByRecursion}
 use Rattle.std.proofs.lemmas.Bool.{cases_lt, ltb-false, le-ltb, lt-ltb, eqb-true, eqb-false, ne_eqb}
@@ -34,7 +34,7 @@ count_of_64 n le =
     let b : ltb n (2 ^ 16) ≡ false = le-ltb _ _ (omega arith) in
     rw (a, b, le-ltb _ _ le) refl
 
--- a byte before what was bytes_at
+-- a byte before what was taken
 Takes-behind : (b : ℕ) (bytes spelled whole rest : List ℕ) → whole ≡ b ∷ spelled → Takes bytes spelled rest → Takes (b ∷ bytes) whole rest
 Takes-behind b bytes spelled whole rest e t = rw e (record { parts = ap (λ (w : List ℕ). b ∷ w) t.parts; rest_fits = t.rest_fits })
 
@@ -146,7 +146,7 @@ many_again read spell Good reads (x ∷ xs) rest good =
     let regrouped : flat_map spell (x ∷ xs) ++ rest ≡ spell x ++ (flat_map spell xs ++ rest) = append_assoc (spell x) (flat_map spell xs) rest in
     ap (fields_at read (suc (length xs))) regrouped ∙ rw (reads.again x (flat_map spell xs ++ rest) good.0, many_again read spell Good reads xs rest good.1) refl
 
--- a list with its count before it
+-- a list after its count
 pub record IsCounted {A : Type 0} (Few : ℕ → Type 0) (Good : A → Type 0) (xs : List A) : Type 0 where
   pub count : Few (length xs)
   pub each : AllByRecursion Good xs

@@ -1,4 +1,4 @@
--- The definitions at work on known bytes.
+-- The definitions on known bytes.
 use Rattle.std.proofs.Common.{◌≡◌, ℕ, Bool, true, false, List, [], ◌∷◌, ◌++◌, map, Result, Ok, Err, refl, replicate}
 use Rattle.tx.specs.declared.input.TxIn.{TxIn}
 use Rattle.tx.specs.declared.errors.DecodeError.{DecodeError}
@@ -61,7 +61,7 @@ no_inputs : reading (2 ∷ 0 ∷ 0 ∷ 0 ∷ 0 ∷ 1 ∷ 0 ∷ []) ≡ failing N
 unfolding reading version_at number_at bytes_at marker_at inputs_at list_at input_count_at compact_size_up_to compact_size_at
 no_inputs = refl
 
--- no outputs, and a witness with no item: the lock time isn't looked for
+-- no outputs, and a witness with no item: the lock time is not read
 no_witness : reading (front ++ (0 ∷ 0 ∷ 0 ∷ 0 ∷ 0 ∷ 0 ∷ 0 ∷ [])) ≡ failing NoWitness
 unfolding reading version_at number_at bytes_at marker_at inputs_at list_at input_count_at compact_size_up_to compact_size_at fields_at input_at outputs_at witnesses_at signed_inputs_at signed_input_at witness_at
 no_witness = refl
@@ -74,8 +74,8 @@ byte_too_many : reading (front ++ (middle ++ (back ++ 0 ∷ []))) ≡ failing Tr
 unfolding reading version_at number_at bytes_at marker_at inputs_at list_at input_count_at compact_size_up_to compact_size_at fields_at input_at outputs_at output_at byte_string_at witnesses_at signed_inputs_at signed_input_at witness_at end_at
 byte_too_many = refl
 
--- ---- values and bytes from an independent script: unlike inputs, of which the second is not signed, unlike outputs, and a
--- witness of two unlike items
+-- ---- values and bytes from an independent script: different inputs, the second of which is not signed, different outputs,
+-- and a witness of two different items
 
 limits : (max_value ≡ 2100000000000000) × (max_inputs ≡ 4000) × (max_outputs ≡ 4000) × (max_items ≡ 1001) × (max_bytes ≡ 10000)
 limits = (refl, refl, refl, refl, refl)
@@ -113,7 +113,7 @@ stripped_is_read : (stripped_reading mixed_stripped ≡ Ok (unsigned_transaction
 unfolding stripped_reading number_at bytes_at inputs_at list_at input_count_at compact_size_up_to compact_size_at fields_at input_at outputs_at output_at byte_string_at end_at
 stripped_is_read = (refl, refl, refl)
 
--- one witness with an item is enough, wherever it stands
+-- one witness with an item is enough, at any input
 witness_found : (has_witness (signed ∷ unsigned ∷ []) ≡ true) × (has_witness (unsigned ∷ signed ∷ []) ≡ true) × (has_witness (unsigned ∷ unsigned ∷ []) ≡ false) × (has_witness [] ≡ false)
 witness_found = (refl, refl, refl, refl)
 
@@ -145,7 +145,7 @@ count_spellings : (compact_size_at [] ≡ no_count Truncated) × (compact_size_a
 unfolding compact_size_at wide_at number_at bytes_at
 count_spellings = (refl, refl, refl, refl, refl, refl, refl, refl, refl)
 
--- a value at its limit and above it, before the script is looked at
+-- a value at its limit and above it, before the script is read
 abbrev an_output : Output → Field Output
 an_output o = Ok (o, [])
 
@@ -157,7 +157,7 @@ value_limits : (output_at (0x00 ∷ 0x40 ∷ 0x07 ∷ 0x5a ∷ 0xf0 ∷ 0x75 ∷
 unfolding output_at number_at bytes_at byte_string_at compact_size_up_to compact_size_at
 value_limits = (refl, refl)
 
--- a refusal of one name has one number in every call
+-- a refusal has the same number in every call
 refusal_numbers : (map decode_refusal_number (NoMemory ∷ Truncated ∷ LongCount ∷ BadMarker ∷ NoInputs ∷ NoWitness ∷ ValueTooLarge ∷ Trailing ∷ OverLimit ∷ []) ≡ 0 ∷ 1 ∷ 2 ∷ 3 ∷ 4 ∷ 5 ∷ 6 ∷ 7 ∷ 8 ∷ [])
     × (map encode_refusal_number (encode.NoMemory ∷ encode.NoWitness ∷ []) ≡ 0 ∷ 5 ∷ []) × (map field_refusal_number (field.NoInputs ∷ field.ValueTooLarge ∷ field.OverLimit ∷ []) ≡ 4 ∷ 6 ∷ 8 ∷ [])
     × (map limit_refusal_number (limit.NoMemory ∷ limit.OverLimit ∷ []) ≡ 0 ∷ 8 ∷ [])

@@ -10,7 +10,7 @@ use Rattle.tx.specs.Reading.{◌>>=◌, Field, Fails, fields_at, signed_input_at
 abbrev pub with_front : {A : Type 0} → List A → Field (List A) → Field (List A)
 with_front front read = read >>= λ x. Ok (front ++ x.0, x.1)
 
--- where a loop over count fields stands
+-- the state of a loop over `count` fields
 pub record SoFar {A : Type 0} (read : List ℕ → Field A) (front : List A) (count i : ℕ) (rest bytes : List ℕ) : Type 0 where
   pub told : with_front front (fields_at read (count - i) rest) ≡ fields_at read count bytes
   pub len : length front ≡ i
@@ -57,7 +57,7 @@ is_done {A = A} read front count i rest bytes le so_far =
 drop_here : (xs : List TxIn) (i : ℕ) (x : TxIn) → i < length xs → x ≡ get_or xs i x → drop i xs ≡ x ∷ drop (i + 1) xs
 drop_here xs i x lt is = rw add-one (drop-cons xs i x lt ∙ ap (λ (y : TxIn). y ∷ drop (suc i) xs) (sym is))
 
--- where a loop over inputs that are not yet signed stands
+-- the state of a loop over inputs that are not yet signed
 pub record SignedSoFar (front unsigned : List TxIn) (i : ℕ) (rest bytes : List ℕ) : Type 0 where
   pub told : with_front front (signed_inputs_at (drop i unsigned) rest) ≡ signed_inputs_at unsigned bytes
   pub len : length front ≡ i

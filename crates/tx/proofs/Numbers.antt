@@ -1,4 +1,4 @@
--- Numbers, counts and texts: what is read is spelled so, and what is spelled so is read.
+-- Numbers, counts and texts: the bytes spell what is read, and what they spell is read.
 use Rattle.std.proofs.Common.{◌≡◌, ℕ, suc, ◌+◌, ◌^◌, ◌<◌, ◌≤◌, ◌⊎◌, Bool, true, false, cond, ltb, List, ◌∷◌, ◌++◌, length, get_or, take, drop, Result, Ok, Err, refl, sym, ap, subst, ◌∙◌, append_assoc, arith, inl, inr}
 use Rattle.std.proofs.lemmas.Bool.{cases_lt, ltb-false, le-ltb}
 use Rattle.std.proofs.lemmas.List.{take_at, drop_at, take-append-drop, length-append, length-take, get_or-drop, get_or-take, get_or_past}
@@ -57,7 +57,7 @@ pub record Takes (bytes spelled rest : List ℕ) : Type 0 where
 pub Takes-then : (a x b y c : List ℕ) → Takes a x b → Takes b y c → Takes a (x ++ y) c
 Takes-then a x b y c p q = record { parts = p.parts ∙ ap (λ (t : List ℕ). x ++ t) q.parts ∙ sym (append_assoc x y c); rest_fits = q.rest_fits }
 
--- a reader takes what spell makes of good values, and reads it again whatever follows
+-- a reader takes off what `spell` writes for good values, and gives the value back whatever follows
 pub record Reads {A : Type 0} (read : List ℕ → Field A) (spell : A → List ℕ) (Good : A → Type 0) : Type 0 where
   pub takes : (bytes : List ℕ) (x : A × List ℕ) → IsBytes bytes → read bytes ≡ Ok x → Takes bytes (spell x.0) x.1 × Good x.0
   pub again : (a : A) (rest : List ℕ) → Good a → read (spell a ++ rest) ≡ Ok (a, rest)

@@ -39,7 +39,7 @@ has_witness inputs = list_any (λ i. not (length i.witness == 0)) inputs
 abbrev pub signed_input : TxIn → List (List ℕ) → TxIn
 signed_input i items = record i { witness = items }
 
--- the inputs, of which the one at an index has this witness
+-- the inputs, with this witness at an index
 abbrev pub inputs_with_witness : List TxIn → ℕ → List (List ℕ) → List TxIn
 inputs_with_witness [] index items = []
 inputs_with_witness (i ∷ is) zero items = signed_input i items ∷ is
@@ -49,7 +49,7 @@ inputs_with_witness (i ∷ is) (suc index) items = i ∷ inputs_with_witness is 
 abbrev pub unsigned_inputs : List TxIn → List TxIn
 unsigned_inputs inputs = map (λ i. signed_input i []) inputs
 
--- the transaction, of which the input at an index has this witness
+-- the transaction, with this witness for the input at an index
 abbrev pub transaction_with_witness : Transaction → ℕ → List (List ℕ) → Transaction
 transaction_with_witness t index items = record t { inputs = inputs_with_witness t.inputs index items }
 
@@ -57,6 +57,6 @@ transaction_with_witness t index items = record t { inputs = inputs_with_witness
 abbrev pub unsigned_transaction : Transaction → Transaction
 unsigned_transaction t = record t { inputs = unsigned_inputs t.inputs }
 
--- the satoshis of outputs together
+-- the sum of the values of outputs in satoshis
 abbrev pub total_value : List Output → ℕ
 total_value outputs = sum_by (λ o. o.value) outputs

@@ -1,4 +1,4 @@
--- What a hasher has bytes_at in.
+-- What a hasher has taken in.
 use Rattle.std.specs.Prelude.{ℕ, List, ◌++◌}
 use Rattle.sha2.specs.declared.Sha256.{Sha256}
 use Rattle.sha2.specs.Hashers.{Holds256}

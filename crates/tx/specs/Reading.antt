@@ -13,7 +13,7 @@ abbrev pub ◌>>=◌ : {A B : Type 0} → Result A DecodeError → (A → Result
 (Ok x) >>= f = f x
 (Err e) >>= f = Err e
 
--- What a function answered, seen by view, is what reading gives, unless memory ran out.
+-- What a function answered, seen through `view`, is what `read` gives, unless memory ran out.
 abbrev pub Fails : {Y : Type 0} → DecodeError → Result Y DecodeError → Type 0
 Fails NoMemory read = Unit {0}
 Fails e read = read ≡ Err e
@@ -36,7 +36,7 @@ number_at k bytes = do
   digits ← bytes_at k bytes
   Ok (little_number k digits.0, digits.1)
 
--- a number of k bytes, which is minimal from least on
+-- a number of k bytes; below `least` it has a shorter form, so it is not minimal
 unfoldable pub wide_at : ℕ → ℕ → List ℕ → Field ℕ
 wide_at k least bytes = do
   n ← number_at k bytes
@@ -57,7 +57,7 @@ compact_size_up_to limit bytes = do
   n ← compact_size_at bytes
   if nat_lt limit n.0 then Err OverLimit else Ok n
 
--- bytes with their length before them
+-- bytes after their length
 unfoldable pub byte_string_at : List ℕ → Field (List ℕ)
 byte_string_at bytes = do
   n ← compact_size_up_to max_bytes bytes
@@ -76,7 +76,7 @@ unfoldable pub marker_at : ℕ → List ℕ → Result (List ℕ) DecodeError
 marker_at wanted [] = Err Truncated
 marker_at wanted (b ∷ rest) = if b == wanted then Ok rest else Err BadMarker
 
--- an input, as yet with no witness
+-- an input, without its witness so far
 unfoldable pub input_at : List ℕ → Field TxIn
 input_at bytes = do
   txid ← bytes_at 32 bytes
@@ -135,7 +135,7 @@ witnesses_at unsigned bytes = do
 unfoldable pub end_at : List ℕ → Transaction → Result Transaction DecodeError
 end_at bytes t = if length bytes == 0 then Ok t else Err Trailing
 
--- the version, and marker and flag after it
+-- the version, and the marker and flag after it
 unfoldable pub version_at : List ℕ → Field ℕ
 version_at bytes = do
   version ← number_at 4 bytes

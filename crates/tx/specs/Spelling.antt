@@ -20,14 +20,14 @@ compact_size n =
     else if nat_lt n (2 ^ 32) then 0xfe ∷ number 4 n
     else 0xff ∷ number 8 n
 
--- bytes with their length before them
+-- bytes after their length as a compactSize
 unfoldable pub bytes_with_length : List ℕ → List ℕ
 bytes_with_length bytes = compact_size (length bytes) ++ bytes
 
 unfoldable pub outpoint : OutPoint → List ℕ
 outpoint o = o.txid ++ number 4 o.index
 
--- an input, whose script is empty and whose witness stands elsewhere
+-- an input, whose script is empty; its witness is spelled elsewhere
 unfoldable pub input : TxIn → List ℕ
 input i = outpoint i.outpoint ++ compact_size 0 ++ number 4 i.sequence
 
@@ -37,7 +37,7 @@ output o = number 8 o.value ++ bytes_with_length o.script
 unfoldable pub witness : List (List ℕ) → List ℕ
 witness items = compact_size (length items) ++ flat_map bytes_with_length items
 
--- the inputs and outputs, each list with its count before it
+-- the inputs and outputs, each list after its count
 unfoldable pub body : List TxIn → List Output → List ℕ
 body inputs outputs = compact_size (length inputs) ++ flat_map input inputs ++ compact_size (length outputs) ++ flat_map output outputs
 

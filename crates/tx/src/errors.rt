@@ -9,21 +9,21 @@ ghost use Rattle.tx.specs.declared.errors.EncodeError.TheVariants as encode;
 use std::alloc::{AllocError, AllocFailed};
 use thiserror::Error;
 
-/// Why a list does not take an element.
+/// Why a list refuses an element.
 #[derive(Debug, Drop, Error)]
 pub enum LimitError {
     /// Memory ran out.
     #[error("NoMemory")]
     NoMemory,
-    /// The list is full, or the element does not keep the limits of its kind.
+    /// The list is full, or the element exceeds the limits of its kind.
     #[error("OverLimit")]
     OverLimit,
 }
 
-/// Why fields make no output or no transaction.
+/// Why fields do not make an output or a transaction.
 #[derive(Debug, Drop, Error)]
 pub enum FieldError {
-    /// A transaction has at least one input.
+    /// There is no input.
     #[error("NoInputs")]
     NoInputs,
     /// A value is above 2,100,000,000,000,000 satoshis.
@@ -34,7 +34,7 @@ pub enum FieldError {
     OverLimit,
 }
 
-/// Why bytes are no transaction: the first fault from left to right.
+/// Why bytes are not a transaction: the first fault from left to right.
 #[derive(Debug, Drop, Error)]
 pub enum DecodeError {
     /// Memory ran out.
@@ -58,7 +58,7 @@ pub enum DecodeError {
     /// A value is above 2,100,000,000,000,000 satoshis.
     #[error("ValueTooLarge")]
     ValueTooLarge,
-    /// Bytes stand after the lock time.
+    /// There are bytes after the lock time.
     #[error("Trailing")]
     Trailing,
     /// A count is above its limit.
@@ -66,7 +66,7 @@ pub enum DecodeError {
     OverLimit,
 }
 
-/// Why a transaction has no bytes.
+/// Why a transaction is not encoded.
 #[derive(Debug, Drop, Error)]
 pub enum EncodeError {
     /// Memory ran out.

@@ -33,7 +33,7 @@ fn u16_at(bytes: &[u8]) -> Result<(u16, &[u8]), DecodeError>
     Ok((LittleEndian::read_u16(digits), rest))
 }
 
-/// A little-endian number of four bytes.
+/// A little-endian number in four bytes.
 #[tactic(auto, unfolding(crate::specs::Reading::number_at, crate::specs::Reading::bytes_at))]
 pub(crate) fn u32_at(bytes: &[u8]) -> Result<(u32, &[u8]), DecodeError>
     ensures { Gives (λ x. (x.0, x.1.now)) result (number_at 4 bytes.now) }
@@ -45,7 +45,7 @@ pub(crate) fn u32_at(bytes: &[u8]) -> Result<(u32, &[u8]), DecodeError>
     Ok((LittleEndian::read_u32(digits), rest))
 }
 
-/// A little-endian number of eight bytes.
+/// A little-endian number in eight bytes.
 #[tactic(auto, unfolding(crate::specs::Reading::number_at, crate::specs::Reading::bytes_at))]
 pub(crate) fn u64_at(bytes: &[u8]) -> Result<(u64, &[u8]), DecodeError>
     ensures { Gives (λ x. (x.0, x.1.now)) result (number_at 8 bytes.now) }
@@ -116,7 +116,7 @@ pub(crate) fn compact_size_up_to(limit: usize, bytes: &[u8]) -> Result<(usize, &
     Ok((count as usize, rest))
 }
 
-/// Bytes with their length before them.
+/// Bytes that follow their length, a minimal compactSize.
 #[tactic(auto, unfolding(crate::specs::Reading::byte_string_at))]
 pub(crate) fn byte_string_at(
     alloc: Global,

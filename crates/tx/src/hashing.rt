@@ -1,4 +1,4 @@
-//! Parts of a transaction given to a hasher, so that no bytes need to be kept.
+//! Feeds parts of a transaction to a hasher, so that their bytes need not be stored.
 
 ghost use Rattle.std.specs.Prelude.{◌≡◌};
 ghost use Rattle.std.specs.List.{flat_map};
@@ -11,7 +11,7 @@ use crate::transaction::Tx;
 use digest::sha256;
 use sha2::{Digest, Sha256};
 
-/// Gives a number to a hasher, as four bytes, little-endian.
+/// Feeds a number to a hasher: four bytes, little-endian.
 #[tactic(auto, unfolding(crate::specs::Spelling::number))]
 pub fn absorb_u32(hasher: &mut Sha256, small: u32)
     ensures { Absorbs hasher.old hasher.new (number 4 small) }
@@ -19,7 +19,7 @@ pub fn absorb_u32(hasher: &mut Sha256, small: u32)
     hasher.update(&small.to_le_bytes());
 }
 
-/// Gives a number to a hasher, as eight bytes, little-endian.
+/// Feeds a number to a hasher: eight bytes, little-endian.
 #[tactic(auto, unfolding(crate::specs::Spelling::number))]
 pub fn absorb_u64(hasher: &mut Sha256, large: u64)
     ensures { Absorbs hasher.old hasher.new (number 8 large) }
@@ -27,7 +27,7 @@ pub fn absorb_u64(hasher: &mut Sha256, large: u64)
     hasher.update(&large.to_le_bytes());
 }
 
-/// Gives a count to a hasher, as a minimal compactSize.
+/// Feeds a count to a hasher, as a minimal compactSize.
 #[tactic(auto, unfolding(crate::specs::Spelling::compact_size, crate::specs::Spelling::number))]
 pub fn absorb_compact_size(hasher: &mut Sha256, n: usize)
     ensures { Absorbs hasher.old hasher.new (compact_size n) }
@@ -47,7 +47,7 @@ pub fn absorb_compact_size(hasher: &mut Sha256, n: usize)
     }
 }
 
-/// Gives bytes with their length before them to a hasher.
+/// Feeds bytes to a hasher, after their length as a compactSize.
 #[tactic(auto, unfolding(crate::specs::Spelling::bytes_with_length))]
 pub fn absorb_byte_string(hasher: &mut Sha256, bytes: &[u8])
     ensures { Absorbs hasher.old hasher.new (bytes_with_length bytes.now) }
@@ -56,7 +56,7 @@ pub fn absorb_byte_string(hasher: &mut Sha256, bytes: &[u8])
     hasher.update(bytes);
 }
 
-/// Gives an outpoint to a hasher: the id, and the index in four bytes.
+/// Feeds an outpoint to a hasher: the id, and the index in four bytes, little-endian.
 #[tactic(auto, unfolding(crate::specs::Spelling::outpoint))]
 pub fn absorb_outpoint(hasher: &mut Sha256, o: &OutPoint)
     ensures { Absorbs hasher.old hasher.new (outpoint o.now) }
@@ -65,7 +65,8 @@ pub fn absorb_outpoint(hasher: &mut Sha256, o: &OutPoint)
     absorb_u32(hasher, o.index);
 }
 
-/// Gives an output to a hasher: the value in eight bytes, and the script with its length.
+/// Feeds an output to a hasher: the value in eight bytes, little-endian, and the script after its
+/// length.
 #[tactic(auto, unfolding(crate::specs::Spelling::output))]
 pub fn absorb_output(hasher: &mut Sha256, o: &TxOut)
     ensures { Absorbs hasher.old hasher.new (output o.now) }
@@ -74,7 +75,7 @@ pub fn absorb_output(hasher: &mut Sha256, o: &TxOut)
     absorb_byte_string(hasher, o.script().bytes());
 }
 
-/// Gives outputs to a hasher, one after the other.
+/// Feeds outputs to a hasher, one after another.
 pub fn absorb_outputs(hasher: &mut Sha256, outputs: &[TxOut])
     ensures { Absorbs hasher.old hasher.new (flat_map output outputs.now) }
 {
@@ -111,8 +112,9 @@ fn absorb_body(hasher: &mut Sha256, inputs: &[TxIn], outputs: &[TxOut])
     absorb_outputs(hasher, outputs);
 }
 
-/// The id of a transaction: SHA-256 twice over its bytes without marker, flag and witnesses (BIP 141),
-/// in the hash's own byte order. An unsigned transaction has the id of the signed one.
+/// The id of a transaction: SHA-256 twice over its bytes without marker, flag and witnesses (BIP 141,
+/// "Transaction ID"), in the hash's own byte order. An unsigned transaction has the same id as the
+/// signed one.
 #[tactic(auto, unfolding(crate::specs::Spelling::stripped_spelling, crate::specs::Spelling::transaction_id))]
 pub fn txid(tx: &Tx) -> [u8; 32]
     ensures { result ≡ transaction_id tx.now }

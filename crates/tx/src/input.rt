@@ -8,16 +8,16 @@ use crate::limits::MAX_INPUTS;
 use crate::witness::Witness;
 use std::alloc::AllocError;
 
-/// The output that an input spends. Outpoints stand in the order of their ids, byte by byte, and then of their indices.
+/// The output that an input spends. Outpoints are ordered by their ids, byte by byte, and then by their indices.
 #[derive(Clone, Copy, Debug, PartialEq, Eq, PartialOrd, Ord, Hash, Drop)]
 pub struct OutPoint {
     /// The id of the transaction that has the output, in the hash's own byte order.
     pub txid: [u8; 32],
-    /// Which of its outputs it is, from 0.
+    /// Which of that transaction's outputs it is, from 0.
     pub index: u32,
 }
 
-/// An input. Its input script is empty, as a version 0 witness program wants (BIP 141).
+/// An input. Its input script is empty, as spending a version 0 witness program requires (BIP 141).
 #[derive(Debug, Drop)]
 pub struct TxIn {
     pub outpoint: OutPoint,
@@ -82,7 +82,7 @@ impl Element for TxIn {
 }
 
 impl LimitedList<TxIn> {
-    /// Gives the input at `index`, from 0, this witness in place of its own.
+    /// Replaces the witness of the input at `index`, counted from 0.
     pub fn set_witness(&mut self, index: usize, witness: Witness)
         requires { index < length self.old }
         ensures value { self.new ≡ inputs_with_witness self.old index witness }
@@ -95,7 +95,7 @@ impl LimitedList<TxIn> {
         input.witness = witness;
     }
 
-    /// Takes the witness items of all inputs away.
+    /// Removes the witness items of all inputs.
     pub fn strip_witnesses(&mut self)
         ensures value { self.new ≡ unsigned_inputs self.old }
         ensures len { length self.new ≡ length self.old }

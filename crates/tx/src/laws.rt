@@ -4,7 +4,7 @@ ghost use Rattle.std.specs.Prelude.{◌≡◌, ℕ, List};
 ghost use Rattle.tx.specs.Fields.{Transaction, transaction_with_witness, unsigned_transaction};
 ghost use Rattle.tx.specs.Spelling.{IsTransaction, IsStripped, transaction_id};
 
-/// A transaction has one spelling, and bytes spell one transaction.
+/// A transaction has at most one spelling, and bytes spell at most one transaction.
 pub fn one_spelling()
     ensures of_value { (t : Transaction) (a b : List ℕ) → IsTransaction t a → IsTransaction t b
         → a ≡ b }
@@ -12,15 +12,15 @@ pub fn one_spelling()
         → IsTransaction u bytes → t ≡ u }
 {}
 
-/// The same of the form without marker, flag and witnesses.
+/// The same for the form without marker, flag and witnesses.
 pub fn one_stripped_spelling()
     ensures of_value { (t : Transaction) (a b : List ℕ) → IsStripped t a → IsStripped t b → a ≡ b }
     ensures of_bytes { (t u : Transaction) (bytes : List ℕ) → IsStripped t bytes
         → IsStripped u bytes → t ≡ u }
 {}
 
-/// The id of a transaction does not look at its witnesses: two that are equal once stripped have one id, and giving an input a
-/// witness leaves the stripped transaction as it was.
+/// The id of a transaction does not depend on its witnesses: two transactions that are equal once stripped have the same id.
+/// Giving an input a witness leaves the stripped transaction as it was.
 pub fn ids_ignore_witnesses()
     ensures of_stripped { (t u : Transaction) → unsigned_transaction t ≡ unsigned_transaction u
         → transaction_id t ≡ transaction_id u }

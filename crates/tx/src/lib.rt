@@ -1,11 +1,11 @@
 //! Transactions with version 0 witnesses, and their bytes (BIP 141, BIP 144).
 //!
-//! The main contract is that of [`decode`]: barring out-of-memory, it answers exactly the transaction that the bytes
+//! The main contract is that of [`decode`]: barring out-of-memory, it returns exactly the transaction that the bytes
 //! spell, or the first fault from left to right. Input scripts are empty, every compactSize is minimal, marker and
 //! flag are always there, and at least one witness has an item. A transaction that is still to be signed is a [`Tx`]
-//! with empty witnesses: it has an id and a stripped form ([`encode_stripped`]), and no other bytes.
+//! with empty witnesses: it has an id and a stripped form ([`encode_stripped`]), and no other encoding.
 //!
-//! `digest` hashes its ids. `sighash` takes a [`Tx`] to say what its signatures sign, `commit` and `filling` make
+//! `digest` hashes its ids. `sighash` computes from a [`Tx`] what its signatures sign, `commit` and `filling` make
 //! transactions, and `chain` connects them.
 //!
 //! ```rust

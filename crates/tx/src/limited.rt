@@ -31,7 +31,7 @@ pub trait Element: Drop {
     fn copy(&self) -> Result<Self, AllocError>
         ensures { IfOk result (λ x. x ≡ self.now) };
 
-    /// Whether the two have one value.
+    /// Whether the two are equal.
     fn equals(&self, other: &Self) -> bool
         ensures { IsTrue result ↔ (self.now ≡ other.now) };
 }
@@ -69,7 +69,7 @@ impl<T: Element> LimitedList<T> {
     pub fn from_vec(items: Vec<T>) -> Result<Self, LimitError>
         ensures value { result ≡ (if list_all T.is_bounded items.items && nat_le
             (length items.items) T.LIMIT then Ok items.items else Err LimitError.OverLimit) }
-        // Where the kind has no limits of its own, the number decides.
+        // Where the kind has no limits of its own, only the number of elements counts.
         ensures by_number { ((x : T) → T.is_bounded x ≡ true)
             → result ≡ (if nat_le (length items.items) T.LIMIT then Ok items.items
             else Err LimitError.OverLimit) }
@@ -117,7 +117,7 @@ impl<T: Element> LimitedList<T> {
         self.items.as_slice()
     }
 
-    /// The elements, with the memory that they lie in.
+    /// Gives the elements back as a `Vec` without allocating.
     pub fn into_vec(self) -> Vec<T>
         ensures value { result.items ≡ self }
         ensures limits { IsWithin T.LIMIT T.Keeps result.items }
@@ -134,7 +134,7 @@ impl<T: Element> LimitedList<T> {
         self.items.len()
     }
 
-    /// Whether there is no element.
+    /// Whether the list is empty.
     pub fn is_empty(&self) -> bool
         ensures { result ≡ (length self.now == 0) }
     {

@@ -29,8 +29,8 @@ impl Model for TxOut {
 }
 
 impl TxOut {
-    /// An output of this value in satoshis, which `script` keeps: ValueTooLarge where the value is above 21,000,000 bitcoins, else
-    /// OverLimit where the script has more than 10,000 bytes.
+    /// An output of this value in satoshis with this script, which it takes over. The error is ValueTooLarge where the value is
+    /// above 21,000,000 bitcoins, else OverLimit where the script has more than 10,000 bytes.
     pub fn new(value: u64, script: ByteString) -> Result<Self, FieldError>
         ensures { result ≡ (if nat_lt max_value value then Err FieldError.ValueTooLarge
             else if nat_lt max_bytes (length script) then Err FieldError.OverLimit
@@ -61,7 +61,7 @@ impl TxOut {
         &self.script
     }
 
-    /// The script, with the memory that it lies in.
+    /// Takes the script out of the output without copying it.
     pub fn into_script(self) -> ByteString
         ensures value { result ≡ self.script }
         ensures limit { length result ≤ max_bytes }
@@ -119,7 +119,7 @@ impl Element for TxOut {
     }
 }
 
-/// The satoshis of outputs together. No number of them passes the width.
+/// The sum of the values of outputs in satoshis. No number of outputs overflows it.
 pub fn total_value(outputs: &[TxOut]) -> u128
     ensures { result ≡ total_value outputs.now }
 {

@@ -15,7 +15,7 @@ use crate::transaction::{Tx, has_witness};
 use crate::witness::Witness;
 use std::alloc::Global;
 
-// An input, as yet with no witness.
+// An input, without its witness so far.
 #[tactic(auto, unfolding(crate::specs::Reading::input_at))]
 fn input_at(alloc: Global, bytes: &[u8]) -> Result<(TxIn, &[u8]), DecodeError>
     ensures { Gives (λ x. (x.0, x.1.now)) result (input_at bytes.now) }
@@ -46,7 +46,7 @@ fn output_at(alloc: Global, bytes: &[u8]) -> Result<(TxOut, &[u8]), DecodeError>
     Ok((TxOut::new(value, script).unwrap(), rest))
 }
 
-// `count` inputs, as yet with no witnesses.
+// `count` inputs, without their witnesses so far.
 fn some_inputs_at(
     alloc: Global,
     count: usize,
@@ -162,7 +162,7 @@ fn signed_inputs_at<'a>(
     Ok((inputs, rest))
 }
 
-// The inputs with their witnesses, of which one has an item.
+// The inputs with their witnesses, at least one of which has an item.
 #[tactic(auto, unfolding(crate::specs::Reading::witnesses_at))]
 fn witnesses_at<'a>(
     alloc: Global,
@@ -180,7 +180,7 @@ fn witnesses_at<'a>(
     Ok((inputs, rest))
 }
 
-// The version, and marker and flag after it.
+// The version, and the marker and flag after it.
 #[tactic(auto, unfolding(crate::specs::Reading::version_at))]
 fn version_at(bytes: &[u8]) -> Result<(u32, &[u8]), DecodeError>
     ensures { Gives (λ x. (x.0, x.1.now)) result (version_at bytes.now) }
@@ -206,15 +206,14 @@ fn all(alloc: Global, bytes: &[u8]) -> Result<Tx, DecodeError>
     Ok(Tx::new(version, inputs, outputs, lock_time).unwrap())
 }
 
-/// The transaction that the bytes spell, all of the bytes (BIP 144). Marker and flag are always there,
-/// each compactSize is minimal, and at least one witness has an item. The error is that memory ran out, or the first fault from left to
-/// right.
+/// The transaction that all of the bytes spell (BIP 144). Marker and flag are always there, each compactSize is minimal, and at least
+/// one witness has an item. The error is that memory ran out, or the first fault from left to right.
 pub fn decode(alloc: Global, bytes: &[u8]) -> Result<Tx, DecodeError>
-    // What is read is spelled so.
+    // The bytes spell the transaction that is read.
     ensures found { IfOk result (λ t. IsTransaction t bytes.now) }
-    // What is spelled so is read, unless memory runs out.
+    // A transaction that the bytes spell is read, unless memory runs out.
     ensures only { (t : Transaction) → IsTransaction t bytes.now → Gives (λ t. t) result (Ok t) }
-    // Which fault it is: the first one from left to right.
+    // The fault is the first one from left to right.
     ensures exact { Gives (λ t. t) result (reading bytes.now) }
 {
     all(alloc, bytes)
@@ -238,11 +237,11 @@ fn all_stripped(alloc: Global, bytes: &[u8]) -> Result<Tx, DecodeError>
 /// The transaction that the bytes spell in the form without marker, flag and witnesses, over which its id is taken
 /// (BIP 141). It has no witness items. The error is that memory ran out, or the first fault from left to right.
 pub fn decode_stripped(alloc: Global, bytes: &[u8]) -> Result<Tx, DecodeError>
-    // What is read is spelled so.
+    // The bytes spell the transaction that is read.
     ensures found { IfOk result (λ t. IsStripped t bytes.now) }
-    // What is spelled so is read, unless memory runs out.
+    // A transaction that the bytes spell is read, unless memory runs out.
     ensures only { (t : Transaction) → IsStripped t bytes.now → Gives (λ t. t) result (Ok t) }
-    // Which fault it is: the first one from left to right.
+    // The fault is the first one from left to right.
     ensures exact { Gives (λ t. t) result (stripped_reading bytes.now) }
 {
     all_stripped(alloc, bytes)

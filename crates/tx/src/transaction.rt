@@ -46,7 +46,7 @@ impl Model for Tx {
 }
 
 impl Tx {
-    /// A transaction of these fields, which takes no memory: NoInputs where there is no input.
+    /// A transaction of these fields, without allocating. The error is NoInputs where there is no input.
     pub fn new(
         version: u32,
         inputs: Inputs,
@@ -75,7 +75,7 @@ impl Tx {
         })
     }
 
-    /// The fields, with the memory that they lie in. `Tx::new` puts them together again.
+    /// Takes the transaction apart without copying. `Tx::new` puts the fields together again.
     pub fn into_parts(self) -> TxParts
         ensures version { result.version ≡ self.version }
         ensures inputs { result.inputs ≡ self.inputs }
@@ -104,7 +104,7 @@ impl Tx {
         self.version
     }
 
-    /// The inputs, of which there is at least one.
+    /// The inputs, at least one.
     pub fn inputs(&self) -> &[TxIn]
         ensures value { result.now ≡ self.now.inputs }
         ensures some { 0 < length result.now }
@@ -121,21 +121,21 @@ impl Tx {
         self.outputs.as_slice()
     }
 
-    /// The lock time: a height, or from 500,000,000 on a time (BIP 65).
+    /// The lock time: a block height below 500,000,000, else a time in seconds since 1970 (BIP 65).
     pub fn lock_time(&self) -> u32
         ensures { result ≡ self.now.lock_time }
     {
         self.lock_time
     }
 
-    /// Whether a witness has an item, so that the transaction has bytes.
+    /// Whether some witness has an item, so that the transaction can be encoded.
     pub fn has_witness(&self) -> bool
         ensures { result ≡ has_witness self.now.inputs }
     {
         has_witness(self.inputs.as_slice())
     }
 
-    /// Gives the input at `index`, from 0, this witness in place of its own. It takes no memory.
+    /// Replaces the witness of the input at `index`, counted from 0. It allocates nothing.
     pub fn set_witness(&mut self, index: usize, witness: Witness)
         requires { index < length self.old.inputs }
         ensures { self.new ≡ transaction_with_witness self.old index witness }
@@ -143,7 +143,7 @@ impl Tx {
         self.inputs.set_witness(index, witness);
     }
 
-    /// Takes the witness items of all inputs away. It takes no memory.
+    /// Removes the witness items of all inputs. It allocates nothing.
     pub fn strip_witnesses(&mut self)
         ensures { self.new ≡ unsigned_transaction self.old }
     {

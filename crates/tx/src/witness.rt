@@ -7,7 +7,7 @@ use crate::limits::{MAX_BYTES, MAX_ITEMS};
 use lists::ByteString;
 use std::alloc::AllocError;
 
-/// At most 1,001 items of at most 10,000 bytes, the first of them the lowest of the stack.
+/// At most 1,001 items of at most 10,000 bytes each, the bottom of the stack first.
 pub type Witness = LimitedList<ByteString>;
 
 impl Element for ByteString {

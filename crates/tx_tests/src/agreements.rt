@@ -1,4 +1,4 @@
-//! Terms that can and can't be agreed on, and the fields of commitments against the values of BOLT 3.
+//! Terms that can and can't be agreed on, and the fields of commitments, against the values of BOLT 3.
 
 use crate::fixtures::{key, spending};
 use lists::List;
@@ -41,7 +41,7 @@ fn starts_sum_to_the_capacity(rt: HostRuntime) {
     assert_eq!(rt; TermsError::BadTerms.number(), 1);
 }
 
-// What a side would bring to the terms.
+// A side's part of proposed terms.
 fn proposed_party(start: u64) -> ProposedParty {
     ProposedParty {
         dust: 546,
@@ -51,7 +51,7 @@ fn proposed_party(start: u64) -> ProposedParty {
     }
 }
 
-// Terms with a capacity of 100,000 satoshis, as they are proposed.
+// Proposed terms with a capacity of 100,000 satoshis.
 fn proposed(a: u64, b: u64) -> ProposedTerms {
     ProposedTerms {
         capacity: 100_000,
@@ -62,7 +62,7 @@ fn proposed(a: u64, b: u64) -> ProposedTerms {
     }
 }
 
-// The terms that two sides agree on are those that were proposed.
+// The terms that two sides agree on are the proposed ones.
 #[test]
 fn proposed_terms_become_terms(rt: HostRuntime) {
     let a = one_key(key(&rt, PAYMENT_BASES[0]));
@@ -72,7 +72,8 @@ fn proposed_terms_become_terms(rt: HostRuntime) {
     assert!(rt; !proposed(80_000_000, 20_000_001).can_agree());
 }
 
-// The mask and the number of the commitments in BOLT 3, appendix C; of a greater number the low 48 bits count.
+// The mask and the number of the commitments in BOLT 3, appendix C. Of a greater number only the low 48 bits
+// count.
 #[test]
 fn numbers_hide_in_the_fields(rt: HostRuntime) {
     assert_eq!(rt; mask(&good_terms(&rt)), 0x2bb0_3852_1914);
@@ -90,7 +91,7 @@ fn numbers_hide_in_the_fields(rt: HostRuntime) {
     }
 }
 
-// The example of the page of `terms`.
+// The example in the documentation of `terms`.
 fn is_commitment(terms: &Terms, tx: &Tx, n: u64) -> bool {
     number_of(terms, tx) == Some(n)
 }
@@ -101,7 +102,7 @@ fn commitments_have_numbers(rt: HostRuntime) {
     assert!(rt; is_commitment(&good_terms(&rt), &tx, 42));
 }
 
-// A share with so many HTLCs.
+// A share with this number of HTLCs.
 fn share_of(rt: &impl Abort, alloc: Global, balance: u64, count: usize) -> Share {
     let htlc = Htlc {
         id: 3,

@@ -1,4 +1,4 @@
-//! What the tests share: keys, parties, transactions that only spend, and printed text.
+//! What the tests share: keys, parties, transactions that have only inputs, and printed text.
 
 use hex::FromHex;
 use keys::Key;
@@ -7,7 +7,7 @@ use std::fmt::Display;
 use std::process::Abort;
 use tx::{Inputs, OutPoint, Outputs, Tx, TxIn, Witness};
 
-/// The key of 66 hexadecimal digits.
+/// The key with these 66 hexadecimal digits.
 pub(crate) fn key(rt: &impl Abort, text: &str) -> Key {
     let bytes = <[u8; 33] as FromHex>::from_hex(text).expect(rt, "66 hex digits");
     Key::read(&bytes).expect(rt, "a key")

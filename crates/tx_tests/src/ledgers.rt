@@ -1,5 +1,5 @@
-//! Updates between two sides, with a hash from outside; memory that is there is found; printed names. Numbers alone are facts of the
-//! definitions.
+//! Updates between two sides, with a hash from an outside source; that no call is refused under ample memory; printed names. What
+//! needs no run is proved from the definitions.
 
 use crate::fixtures::assert_prints;
 use keys::point;
@@ -34,7 +34,7 @@ fn open(rt: &impl Abort, alloc: Global) -> Sides {
     Sides { a, b }
 }
 
-/// The balances of A and B, how many HTLCs of A stand, and the feerate.
+/// The balances of A and B, the number of A's live HTLCs, and the feerate.
 fn seen(rt: &impl Abort, answer: Result<View, AllocError>) -> (u64, u64, usize, u32) {
     let view = answer.expect(rt, "a view");
     let htlcs = view.a.offered.len();
@@ -104,7 +104,7 @@ fn amounts_change_sides(rt: HostRuntime) {
     assert_eq!(rt; seen(&rt, s.a.view_of(Side::A)), moved);
 }
 
-// With ample memory no call is refused, however long the lists are.
+// Under ample memory no call is refused, however long the lists are.
 #[test]
 fn long_histories_are_accepted(rt: HostRuntime) {
     let mut s = open(&rt, rt.alloc());
@@ -132,7 +132,7 @@ fn full_commitments_are_accepted(rt: HostRuntime) {
     assert_eq!(rt; view, (79_517_000, 20_000_000, 483, 1000));
 }
 
-/// The example of the page of `updates`.
+/// The example in the documentation of `updates`.
 fn offer_and_see(
     ledger: &mut Ledger,
     amount: u64,

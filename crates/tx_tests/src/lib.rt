@@ -1,6 +1,7 @@
 //! Tests of transactions and of what a channel's sides agree on: `tx`, `sighash`, `keys`, `terms` and `updates`.
 //!
-//! They stand apart so that each library is proved without them. The examples of the libraries' pages are among them.
+//! They are a crate of their own, so that each library is proved without them. They include the examples in the
+//! libraries' documentation.
 #![tactic(auto)]
 
 #[cfg(test)]

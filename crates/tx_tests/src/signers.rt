@@ -1,4 +1,4 @@
-//! Keys against values that Python's hashlib gave, and what signers may sign for.
+//! Keys against values from Python's hashlib, and what signers may sign for.
 
 use crate::fixtures::{assert_prints, key};
 use hex::FromHex;
@@ -16,7 +16,7 @@ const BASES: [Base; 5] = [
     Base::Revocation,
 ];
 
-/// The seed of all signers here: 32 bytes 0a.
+/// The seed of all signers here: 32 bytes 0a (hexadecimal).
 const SEED: [u8; 32] = [0x0a; 32];
 
 /// The base keys of the seed.
@@ -28,7 +28,7 @@ const BASE_KEYS: [&str; 5] = [
     "0286791f9847667325180a6aa37fe82c669c364ebb242e6f89646c56b0fd4ea99b",
 ];
 
-/// What derives from them at the point 03(33*32).
+/// The keys that derive from them at the point of 03 and 32 bytes 33 (hexadecimal).
 const DERIVED: [&str; 5] = [
     "02bec57b1cbeb30d1818bf205eb4339031666a1f9fdba201c96d384403b4399372",
     "026e01cf07b3a02dd4213450e796c9b4c35b91dad30ecd32156e8c88095bb6426c",
@@ -52,7 +52,7 @@ const POINT: &str = "028087c7b77b89484bf1d2369981072209aaa1b7f8a2f4972ae96b2f2d3
 /// The seed of the per-commitment secrets.
 const COMMITMENT_SEED: &str = "6b4d9577f0bae8fdae454f93df2cb4e6a5849f10b2f662c6832b0aa9c7a7d946";
 
-/// The point 03(33*32).
+/// The point of 03 and 32 bytes 33 (hexadecimal).
 fn some_point(rt: &impl Abort) -> Key {
     let mut bytes = [0x33; 33];
     bytes[0] = 3;
@@ -108,7 +108,7 @@ fn signs_for_what_it_has_a_right_to(rt: HostRuntime) {
     signer.learn_point(&some_point(&rt)).expect(&rt, "memory");
     assert_eq!(rt; signable(&rt, &signer, &DERIVED), 5);
     assert_eq!(rt; signable(&rt, &signer, &REVOCATIONS), 0);
-    // the point of a secret gives no revocation key: its secret does
+    // the point of a secret alone makes no revocation key signable: the secret does
     signer.learn_point(&key(&rt, POINT)).expect(&rt, "memory");
     assert_eq!(rt; signable(&rt, &signer, &REVOCATIONS), 0);
     signer.learn_secret(&some_secret()).expect(&rt, "memory");
@@ -117,14 +117,14 @@ fn signs_for_what_it_has_a_right_to(rt: HostRuntime) {
     assert_eq!(rt; signable(&rt, &signer, &[POINT]), 0);
 }
 
-/// A secret, another for each number.
+/// A secret that differs for each number.
 fn numbered_secret(number: u16) -> [u8; 32] {
     let mut secret = [0x44; 32];
     secret[..2].copy_from_slice(&number.to_be_bytes());
     secret
 }
 
-/// Learns the secret of a number and its point, by one call or by two.
+/// Learns the secret with this number and its point, by one call or by two.
 fn learn(rt: &impl Abort, signer: &mut Signer, number: u16) {
     let secret = numbered_secret(number);
     let point = point(&secret);
@@ -161,7 +161,7 @@ fn prints_the_refusal(rt: HostRuntime) {
     assert_eq!(rt; SignError::NoRight.number(), 1);
 }
 
-// The example of the page of `keys`.
+// The example in the documentation of `keys`.
 fn sign_delayed(
     alloc: Global,
     seed: &[u8; 32],

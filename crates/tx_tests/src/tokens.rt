@@ -1,5 +1,5 @@
-//! The tokens of each input, as the page of `sighash` signs them, and its refusal as it is printed. Digests from outside are what `vectors`
-//! prints.
+//! The tokens of each input, signed as in the documentation of `sighash`, and its printed refusal. `vectors` has the digests from outside
+//! sources.
 
 use crate::fixtures::{assert_prints, spending};
 use sighash::{DigestError, SighashCache, Token};
@@ -11,7 +11,8 @@ fn prints_its_refusal(rt: HostRuntime) {
     assert_prints(&rt, rt.alloc(), &DigestError::NoSuchInput, "NoSuchInput");
 }
 
-// The example of the page of `sighash`: a token for each input of a transaction, which spend outputs of one value to one script.
+// The example in the documentation of `sighash`: a token for each input of a transaction whose inputs spend outputs of one value to one
+// script.
 fn sign_all(
     alloc: Global,
     tx: &Tx,
@@ -29,7 +30,7 @@ fn sign_all(
     Ok(tokens)
 }
 
-// Two outputs, which are unlike.
+// Two different outputs.
 const OUTPOINTS: [OutPoint; 2] = [
     OutPoint {
         txid: [0; 32],

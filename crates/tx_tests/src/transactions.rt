@@ -1,5 +1,5 @@
-//! What no clause says of transactions: that memory which is there is found, the order of outpoints, and printed names. Known bytes are read by
-//! `vectors`.
+//! What no clause says of transactions: that calls succeed under ample memory, the order of outpoints, and printed names. `vectors` reads known
+//! bytes.
 
 use crate::fixtures::assert_prints;
 use lists::ByteString;
@@ -10,7 +10,7 @@ use tx::{
     Witness, decode, decode_stripped, encode, encode_stripped,
 };
 
-// The sizes of a transaction: how many inputs and outputs, items of each input, bytes of each item and script.
+// The sizes of a transaction: the numbers of inputs, of outputs and of items of each input, and the bytes of each item and of each script.
 #[derive(Clone, Copy, Drop)]
 struct Sizes {
     inputs: usize,
@@ -20,7 +20,7 @@ struct Sizes {
     script: usize,
 }
 
-// Bytes of one value.
+// A string of one byte, repeated.
 fn repeated(rt: &impl Abort, alloc: Global, byte: u8, count: usize) -> ByteString {
     ByteString::from_vec(vec![in alloc; byte; count].expect(rt, "memory"))
 }
@@ -35,7 +35,7 @@ fn witness_of(rt: &impl Abort, alloc: Global, items: usize, len: usize) -> Witne
     witness
 }
 
-// Inputs, of which each has a witness like this one.
+// Inputs that all have this witness.
 fn inputs_of(rt: &impl Abort, alloc: Global, count: usize, witness: &Witness) -> Inputs {
     let mut inputs = Inputs::new(alloc);
     for k in 0..count {
@@ -102,7 +102,7 @@ const PLAIN: Sizes = Sizes {
     script: 22,
 };
 
-// At lengths on the way, in every part.
+// At lengths from small to large, in every part.
 #[test]
 fn goes_round_in_every_shape(rt: HostRuntime) {
     for n in (1usize..=600).step_by(7) {
@@ -145,14 +145,14 @@ fn goes_round_at_the_limits(rt: HostRuntime) {
     }
 }
 
-// The outpoint of an id that has these first and last bytes.
+// The outpoint with an id that has these first and last bytes.
 fn outpoint_of(first: u8, last: u8, index: u32) -> OutPoint {
     let mut txid = [first; 32];
     txid[31] = last;
     OutPoint { txid, index }
 }
 
-// Outpoints stand in the order of their ids, and then of their indices.
+// Outpoints are ordered by their ids, and then by their indices.
 #[test]
 fn orders_outpoints(rt: HostRuntime) {
     assert!(rt; outpoint_of(0, 1, 9) < outpoint_of(0, 2, 0));
@@ -189,7 +189,7 @@ fn prints_the_refusals_of_other_calls(rt: HostRuntime) {
     assert_prints(&rt, alloc, &FieldError::OverLimit, "OverLimit");
 }
 
-// The example of the page of `tx`.
+// The example in the documentation of `tx`.
 fn pays(alloc: Global, bytes: &[u8], value: u64) -> Result<bool, DecodeError> {
     let tx = decode(alloc, bytes)?;
     Ok(tx.outputs().iter().any(|output| output.value() == value))

@@ -1,4 +1,5 @@
--- What passes a sender's tests passes its receiver's, who knows at least as much of its own updates.
+-- What passes a sender's tests passes the tests of its receiver, who knows at least as much of its
+-- own updates.
 use Rattle.std.proofs.Common.{◌≡◌, ℕ, ◌+◌, ◌≤◌, Bool, true, false, not, eqb, ltb, leb, List, [], ◌∷◌, ◌++◌, length, sym, ap, ◌∙◌, refl, arith, Option, Some, None, Result, Ok, Err}
 use Rattle.std.specs.Prelude.{MatchResult}
 use Rattle.std.proofs.lemmas.Bool.{ltb-false, le-ltb, leb-false, lt-leb}
@@ -47,7 +48,7 @@ add_passes terms by s o s' o' p k (t1, (t2, (t3, (t4, (t5, (t6, t7)))))) =
     let enough : ltb (start_of by terms + gained s'.settled o'.known) (p.amount + spent s'.known o'.settled) ≡ false = le-ltb _ _ (omega (arith, out, come, had)) in
     (ap (λ l. not (eqb p.id (length (offers l)))) k.known ∙ t1, (t2, (t3, (t4, (few, (enough, tt))))))
 
--- a removal that passed is of an HTLC that stands live, and is found among more updates too
+-- a removal that passed is of a live HTLC, which is found among more updates too
 pub removed : (f : Fate) (o : Option Htlc) (p : Htlc) → removable f o ≡ Some p → (f ≡ Live) × (o ≡ Some p)
 removed Live o p e = (refl, e)
 removed Fulfilled o p e = absurd (cc)

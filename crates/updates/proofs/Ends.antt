@@ -1,5 +1,5 @@
--- The fate of an HTLC after any count of updates, from the position of the first update that removes it: so code may keep one entry for each
--- HTLC in place of a scan.
+-- The fate of an HTLC after any number of updates, from the position of the first one that removes it. So code may keep one entry for each
+-- HTLC instead of scanning all updates.
 use Rattle.std.proofs.Common.{◌≡◌, ℕ, zero, suc, ◌<◌, ◌≤◌, cond, ltb, ◌⊎◌, inl, inr, List, [], ◌∷◌, ◌++◌, take, length, sym, ap, ◌∙◌, refl, arith}
 use Rattle.std.proofs.lemmas.Bool.{cond-true, cond-false, lt-ltb, le-ltb, cases_lt}
 use Rattle.updates.specs.declared.changes.Update.{Update}

@@ -68,7 +68,7 @@ fees : (last_fee 1000 [] ≡ 1000)
     × (feerate_of B 1000 of_a (Fee 7 ∷ []) ≡ 7)
 fees = (refl, refl, refl, refl)
 
--- an update passes the stages in turn, and a later one behind it
+-- an update passes the stages in turn, and a later one after it
 abbrev two : Stages
 two = with_update (Fail 1) (by_sender (to_sender (by_receiver (to_receiver (with_update (Add (htlc 0 5)) none_yet)))))
 
@@ -121,7 +121,7 @@ module _ (funding : OutPoint) (bases : BaseKeys) where
       Some WrongId ∷ Some AmountZero ∷ Some BelowMinimum ∷ Some ExpiryTooLarge ∷ Some OverBalance ∷ None ∷ None ∷ []
   offers_tested = refl
 
-  -- this many HTLCs of 1,000 millisatoshis stand live
+  -- this many HTLCs of 1,000 millisatoshis are live
   abbrev live : ℕ → Stages
   live n = record { known = replicate n (offer 0 1000 500); with_receiver = []; past_receiver = []; with_sender = []; settled = [] }
 

@@ -28,6 +28,6 @@ take_length : (xs rest : List Update) → take (length xs) (xs ++ rest) ≡ xs
 take_length [] rest = refl
 take_length (x ∷ xs) rest = ap (λ l. x ∷ l) (take_length xs rest)
 
--- a part that is counted is the first so many updates of the whole
+-- a counted part is the beginning of the whole of that length
 pub part_is : (part : Part) (us whole : List Update) → Counts part us → IsBeginning us whole → take part.count whole ≡ us
 part_is part us whole c b = ap (λ n. take n whole) c.count ∙ ap (take (length us)) (sym b.1) ∙ take_length us b.0

@@ -183,7 +183,7 @@ covered_view start s o p q so oo f n sp oq =
     let g = gained_of_more p o.settled q oq.holds_settled in
     omega (arith, a, b, c, d, e, g)
 
--- fewer HTLCs stand live by fewer offers and more removals
+-- fewer offers and more removals leave fewer live HTLCs
 pub few_in_view : (start : ℕ) (s o : Stages) (p q : List Update) → IsFair start s o → IsPart s p → IsPart o q → length (live p q) ≤ MAX_HTLCS
 few_in_view start s o p q f sp oq =
     let a = live_count_of_fewer p s.known q sp.is_known in
@@ -203,7 +203,7 @@ heights_live (o ∷ os) ends h =
     let (first, rest) = and_parts (nat_lt o.expiry EXPIRY_END) (expire_at_heights os) h in
     heights_kept (fate o.id ends) o (live_in os ends) first (heights_live os ends rest)
 
--- and each that stands in a view was offered
+-- each HTLC in a view was offered
 pub heights_in_view : (start : ℕ) (s o : Stages) (p q : List Update) → IsFair start s o → IsPart s p → IsTrue (expire_at_heights (live p q))
 heights_in_view start s o p q f sp =
     let rest = sp.is_known.0 in

@@ -149,7 +149,7 @@ kept_settled p q s o o' k e b l offered fulfilled htlcs bound = record {
   bound = bound;
 }
 
--- the same in other memory
+-- the same at another place in memory
 pub kept_alike : (p q : Pending) (s o : Stages) → IsKept p s o → IsAlike p q → IsKept q s o
 kept_alike p q s o k a = record {
   offered = a.offered ∙ k.offered;
@@ -167,7 +167,7 @@ kept_moved p s o s' o' k a b c = record {
   bound = k.bound;
 }
 
--- ids are places: no more HTLCs than updates
+-- there are no more HTLCs than updates
 pub offers_few : (us : List Update) → length (offers us) ≤ length us
 offers_few [] = omega arith
 offers_few (Add h ∷ us) = let g = offers_few us in omega (arith, g)

@@ -198,7 +198,7 @@ fulfilled_in_part mine whole known settled part w b k =
     let h = fulfilled_early (length mine) 0 mine known settled part b k (omega arith) in
     omega (arith, f, g, h)
 
--- HTLCs that stand live among the first updates of both sides
+-- HTLCs that are live among the first updates of both sides
 
 live-append : (m d : ℕ) (xs ys : List PendingHtlc) → live_at m d (xs ++ ys) ≡ live_at m d xs ++ live_at m d ys
 live-append m d [] ys = refl

@@ -181,7 +181,7 @@ part_may WithReceiver s o = record { holds_settled = settled_receiver s o; is_kn
 part_may PastReceiver s o = record { holds_settled = settled_past s o; is_known = past_known s o }
 part_may WithSender s o = record { holds_settled = o.settled; is_known = sender_known s o }
 
--- a view of parts that are counted is that of their lists
+-- the view of counted parts is that of their lists
 pub view_at : {E : Type 0} (r : Result View E) (h : Held) (x y : Part) (a b : List Update) → Counts x a → Counts y b → IsPart h.own a → IsPart h.theirs b
     → IfOk r (λ v. v ≡ view_in h (take x.count h.own.known) (take y.count h.theirs.known)) → IfOk r (λ v. v ≡ view_in h a b)
 view_at (Ok v) h x y a b c d m n e = e ∙ ap (λ us. view_in h us (take y.count h.theirs.known)) (part_is x a h.own.known c m.is_known) ∙ ap (view_in h a) (part_is y b h.theirs.known d n.is_known)

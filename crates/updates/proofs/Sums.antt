@@ -106,7 +106,7 @@ live_count-append us vs others = ap (λ os. total one_if_live os others) (offers
 pub live_count_of_fewer : (xs ys others : List Update) → IsBeginning xs ys → live_count xs others ≤ live_count ys others
 live_count_of_fewer xs ys others p = let h = live_count-append xs p.0 others in rw (← p.1) (omega (arith, h))
 
--- the HTLCs that stand live are so many
+-- the number of live HTLCs
 one_more : (f : Fate) (h : Htlc) (hs : List Htlc) (amount : ℕ) → length (kept_if_live f h hs) ≡ one_if_live f amount + length hs
 one_more Live h hs amount = omega arith
 one_more Fulfilled h hs amount = omega arith
@@ -119,7 +119,7 @@ live_in-length (o ∷ os) ends = one_more (fate o.id ends) o (live_in os ends) o
 pub live-length : (mine others : List Update) → length (live mine others) ≡ live_count mine others
 live-length mine others = live_in-length (offers mine) others
 
--- what one side spent is what stands in HTLCs and what the other gained
+-- what one side spent is what is in live HTLCs and what the other side gained
 weights_add : (f : Fate) (n : ℕ) → unless_failed f n ≡ if_live f n + if_fulfilled f n
 weights_add Live n = omega arith
 weights_add Fulfilled n = omega arith

@@ -1,4 +1,5 @@
--- The first update that removes an HTLC: it says what any first part of the updates makes of the HTLC.
+-- The first update that removes an HTLC. It determines what the updates up to any position make of the
+-- HTLC.
 use Rattle.std.specs.Prelude.{ℕ, suc, nat_lt, if◌then◌else◌, List, [], ◌∷◌}
 use Rattle.updates.specs.declared.changes.Update.{Update}
 use Rattle.updates.specs.declared.fates.Fate.{Fate}
@@ -11,13 +12,13 @@ abbrev pub later : End → End
 later Never = Never
 later (At p f) = At (suc p) f
 
--- the end, by what the first update makes of the HTLC and the end among the rest
+-- the end of an HTLC, by what the first update makes of it and by its end among the rest
 abbrev pub end_from : Fate → End → End
 end_from Live e = later e
 end_from Fulfilled e = At 0 Fulfilled
 end_from Failed e = At 0 Failed
 
--- the end of the HTLC of an id
+-- the end of the HTLC with this id
 abbrev pub end_of : ℕ → List Update → End
 end_of id [] = Never
 end_of id (u ∷ us) = end_from (fate_by id u) (end_of id us)

@@ -21,8 +21,8 @@ pending_if_live Live e es = e ∷ es
 pending_if_live Fulfilled e es = es
 pending_if_live Failed e es = es
 
--- of the HTLCs that updates offer, the first of which has this place, those that the other side's `settled` updates don't remove; each with its end
--- among all that are known of the other side
+-- the HTLCs that a list of updates offers and that the other side's `settled` updates do not remove. Each has its end among all known updates of
+-- the other side. The first update of the list has position `at`
 abbrev pub pending_htlcs : ℕ → List Update → List Update → List Update → List PendingHtlc
 pending_htlcs at [] known settled = []
 pending_htlcs at (Add h ∷ us) known settled =
@@ -31,7 +31,7 @@ pending_htlcs at (Fulfil id preimage ∷ us) known settled = pending_htlcs (suc 
 pending_htlcs at (Fail id ∷ us) known settled = pending_htlcs (suc at) us known settled
 pending_htlcs at (Fee rate ∷ us) known settled = pending_htlcs (suc at) us known settled
 
--- what the first `removed` updates of the other side make of an HTLC, as if failed where it isn't among the first `added` of its own
+-- what the first `removed` updates of the other side make of an HTLC; Failed where it is not among the first `added` of its own side
 abbrev pub fate_at : ℕ → ℕ → PendingHtlc → Fate
 fate_at added removed e = if nat_lt e.added added then within removed e.end else Failed
 
@@ -56,11 +56,11 @@ is_live Live = true
 is_live Fulfilled = false
 is_live Failed = false
 
--- whether the first `removed` updates of the other side leave it
+-- whether the first `removed` updates of the other side do not remove it
 abbrev pub is_left : ℕ → PendingHtlc → Bool
 is_left removed e = is_live (within removed e.end)
 
--- the other side makes an update, at this place among its own
+-- the other side makes an update, at this position among its own
 abbrev pub noted : ℕ → Update → PendingHtlc → PendingHtlc
 noted position u e = record { htlc = e.htlc; added = e.added; end = end_after position e.end (fate_by e.htlc.id u) }
 
@@ -74,13 +74,13 @@ new_pending position (Fulfil id preimage) = []
 new_pending position (Fail id) = []
 new_pending position (Fee rate) = []
 
--- before and after the side that offers makes an update, at this place among its own
+-- before and after the side that offers makes an update, at this position among its own
 pub record IsGrown (p q : Pending) (position : ℕ) (u : Update) : Type 0 where
   pub offered : q.offered ≡ p.offered + length (offers (u ∷ []))
   pub fulfilled : q.fulfilled ≡ p.fulfilled
   pub htlcs : q.htlcs.items ≡ p.htlcs.items ++ new_pending position u
 
--- before and after the side that removes makes one
+-- before and after the side that removes makes an update
 pub record IsNoted (p q : Pending) (position : ℕ) (u : Update) : Type 0 where
   pub offered : q.offered ≡ p.offered
   pub fulfilled : q.fulfilled ≡ p.fulfilled
@@ -92,7 +92,7 @@ pub record IsAlike (p q : Pending) : Type 0 where
   pub fulfilled : q.fulfilled ≡ p.fulfilled
   pub htlcs : q.htlcs.items ≡ p.htlcs.items
 
--- sums of the amounts pass no 128 bits, however many HTLCs there were
+-- sums of the amounts fit in 128 bits, however many HTLCs there were
 abbrev pub IsBounded : Pending → Type 0
 IsBounded p = p.fulfilled + 2 ^ 64 * length p.htlcs.items ≤ 2 ^ 64 * p.offered
 
@@ -103,8 +103,8 @@ pub record IsKept (p : Pending) (sender others : Stages) : Type 0 where
   pub htlcs : p.htlcs.items ≡ pending_htlcs 0 sender.known others.known others.settled
   pub bound : IsBounded p
 
--- the tests of an update, by what is kept of both directions: of the sender's HTLCs, and of the others', where so many updates of the others passed
--- all stages and so many of the sender are known
+-- the tests of an update, by what is kept of the sender's HTLCs and of the other side's. `settled` is the number of the other side's updates that
+-- passed all stages, and `known` the number of the sender's that are known
 abbrev pub kept_tests : Terms → Side → Pending → Pending → ℕ → ℕ → Update → List Test
 kept_tests terms by sender others settled known (Add h) =
     add_tests terms by sender.offered (length sender.htlcs.items) (start_of by terms + others.fulfilled)

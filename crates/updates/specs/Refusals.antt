@@ -1,4 +1,4 @@
--- What a channel refuses of updates, in which order, and by which number (BOLT 2).
+-- Which updates a channel refuses, in which order, and by which number (BOLT 2).
 use Rattle.std.specs.Prelude.{◌≡◌, ℕ, ◌+◌, Bool, true, false, not, ◌&&◌, nat_lt, nat_le, ◌==◌, List, [], ◌∷◌, length, Option, Some, None}
 use Rattle.std.specs.Str.{bytes_eq}
 use Rattle.sha2.specs.Sha256.{sha256}
@@ -19,7 +19,7 @@ use Rattle.updates.specs.Updates.{fate, offers, offer_of, spent, gained, live_co
 use Rattle.updates.specs.Views.{start_of}
 use Rattle.updates.specs.Stages.{Stages}
 
--- 0 is that memory ran out
+-- 0 is out of memory
 abbrev pub refusal_number : ChannelError → ℕ
 refusal_number NoMemory = 0
 refusal_number AmountZero = 1
@@ -49,8 +49,8 @@ abbrev pub first_refusal : List Test → Option ChannelError
 first_refusal [] = None
 first_refusal (t ∷ tests) = if_so t.0 t.1 (first_refusal tests)
 
--- the tests of an HTLC that `by` offers: it has the next id, and the HTLCs of this direction that stand live are so many; the side had so much,
--- of which so much went out
+-- the tests of an HTLC that `by` offers. `next` is the next id, and `live` the number of live HTLCs of this direction. `had` is what the side
+-- had in millisatoshis, and `out` what of it has gone out
 abbrev pub add_tests : Terms → Side → ℕ → ℕ → ℕ → ℕ → Htlc → List Test
 add_tests terms by next live had out h =
     (not (h.id == next), WrongId)
@@ -69,7 +69,7 @@ abbrev pub is_wrong : List ℕ → Option Htlc → Bool
 is_wrong hash None = false
 is_wrong hash (Some h) = not (bytes_eq hash h.hash)
 
--- the tests of a removal, of the HTLC that may be removed under this id
+-- the tests of a fulfilment, with the HTLC that may be removed under this id
 abbrev pub fulfil_tests : Option Htlc → List ℕ → List Test
 fulfil_tests found preimage = (is_missing found, UnknownHtlc) ∷ (is_wrong (sha256 preimage) found, WrongPreimage) ∷ []
 
@@ -85,7 +85,7 @@ is_side B A = false
 abbrev pub fee_tests : Terms → Side → List Test
 fee_tests terms by = (not (is_side by terms.opener), NotOpener) ∷ []
 
--- the HTLC of an id that passed all stages, where nobody removed it
+-- the HTLC with an id that passed all stages, if nobody removed it
 abbrev pub removable : Fate → Option Htlc → Option Htlc
 removable Live h = h
 removable Fulfilled h = None

@@ -1,4 +1,4 @@
--- What a commitment gives to each side, by what is kept of pending HTLCs.
+-- What a commitment gives to each side, by what is kept of the HTLCs.
 use Rattle.std.specs.Prelude.{◌≡◌, ℕ, ◌+◌, ◌-◌, ◌^◌, ◌≤◌, ◌<◌, true, false, if◌then◌else◌, take, List, [], ◌∷◌, Option, unwrap_or, MatchBool}
 use Rattle.terms.specs.declared.htlcs.Htlc.{Htlc}
 use Rattle.terms.specs.declared.sides.Side.{Side}
@@ -14,7 +14,7 @@ use Rattle.updates.specs.Refusals.{is_side}
 use Rattle.updates.specs.Pending.{live_at, fulfilled_at}
 use Rattle.updates.specs.Steady.{Held, IsPart}
 
--- millisatoshis of HTLCs
+-- the sum of HTLCs in millisatoshis
 abbrev pub amounts : List Htlc → ℕ
 amounts [] = 0
 amounts (h ∷ hs) = h.amount + amounts hs
@@ -30,17 +30,17 @@ in_at peers own theirs = peers.fulfilled + fulfilled_at theirs own peers.htlcs.i
 abbrev pub share_at : ℕ → Pending → Pending → ℕ → ℕ → Share
 share_at start htlcs peers own theirs = record { balance = start + in_at peers own theirs - out_at htlcs own theirs; offered = live_at own theirs htlcs.htlcs.items }
 
--- no balance below 0, and none that passes 64 bits
+-- no balance is below 0, and none exceeds 64 bits
 pub record IsPayable (start : ℕ) (htlcs peers : Pending) (own theirs : ℕ) : Type 0 where
   pub covered : out_at htlcs own theirs ≤ start + in_at peers own theirs
   pub fits : start + in_at peers own theirs - out_at htlcs own theirs < 2 ^ 64
 
--- a part that a commitment may hold, kept as a count and its newest fee
+-- a part of the updates that a commitment may hold, kept as a count and its newest fee
 pub record IsPartAt (s : Stages) (part : Part) : Type 0 where
   pub kept : IsPartOf s.known part
   pub held : IsPart s (take part.count s.known)
 
--- the feerate, by the newest fees of this side's part and its peer's
+-- the feerate by the opener's newest fee; `rate` where it has none
 abbrev pub rate_at : Side → Side → ℕ → Option ℕ → Option ℕ → ℕ
 rate_at side opener rate own theirs = if is_side side opener then unwrap_or own rate else unwrap_or theirs rate
 
@@ -57,8 +57,8 @@ view_in h own theirs = view_by h.terms h.side own theirs
 abbrev pub IsSoundIn : Held → List Update → List Update → Type 0
 IsSoundIn h own theirs = IsSoundBy h.terms h.side own theirs
 
--- the view of a side's newest commitment: of the owner's updates those in its commitment once its peer's revocation acknowledged them and its peer
--- signed for them, and of the peer's those that the peer's signature covered
+-- the view of a side's newest commitment: the owner's updates that its peer's revocation acknowledged and its peer then signed for, and the peer's
+-- updates that the peer's signature covered
 abbrev pub newest_view : Held → Side → View
 newest_view h owner = if is_side owner h.side then view_in h h.own.with_sender h.theirs.with_receiver else view_in h h.own.with_receiver h.theirs.with_sender
 

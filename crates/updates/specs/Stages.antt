@@ -1,4 +1,5 @@
--- One side's updates and how far each part of them has come, as one channel knows it (BOLT 2, the five states of an update).
+-- One side's updates and how far each part of them has come, as one side of a channel knows it (BOLT 2, the five states of
+-- an update).
 use Rattle.std.specs.Prelude.{◌≡◌, ◌≤◌, ℕ, take, length, List, [], ◌∷◌, ◌++◌}
 use Rattle.updates.specs.declared.changes.Update.{Update}
 use Rattle.updates.specs.declared.stages.Part.{Part}
@@ -14,7 +15,7 @@ pub record Stages : Type 0 where
   pub with_sender : List Update  -- in the sender's newest commitment
   pub settled : List Update  -- there once the sender's revocation acknowledged it: all five stages passed
 
--- the updates that have come to a stage
+-- the updates that have reached a stage
 abbrev pub part_of : Stage → Stages → List Update
 part_of Known s = s.known
 part_of WithReceiver s = s.with_receiver
@@ -32,7 +33,7 @@ with_update u s = record { known = s.known ++ u ∷ []; with_receiver = s.with_r
 abbrev pub to_receiver : Stages → Stages
 to_receiver s = record { known = s.known; with_receiver = s.known; past_receiver = s.past_receiver; with_sender = s.with_sender; settled = s.settled }
 
--- the receiver revokes its commitment before
+-- the receiver revokes its previous commitment
 abbrev pub by_receiver : Stages → Stages
 by_receiver s = record { known = s.known; with_receiver = s.with_receiver; past_receiver = s.with_receiver; with_sender = s.with_sender; settled = s.settled }
 
@@ -40,11 +41,11 @@ by_receiver s = record { known = s.known; with_receiver = s.with_receiver; past_
 abbrev pub to_sender : Stages → Stages
 to_sender s = record { known = s.known; with_receiver = s.with_receiver; past_receiver = s.past_receiver; with_sender = s.past_receiver; settled = s.settled }
 
--- the sender revokes its commitment before
+-- the sender revokes its previous commitment
 abbrev pub by_sender : Stages → Stages
 by_sender s = record { known = s.known; with_receiver = s.with_receiver; past_receiver = s.past_receiver; with_sender = s.with_sender; settled = s.with_sender }
 
--- the same by one list and a count for each further stage
+-- the same, by one list and a count for each further stage
 abbrev pub stages_of : List Update → ℕ → ℕ → ℕ → ℕ → Stages
 stages_of updates with_receiver past_receiver with_sender settled = record {
   known = updates;

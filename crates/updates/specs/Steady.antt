@@ -34,7 +34,8 @@ Numbered k (o ∷ os) = (o.id ≡ k) × Numbered (suc k) os
 abbrev pub RemovesBelow : ℕ → List Update → Type 0
 RemovesBelow n us = (id : ℕ) → n ≤ id → fate id us ≡ Live
 
--- the ids count up, only settled HTLCs are removed, what the sender spent it had, no more HTLCs stand live than may, and each expires at a height
+-- the ids count up, only settled HTLCs are removed, the sender had what it spent, no more HTLCs are live than allowed, and each expires at a
+-- height
 pub record IsFair (start : ℕ) (s o : Stages) : Type 0 where
   pub numbered : Numbered 0 (offers s.known)
   pub removes : RemovesBelow (length (offers o.settled)) s.known
@@ -42,7 +43,7 @@ pub record IsFair (start : ℕ) (s o : Stages) : Type 0 where
   pub few : live_count s.known o.settled ≤ MAX_HTLCS
   pub heights : IsTrue (expire_at_heights (offers s.known))
 
--- a part of a list of updates that a commitment may hold: what is settled is in it, what is not known isn't
+-- a part of a list of updates that a commitment may hold: all that is settled is in it, and only what is known
 pub record IsPart (s : Stages) (part : List Update) : Type 0 where
   pub holds_settled : IsBeginning s.settled part
   pub is_known : IsBeginning part s.known
@@ -62,8 +63,8 @@ pub record IsSteady (h : Held) : Type 0 where
   pub own_fair : IsFair (start_of h.side h.terms) h.own h.theirs
   pub their_fair : IsFair (start_of (other h.side) h.terms) h.theirs h.own
 
--- what calls and messages make of it: nothing yet; an update of one's own, a signature given out; an update received, a signature
--- received (which is answered by a revocation), a revocation received
+-- what calls and messages make of it: nothing yet; an update of one's own, a signature sent; an update received, a signature received and
+-- answered by a revocation, a revocation received
 
 abbrev pub holding_none : Terms → Side → Held
 holding_none terms side = record { terms = terms; side = side; own = none_yet; theirs = none_yet }
@@ -94,13 +95,13 @@ own_tests h u = update_tests h.terms h.side h.own h.theirs u
 abbrev pub their_tests : Held → Update → List Test
 their_tests h u = update_tests h.terms (other h.side) h.theirs h.own u
 
--- what a ledger keeps true of its lists, and of the HTLCs that it keeps of each direction
+-- what a ledger keeps true of its lists, and of the HTLCs that it keeps for each direction
 pub record IsLedger (h : Held) (own theirs : Pending) : Type 0 where
   pub steady : IsSteady h
   pub own_kept : IsKept own h.own h.theirs
   pub their_kept : IsKept theirs h.theirs h.own
 
--- what the receiver of updates knows beside their sender: the sender's part the same, and its own part as far or farther
+-- what the receiver of updates knows, compared with their sender: the same of the sender's updates, and at least as much of the other side's
 pub record KnowsMore (sender others sender' others' : Stages) : Type 0 where
   pub known : sender'.known ≡ sender.known
   pub settled : sender'.settled ≡ sender.settled

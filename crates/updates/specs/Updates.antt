@@ -12,7 +12,7 @@ first_of_fates Live f = f
 first_of_fates Fulfilled f = Fulfilled
 first_of_fates Failed f = Failed
 
--- what one update makes of the HTLC of an id that the other side offered
+-- what one update makes of the HTLC with this id that the other side offered
 abbrev pub fate_by : ℕ → Update → Fate
 fate_by id (Fulfil i preimage) = if i == id then Fulfilled else Live
 fate_by id (Fail i) = if i == id then Failed else Live
@@ -29,7 +29,7 @@ offers [] = []
 offers (Add o ∷ us) = o ∷ offers us
 offers (u ∷ us) = offers us
 
--- the offer of an id
+-- the offer with this id
 abbrev pub offer_of : ℕ → List Htlc → Option Htlc
 offer_of id [] = None
 offer_of id (o ∷ os) = if o.id == id then Some o else offer_of id os
@@ -59,19 +59,19 @@ one_if_live Live n = 1
 one_if_live Fulfilled n = 0
 one_if_live Failed n = 0
 
--- millisatoshis that the offers in `mine` took out of one's balance, where `others` didn't fail them
+-- the millisatoshis that left one's balance: of the offers in `mine` that `others` did not fail
 abbrev pub spent : List Update → List Update → ℕ
 spent mine others = total unless_failed (offers mine) others
 
--- millisatoshis that one's fulfilments in `mine` brought, of the offers in `others`
+-- the millisatoshis that one's fulfilments in `mine` brought, of the offers in `others`
 abbrev pub gained : List Update → List Update → ℕ
 gained mine others = total if_fulfilled (offers others) mine
 
--- millisatoshis in the HTLCs offered in `mine` that `others` didn't remove
+-- the millisatoshis in the offers of `mine` that `others` did not remove
 abbrev pub pending : List Update → List Update → ℕ
 pending mine others = total if_live (offers mine) others
 
--- how many these are
+-- the number of these HTLCs
 abbrev pub live_count : List Update → List Update → ℕ
 live_count mine others = total one_if_live (offers mine) others
 
@@ -88,7 +88,7 @@ live_in (o ∷ os) ends = kept_if_live (fate o.id ends) o (live_in os ends)
 abbrev pub live : List Update → List Update → List Htlc
 live mine others = live_in (offers mine) others
 
--- the rate that an update sets, where it is a change of the feerate
+-- the rate that an update sets, if it changes the feerate
 abbrev pub fee_of : Update → Option ℕ
 fee_of (Fee rate) = Some rate
 fee_of u = None

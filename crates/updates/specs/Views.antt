@@ -1,4 +1,4 @@
--- The view of a commitment: what two lists of updates leave to each side (BOLT 2, BOLT 3).
+-- The view of a commitment: what two lists of updates give to each side (BOLT 2, BOLT 3).
 use Rattle.std.specs.Prelude.{◌≡◌, ℕ, ◌+◌, ◌-◌, ◌*◌, ◌≤◌, nat_lt, Bool, List, length, IsTrue}
 use Rattle.std.specs.List.{list_all}
 use Rattle.updates.specs.declared.changes.Update.{Update}
@@ -13,7 +13,7 @@ use Rattle.terms.specs.Agreement.{party}
 use Rattle.updates.specs.declared.limits.TheConstants.{MAX_HTLCS, EXPIRY_END}
 use Rattle.updates.specs.Updates.{spent, gained, pending, live, last_fee}
 
--- millisatoshis that a side begins with
+-- the starting balance of a side in millisatoshis
 abbrev pub start_of : Side → Terms → ℕ
 start_of side terms = (party side terms).start
 
@@ -25,7 +25,7 @@ IsCovered start mine others = spent mine others ≤ start + gained mine others
 abbrev pub balance : ℕ → List Update → List Update → ℕ
 balance start mine others = start + gained mine others - spent mine others
 
--- the opener's list alone changes the feerate
+-- the feerate, which only the opener's list changes
 abbrev pub feerate_of : Side → ℕ → List Update → List Update → ℕ
 feerate_of A rate xs ys = last_fee rate xs
 feerate_of B rate xs ys = last_fee rate ys
@@ -51,7 +51,8 @@ view_by terms B mine others = view_of terms others mine
 abbrev pub expire_at_heights : List Htlc → Bool
 expire_at_heights htlcs = list_all (λ h. nat_lt h.expiry EXPIRY_END) htlcs
 
--- in a sound view no balance is below 0, balances and HTLCs sum to the capacity, no more HTLCs of a side stand than may, and each expires at a height
+-- what a sound view satisfies: no balance is below 0, balances and HTLCs sum to the capacity, at most 483 HTLCs of a side are live, and each
+-- expires at a height
 pub record IsSound (terms : Terms) (xs ys : List Update) : Type 0 where
   pub a : IsCovered terms.a.start xs ys
   pub b : IsCovered terms.b.start ys xs

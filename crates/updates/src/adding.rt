@@ -12,7 +12,7 @@ use crate::stages::UpdateList;
 use std::alloc::AllocError;
 use terms::Htlc;
 
-// Adds an HTLC to the updates and to the pending HTLCs of its side. Memory for both is there before either changes.
+// Adds an HTLC to the updates and to the pending HTLCs of its side. Memory for both is reserved before either changes.
 fn push_add(list: &mut UpdateList, htlcs: &mut Pending, htlc: Htlc) -> Result<(), AllocError>
     requires { htlcs.old.offered ≤ length list.old.known }
     ensures list { IfOk result (λ _. list.new ≡ with_update (Add htlc) list.old) }
@@ -38,8 +38,8 @@ fn push_add(list: &mut UpdateList, htlcs: &mut Pending, htlc: Htlc) -> Result<()
     Ok(())
 }
 
-/// Adds an update to the list of its side, and to what is kept of the HTLCs that the side offered and of those that its peer did. The only
-/// error is that memory ran out, which leaves all three as they were.
+/// Adds an update to the list of its side, and brings up to date what is kept of the HTLCs of both directions. The only error is that
+/// memory ran out, which leaves all three as they were.
 pub(crate) fn add_update(
     list: &mut UpdateList,
     htlcs: &mut Pending,

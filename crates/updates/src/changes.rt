@@ -11,20 +11,20 @@ pub enum Update {
     Fulfil { id: u64, preimage: [u8; 32] },
     /// `update_fail_htlc`: removes an HTLC of the peer and leaves its amount to the peer.
     Fail { id: u64 },
-    /// `update_fee`: changes the feerate.
+    /// `update_fee`: changes the feerate, in satoshis per 1,000 units of weight.
     Fee { rate: u32 },
 }
 
-/// An update as the side that makes it decides on it: the channel gives an offer its id.
+/// An update as the side that makes it decides on it. The channel gives an offer its id.
 #[derive(Clone, Copy, Debug, PartialEq, Eq, Drop)]
 pub enum OwnUpdate {
     /// Offers an HTLC.
     Offer {
-        /// Millisatoshis.
+        /// The amount in millisatoshis.
         amount: u64,
         /// SHA-256 of the payment preimage.
         hash: [u8; 32],
-        /// The height from which on it can be timed out.
+        /// The block height from which it can be timed out (`cltv_expiry`).
         expiry: u32,
     },
     /// Fulfils an HTLC of the peer.
@@ -36,7 +36,7 @@ pub enum OwnUpdate {
     Fail {
         id: u64,
     },
-    /// Changes the feerate, in satoshis for 1,000 units of weight.
+    /// Changes the feerate, in satoshis per 1,000 units of weight.
     SetFee {
         rate: u32,
     },

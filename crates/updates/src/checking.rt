@@ -1,4 +1,4 @@
-//! Tests of updates, which their sender and their receiver make alike.
+//! Tests of updates, the same for their sender and their receiver.
 
 ghost use Rattle.std.specs.Prelude.{◌≡◌, ◌+◌, ◌*◌, ◌^◌, ◌≤◌, length, Some, None, MatchResult};
 ghost use Rattle.updates.specs.Views.{start_of};
@@ -12,7 +12,7 @@ use crate::pending::Pending;
 use digest::sha256;
 use terms::{Htlc, Side, Terms};
 
-// Whether `by` may offer an HTLC, by the HTLCs of its direction and of the other.
+// Whether `by` may offer an HTLC, judged by the HTLCs of both directions.
 fn check_add(
     terms: &Terms,
     by: Side,
@@ -51,7 +51,7 @@ fn check_add(
     Ok(())
 }
 
-// Whether the HTLC that may be removed under an id is there and has the preimage's hash.
+// Whether there is an HTLC to remove, and its hash is that of the preimage.
 fn check_fulfil(found: Option<Htlc>, preimage: &[u8; 32]) -> Result<(), ChannelError>
     ensures { let first = first_refusal (fulfil_tests found preimage.now)
         in MatchResult result (λ _. first ≡ None) (λ r. first ≡ Some r) }
@@ -65,8 +65,8 @@ fn check_fulfil(found: Option<Htlc>, preimage: &[u8; 32]) -> Result<(), ChannelE
     Ok(())
 }
 
-/// Whether `by` may make an update, by the HTLCs that it offered and those of its peer; `settled` of the peer's updates passed all stages, and
-/// `known` of its own are known.
+/// Whether `by` may make an update, judged by the HTLCs that it offered and those of its peer. `settled` is the number of the peer's updates
+/// that passed all stages, and `known` the number of its own that are known.
 pub(crate) fn check_update(
     terms: &Terms,
     by: Side,

@@ -12,25 +12,25 @@ pub enum ChannelError {
     /// Memory ran out.
     #[error("NoMemory")]
     NoMemory,
-    /// The HTLC has no amount.
+    /// The HTLC's amount is 0.
     #[error("AmountZero")]
     AmountZero,
-    /// The HTLC has less than the minimum of the side that it is offered to.
+    /// The HTLC's amount is below the minimum of the side that it is offered to.
     #[error("BelowMinimum")]
     BelowMinimum,
-    /// The expiry is not a height.
+    /// The expiry is not a block height: it is 500,000,000 or above (BIP 65).
     #[error("ExpiryTooLarge")]
     ExpiryTooLarge,
-    /// The HTLC has not the next id of its side.
+    /// The HTLC does not have the next id of its side.
     #[error("WrongId")]
     WrongId,
-    /// 483 HTLCs of this direction stand live.
+    /// 483 HTLCs of this direction are live already.
     #[error("TooManyHtlcs")]
     TooManyHtlcs,
-    /// The side has not so much.
+    /// The side's balance is too low for the HTLC.
     #[error("OverBalance")]
     OverBalance,
-    /// The peer has no HTLC of this id that passed all stages and that nobody removed.
+    /// The peer has no HTLC with this id that passed all stages and that nobody removed.
     #[error("UnknownHtlc")]
     UnknownHtlc,
     /// The preimage's SHA-256 is not the HTLC's hash.
@@ -45,7 +45,7 @@ pub enum ChannelError {
     /// The secret is not that of the revoked commitment.
     #[error("WrongSecret")]
     WrongSecret,
-    /// The message, or the call, is not due.
+    /// The message or the call is not due.
     #[error("NotYourTurn")]
     NotYourTurn,
     /// The side did not open the channel.

@@ -15,7 +15,8 @@ pub enum Fate {
 #[derive(Clone, Copy, Debug, PartialEq, Eq, Drop)]
 pub enum End {
     Never,
-    /// Its place in the list of the side's updates, from 0, and what it makes of the HTLC.
+    /// Its position among the updates of the side that removes, from 0, and what it makes of the
+    /// HTLC.
     At { position: usize, fate: Fate },
 }
 
@@ -23,7 +24,7 @@ impl Fate {
     ghost use Rattle.std.specs.Prelude.{◌≡◌};
     ghost use Rattle.updates.specs.Updates.{fate_by};
 
-    /// What one update makes of the HTLC of an id.
+    /// What one update makes of the HTLC with this id.
     pub(crate) fn by(id: u64, update: &Update) -> Fate
         ensures { result ≡ fate_by id update.now }
     {
@@ -49,7 +50,7 @@ impl End {
         }
     }
 
-    /// The end after one more update, which stands at `position` and makes this of the HTLC.
+    /// The end after one more update at `position`, which makes this of the HTLC.
     pub(crate) fn after(self, position: usize, fate: Fate) -> End
         ensures { result ≡ end_after position self fate }
     {

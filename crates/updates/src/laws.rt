@@ -2,8 +2,9 @@
 
 ghost use Rattle.updates.specs.Steady.{ReceiversAccept};
 
-/// An update that passes the tests of its sender passes those of its receiver: an honest update is never refused for being on its way. The premise
-/// is that the receiver knows the sender's updates at the same stages, and as many of its own or more, at as late a stage or later.
+/// An update that passes its sender's tests passes its receiver's: an honest update is never refused because of updates that are still on their
+/// way. The premise is that the receiver knows the sender's updates at the same stages, and at least as many of its own, at the same stages or
+/// later.
 pub fn receivers_accept()
     ensures { ReceiversAccept }
 {}

@@ -16,7 +16,7 @@ use terms::{Htlc, Side, Terms, View};
 /// The two sides' updates, as one side of a channel holds them. A contract sees it as the terms, the side and both lists of updates with their
 /// stages (`Held`).
 ///
-/// It keeps every update, some 64 bytes each; the time of a call depends on the HTLCs that are pending and not on how many updates there were.
+/// It keeps every update, some 64 bytes each. The time of a call depends on the number of pending HTLCs, not on the number of updates.
 #[derive(Drop)]
 pub struct Ledger {
     terms: Terms,
@@ -47,7 +47,7 @@ impl Ledger {
     ghost use Rattle.updates.specs.Stages.{part_of};
     ghost use Rattle.updates.specs.Steady.{Held, own_tests, their_tests, next_htlc, holding_none, holding_made, holding_signed, holding_update, holding_signature, holding_revocation};
 
-    /// No updates yet. It takes no memory.
+    /// A ledger with no updates. It allocates nothing.
     pub fn new(alloc: Global, terms: Terms, side: Side) -> Ledger
         ensures { result ≡ holding_none terms side }
     {
@@ -86,7 +86,7 @@ impl Ledger {
         check_update(&self.terms, self.side, own, theirs, settled, known, update)
     }
 
-    // Whether the peer may make one.
+    // Whether the peer may make an update.
     fn check_theirs(&self, update: &Update) -> Result<(), ChannelError>
         ensures { let first = first_refusal (their_tests self.now update.now)
             in MatchResult result (λ _. first ≡ None) (IsRefusal first) }
@@ -115,8 +115,9 @@ impl Ledger {
         Ok(())
     }
 
-    /// Offers an HTLC of `amount` millisatoshis, and gives it with its id, the next one of this side. It is tested for WrongId, which never
-    /// comes here, AmountZero, BelowMinimum, ExpiryTooLarge, TooManyHtlcs and OverBalance, in this order. A refusal leaves the ledger as it was.
+    /// Offers an HTLC of `amount` millisatoshis, and returns it with its id, the next one of this side. The refusals are checked in this order:
+    /// WrongId (which cannot occur here), AmountZero, BelowMinimum, ExpiryTooLarge, TooManyHtlcs, OverBalance. A refusal leaves the ledger as it
+    /// was.
     pub fn offer(&mut self, amount: u64, hash: [u8; 32], expiry: u32) -> Result<Htlc, ChannelError>
         ensures htlc { IfOk result (λ h. h ≡ next_htlc self.old.own amount hash expiry) }
         ensures ok { IfOk result (λ h. self.new ≡ holding_made (Add h) self.old) }
@@ -142,8 +143,8 @@ impl Ledger {
         self.own_htlcs.offered
     }
 
-    /// Fulfils an HTLC of the peer: UnknownHtlc where the peer has none of this id that passed all stages and that nobody removed, else
-    /// WrongPreimage. A refusal leaves the ledger as it was.
+    /// Fulfils an HTLC of the peer. The error is UnknownHtlc where the peer has no HTLC with this id that passed all stages and that nobody
+    /// removed, else WrongPreimage. A refusal leaves the ledger as it was.
     pub fn fulfil(&mut self, id: u64, preimage: [u8; 32]) -> Result<(), ChannelError>
         ensures ok { IfOk result (λ _. self.new ≡ holding_made (Fulfil id preimage) self.old) }
         ensures tested { let first = first_refusal (own_tests self.old (Fulfil id preimage))
@@ -153,8 +154,8 @@ impl Ledger {
         self.make(Update::Fulfil { id, preimage })
     }
 
-    /// Fails an HTLC of the peer: UnknownHtlc where the peer has none of this id that passed all stages and that nobody removed. A refusal
-    /// leaves the ledger as it was.
+    /// Fails an HTLC of the peer. The error is UnknownHtlc where the peer has no HTLC with this id that passed all stages and that nobody
+    /// removed. A refusal leaves the ledger as it was.
     pub fn fail(&mut self, id: u64) -> Result<(), ChannelError>
         ensures ok { IfOk result (λ _. self.new ≡ holding_made (Fail id) self.old) }
         ensures tested { let first = first_refusal (own_tests self.old (Fail id))
@@ -164,8 +165,8 @@ impl Ledger {
         self.make(Update::Fail { id })
     }
 
-    /// Changes the feerate to `rate` satoshis for 1,000 units of weight: NotOpener where this side did not open the channel. A refusal leaves
-    /// the ledger as it was.
+    /// Changes the feerate to `rate` satoshis per 1,000 units of weight. The error is NotOpener where this side did not open the channel. A
+    /// refusal leaves the ledger as it was.
     pub fn set_fee(&mut self, rate: u32) -> Result<(), ChannelError>
         ensures ok { IfOk result (λ _. self.new ≡ holding_made (Fee rate) self.old) }
         ensures tested { let first = first_refusal (own_tests self.old (Fee rate))
@@ -175,7 +176,7 @@ impl Ledger {
         self.make(Update::Fee { rate })
     }
 
-    /// Receives an update of the peer, with the same tests as one of one's own. A refusal leaves the ledger as it was.
+    /// Receives an update of the peer, with the same tests as for an update of one's own. A refusal leaves the ledger as it was.
     pub fn receive_update(&mut self, update: &Update) -> Result<(), ChannelError>
         ensures ok { IfOk result (λ _. self.new ≡ holding_update update.now self.old) }
         ensures tested { let first = first_refusal (their_tests self.old update.now)
@@ -188,7 +189,7 @@ impl Ledger {
         Ok(())
     }
 
-    /// Whether a signature of this side would cover no new update (NoUpdates).
+    /// Whether a signature by this side would cover no new update (NoUpdates).
     pub fn signs_nothing(&self) -> bool
         ensures { result ≡ covers_nothing self.now.own self.now.theirs }
     {
@@ -196,7 +197,7 @@ impl Ledger {
             && self.theirs.past_receiver().count == self.theirs.with_sender().count
     }
 
-    /// Whether a signature of the peer would cover no new update.
+    /// Whether a signature by the peer would cover no new update.
     pub fn receives_nothing(&self) -> bool
         ensures { result ≡ covers_nothing self.now.theirs self.now.own }
     {
@@ -204,7 +205,7 @@ impl Ledger {
             && self.own.past_receiver().count == self.own.with_sender().count
     }
 
-    /// A signature was given out.
+    /// Records that this side sent a signature.
     pub fn sign(&mut self)
         ensures { self.new ≡ holding_signed self.old }
     {
@@ -212,7 +213,7 @@ impl Ledger {
         self.theirs.to_sender();
     }
 
-    /// A signature came, and is answered by a revocation.
+    /// Records that a signature came and was answered by a revocation.
     pub fn receive_signature(&mut self)
         ensures { self.new ≡ holding_signature self.old }
     {
@@ -225,7 +226,7 @@ impl Ledger {
         self.their_htlcs.settle(offered, settled);
     }
 
-    /// A revocation came.
+    /// Records that a revocation came.
     pub fn receive_revocation(&mut self)
         ensures { self.new ≡ holding_revocation self.old }
     {
@@ -236,7 +237,7 @@ impl Ledger {
         self.own_htlcs.settle(offered, settled);
     }
 
-    // The view of the first updates of this side, and of the first of its peer. The only error is that memory ran out.
+    // The view of these parts of this side's updates and its peer's. The only error is that memory ran out.
     fn view(&self, own: Part, theirs: Part) -> Result<View, AllocError>
         requires own { IsPartAt self.now.own own }
         requires theirs { IsPartAt self.now.theirs theirs }
@@ -253,7 +254,7 @@ impl Ledger {
         Ok(view_from(self.side, mine, others, rate))
     }
 
-    // The view of what has come to these stages.
+    // The view of the updates that have reached these stages.
     fn view_at(&self, own: Stage, theirs: Stage) -> Result<View, AllocError>
         ensures value { IfOk result (λ v. v ≡ view_in self.now (part_of own self.now.own)
             (part_of theirs self.now.theirs)) }
@@ -263,7 +264,7 @@ impl Ledger {
         self.view(self.own.part(own), self.theirs.part(theirs))
     }
 
-    /// The view of the peer's next commitment, which a signature of this side would be for. The only error is that memory ran out.
+    /// The view of the peer's next commitment, which this side's next signature would cover. The only error is that memory ran out.
     pub fn view_to_sign(&self) -> Result<View, AllocError>
         ensures value { IfOk result (λ v. v
             ≡ view_in self.now self.now.own.known self.now.theirs.past_receiver) }
@@ -272,7 +273,7 @@ impl Ledger {
         self.view_at(Stage::Known, Stage::PastReceiver)
     }
 
-    /// The view of this side's next commitment, which a signature of the peer has to be for. The only error is that memory ran out.
+    /// The view of this side's next commitment, which the peer's next signature has to cover. The only error is that memory ran out.
     pub fn view_to_receive(&self) -> Result<View, AllocError>
         ensures value { IfOk result (λ v. v ≡ view_in self.now self.now.own.past_receiver
             self.now.theirs.known) }
@@ -281,8 +282,7 @@ impl Ledger {
         self.view_at(Stage::PastReceiver, Stage::Known)
     }
 
-    /// The view of a side's newest commitment, the newest that this side signed where it is the peer's. The only error is that memory ran
-    /// out.
+    /// The view of a side's newest commitment; for the peer, the newest that this side signed. The only error is that memory ran out.
     pub fn view_of(&self, owner: Side) -> Result<View, AllocError>
         ensures value { IfOk result (λ v. v ≡ newest_view self.now owner) }
         ensures sound { IsNewestSound self.now owner }

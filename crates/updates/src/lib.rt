@@ -3,12 +3,13 @@
 //!
 //! [`OwnUpdate`] is what a side decides: it offers, fulfils or fails an HTLC, or sets the feerate. [`Update`] is what
 //! it tells its peer. A [`Ledger`] holds both sides' updates as one side knows them. Barring out-of-memory, each call
-//! names the first refusal that holds, in their order, and each view is exactly that of the updates in a commitment.
-//! Whatever the peer sends, in each view no balance is below 0, and balances and HTLCs sum to the capacity. The time
-//! of a call grows with the HTLCs that are pending, not with all that ever were; no clause says so.
+//! names the first refusal that holds, in the stated order, and each view is exactly that of the updates in a
+//! commitment. Whatever the peer sends, in each view no balance is below 0, and balances and HTLCs sum to the
+//! capacity. The time of a call grows with the number of pending HTLCs, not with the number that there ever were; no
+//! clause says so.
 //!
-//! `terms` has HTLCs and views. `channel` keeps a ledger, sends its updates, and has `commit` build what its views
-//! pay.
+//! `terms` defines HTLCs and views. `channel` keeps a ledger, sends its updates, and lets `commit` build the
+//! commitments of its views.
 //!
 //! ```rust
 //! /// Offers an HTLC, and says what this side has in the commitment that it signs next.

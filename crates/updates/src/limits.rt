@@ -1,7 +1,7 @@
 //! The limits of updates.
 
-/// How many HTLCs of one direction may stand live (BOLT 2, `max_accepted_htlcs`).
+/// How many HTLCs of one direction may be live (BOLT 2, `max_accepted_htlcs`).
 pub const MAX_HTLCS: usize = 483;
 
-/// Expiries are heights, which are below this (BIP 65).
+/// Expiries are block heights, which are below this (BIP 65).
 pub const EXPIRY_END: u32 = 500_000_000;

@@ -12,20 +12,21 @@ use terms::Htlc;
 #[derive(Clone, Copy, Debug, Drop)]
 pub(crate) struct PendingHtlc {
     pub htlc: Htlc,
-    /// The place of its add among the updates of its side, from 0.
+    /// The position of its offer among the updates of its side, from 0.
     pub added: usize,
-    /// Its removal among the peer's.
+    /// Its removal among the peer's updates.
     pub end: End,
 }
 
-/// The HTLCs of one direction: in full, those whose removal has not passed all five stages, and of the others what is needed of them.
+/// The HTLCs of one direction. Those whose removal has not passed all five stages are kept in full; of the others only what is still
+/// needed.
 #[derive(Drop)]
 pub(crate) struct Pending {
-    /// How many were ever offered.
+    /// The number of HTLCs ever offered.
     pub offered: u64,
-    /// Millisatoshis of those whose fulfilment passed all five stages.
+    /// The sum, in millisatoshis, of those whose fulfilment passed all five stages.
     pub fulfilled: u128,
-    /// The others but those whose failure did, in the order of their adds.
+    /// Those whose removal has not passed all five stages, in the order in which they were offered.
     pub htlcs: Vec<PendingHtlc>,
 }
 
@@ -33,7 +34,7 @@ impl PendingHtlc {
     ghost use Rattle.std.specs.Prelude.{◌≡◌};
     ghost use Rattle.updates.specs.Pending.{fate_at, is_left};
 
-    /// What became of it among the first updates of both sides: as if failed where it is not offered among them.
+    /// What became of it among the first updates of both sides; Failed where it is not offered among them.
     pub(crate) fn fate_at(&self, added: usize, removed: usize) -> Fate
         ensures { result ≡ fate_at added removed self.now }
     {
@@ -44,7 +45,7 @@ impl PendingHtlc {
         }
     }
 
-    /// Whether the first `removed` updates of the peer leave it.
+    /// Whether the first `removed` updates of the peer do not remove it.
     pub(crate) fn is_left(&self, removed: usize) -> bool
         ensures { result ≡ is_left removed self.now }
     {
@@ -72,7 +73,7 @@ impl Pending {
         }
     }
 
-    /// Millisatoshis of the pending ones.
+    /// The sum of the pending HTLCs in millisatoshis.
     pub(crate) fn total_amount(&self) -> u128
         ensures value { result ≡ total_amount self.now.htlcs.items }
         ensures bound { result ≤ 2 ^ 64 * length self.now.htlcs.items }
@@ -84,7 +85,7 @@ impl Pending {
         sum
     }
 
-    /// Millisatoshis of those that are fulfilled among the first updates of both sides.
+    /// The sum, in millisatoshis, of those that are fulfilled among the first updates of both sides.
     pub(crate) fn fulfilled_at(&self, added: usize, removed: usize) -> u128
         requires { self.now.fulfilled + 2 ^ 64 * length self.now.htlcs.items ≤ 2 ^ 64
             * self.now.offered }
@@ -103,7 +104,7 @@ impl Pending {
         sum
     }
 
-    /// Those that stand live among the first updates of both sides.
+    /// Those that are live among the first updates of both sides.
     pub(crate) fn live_at(&self, added: usize, removed: usize) -> Result<Vec<Htlc>, AllocError>
         ensures { IfOk result (λ v. v.items ≡ live_at added removed self.now.htlcs.items) }
     {
@@ -116,7 +117,7 @@ impl Pending {
         Ok(live)
     }
 
-    /// The HTLC of an id, where it stands live among the first updates of both sides.
+    /// The HTLC with this id, if it is live among the first updates of both sides.
     pub(crate) fn find(&self, id: u64, added: usize, removed: usize) -> Option<Htlc>
         ensures { result ≡ found_in id added removed self.now.htlcs.items }
     {
@@ -131,14 +132,14 @@ impl Pending {
         None
     }
 
-    /// The peer makes an update, at this place among its own.
+    /// Records an update that the peer makes, at this position among its own.
     pub(crate) fn note(&mut self, position: usize, update: &Update)
         ensures { IsNoted self.old self.new position update.now }
     {
         note_all(self.htlcs.as_mut_slice(), position, update);
     }
 
-    /// More of the peer's updates passed all five stages: the first `removed`.
+    /// Records that more of the peer's updates passed all five stages: the first `removed`.
     pub(crate) fn settle(&mut self, added: usize, removed: usize)
         requires { self.old.fulfilled + 2 ^ 64 * length self.old.htlcs.items ≤ 2 ^ 64
             * self.old.offered }
@@ -154,7 +155,7 @@ impl Pending {
     }
 }
 
-// Notes an update of the peer at each HTLC.
+// Records an update of the peer at each HTLC.
 fn note_all(htlcs: &mut [PendingHtlc], position: usize, update: &Update)
     ensures { htlcs.new ≡ noted_all position update.now htlcs.old }
 {

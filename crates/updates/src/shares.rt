@@ -1,4 +1,4 @@
-//! What a commitment gives to each side, by the HTLCs that are pending.
+//! What a commitment gives to each side, by what is kept of the HTLCs.
 
 ghost use Rattle.std.specs.Prelude.{◌≡◌, ◌*◌, ◌^◌, ◌≤◌, length, IfOk, Some, None, Option};
 ghost use Rattle.updates.specs.Pending.{IsBounded};
@@ -9,7 +9,7 @@ use lists::List;
 use std::alloc::AllocError;
 use terms::{Htlc, Share, Side, View};
 
-// Millisatoshis of HTLCs.
+// The sum of HTLCs in millisatoshis.
 fn amounts(htlcs: &[Htlc]) -> u128
     ensures { result ≡ amounts htlcs.now }
 {
@@ -20,8 +20,8 @@ fn amounts(htlcs: &[Htlc]) -> u128
     sum
 }
 
-/// What a side has that began with `start` millisatoshis, and the HTLCs that it offered, where its first `own` updates and the first
-/// `theirs` of its peer count. The only error is that memory ran out.
+/// The share of a side with this starting balance in millisatoshis: its balance, and the HTLCs that it offered. Its own first `own`
+/// updates and the first `theirs` of its peer count. The only error is that memory ran out.
 pub(crate) fn share_at(
     start: u64,
     htlcs: &Pending,
@@ -43,7 +43,7 @@ pub(crate) fn share_at(
     })
 }
 
-/// The feerate, by the newest fees of this side's updates and its peer's, `rate` before the first one.
+/// The feerate by the opener's newest fee; `rate` where it has none.
 pub(crate) fn rate_at(
     side: Side,
     opener: Side,

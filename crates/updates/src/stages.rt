@@ -1,4 +1,4 @@
-//! The updates of one side, and how many of them have come to each stage.
+//! The updates of one side, and how many of them have reached each stage.
 
 ghost use Rattle.std.specs.Prelude.{◌≡◌};
 ghost use Rattle.updates.specs.Updates.{fee_of, later_fee};
@@ -10,13 +10,13 @@ use std::marker::Model;
 /// The first updates of a side.
 #[derive(Clone, Copy, Debug, Drop)]
 pub(crate) struct Part {
-    /// How many they are.
+    /// The number of updates.
     pub count: usize,
     /// The rate of the last change of the feerate among them.
     pub fee: Option<u32>,
 }
 
-/// A stage that updates come to, up to which a commitment has them.
+/// A stage that updates reach. A commitment holds the updates that have reached a certain stage.
 #[derive(Clone, Copy, Debug, Drop)]
 pub(crate) enum Stage {
     Known,
@@ -25,7 +25,7 @@ pub(crate) enum Stage {
     WithSender,
 }
 
-/// The updates of one side, and how many of them have come to each stage.
+/// The updates of one side, and how many of them have reached each stage.
 #[derive(Drop)]
 pub(crate) struct UpdateList {
     updates: Vec<Update>,
@@ -52,7 +52,7 @@ impl Model for UpdateList {
         × (IsPartOf l.updates.items l.settled) };
 }
 
-// The newest fee after one more update.
+// The newest fee, after one more update.
 fn fee_after(fee: Option<u32>, update: &Update) -> Option<u32>
     ensures { result ≡ later_fee fee (fee_of update.now) }
 {
@@ -123,7 +123,7 @@ impl UpdateList {
         self.settled
     }
 
-    /// Those that have come to a stage.
+    /// Those that have reached a stage.
     pub(crate) fn part(&self, stage: Stage) -> Part
         ensures { Counts result (part_of stage self.now) }
     {
@@ -156,7 +156,7 @@ impl UpdateList {
         };
     }
 
-    /// The receiver revokes its commitment before.
+    /// The receiver revokes its previous commitment.
     pub(crate) fn by_receiver(&mut self)
         ensures { self.new ≡ by_receiver self.old }
     {
@@ -170,7 +170,7 @@ impl UpdateList {
         self.with_sender = self.past_receiver;
     }
 
-    /// The sender revokes its commitment before.
+    /// The sender revokes its previous commitment.
     pub(crate) fn by_sender(&mut self)
         ensures { self.new ≡ by_sender self.old }
     {

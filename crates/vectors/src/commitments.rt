@@ -1,5 +1,5 @@
-//! Builds commitments, a line each: `build HTLCS TIMES` builds one with so many HTLCs of each direction so many times, and prints its id. A opened the channel, or B where a third word
-//! says so. What is printed are the ids of a model in another language.
+//! Builds commitments, one line for each. `build HTLCS TIMES` builds a commitment with this number of HTLCs in each direction, this number of times, and prints its id. A opened the
+//! channel, unless a third word names B. The expected ids are from a model in another language.
 
 use anyhow::{Context, Result, bail};
 use commit::{Htlc, Side, Terms, View, build};
@@ -10,24 +10,24 @@ use parties::{FUNDING, key_of, one_key, party_with};
 use std::alloc::Global;
 use terms::{Party, Share};
 
-/// 02 and one byte over and over.
+/// The key of 02 and 32 times one byte.
 fn key(fill: u8) -> Result<Key> {
     key_of(fill).context("no key")
 }
 
-/// A party whose keys are all one.
+/// A party whose keys are all equal.
 fn party(start: u64, key: Key) -> Party {
     party_with(one_key(key), start)
 }
 
-/// 100 bitcoins, of which each side begins with half.
+/// Terms of 100 bitcoins, of which each side begins with half.
 fn terms(opener: Side) -> Result<Terms> {
     let half = 5_000_000_000_000;
     let (a, b) = (party(half, key(0xa0)?), party(half, key(0xb0)?));
     Ok(Terms::new(FUNDING, 10_000_000_000, opener, 1000, a, b)?)
 }
 
-/// So many HTLCs, each with a hash of its own, of nine amounts and seven expiries.
+/// A share with `count` HTLCs, each with a hash of its own, of nine amounts and seven expiries.
 fn share(alloc: Global, first: u32, count: u32) -> Result<Share> {
     let mut htlcs = Vec::new(alloc);
     for id in 0..count {
@@ -44,7 +44,7 @@ fn share(alloc: Global, first: u32, count: u32) -> Result<Share> {
     })
 }
 
-/// The id of A's commitment 42, built so many times.
+/// The id of A's commitment 42, built `times` times.
 fn built(alloc: Global, opener: Side, htlcs: u32, times: u32) -> Result<[u8; 32]> {
     let terms = terms(opener)?;
     let point = key(0xcc)?;
@@ -60,7 +60,7 @@ fn built(alloc: Global, opener: Side, htlcs: u32, times: u32) -> Result<[u8; 32]
     Ok(id)
 }
 
-/// The side that a word names, A without one.
+/// The side that a word names; A without a word.
 fn side_of(word: Option<&str>) -> Result<Side> {
     match word {
         None => Ok(Side::A),

@@ -1,8 +1,8 @@
-//! Compares what the libraries write with texts that were published, or that independent programs wrote: `stdin`
-//! asks, and `stdout` is what must be printed.
+//! Compares the libraries' output with vectors that were published, or that independent programs wrote: `stdin` is
+//! the input, and `stdout` the expected output.
 //!
-//! A line `== WORD` begins a part, and is printed again. The lines after it are the part's own, up to the next such
-//! line:
+//! A line `== WORD` begins a part, and is printed again. The
+//! lines after it, up to the next such line, belong to the part:
 //!
 //! - `tx`: transactions, and the digests that signatures sign
 //! - `patterns`: patterns of scripts, and what fills them
@@ -11,7 +11,7 @@
 //! - `channel`: steps of two peers
 //! - `publishing`: what either side of a channel can broadcast; it has no lines
 //!
-//! Each word's module says what its lines are. Nothing stands on the program: it calls `tx`, `paths`, `commit`,
+//! The module of each word describes its lines. No crate depends on the program. It calls `tx`, `paths`, `commit`,
 //! `penalty` and `publish`, and plays what `channel_sides` opens.
 #![tactic(auto)]
 
@@ -26,7 +26,7 @@ use anyhow::{Result, bail};
 use paths::CheckedPattern;
 use plays::Peers;
 
-/// What the lines of a part are about.
+/// The kind of a part.
 #[derive(Clone, Copy, PartialEq, Eq)]
 enum Word {
     Tx,
@@ -37,7 +37,7 @@ enum Word {
     Publishing,
 }
 
-/// The part that is read, and what its lines left.
+/// The current part, and the state that its lines left.
 #[derive(Drop)]
 struct Reading {
     word: Word,
@@ -47,7 +47,7 @@ struct Reading {
     peers: Peers,
 }
 
-/// The word of a header.
+/// The kind that a header names.
 fn word_of(name: &str) -> Result<Word> {
     match name {
         "tx" => Ok(Word::Tx),
@@ -60,7 +60,7 @@ fn word_of(name: &str) -> Result<Word> {
     }
 }
 
-/// Begins a part, and prints what needs no lines.
+/// Begins a part, and prints the output of a part without lines.
 fn begin<R: Print + AllocGlobal>(rt: &R, word: &mut Word, name: &str) -> Result<()> {
     println!(rt; "== {name}")?;
     *word = word_of(name)?;
@@ -70,7 +70,7 @@ fn begin<R: Print + AllocGlobal>(rt: &R, word: &mut Word, name: &str) -> Result<
     Ok(())
 }
 
-/// Answers a line of a part.
+/// Handles a line of a part.
 fn answer<R: Print + AllocGlobal>(rt: &R, reading: &mut Reading, line: &str) -> Result<()> {
     match reading.word {
         Word::Tx => transactions::show(rt, line),

@@ -1,7 +1,7 @@
-//! Reads patterns of scripts and what fills them, a line each, and prints the instances: their bytes, their paths, and whether `check` lists the same paths for the same bytes.
+//! Reads patterns of scripts and their fills, one on each line. It prints the instances: their bytes, their paths, and whether `check` lists the same paths for the same bytes.
 //!
-//! A line `pattern` has opcodes in hexadecimal, and `key`, `hash` and `num` for holes; a line `fill` fills the pattern that was read last, with `key=HEX`, `hash=HEX` and `num=N`.
-//! What is printed is what an independent script says of each line.
+//! A line `pattern` has opcodes in hexadecimal, and `key`, `hash` and `num` for holes. A line `fill` fills the last pattern, with `key=HEX`, `hash=HEX` and `num=N`. The expected
+//! output is from an independent script.
 
 use anyhow::Result;
 use hex::FromHex;
@@ -11,7 +11,7 @@ use std::alloc::{AllocError, Global};
 use std::fmt;
 use std::fmt::Write;
 
-// Puts the pieces that a word names at the end: a hole, or opcodes; whether it names any.
+// Appends the pieces that a word names: a hole, or opcodes. Returns whether it names any.
 fn push_pieces(alloc: Global, pieces: &mut Vec<Piece>, word: &str) -> Result<bool, AllocError> {
     match word {
         "key" => pieces.push(Piece::KeyHole)?,
@@ -32,7 +32,7 @@ fn push_pieces(alloc: Global, pieces: &mut Vec<Piece>, word: &str) -> Result<boo
     Ok(true)
 }
 
-// The pieces of these words; none where a word names none.
+// The pieces that these words name; `None` if a word names none.
 fn pieces_of(alloc: Global, words: &str) -> Result<Option<Vec<Piece>>, AllocError> {
     let mut pieces = Vec::new(alloc);
     for word in words.split_whitespace() {
@@ -43,7 +43,7 @@ fn pieces_of(alloc: Global, words: &str) -> Result<Option<Vec<Piece>>, AllocErro
     Ok(Some(pieces))
 }
 
-// What fills a hole, by its kind and its text.
+// The fill for a hole, by its kind and its text.
 fn fill_of(kind: &str, text: &str) -> Option<Fill> {
     match kind {
         "key" => <[u8; 33] as FromHex>::from_hex(text).ok().map(Fill::Key),
@@ -53,7 +53,7 @@ fn fill_of(kind: &str, text: &str) -> Option<Fill> {
     }
 }
 
-// What these words fill in; none where a word names nothing.
+// The fills that these words name; `None` if a word names none.
 fn fills_of(alloc: Global, words: &str) -> Result<Option<Vec<Fill>>, AllocError> {
     let mut fills = Vec::new(alloc);
     for word in words.split_whitespace() {
@@ -68,7 +68,7 @@ fn fills_of(alloc: Global, words: &str) -> Result<Option<Vec<Fill>>, AllocError>
     Ok(Some(fills))
 }
 
-// A number, or `-` where there is none.
+// A number, printed as `-` if there is none.
 #[derive(Drop)]
 struct OrDash(Option<u64>);
 
@@ -81,7 +81,7 @@ impl fmt::Display for OrDash {
     }
 }
 
-// Puts the text of a path at the end.
+// Appends the text of a path.
 fn push_path(text: &mut String, path: &Path) -> Result<(), AllocError> {
     let (arity, ops, height) = (path.arity, path.ops, path.height);
     let lock = OrDash(path.lock);
@@ -130,7 +130,7 @@ fn instance_text(alloc: Global, instance: &Checked) -> Result<String, AllocError
     format!(in alloc; "{bytes} {listed}{text}")
 }
 
-// The text of a pattern that these fill.
+// The text of a pattern with these fills.
 fn text_filled_by(
     alloc: Global,
     pattern: &CheckedPattern,
@@ -142,7 +142,7 @@ fn text_filled_by(
     }
 }
 
-// The text of a pattern that these words fill.
+// The text of a pattern with the fills that these words name.
 fn filled_text(alloc: Global, pattern: &CheckedPattern, words: &str) -> Result<String, AllocError> {
     match fills_of(alloc, words)? {
         Some(fills) => text_filled_by(alloc, pattern, &fills),
@@ -150,7 +150,7 @@ fn filled_text(alloc: Global, pattern: &CheckedPattern, words: &str) -> Result<S
     }
 }
 
-// The pattern of these words, or why there is none.
+// The pattern that these words name, or why there is none.
 fn pattern_of(alloc: Global, words: &str) -> Result<CheckedPattern, PatternError> {
     match pieces_of(alloc, words)? {
         Some(pieces) => check_pattern(alloc, pieces),
@@ -158,7 +158,7 @@ fn pattern_of(alloc: Global, words: &str) -> Result<CheckedPattern, PatternError
     }
 }
 
-// Sets the pattern to that of these words, or to none, where there is none.
+// Sets the pattern to the one that these words name, or to `None` if there is none.
 fn set_pattern(
     alloc: Global,
     pattern: &mut Option<CheckedPattern>,
@@ -169,7 +169,7 @@ fn set_pattern(
     Ok(())
 }
 
-// What is printed of a line, which may set the pattern.
+// The output for a line, which may set the pattern.
 fn line_of(
     alloc: Global,
     pattern: &mut Option<CheckedPattern>,
@@ -188,7 +188,7 @@ fn line_of(
     }
 }
 
-/// Prints what there is to say of a line, which may set the pattern.
+/// Prints the output for a line, which may set the pattern.
 pub fn show<R: Print + AllocGlobal>(
     rt: &R,
     pattern: &mut Option<CheckedPattern>,

@@ -1,8 +1,8 @@
-//! Reads revoked states, a line each, and prints what they let the owner's peer claim: of each claim the outpoint, the value, the program, the path and what its
-//! slots are filled with, and then the transaction that takes all that the commitment itself pays, or why there is none.
+//! Reads revoked states, one on each line, and prints what they let the owner's peer claim. Of each claim it prints the outpoint, the value, the program, the
+//! path and the fills of its slots; then the transaction that takes all outputs of the commitment itself, or why there is none.
 //!
 //! A line has the owner, the number, the feerate, both balances in millisatoshis, and an HTLC in each further word: who offered it, its amount, its expiry, and
-//! a byte whose 32 copies are its preimage. What is printed is what an independent script says of them.
+//! a byte that is repeated 32 times as its preimage. The expected output is from an independent script.
 
 mod errors;
 mod printing;
@@ -17,7 +17,7 @@ use reading::{learnt, state_of};
 use spending::write_spends;
 use std::alloc::{AllocError, Global};
 
-// The claims on what a state pays, and what takes them.
+// Writes the claims on a state, and the transactions that take them.
 fn write_set(
     alloc: Global,
     state: &RevokedState,
@@ -30,26 +30,26 @@ fn write_set(
     Ok(())
 }
 
-// What a state gives.
+// Writes what a state lets claim.
 fn write_state(alloc: Global, state: &RevokedState, text: &mut String) -> Result<(), LineError> {
     let set = penalties(alloc, state)?;
     write_set(alloc, state, &set, text)
 }
 
-// The text of what a state gives.
+// The text of what a state lets claim.
 fn state_text(alloc: Global, state: &RevokedState) -> Result<String, LineError> {
     let mut text = String::new(alloc);
     write_state(alloc, state, &mut text)?;
     Ok(text)
 }
 
-// The text of what a line's state gives.
+// The text of what a line's state lets claim.
 fn set_of(alloc: Global, line: &str) -> Result<String, LineError> {
     let state = state_of(alloc, line)?;
     state_text(alloc, &state)
 }
 
-// The answer to a line.
+// The output for a line.
 fn answer(alloc: Global, line: &str) -> Result<String, AllocError> {
     match set_of(alloc, line) {
         Ok(text) => Ok(text),
@@ -57,7 +57,7 @@ fn answer(alloc: Global, line: &str) -> Result<String, AllocError> {
     }
 }
 
-/// Prints the answer to a line.
+/// Prints the output for a line.
 pub fn show<R: Print + AllocGlobal>(rt: &R, line: &str) -> Result<()> {
     let text = answer(rt.alloc(), line)?;
     print!(rt; "{text}")?;

@@ -1,9 +1,9 @@
-//! Plays two peers of a channel, as the lines of its input say: `open` opens a new channel of 100,000 satoshis, and `open SATOSHIS` one of so many, of which each side
-//! has half; `A offer MILLISATOSHIS EXPIRY`, `A fulfil ID`, `A fail ID`, `A fee RATE`, `A sign` and `A deliver`, or the same of B, are steps; `random STEPS` plays so many at
-//! random, and `repeat TIMES STEP, STEP` plays steps in turn, so many times.
+//! Plays two peers of a channel, as the lines of its input say. `open` opens a new channel of 100,000 satoshis, and `open SATOSHIS` one of this capacity, of which each side
+//! has half. `A offer MILLISATOSHIS EXPIRY`, `A fulfil ID`, `A fail ID`, `A fee RATE`, `A sign` and `A deliver`, or the same of B, are steps. `random STEPS` plays this
+//! number of steps at random, and `repeat TIMES STEP, STEP` plays steps in turn, this number of times.
 //!
-//! It prints the outcome of each step, before a signature the outputs of what is signed, after steps at random how many of each kind were done, and after repeated ones
-//! how many were done.
+//! It prints the outcome of each step, and before a signature the outputs of the commitment that is signed. After random steps it prints how many of each kind were done, and
+//! after repeated ones how many were done.
 
 mod often;
 mod random;
@@ -26,7 +26,7 @@ pub struct Peers {
     pair: Pair,
 }
 
-/// Opens a channel of so many satoshis, of which A and B have so many millisatoshis.
+/// Opens a channel of this capacity in satoshis, of which A and B have these millisatoshis.
 fn open_with(alloc: Global, capacity: u64, starts: [u64; 2]) -> Result<Peers> {
     let sides = open_sides(alloc, capacity, starts)?;
     Ok(Peers {
@@ -40,7 +40,7 @@ pub fn open(alloc: Global) -> Result<Peers> {
     open_with(alloc, 100_000, [80_000_000, 20_000_000])
 }
 
-/// Opens a channel of so many satoshis, of which each side has half.
+/// Opens a channel of this capacity in satoshis, of which each side has half.
 fn open_shared(alloc: Global, capacity: u64) -> Result<Peers> {
     open_with(alloc, capacity, [capacity.saturating_mul(500); 2])
 }
@@ -73,7 +73,7 @@ fn print_commitment(
     print_values(rt, built.outputs())
 }
 
-/// Prints the commitment that a side would sign next, where it may sign.
+/// Prints the commitment that a side would sign next, if it may sign.
 fn print_next(rt: &impl Print, alloc: Global, peers: &Peers, side: Side) -> Result<()> {
     match peers.pair.channel(side).ready() {
         Ok(next) => print_commitment(rt, alloc, &peers.terms, &next),
@@ -93,14 +93,14 @@ fn play_line(rt: &impl Print, alloc: Global, peers: &mut Peers, line: &str) -> R
     Ok(())
 }
 
-/// Plays so many steps at random, and prints what either side would sign then.
+/// Plays this number of steps at random, and prints what each side would sign next.
 fn play_many(rt: &impl Print, alloc: Global, peers: &mut Peers, steps: u64) -> Result<()> {
     play_at_random(rt, alloc, &mut peers.pair, steps)?;
     print_next(rt, alloc, peers, Side::A)?;
     print_next(rt, alloc, peers, Side::B)
 }
 
-/// Does what a line says.
+/// Handles a line.
 pub fn follow(rt: &impl Print, alloc: Global, peers: &mut Peers, line: &str) -> Result<()> {
     match line.split_once(' ') {
         None => {

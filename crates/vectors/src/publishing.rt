@@ -1,7 +1,7 @@
-//! Plays a channel with three HTLCs, of which one is trimmed, and prints what each side can broadcast: its commitments with both signatures, and the HTLC transaction of
+//! Plays a channel with three HTLCs, one of them trimmed, and prints what each side can broadcast: its commitments with both signatures, and the HTLC transaction of
 //! each HTLC, without a preimage and with it.
 //!
-//! What must be printed is what an independent model of BOLT 3 and BIP 143 prints.
+//! The expected output is from an independent model of BOLT 3 and BIP 143.
 
 mod playing;
 
@@ -12,7 +12,7 @@ use playing::{PREIMAGE, played};
 use publish::{signed_commitment, signed_htlc_tx};
 use tx::{Tx, encode};
 
-/// How many numbers are shown, and how many HTLCs of each: one more than there are.
+/// The greatest commitment number shown, and the number of HTLCs shown for each: one more than there are.
 const SHOWN: u64 = 3;
 
 /// Prints the bytes of a transaction.
@@ -22,7 +22,7 @@ fn show_bytes<R: Print + AllocGlobal>(rt: &R, tx: &Tx) -> Result<()> {
     Ok(())
 }
 
-/// Prints the bytes of a transaction, where there is one.
+/// Prints the bytes of a transaction, or `none`.
 fn show_tx<R: Print + AllocGlobal>(rt: &R, tx: Option<Tx>) -> Result<()> {
     match tx {
         None => println!(rt; "none")?,
@@ -31,7 +31,7 @@ fn show_tx<R: Print + AllocGlobal>(rt: &R, tx: Option<Tx>) -> Result<()> {
     Ok(())
 }
 
-/// Prints the HTLC transaction of an HTLC, where these preimages are known.
+/// Prints the HTLC transaction of an HTLC, with these known preimages.
 fn show_htlc<R: Print + AllocGlobal>(
     rt: &R,
     channel: &Channel,

@@ -1,9 +1,9 @@
-//! Reads transactions, a line of hexadecimal text each, and prints what they are: the id in the hash's own byte order, the numbers of inputs, witness items
-//! and outputs, and whether the bytes that `tx` writes for them, whole and without witnesses, are those that it read. A line of four words asks for a digest
-//! (BIP 143): a stripped transaction, the index of an input, the script code and the value that the input spends.
+//! Reads transactions, a line of hexadecimal each. It prints the id in the hash's own byte order, and the numbers of inputs, witness items and outputs. It also prints
+//! whether `tx` writes the same bytes again, with and without witnesses. A line of four words asks for a digest (BIP 143): a stripped transaction, the index of an
+//! input, the script code, and the value in satoshis that the input spends.
 //!
-//! The lines have published transactions, the examples of BIP 143, and such that an independent script made; what is printed is what is published of them, or what that
-//! script says.
+//! The lines have published transactions, the examples of BIP 143, and transactions from an independent script. The expected output is what was published of them, or
+//! what that script says.
 
 use anyhow::Result;
 use sighash::digest_of;
@@ -19,7 +19,7 @@ fn item_count(tx: &Tx) -> u64 {
     count
 }
 
-// Whether these bytes are written for the transaction.
+// Whether `tx` writes these bytes for the transaction.
 fn is_written(alloc: Global, bytes: &[u8], tx: &Tx) -> bool {
     match encode(alloc, tx) {
         Ok(written) => written.as_slice() == bytes,
@@ -34,7 +34,7 @@ fn bare_of(tx: &Tx) -> Result<Tx, AllocError> {
     Ok(bare)
 }
 
-// Whether these bytes read as the transaction without witnesses, which has the transaction's id.
+// Whether these bytes are read as the transaction without witnesses, with the transaction's id.
 fn reads_bare(alloc: Global, stripped: &[u8], tx: &Tx) -> Result<bool, AllocError> {
     let bare = bare_of(tx)?;
     match decode_stripped(alloc, stripped) {
@@ -43,14 +43,14 @@ fn reads_bare(alloc: Global, stripped: &[u8], tx: &Tx) -> Result<bool, AllocErro
     }
 }
 
-// Whether the bytes are written again for the transaction, and its form without witnesses reads as the transaction without them.
+// Whether the transaction is written as these bytes again, and its stripped form is read as the transaction without witnesses.
 fn comes_back(alloc: Global, bytes: &[u8], tx: &Tx) -> Result<bool, AllocError> {
     let stripped = encode_stripped(alloc, tx)?;
     let reads = reads_bare(alloc, &stripped, tx)?;
     Ok(reads && is_written(alloc, bytes, tx))
 }
 
-// The digest that a signature of an input of a transaction signs, or why there is none.
+// The digest that a signature of an input signs, or why there is none.
 fn digest_text(
     alloc: Global,
     tx: &Tx,
@@ -84,7 +84,7 @@ fn digest_line(
     }
 }
 
-// What the transaction of these bytes is.
+// The line that describes the transaction with these bytes.
 fn transaction_text(alloc: Global, bytes: &[u8], tx: &Tx) -> Result<String, AllocError> {
     let id = hex::encode(alloc, txid(tx))?;
     let (inputs, outputs) = (tx.inputs().len(), tx.outputs().len());
@@ -97,7 +97,7 @@ fn transaction_text(alloc: Global, bytes: &[u8], tx: &Tx) -> Result<String, Allo
     format!(in alloc; "{id} inputs {inputs} items {items} outputs {outputs} {back}")
 }
 
-// What a line's transaction is, or why it is none.
+// The line that describes the transaction in a line, or why it is refused.
 fn transaction_line(alloc: Global, text: &str) -> Result<String, AllocError> {
     let Ok(bytes) = hex::decode(alloc, text) else {
         return format!(in alloc; "refused BadHex");
@@ -108,7 +108,7 @@ fn transaction_line(alloc: Global, text: &str) -> Result<String, AllocError> {
     }
 }
 
-// What there is to say of a line.
+// The output for a line.
 fn line_of(alloc: Global, text: &str) -> Result<String, AllocError> {
     let mut words = text.split(' ');
     let first = words.next().unwrap_or("");
@@ -118,7 +118,7 @@ fn line_of(alloc: Global, text: &str) -> Result<String, AllocError> {
     }
 }
 
-/// Prints what there is to say of a line.
+/// Prints the output for a line.
 pub fn show<R: Print + AllocGlobal>(rt: &R, line: &str) -> Result<()> {
     let text = line_of(rt.alloc(), line)?;
     println!(rt; "{text}")?;

@@ -19,11 +19,11 @@ use Rattle.watch.specs.Lookouts.{IsSettled, with_learnt, some_is_paid, next_is_p
 abbrev offered : ℕ → List ℕ → HtlcOutput
 offered index h = record { index = index; direction = Offered; htlc = record { id = 0; amount = 1000000; hash = h; expiry = 500 } }
 
--- more preimages go to the end
+-- more preimages are appended
 more : (known : Known) (x y z : List ℕ) → (with_learnt (x ∷ y ∷ []) (record known { preimages = z ∷ [] })).preimages ≡ z ∷ x ∷ y ∷ []
 more known x y z = refl
 
--- one of the preimages is one of one of the HTLCs
+-- one of the preimages has the hash of one of the HTLCs
 module _ (x y hash other : List ℕ) where
   abbrev two : List HtlcOutput
   two = offered 0 other ∷ offered 2 hash ∷ []

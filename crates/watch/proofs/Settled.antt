@@ -1,4 +1,4 @@
--- Where all that is due was given, a block that leaves the funding output alone gives nothing more.
+-- Once all that is due was given, a block that leaves the funding output alone gives nothing more.
 use Rattle.std.proofs.Common.{◌≡◌, ℕ, ◌&&◌, ◌||◌, Bool, true, false, cond, List, [], ◌∷◌, ◌++◌, map, refl, sym, ap, subst, ◌∙◌, append_assoc, append-nil, eq-eqb}
 use Rattle.std.specs.Prelude.{filter}
 use Rattle.std.specs.List.{list_any, list_all}
@@ -66,7 +66,7 @@ none_left h given (o ∷ os) e = go (is_given given o) e (none_left h given os)
 pub settled : (seen : Seen) (h : ℕ) (txs : List Transaction) (known : Known) → IsSettled (seen_after seen h txs known) known
 settled seen h txs known = all_given h seen.given (due_by known (spends_after seen h txs known))
 
--- transactions that leave an output alone
+-- transactions that do not spend an output
 none_spend : (o : OutPoint) (h : ℕ) (txs : List Transaction) → list_any (names o) txs ≡ false → spends_in o h txs ≡ []
 none_spend o h [] e = refl
 none_spend o h (t ∷ ts) e = go (names o t) e (none_spend o h ts)
@@ -103,7 +103,7 @@ pub on_true : (b : Bool) (P : Type 0) → b ≡ true → OnTrue b P → P
 on_true true P e h = h
 on_true false P e h = absurd (cc)
 
--- what a lookout gives for such a block, and what it is then: its parts are opened twice, as p and as q
+-- what a lookout gives for such a block, and its state after it; its parts are destructured twice, as p and as q
 pub sight_of : (p q now : LookoutParts) (h : ℕ) (txs slice : List Transaction) (spends : List Spend) (claims : List ClaimParts) (learnt : List (List ℕ)) → p ≡ now → q ≡ now → slice ≡ txs
     → list_any (names p.known.terms.funding) slice ≡ false → IsSettled p.seen p.known → spends ≡ q.seen.spends → claims ≡ [] → learnt ≡ learnt_in (htlcs_by q.known spends) slice
     → IsSight now.seen h txs now.known claims learnt

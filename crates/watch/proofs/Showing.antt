@@ -1,4 +1,4 @@
--- A clean run of an HTLC's script goes one of its ways, and the way with the preimage shows it.
+-- A clean run of an HTLC's script takes one of its paths, and the path with the preimage shows it.
 use Rattle.std.proofs.Common.{◌≡◌, ℕ, zero, suc, ◌<◌, ◌==◌, Bool, true, false, ◌&&◌, cond, List, [], ◌∷◌, ◌++◌, length, reverse, get_or, Option, Some, None, refl, sym, ap, subst, ◌∙◌, arith, inl, inr}
 use Rattle.std.specs.Prelude.{slice_get, Contains, Any, ◌⊎◌, option_map, option_and_then, codes}
 use Rattle.std.specs.List.{list_any, filter_map, cons_option}

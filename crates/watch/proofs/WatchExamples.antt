@@ -29,7 +29,7 @@ output index = record { txid = 7 ∷ []; index = index }
 abbrev given : ℕ → ℕ → ℕ → Given
 given index path height = record { outpoint = output index; path = path; height = height }
 
--- a claim was given where its outpoint and its path were, and is given once
+-- a claim was given if its outpoint and its path were, and is given once
 module _ (any : Claimable) where
   abbrev claim : ℕ → ℕ → Claimable
   claim index path = record any { place = record { outpoint = output index; value = 1000; program = [] }; path = path }
@@ -55,7 +55,7 @@ another_id id r e = rw e refl
 its_id : (id : List ℕ) (r : RevokedCommitment) → bytes_eq (id_of (commitment_in r.state)) id ≡ true → revoked_if id 3 (Some r) ≡ Revoked 3
 its_id id r e = rw e refl
 
--- no number without an input alone
+-- no number unless there is exactly one input
 no_number : (terms : Terms) (i j : TxIn) → (number_by terms 0 [] ≡ None) × (number_by terms 0 (i ∷ j ∷ []) ≡ None)
 no_number terms i j = (refl, refl)
 
@@ -95,7 +95,7 @@ module _ (known : Known) (x y hash other a b script : List ℕ) (claims : List C
   abbrev two : List CommitmentHtlcs
   two = record { id = 8 ∷ []; htlcs = offered 0 hash ∷ offered 2 other ∷ [] } ∷ []
 
-  -- each input shows its own, in their order
+  -- each input shows its own preimage, in order
   from_both : (length x == 32) ≡ true → (length y == 32) ≡ true → bytes_eq (sha256 x) hash ≡ true → bytes_eq (sha256 y) other ≡ true
       → (learnt_from two (by_three 0 x ∷ by_five 2 y ∷ []) ≡ x ∷ y ∷ [])
       × (learnt_from two (by_five 2 y ∷ by_three 1 x ∷ by_three 0 x ∷ []) ≡ y ∷ x ∷ [])

@@ -1,4 +1,4 @@
--- That a revoked commitment's transaction is found, and what has its verdict.
+-- A revoked commitment's transaction is found, and nothing else has its verdict.
 use Rattle.std.specs.Prelude.{◌≡◌, ℕ, ◌≤◌, false, List, Contains}
 use Rattle.tx.specs.Fields.{Transaction, unsigned_transaction}
 use Rattle.tx.specs.Spelling.{transaction_id}
@@ -28,7 +28,7 @@ pub record HasNoNewer (known : Known) (id : List ℕ) : Type 0 where
   pub theirs : is_of id known.theirs ≡ false
   pub next : is_of_next id known.next ≡ false
 
--- its transaction then has the verdict Revoked, with its number
+-- its transaction has the verdict Revoked with its number, unless a newer known commitment has its id
 abbrev pub RevokedAreFound : Type 0
 RevokedAreFound =
     (known : Known) (r : RevokedCommitment) (t : Transaction) → IsKnownRevoked known r → IsTransactionOf r t → HasNoNewer known (transaction_id t)

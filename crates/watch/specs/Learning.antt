@@ -29,11 +29,11 @@ commitment_by known Unknown = None
 abbrev pub htlcs_in : Contents → CommitmentHtlcs
 htlcs_in c = record { id = id_of c; htlcs = htlcs_of c }
 
--- those of the known commitment that a transaction is
+-- the HTLCs of the known commitment that a transaction is
 abbrev pub htlcs_if : Known → Spend → Option CommitmentHtlcs
 htlcs_if known s = option_map htlcs_in (commitment_by known (verdict_of known s.tx))
 
--- and of those among transactions
+-- the HTLCs of all these commitments, among transactions
 abbrev pub htlcs_by : Known → List Spend → List CommitmentHtlcs
 htlcs_by known spends = filter_map (htlcs_if known) spends
 

@@ -25,7 +25,7 @@ with_learnt preimages known = record known { preimages = known.preimages ++ prei
 abbrev pub IsSettled : Seen → Known → Type 0
 IsSettled seen known = list_all (is_given seen.given) (due_by known seen.spends) ≡ true
 
--- the preimage is one of an HTLC, or one of the preimages is
+-- the preimage has the hash of an HTLC, or one of the preimages has
 abbrev pub pays : List HtlcOutput → List ℕ → Bool
 pays htlcs x = list_any (λ h. bytes_eq (sha256 x) h.htlc.hash) htlcs
 
@@ -36,7 +36,7 @@ abbrev pub next_is_paid : List (List ℕ) → Option Contents → Bool
 next_is_paid preimages None = false
 next_is_paid preimages (Some c) = some_is_paid preimages (htlcs_of c)
 
--- more may be due by a verdict once these preimages are known: all penalties are due anyhow
+-- more may be due by a verdict once these preimages are known; penalties do not depend on preimages
 abbrev pub changes : Known → List (List ℕ) → Verdict → Bool
 changes known preimages Ours = some_is_paid preimages (htlcs_of known.own.commitment)
 changes known preimages Theirs = some_is_paid preimages (htlcs_of known.theirs)

@@ -1,4 +1,4 @@
--- That whoever spends the output of an HTLC by its preimage shows the preimage to the watch.
+-- Whoever spends the output of an HTLC by its preimage shows the preimage to the watch.
 use Rattle.std.specs.Prelude.{◌≡◌, ◌≢◌, ℕ, ◌<◌, ◌⊎◌, true, List, [], ◌∷◌, ◌++◌, Some, slice_get, Contains}
 use Rattle.sha2.specs.Sha256.{sha256}
 use Rattle.digest.specs.Ripemd160.{ripemd160}
@@ -36,7 +36,7 @@ pub record Collide (hash : List ℕ → List ℕ) (x y : List ℕ) : Type 0 wher
 
 -- ---- the ways through an HTLC's script
 
--- its witness goes the way of an index: the items below the script meet that path
+-- its witness takes the path of an index: the items below the script meet that path
 pub record Goes (c : Contents) (h : HtlcOutput) (t : Transaction) (i : TxIn) (index : ℕ) : Type 0 where
   pub path : Path
   pub there : slice_get (htlc_form c.keys h.direction h.htlc).paths index ≡ Some path
@@ -44,7 +44,7 @@ pub record Goes (c : Contents) (h : HtlcOutput) (t : Transaction) (i : TxIn) (in
   pub witness : i.witness ≡ items ++ htlc_script c.keys h.direction h.htlc ∷ []
   pub meets : Meets (spend_of t i (htlc_script c.keys h.direction h.htlc) (satoshis_of h.htlc.amount)) items path.arity path.facts
 
--- the HTLC keys are keys, as those of each commitment of the terms are
+-- the HTLC keys have the form of keys, as those of each commitment of the terms have
 pub record AreKeys (k : KeyBytes) : Type 0 where
   pub local : is_key k.local_htlc ≡ true
   pub remote : is_key k.remote_htlc ≡ true
@@ -56,7 +56,7 @@ KeysAreKeys = (terms : Terms) (owner : Side) (point : List ℕ) → AreKeys (key
 abbrev pub ScriptCollides : Contents → HtlcOutput → Type 0
 ScriptCollides c h = (script : List ℕ) × Collide sha256 script (htlc_script c.keys h.direction h.htlc)
 
--- where the output runs clean (BIP 141), the witness goes one of the ways, or its script is another one with the same SHA-256
+-- where the output runs clean (BIP 141), the witness takes one of the paths, or its script is another one with the same SHA-256
 abbrev pub SpendersGo : Type 0
 SpendersGo =
     (c : Contents) (h : HtlcOutput) (t : Transaction) (i : TxIn) (counted height : ℕ) → AreKeys c.keys → h.htlc.expiry < locktime_threshold
@@ -64,7 +64,8 @@ SpendersGo =
 
 -- ---- the preimage
 
--- the index of the way that asks for it: the peer's direct claim of what the owner offered, or the owner's HTLC-success transaction
+-- the index of the path that asks for it: the peer's direct claim of what the owner offered, or the owner's HTLC-success
+-- transaction
 abbrev pub preimage_way : Direction → ℕ
 preimage_way Offered = 2
 preimage_way Received = 1
@@ -79,7 +80,7 @@ pub record IsLearnt (commitments : List CommitmentHtlcs) (hash : List ℕ) (inpu
 abbrev pub HashCollides : List ℕ → Type 0
 HashCollides hash = (item : List ℕ) × Collide ripemd160 (sha256 item) hash
 
--- whoever goes that way shows the preimage
+-- whoever takes that path shows the preimage, or an item with that collision
 abbrev pub PreimagesAreLearnt : Type 0
 PreimagesAreLearnt =
     (commitments : List CommitmentHtlcs) (c : Contents) (h : HtlcOutput) (t : Transaction) (i : TxIn) → Contains commitments (htlcs_in c) → SpendsHtlc c h t i

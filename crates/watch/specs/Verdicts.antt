@@ -15,7 +15,7 @@ use Rattle.resolve.specs.declared.known.RevokedCommitment.{RevokedCommitment}
 use Rattle.resolve.specs.declared.known.Known.{Known}
 use Rattle.resolve.specs.Due.{revoked_at}
 
--- the number that a transaction carries, where its only input spends the funding output (BOLT 3, "Commitment Transaction")
+-- the number that a transaction carries, if its only input spends the funding output (BOLT 3, "Commitment Transaction")
 abbrev pub number_by : Terms → ℕ → List TxIn → Option ℕ
 number_by terms lock_time (i ∷ []) = if same_outpoint i.outpoint terms.funding then revealed (mask_of terms) lock_time i.sequence else None
 number_by terms lock_time inputs = None
@@ -31,7 +31,7 @@ abbrev pub is_of_next : List ℕ → Option Contents → Bool
 is_of_next id None = false
 is_of_next id (Some c) = is_of id c
 
--- the revoked commitment of the number, where the id is its own
+-- the revoked commitment of the number, if the id is its own
 abbrev pub revoked_if : List ℕ → ℕ → Option RevokedCommitment → Verdict
 revoked_if id n None = Unknown
 revoked_if id n (Some r) = if is_of id (commitment_in r.state) then Revoked n else Unknown

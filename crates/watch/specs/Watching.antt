@@ -35,7 +35,7 @@ spends_in funding height txs = map (spend_at height) (filter (names funding) txs
 abbrev pub is_spent : OutPoint → Seen → List Transaction → Bool
 is_spent funding seen txs = not (length seen.spends == 0) || list_any (names funding) txs
 
--- all that were read, once a block is
+-- all that were read, once this block is read too
 abbrev pub spends_after : Seen → ℕ → List Transaction → Known → List Spend
 spends_after seen height txs known = seen.spends ++ spends_in known.terms.funding height txs
 
@@ -66,7 +66,7 @@ seen_after seen height txs known = record {
   given = seen.given ++ map (given_at height) (claims_after seen height txs known);
 }
 
--- what is left of it where the blocks above a height were taken off
+-- what is left of it once the blocks above a height were taken off
 abbrev pub seen_up_to : ℕ → Seen → Seen
 seen_up_to height seen = record {
   spends = filter (λ s. nat_le s.height height) seen.spends;

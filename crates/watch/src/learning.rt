@@ -26,7 +26,7 @@ pub(crate) struct CommitmentHtlcs {
     pub(crate) htlcs: List<HtlcOutput>,
 }
 
-// Those of a commitment. The only error is that memory ran out.
+// The HTLCs of a commitment. The only error is that memory ran out.
 fn htlcs_in(alloc: Global, commitment: &Commitment) -> Result<CommitmentHtlcs, AllocError>
     ensures { IfOk result (λ h. h ≡ htlcs_in commitment.now) }
 {
@@ -37,7 +37,7 @@ fn htlcs_in(alloc: Global, commitment: &Commitment) -> Result<CommitmentHtlcs, A
     })
 }
 
-// Those of a commitment that there is.
+// The HTLCs of a commitment that may be there.
 fn some_htlcs_in(
     alloc: Global,
     commitment: &Commitment,
@@ -47,7 +47,7 @@ fn some_htlcs_in(
     Ok(Some(htlcs_in(alloc, commitment)?))
 }
 
-// Those of a commitment that was revoked.
+// The HTLCs of a commitment that was revoked.
 fn some_htlcs_of(alloc: Global, state: &RevokedState) -> Result<Option<CommitmentHtlcs>, AllocError>
     ensures { IfOk result (λ h. h ≡ Some (htlcs_in (commitment_in state.now))) }
 {
@@ -55,7 +55,7 @@ fn some_htlcs_of(alloc: Global, state: &RevokedState) -> Result<Option<Commitmen
     some_htlcs_in(alloc, &commitment)
 }
 
-// Those of the commitment that a verdict names.
+// The HTLCs of the commitment that a verdict names.
 fn htlcs_of_verdict(
     alloc: Global,
     known: &Known,
@@ -78,7 +78,7 @@ fn htlcs_of_verdict(
     }
 }
 
-// The HTLCs of the commitment that a transaction is go to the end.
+// Appends the HTLCs of the commitment that a transaction is.
 fn push_htlcs(
     alloc: Global,
     known: &Known,
@@ -110,7 +110,7 @@ pub(crate) fn htlcs_by(
     Ok(commitments)
 }
 
-// Whether an HTLC stands at an index with this preimage's hash.
+// Whether the HTLC is at this index and has this preimage's hash.
 fn is_preimage_of(preimage: &[u8; 32], index: u32, htlc: &HtlcOutput) -> bool
     ensures { result ≡ (htlc.now.index == index && bytes_eq
         (sha256 preimage.now) htlc.now.htlc.hash) }
@@ -118,7 +118,7 @@ fn is_preimage_of(preimage: &[u8; 32], index: u32, htlc: &HtlcOutput) -> bool
     htlc.index == index && sha256(preimage) == htlc.htlc.hash
 }
 
-// Whether one of the HTLCs is such a one.
+// Whether this holds of one of the HTLCs.
 fn some_is_preimage_of(preimage: &[u8; 32], index: u32, htlcs: &[HtlcOutput]) -> bool
     ensures { result ≡ list_any (λ h. h.index == index && bytes_eq
         (sha256 preimage.now) h.htlc.hash) htlcs.now }
@@ -128,7 +128,7 @@ fn some_is_preimage_of(preimage: &[u8; 32], index: u32, htlcs: &[HtlcOutput]) ->
         .any(|htlc| is_preimage_of(preimage, index, htlc))
 }
 
-// Whether an HTLC stands at an outpoint, with this preimage.
+// Whether an HTLC of the commitment is at this outpoint and has this preimage's hash.
 fn is_paid_by(preimage: &[u8; 32], outpoint: &OutPoint, commitment: &CommitmentHtlcs) -> bool
     ensures { result ≡ is_paid_by preimage.now outpoint.now commitment.now }
 {
@@ -167,7 +167,7 @@ fn learnt_by(
     }
 }
 
-// What an input shows goes to the end.
+// Appends what an input shows.
 fn push_learnt(
     commitments: &[CommitmentHtlcs],
     tx: &Tx,
@@ -185,7 +185,7 @@ fn push_learnt(
     Ok(())
 }
 
-// What the inputs of a transaction show goes to the end.
+// Appends what the inputs of a transaction show.
 fn learn_from(
     commitments: &[CommitmentHtlcs],
     tx: &Tx,

@@ -1,12 +1,12 @@
 //! What a watcher finds in blocks: which commitment closed a channel, what is due by it, and the preimages that
 //! spends of its HTLCs show.
 //!
-//! [`verdict`] names the known commitment that a transaction is, by its id. A [`Watch`] serves one channel:
-//! [`Watch::look`] reads a block and gives a [`Sight`], the claims that are due and that it hasn't given yet, and
-//! what it learnt; [`Watch::back`] forgets blocks that were taken off. A [`Lookout`] is a watch with what is known of
-//! its channel: it reads many blocks by the same knowledge, and works out once what no block changes.
+//! [`verdict`] names the known commitment that a transaction is, by its id. A [`Watch`] serves one channel.
+//! [`Watch::look`] reads a block and gives a [`Sight`]: the due claims that it hasn't given yet, and the preimages that
+//! it learnt. [`Watch::back`] forgets blocks that were taken off. A [`Lookout`] is a watch with what is known of its
+//! channel. It reads many blocks by the same knowledge, and works out once what no block changes.
 //!
-//! `chain` hands it blocks, and `resolve` says what is due. `side` has a watch for each channel of a node; what is
+//! `chain` hands it blocks, and `resolve` says what is due. `side` has a watch for each channel of a node. What is
 //! known of the channel comes from `book`.
 //!
 //! ```rust

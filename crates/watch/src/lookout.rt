@@ -20,13 +20,13 @@ use std::alloc::{AllocError, Global};
 use std::marker::Model;
 use std::mem;
 
-/// A watch that reads many blocks by what is known of its channel, and works out once what stays the same from one to the next: a block that has no
-/// transaction on the funding output costs a pass over its inputs, once all that is due was given.
+/// A watch that reads many blocks by what is known of its channel, and works out once what stays the same from one to the next. Once all that is due was
+/// given, a block without a transaction on the funding output costs one pass over its inputs.
 #[derive(Drop)]
 pub struct Lookout {
     watch: Watch,
     known: Known,
-    // The HTLCs of the known commitments among the transactions that were read, where they are worked out.
+    // The HTLCs of the known commitments among the transactions that were read, if they are worked out.
     commitments: Option<Vec<CommitmentHtlcs>>,
     // Whether all that is due was given.
     is_settled: bool,
@@ -47,7 +47,7 @@ impl Model for Lookout {
         × OnTrue l.is_settled (IsSettled l.watch l.known) };
 }
 
-// What a block shows to those who know these transactions. The HTLCs of the known commitments among them are worked out where they weren't yet. The only
+// What a block shows, after these transactions were read. The HTLCs of the known commitments among them are worked out where they weren't yet. The only
 // error is that memory ran out.
 fn shown(
     alloc: Global,
@@ -74,7 +74,7 @@ fn shown(
     }
 }
 
-// Whether the preimage is one of an HTLC.
+// Whether one of the HTLCs has this preimage's hash.
 fn pays(htlcs: &[HtlcOutput], preimage: &[u8; 32]) -> bool
     ensures { result ≡ pays htlcs.now preimage.now }
 {
@@ -82,7 +82,7 @@ fn pays(htlcs: &[HtlcOutput], preimage: &[u8; 32]) -> bool
     htlcs.iter().any(|htlc| hash == htlc.htlc.hash)
 }
 
-// Whether one of the preimages is.
+// Whether one of the HTLCs has the hash of one of these preimages.
 fn some_is_paid(preimages: &[[u8; 32]], htlcs: &[HtlcOutput]) -> bool
     ensures { result ≡ some_is_paid preimages.now htlcs.now }
 {
@@ -112,7 +112,7 @@ fn some_changes(known: &Known, preimages: &[[u8; 32]], spends: &[Spend]) -> bool
     spends.iter().any(|spend| changes(known, preimages, verdict(known, &spend.tx)))
 }
 
-// Puts preimages at the end. The only error is that memory ran out, which leaves them as they were.
+// Appends preimages. The only error is that memory ran out, which leaves them as they were.
 fn push_all(preimages: &mut List<[u8; 32]>, more: &[[u8; 32]]) -> Result<(), AllocError>
     ensures ok { OnOk result (preimages.new ≡ preimages.old ++ more.now) }
     ensures err { OnErr result (preimages.new ≡ preimages.old) }
@@ -149,7 +149,7 @@ impl Lookout {
         &self.known
     }
 
-    /// The watch alone, without what is known.
+    /// The watch, without what is known.
     pub fn into_watch(self) -> Watch
         ensures { result ≡ self.seen }
     {
@@ -162,7 +162,7 @@ impl Lookout {
         watch
     }
 
-    // Reads a block as the watch does, after which all that is due was given.
+    // Reads a block as the watch does. Afterwards all that is due has been given.
     fn look_anew(&mut self, alloc: Global, height: u64, block: &Block) -> Result<Sight, AllocError>
         ensures sight { IfOk result (λ s. IsSight self.old.seen height
             (reverse block.now.transactions) self.old.known s.claims.items s.learnt.items) }
@@ -179,8 +179,8 @@ impl Lookout {
         Ok(sight)
     }
 
-    /// Reads the block at a height, above the blocks that it read before, by what is known: as `Watch::look` does. Where no transaction of the block spends
-    /// the funding output and all that is due was given, it costs a pass over the block's inputs.
+    /// Reads the block at a height, above the blocks that it read before, by what is known: as `Watch::look` does. If no transaction of the block spends
+    /// the funding output and all that is due was given, it costs one pass over the block's inputs.
     ///
     /// The only error is that memory ran out, which leaves the lookout as it was.
     pub fn look(&mut self, alloc: Global, height: u64, block: &Block) -> Result<Sight, AllocError>
@@ -205,7 +205,7 @@ impl Lookout {
         })
     }
 
-    /// These preimages are known too, for the blocks that it reads from now on. The only error is that memory ran out, which leaves the lookout as it was.
+    /// Adds known preimages, for the blocks that it reads from now on. The only error is that memory ran out, which leaves the lookout as it was.
     pub fn learn(&mut self, preimages: &[[u8; 32]]) -> Result<(), AllocError>
         ensures ok { OnOk result (self.new
             ≡ record self.old { known = with_learnt preimages.now self.old.known }) }

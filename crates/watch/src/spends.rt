@@ -20,7 +20,7 @@ pub struct Spend {
 impl Spend {
     ghost use Rattle.std.specs.Prelude.{◌≡◌, IfOk};
 
-    /// An equal one. The only error is that memory ran out.
+    /// A copy. The only error is that memory ran out.
     pub fn copy(&self) -> Result<Spend, AllocError>
         ensures { IfOk result (λ s. s ≡ self.now) }
     {
@@ -32,7 +32,7 @@ impl Spend {
     }
 }
 
-/// Whether two outpoints are one.
+/// Whether two outpoints are the same.
 pub(crate) fn same_outpoint(o: &OutPoint, p: &OutPoint) -> bool
     ensures { result ≡ same_outpoint o.now p.now }
 {
@@ -55,7 +55,7 @@ pub(crate) fn some_spends(funding: &OutPoint, txs: &[Confirmed]) -> bool
     txs.iter().any(|confirmed| some_input_names(confirmed.tx().inputs(), funding))
 }
 
-// A transaction that spends an output goes to the end.
+// Appends a transaction if it spends the output.
 fn push_spend(
     funding: &OutPoint,
     height: u64,
@@ -73,7 +73,7 @@ fn push_spend(
     Ok(())
 }
 
-/// The transactions that spend an output go to the end. The only error is that memory ran out; some of them may stand at the end then.
+/// Appends the transactions that spend an output. The only error is that memory ran out; some of them may have been appended by then.
 pub(crate) fn push_spends(
     funding: &OutPoint,
     height: u64,

@@ -24,7 +24,7 @@ pub struct Given {
     pub height: u64,
 }
 
-// Whether a claim of the outpoint and the path of this one was given.
+// Whether a claim with the outpoint and the path of this one was given.
 fn is_given(given: &[Given], claim: &Claim) -> bool
     ensures { result ≡ is_given given.now (claimed_by claim.now) }
 {
@@ -33,7 +33,7 @@ fn is_given(given: &[Given], claim: &Claim) -> bool
     given.iter().any(|g| same_outpoint(&g.outpoint, &outpoint) && g.path == path)
 }
 
-// A claim that wasn't given yet goes to the end of the claims, and is noted as given.
+// Appends a claim that wasn't given yet, and notes it as given.
 fn push_if_unclaimed(
     height: u64,
     claim: Claim,
@@ -61,8 +61,8 @@ fn push_if_unclaimed(
     Ok(())
 }
 
-/// Those claims that weren't given yet go to the end of the claims, each once, and are noted as given. The only error is that memory ran out; some of them
-/// may be noted then.
+/// Appends those claims that weren't given yet, each once, and notes them as given. The only error is that memory ran out; some of them may have been
+/// noted by then.
 pub(crate) fn push_unclaimed(
     height: u64,
     due: Vec<Claim>,
@@ -84,7 +84,7 @@ pub(crate) fn push_unclaimed(
     Ok(())
 }
 
-// All claims go to the end.
+// Appends all claims.
 fn push_all(from: Vec<Claim>, to: &mut Vec<Claim>) -> Result<(), AllocError>
     ensures { OnOk result (to.new.items ≡ to.old.items ++ from.items) }
 {

@@ -40,7 +40,7 @@ fn number_in(terms: &Terms, tx: &Tx) -> Option<u64>
     number_of(terms, tx)
 }
 
-// Which of the revoked commitments a transaction of this id is. One is looked up by its number.
+// Which of the revoked commitments a transaction of this id is. Only the one of this number is looked up.
 fn revoked_by(known: &Known, id: &[u8; 32], number: Option<u64>) -> Verdict
     ensures { result ≡ revoked_by known.now id.now number }
 {
@@ -53,8 +53,8 @@ fn revoked_by(known: &Known, id: &[u8; 32], number: Option<u64>) -> Verdict
     }
 }
 
-/// Which commitment a transaction is: the first of one's own newest, the peer's newest, the peer's next and the revoked one whose number the transaction
-/// carries (BOLT 3, "Commitment Transaction"), that has the transaction's id; `Unknown` where none has. It takes no memory.
+/// Which commitment a transaction is, by its id. It is the first match of one's own newest, the peer's newest, the peer's next, and the revoked one
+/// whose number the transaction carries (BOLT 3, "Commitment Transaction"). `Unknown` if none has the id. It allocates nothing.
 #[tactic(auto, unfolding(crate::specs::Verdicts::verdict_of))]
 pub fn verdict(known: &Known, tx: &Tx) -> Verdict
     ensures { result ≡ verdict_of known.now tx.now }

@@ -14,8 +14,8 @@ use std::alloc::{AllocError, Global};
 use std::marker::Model;
 use tx::OutPoint;
 
-/// What a watch of one channel has read that matters, and what it gave: the transactions that spend the funding output and the claims, each in order and
-/// with the height of its block.
+/// What a watch of one channel has read and given: the transactions that spend the funding output, and the claims. Both are in order, with the height of
+/// their block.
 #[derive(Debug, Drop)]
 pub struct Watch {
     spends: Vec<Spend>,
@@ -39,7 +39,7 @@ pub struct Sight {
     pub learnt: Vec<[u8; 32]>,
 }
 
-// Reads a block. Where memory runs out, what was there before stands there.
+// Reads a block. If memory runs out, the earlier entries stay, and others may follow them.
 fn read(
     alloc: Global,
     height: u64,
@@ -68,7 +68,7 @@ fn read(
     Ok(Sight { claims, learnt })
 }
 
-// Equal spends. The only error is that memory ran out.
+// Copies of spends. The only error is that memory ran out.
 fn copied_spends(alloc: Global, spends: &[Spend]) -> Result<Vec<Spend>, AllocError>
     ensures { IfOk result (λ copies. copies.items ≡ spends.now) }
 {
@@ -111,16 +111,16 @@ impl Watch {
         self.spends.as_slice()
     }
 
-    /// Whether a transaction that spends the funding output was read or stands in this block.
+    /// Whether a transaction that spends the funding output was read or is in this block.
     pub fn is_spent(&self, funding: &OutPoint, block: &Block) -> bool
         ensures { result ≡ is_spent funding.now self.now (reverse block.now.transactions) }
     {
         !self.spends.is_empty() || some_spends(funding, block.transactions())
     }
 
-    /// Reads the block at a height, above the blocks that it read before. For each transaction read so far that spends the funding output, in order, it gives
-    /// the claims that are due by its verdict and that it hasn't given yet, told apart by outpoint and path. It also gives the preimages that inputs of this
-    /// block show where they spend HTLCs of the known commitments among those transactions. What is known may be another value at each call.
+    /// Reads the block at a height, above the blocks that it read before. It takes the transactions read so far that spend the funding output, in order. For
+    /// each it gives the claims that are due by its verdict and that it hasn't given yet, told apart by outpoint and path. It also gives the preimages that
+    /// inputs of this block show where they spend HTLCs of the known commitments among those transactions. What is known may be another value at each call.
     ///
     /// The only error is that memory ran out, which leaves the watch as it was.
     pub fn look(
@@ -149,7 +149,7 @@ impl Watch {
         }
     }
 
-    /// Forgets what it read and gave for the blocks above a height, which were taken off. What was learnt from them is the caller's, and stays.
+    /// Forgets what it read and gave for the blocks above a height, which were taken off. What was learnt from them belongs to the caller, and stays.
     pub fn back(&mut self, height: u64)
         ensures { self.new ≡ seen_up_to height self.old }
     {

@@ -1,4 +1,4 @@
--- What a call of its book makes of a side.
+-- What a call of its book does to a side.
 use Rattle.std.proofs.Common.{◌≡◌, ℕ, zero, suc, Bool, true, false, List, [], ◌∷◌, length, Option, Some, None, Ok, Err, refl, sym, ap, subst, ◌∙◌, inl, inr}
 use Rattle.std.proofs.lemmas.List.{reverse-append}
 use Rattle.std.proofs.lemmas.Option.{same_Some}
@@ -37,7 +37,7 @@ refused first (errors.Sign r) is = is
 refused first (errors.Keep r) is = is
 refused first (errors.Fill r) is = is
 
--- ---- what is answered
+-- ---- replies
 
 pub accepted_none : (reply : Reply) → is_accepted reply ≡ true → refusal_in reply ≡ None
 accepted_none (opened r) ok = refl
@@ -52,7 +52,7 @@ accepted_none (revoked (Err e)) ok = absurd cc
 accepted_none (kept (Err e)) ok = absurd cc
 accepted_none (released (Err e)) ok = absurd cc
 
--- an answer to a call that opens no channel is refused by an event's refusal
+-- a reply to a call that opens no channel is refused by an event's refusal
 abbrev is_opening : Reply → Bool
 is_opening (opened r) = true
 is_opening reply = false
@@ -78,7 +78,7 @@ no_opening (calls.Revoke c secret point) chs none = refl
 no_opening (calls.Keep c n claims) chs none = refl
 no_opening (calls.Release c batch) chs none = refl
 
--- out of memory is one of them, and no answer that is accepted
+-- out of memory is one of these refusals, and not an accepted reply
 memory_is : (call : Call) → opens_none call ≡ true → refusal_in (no_memory_of call) ≡ Some errors.NoMemory
 memory_is (calls.Open o) none = absurd cc
 memory_is (calls.Step c step) none = refl
@@ -119,7 +119,7 @@ is_answered n new call reply m is rest ok sent =
     let d = is_done n new call reply is rest ok in
     (ap refusal_in d.answer ∙ accepted_none reply ok, ap messages_in d.answer ∙ sent, d.after)
 
--- and a refused one
+-- what a refused reply says
 pub is_undone : (n new : Node) (call : Call) (reply : Reply) (e : EventError) → opens_none call ≡ true → IsCall (no_memory_of call) reply n.history new.history SEAT call
     → new ≡ record n { history = new.history } → is_accepted reply ≡ false → refusal_in reply ≡ Some e → IsRefusal (refusal_in (answer_to n call)) e × (new ≡ n)
 is_undone n new call reply e none (inl (is, same)) rest not_accepted first = (

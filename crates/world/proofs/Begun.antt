@@ -1,4 +1,4 @@
--- What is so of a world whose channels have begun.
+-- What is true of a world whose channels have begun.
 use Rattle.std.proofs.Common.{◌≡◌, ℕ, zero, suc, ◌+◌, ◌<◌, ◌≤◌, Bool, true, false, true≢false, not, cond, ◌||◌, List, [], ◌∷◌, ◌++◌, length, refl, sym, ap, ◌∙◌, subst, arith}
 use Rattle.std.specs.Prelude.{drop, slice_get, nat_lt, if◌then◌else◌, Option, Some, None, Result, Ok, Err, OnOk}
 use Rattle.std.specs.List.{position_from}
@@ -43,7 +43,7 @@ drop-all i [] past = drop-nil i
 drop-all zero (x ∷ xs) past = absurd (omega (arith, past))
 drop-all (suc i) (x ∷ xs) past = drop-all i xs (omega (arith, past))
 
--- one grant more
+-- one more grant
 more_grants : (blocks : List Contents) (o : Output) → 1 ≤ length blocks → grants_in (with_grant blocks o) ≡ grants_in blocks + 1
 more_grants [] o some = absurd (omega (arith, some))
 more_grants (b ∷ older) o some = omega arith
@@ -52,11 +52,11 @@ as_many : (blocks : List Contents) (o : Output) → length (with_grant blocks o)
 as_many [] o = refl
 as_many (b ∷ older) o = refl
 
--- one channel more, of which nothing is on its way
+-- one more channel, with no message on its way
 more_inboxes : (n : Node) → inboxes (with_line n) ≡ inboxes n ++ [] ∷ []
 more_inboxes n = map-append (λ (l : Line). l.inbox) n.lines _
 
--- what is so of a side that opened the next channel
+-- what is true of a side that opened the next channel
 pub record IsOpen (c : ℕ) (opening : Opening) (n : Node) : Type 0 where
   pub accepted : is_accepted (answer_to n (Open opening)) ≡ true
   pub channels : replay (with_opened opening n).history ≡ replay n.history ++ opened_by opening ∷ []
@@ -71,7 +71,7 @@ is_open taken seeds c side plain terms opening n are is few stands =
 next : (c : ℕ) → suc c ≡ c + 1
 next c = omega arith
 
--- both sides agree on one channel more
+-- both sides agree on one more channel
 agree_on : (w : World) (a b : Opening) (c : ℕ) → IsOpen c a w.a → IsOpen c b w.b → ArePaired A (replay w.a.history) (replay w.b.history) (inboxes w.a) (inboxes w.b)
     → ArePaired A (replay w.a.history ++ opened_by a ∷ []) (replay w.b.history ++ opened_by b ∷ []) (inboxes w.a ++ [] ∷ []) (inboxes w.b ++ [] ∷ [])
     → ArePaired A (replay (with_opened a w.a).history) (replay (with_opened b w.b).history) (inboxes (with_opened a w.a)) (inboxes (with_opened b w.b))
@@ -105,15 +105,15 @@ has_begun paired taken seeds c plain w v few begun b =
 pub nothing_begun : HasBegun 0 empty_world
 nothing_begun = record { a_stands = refl; b_stands = refl; grants = refl; some_block = omega arith; a_called = no_call; b_called = no_call; agree = tt }
 
--- ---- one after another
+-- ---- channels in order
 
--- what is left from an element on begins with it
+-- the rest of a list from an element on begins with this element
 left_from : {X : Type 0} (i : ℕ) (xs : List X) (x : X) → slice_get xs i ≡ Some x → drop i xs ≡ x ∷ drop (suc i) xs
 left_from i [] x e = absurd (none-some x e)
 left_from zero (y ∷ xs) x e = ap (λ z. z ∷ xs) (same_Some y x e)
 left_from (suc i) (y ∷ xs) x e = left_from i xs x e
 
--- what begins from a channel on is all that begins
+-- beginning the channels from i on completes the beginning of all
 abbrev pub IsLeft : Seeds → List ProposedTerms → ℕ → World → Type 0
 IsLeft seeds terms i w = (end : World) → AllBegin seeds i (drop i terms) w end → AllBegin seeds 0 terms empty_world end
 
@@ -137,7 +137,7 @@ is_script_program script =
     let l : length (sha256 script) ≡ 32 = length-sha256 script in
     or_right (is_key_hash_program (script_hash_program script)) (is_script_hash_program (script_hash_program script)) (and_from _ _ (eq-eqb _ _ (omega (arith, l))) refl)
 
--- an output that is there is the funding output
+-- an optional funding output that is there is the funding output
 found_output : (over : Bool) (o p : Output) → Some p ≡ (if over then None else Some o) → p ≡ o
 found_output true o p e = absurd cc
 found_output false o p e = cc
@@ -151,7 +151,7 @@ is_granted seeds c plain o same not_one = true≢false (sym (ap (λ (x : Output)
 
 -- ---- a channel
 
--- where its funding output stands
+-- the place of its funding output
 stands_at : (w : World) (c : ℕ) (o : OutPoint) → HasBegun c w → o ≡ grant_outpoint (grants_in w.chain.blocks) → o ≡ grant_outpoint c
 stands_at w c o begun is = is ∙ ap grant_outpoint begun.grants
 
@@ -180,7 +180,7 @@ begun_by seeds c plain w o both chain a b begun is grown are of_a of_b = record 
   after = λ i. record w { a = of_a i; b = of_b i; chain = grown i };
 }
 
--- and the same of a world that is equal to it
+-- the same, for an equal world
 pub begun_from : (seeds : Seeds) (c : ℕ) (plain : ProposedTerms) (old w : World) (o : OutPoint) (both : Both) (chain : Standing) (a b : Node) → w ≡ old → HasBegun c old → o ≡ grant_outpoint (grants_in w.chain.blocks)
     → chain ≡ granted (funding_output seeds c plain) w.chain → AreOpeningsOf seeds c o plain both → a ≡ with_opened both.a w.a → b ≡ with_opened both.b w.b
     → Begins seeds c plain old (record w { a = a; b = b; chain = chain })
@@ -196,7 +196,7 @@ on_ok (Err e) f p = p
 abbrev bad_from : ℕ → List ProposedTerms → Option ℕ
 bad_from i terms = position_from (λ t. not (can_agree t)) i terms
 
--- where no terms are bad, each can be agreed on
+-- if no terms are bad, the sides can agree on each
 pub agreed_each : (i : ℕ) (terms : List ProposedTerms) → bad_from i terms ≡ None → (k : ℕ) (plain : ProposedTerms) → slice_get terms k ≡ Some plain → can_agree plain ≡ true
 agreed_each i [] none k plain there = absurd (none-some plain there)
 agreed_each i (t ∷ ts) none k plain there = go (agreed_each (i + 1) ts) (can_agree t) refl none k there

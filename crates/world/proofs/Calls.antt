@@ -46,7 +46,7 @@ replayed_after history seat call ok =
 pub refused_stays : (history : List Entry) (seat : ℕ) (call : Call) → is_accepted (reply_of peer_tokens history call) ≡ false → history_after peer_tokens history seat call ≡ history
 refused_stays history seat call rejected = ap (λ b. extended b history seat call) rejected
 
--- what a taken call of each kind says
+-- what an accepted call of each kind says
 ok_of_stepped : {r s : Result (List Message) StepError} → stepped r ≡ stepped s → r ≡ s
 ok_of_stepped e = cc
 
@@ -85,7 +85,7 @@ signed_of (Some ch) chs c m there e = by (sign_refusal ch) refl e
     by None none e = record { channel = ch; there = there; taken = none; sent = cc }
     by (Some r) some e = absurd cc
 
--- what the book does not refuse to sign, the channel does not
+-- the channel does not refuse to sign what the book does not refuse
 channel_signs : (ch : ChannelBook) → sign_refusal ch ≡ None → channel_refusal ch.state ≡ None
 channel_signs ch none = by (ch.state.awaiting || nat_le LAST_NUMBER ch.state.peer_number) (first_missing ch) (covers_nothing ch.state.held.own ch.state.held.theirs) none
   where
@@ -97,14 +97,14 @@ channel_signs ch none = by (ch.state.awaiting || nat_le LAST_NUMBER ch.state.pee
     by false None true e = absurd cc
     by false None false e = refl
 
--- ---- the two books after a call of one
+-- ---- the two books after a call of one of them
 
 same_at : (c : ℕ) (ps : List (List Message)) → at_index (λ p. p) c ps ≡ ps
 same_at c [] = refl
 same_at zero (p ∷ ps) = refl
 same_at (suc c) (p ∷ ps) = ap (λ qs. p ∷ qs) (same_at c ps)
 
--- a channel that is there has a queue
+-- a channel in the list has a queue
 queue_there : (side : Side) (c : ℕ) (xs ys : Channels) (ps qs : List (List Message)) (x : ChannelBook) → slice_get xs c ≡ Some x → ArePaired side xs ys ps qs → (p : List Message) × (slice_get ps c ≡ Some p)
 queue_there side c [] ys ps qs x here paired = absurd (none-some x here)
 queue_there side zero (z ∷ xs) (y ∷ ys) (p ∷ ps) (q ∷ qs) x here paired = (p, refl)
@@ -113,7 +113,7 @@ queue_there side c (z ∷ xs) [] ps qs x here paired = absurd paired
 queue_there side c (z ∷ xs) (y ∷ ys) [] qs x here paired = absurd paired
 queue_there side c (z ∷ xs) (y ∷ ys) (p ∷ ps) [] x here paired = absurd paired
 
--- a side acts in a channel, and its queue stays
+-- a side acts in a channel, and the messages to it stay
 acted : (side : Side) (f : State → State) (sent : List Message) (c : ℕ) (xs ys : Channels) (ps qs : List (List Message)) (x : ChannelBook) → slice_get xs c ≡ Some x
     → ((p : List Message) → Acts peer_tokens x.state p (f x.state) sent p) → ArePaired side xs ys ps qs → ArePaired side (at_index (with_state f) c xs) ys ps (at_index (λ q. q ++ sent) c qs)
 acted side f sent c xs ys ps qs x here acts paired =
@@ -121,7 +121,7 @@ acted side f sent c xs ys ps qs x here acts paired =
     let at = acted_at side f (λ p. p) sent c xs ys ps qs x q.0 here q.1 (acts q.0) paired in
     subst (λ rs. ArePaired side (at_index (with_state f) c xs) ys rs (at_index (λ q. q ++ sent) c qs)) (same_at c ps) at
 
--- an update of one's own
+-- one's own update
 pub made : (side : Side) (mine peers : List Entry) (to_me to_peer : List (List Message)) (seat c : ℕ) (u : OwnUpdate) (ms : List Message) → AgreeBy side mine peers to_me to_peer
     → reply_of peer_tokens mine (Stepping c (Own u)) ≡ stepped (Ok ms)
     → AgreeBy side (history_after peer_tokens mine seat (Stepping c (Own u))) peers to_me (at_index (λ q. q ++ ms) c to_peer)
@@ -145,7 +145,7 @@ signed_once side mine peers to_me to_peer seat c m agree reply =
 
 -- ---- deliveries
 
--- the queue of a side once its oldest message came
+-- the queue of a side without its oldest message
 rest_is : (c : ℕ) (xs ys : Channels) (ps qs : List (List Message)) (side : Side) (m : Message) (rest : List Message) → slice_get ps c ≡ Some (m ∷ rest) → ArePaired side xs ys ps qs
     → (x : ChannelBook) × (slice_get xs c ≡ Some x)
 rest_is c [] [] [] [] side m rest queue paired = absurd (none-some (m ∷ rest) queue)
@@ -164,7 +164,7 @@ call_changes (Updated u) c chs = refl
 call_changes (CommitmentSigned tokens) c chs = refl
 call_changes (RevokeAndAck secret point) c chs = refl
 
--- what a book answers where the channel takes the message, and where it does not
+-- the book's reply where the channel takes the message, and where it does not
 answer_is : (m : Message) (c : ℕ) (chs : Channels) (x : ChannelBook) → slice_get chs c ≡ Some x → receive_refusal peer_tokens x.state m ≡ None
     → messages_in (answer_of peer_tokens chs (call_of c m)) ≡ answers x.state m
 answer_is (Updated u) c chs x here none = rw (here, none) refl
@@ -191,7 +191,7 @@ channel_takes m c chs x (Some r) is here ok = absurd (true-false (sym ok ∙ not
     true-false : true ≡ false → ⊥
     true-false e = absurd cc
 
--- the oldest message came, and its answer is on its way
+-- the oldest message was delivered, and its answer is on its way
 pub received : (side : Side) (mine peers : List Entry) (to_me to_peer : List (List Message)) (seat c : ℕ) (m : Message) (rest : List Message) → AgreeBy side mine peers to_me to_peer
     → slice_get to_me c ≡ Some (m ∷ rest) → is_accepted (reply_of peer_tokens mine (call_of c m)) ≡ true
     → AgreeBy side (history_after peer_tokens mine seat (call_of c m)) peers (at_index (drop 1) c to_me) (at_index (λ q. q ++ messages_in (reply_of peer_tokens mine (call_of c m))) c to_peer)
@@ -206,7 +206,7 @@ received side mine peers to_me to_peer seat c m rest agree queue ok =
     subst (λ chs. ArePaired side chs (replay peers) (at_index (drop 1) c to_me) (at_index (λ q. q ++ messages_in (reply_of peer_tokens mine (call_of c m))) c to_peer)) (sym changed)
     (subst (λ ms. ArePaired side (at_index (with_state (λ s. after s m)) c (replay mine)) (replay peers) (at_index (drop 1) c to_me) (at_index (λ q. q ++ ms) c to_peer)) (sym sent) at)
 
--- ---- calls that leave the states
+-- ---- calls that do not change the states
 
 pub filed : (side : Side) (mine peers : List Entry) (to_me to_peer : List (List Message)) (seat c n : ℕ) (claims : List ClaimParts) → AgreeBy side mine peers to_me to_peer
     → is_accepted (reply_of peer_tokens mine (Keep c n claims)) ≡ true → AgreeBy side (history_after peer_tokens mine seat (Keep c n claims)) peers to_me to_peer
@@ -221,7 +221,7 @@ released_by side mine peers to_me to_peer seat c batch agree ok =
 
 -- ---- the law
 
--- the channel of an index, with its peer's
+-- the channel at an index, and its peer's
 record IsThere (side : Side) (xs : Channels) (c : ℕ) (queue : List Message) : Type 0 where
   mine : ChannelBook
   peers : ChannelBook

@@ -1,4 +1,4 @@
--- Whatever fits an accepted claim passes the chain's test, once it is due.
+-- An input that fits an accepted claim passes the chain's test, once it is due.
 use Rattle.std.proofs.Common.{◌≡◌, ℕ, ◌+◌, ◌%◌, ◌^◌, ◌<◌, zero, suc, Bool, true, false, ◌&&◌, ◌||◌, nat_le, eqb, List, [], ◌∷◌, Some, None, sym, ap, subst, ◌∙◌, refl, arith, Contains}
 use Rattle.std.specs.Prelude.{nat_lt}
 use Rattle.std.specs.List.{list_all}
@@ -23,7 +23,7 @@ use Rattle.world.specs.Enforcement.{IsDue, Passes, ClaimsSpend, LocksAreHeights}
 same_output : (o : Output) (place : Place) → o.value ≡ place.value → o.script ≡ place.program → o ≡ output_at place
 same_output o place v s = rw (← v, ← s) refl
 
--- an input on an unspent coin whose locks are reached and whose program runs clean passes
+-- an input passes if its coin is unspent, its locks are reached and its program runs clean
 reached_passes : (blocks : List Contents) (height : ℕ) (t : Transaction) (input : TxIn) (coin : Coin) (n h : ℕ) → IsReached blocks height t input coin → run_of t input coin.output ≡ Some (Clean n h)
     → input_refusal blocks height t input ≡ None
 reached_passes blocks height t input coin n h r run = rw (r.found, r.unspent, r.final, r.old_enough, run) refl
@@ -49,7 +49,7 @@ and_false : (a b : Bool) → b ≡ false → (a && b) ≡ false
 and_false true b e = e
 and_false false b e = refl
 
--- where one input's sequence is not final, not all are
+-- if one input's sequence is not final, not all are
 not_all : (inputs : List TxIn) (input : TxIn) → Contains inputs input → input.sequence < 65536 → list_all (λ i. eqb i.sequence 0xffffffff) inputs ≡ false
 not_all [] input (k, h, e) l = absurd (omega (arith, h))
 not_all (i ∷ inputs) input (zero, h, e) l =
@@ -71,7 +71,7 @@ final_by height lock_time inputs l a =
 old_by : (height version sequence coin_height : ℕ) → version ≡ 2 → sequence < 65536 → is_old_enough height version sequence coin_height ≡ nat_le (coin_height + sequence) height
 old_by height version sequence coin_height v s = rw (v, bit-clear 31 sequence (omega arith), bit-clear 22 sequence (omega arith), mod-eq_of_lt s) refl
 
--- both, of what fits an accepted claim
+-- both, for an input that fits an accepted claim
 final_is : (height : ℕ) (x : ClaimParts) (t : Transaction) (input : TxIn) → FitsClaim x t input → IsTimed x t input → is_final height t.lock_time t.inputs ≡ nat_lt t.lock_time height
 final_is height x t input f i = final_by height t.lock_time t.inputs i.height (not_all t.inputs input f.fits.among (subst (λ n. n < 65536) (sym i.sequence) i.age))
 

@@ -1,4 +1,4 @@
--- A claim, what fits it and a chain for which the premises of the theorem hold.
+-- A claim, an input that fits it, and a chain, for which the premises of the theorem hold.
 use Rattle.std.proofs.Common.{◌≡◌, ℕ, true, false, List, [], ◌∷◌, replicate, refl, lit≤, lit<, Some, None, Ok}
 use Rattle.std.specs.Prelude.{IsTrue, is_ok}
 use Rattle.std.proofs.lemmas.List.Elements.{All-nil, All-cons}
@@ -27,7 +27,7 @@ use Rattle.sighash.specs.Programs.{script_hash_program, spend_of}
 use Rattle.chain.specs.Blocks.{Contents, Coin, grant_id, grant_outpoint, coin_at}
 use Rattle.world.specs.Enforcement.{IsDue, IsTime}
 
--- a push of a key, and CHECKSIG, with its one path; the hash of its bytes is from outside
+-- a push of a key, and CHECKSIG, with its one path; the hash of its bytes was computed elsewhere
 abbrev key : List ℕ
 key = 2 ∷ replicate 32 0x11
 
@@ -86,7 +86,7 @@ filled = (refl, tt)
 fits : Fits (spelling ops) path claim.slots place Open (spending input) input
 fits = record { among = (0, lit< tt, refl); outpoint = refl; sequence = refl; stands = (refl, lit≤ tt, lit< tt); items = token ∷ []; witness = refl; filled = filled }
 
--- one block, in which the output was granted, which stands there unspent
+-- one block, which grants the output, still unspent
 abbrev blocks : List Contents
 blocks = record { transactions = []; granted = record { value = 1000; script = 0x00 ∷ 0x20 ∷ hash } ∷ [] } ∷ []
 
@@ -99,6 +99,6 @@ found = rw ((bytes_eq-Decides (grant_id 0) (grant_id 0)).1 refl) refl
 due : IsDue blocks 1 claim (spending input) input
 due = record { fits = record { path = path; taken = taken; fits = fits }; coin = coin; reached = record { found = found; unspent = refl; final = refl; old_enough = refl }; value = refl; program = refl }
 
--- the next block has height 1, above the lock time 0, and the output no age to reach
+-- the next block has height 1, above the lock time 0, and the claim has no age
 time : IsTime 1 claim (spending input) coin
 time = record { above = lit< tt; age = lit≤ tt }

@@ -1,4 +1,5 @@
--- Two sides that fit: their histories are those of calls, and their books are two sides of the same channels with the messages on their way.
+-- Two sides that fit: their histories are those of calls, and their books
+-- hold the two ends of the same channels, with the messages on their way.
 use Rattle.std.proofs.Common.{◌≡◌, ℕ, List, ◌++◌, None, Result, Ok, Err, refl, sym, ap, subst}
 use Rattle.std.proofs.lemmas.Option.{none-some}
 use Rattle.terms.specs.declared.sides.Side.{Side}
@@ -56,14 +57,14 @@ both_fit A n peer w mine peers agree = record { a_called = mine; b_called = peer
 both_fit B n peer w mine peers agree =
     record { a_called = peers; b_called = mine; agree = seen_by_peer B (replay n.history) (replay peer.history) (inboxes n) (inboxes peer) agree }
 
--- a side changed alone
+-- one side changed
 pub one_fits : (s : Side) (n : Node) (w : World) → AreFitting w.a w.b → IsHistory peer_tokens n.history → AgreeFrom s n (node_of (other s) w)
     → AreFitting (with_node s n w).a (with_node s n w).b
 one_fits A n w fit mine agree = record { a_called = mine; b_called = fit.b_called; agree = agree }
 one_fits B n w fit mine agree =
     record { a_called = fit.a_called; b_called = mine; agree = seen_by_peer B (replay n.history) (replay w.a.history) (inboxes n) (inboxes w.a) agree }
 
--- a side changed alone, and neither its history nor the messages on their way to it
+-- one side changed, but not its history and the messages on their way to it
 pub as_before : (s : Side) (n : Node) (w : World) → AreFitting w.a w.b → n.history ≡ (node_of s w).history → inboxes n ≡ inboxes (node_of s w) → AreFitting (with_node s n w).a (with_node s n w).b
 as_before s n w fit history messages =
     let me = node_of s w in
@@ -72,7 +73,7 @@ as_before s n w fit history messages =
     (subst (λ h. AgreeBy s h peer.history (inboxes n) (inboxes peer)) (sym history)
     (subst (λ qs. AgreeBy s me.history peer.history qs (inboxes peer)) (sym messages) (agree_from s w fit)))
 
--- ---- calls of which the peer is to hear
+-- ---- calls whose message goes to the peer
 
 abbrev pub Sends : ℕ → Call → Type 0
 Sends c call = (s : Side) (mine peers : List Entry) (to_me to_peer : List (List Message)) → AgreeBy s mine peers to_me to_peer → refusal_in (reply_of peer_tokens mine call) ≡ None

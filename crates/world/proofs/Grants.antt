@@ -1,4 +1,4 @@
--- The first eight grants of a chain have outpoints of their own; their ids are from outside.
+-- The first eight grants of a chain have distinct outpoints; their ids were computed elsewhere.
 use Rattle.std.proofs.Common.{◌≡◌, ℕ, zero, suc, ◌<◌, false, List, [], ◌∷◌, refl, arith}
 use Rattle.std.specs.List.{list_any}
 use Rattle.sha2.specs.Sha256.{sha256, digest_bytes, hash_after, compress, rounds, schedule, first_words}

@@ -1,4 +1,4 @@
--- The messages on their way to a side, by what an event makes of its lines.
+-- The messages on their way to a side, after an event changed its lines.
 use Rattle.std.proofs.Common.{◌≡◌, ℕ, zero, suc, List, [], ◌∷◌, ◌++◌, map, drop, Some, refl, ap}
 use Rattle.std.specs.Prelude.{slice_get}
 use Rattle.std.proofs.lemmas.Option.{none-some, same_Some}
@@ -26,7 +26,7 @@ got_of_map f c [] x found = absurd (none-some x found)
 got_of_map f zero (y ∷ ys) x found = ap (λ z. Some (f z)) (same_Some y x found)
 got_of_map f (suc c) (y ∷ ys) x found = got_of_map f c ys x found
 
--- ---- what is seen and forgotten leaves them
+-- ---- reading and going back do not change them
 
 kept_with_seen : (seen : List Seen) (lines : List Line) → map (λ l. l.inbox) (with_seen seen lines) ≡ map (λ l. l.inbox) lines
 kept_with_seen [] lines = refl

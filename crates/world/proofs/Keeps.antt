@@ -23,7 +23,7 @@ use Rattle.world.proofs.Answering.{refused}
 
 -- ---- the set
 
--- claims on all that the state lets claim are the set that is to be kept
+-- claims on all that the state lets claim are the set to be kept
 pub set_for : (n : Node) (channel number : ℕ) (state : RevokedState) (claims : List ClaimParts) → IsRevokedIn number (channel_of n channel) state → AreClaimsOn (claimable_of state) claims
     → IsSetFor n channel number claims
 set_for n channel number state claims is full = record {
@@ -61,7 +61,7 @@ answered o ch number claims there revoked unkept set = rw (there, revoked, unkep
 unrefused : (o : Option ChannelBook) (ch : ChannelBook) (number : ℕ) → o ≡ Some ch → nat_lt number (length ch.state.secrets) ≡ true → is_kept ch.kept number ≡ false → keep_refusal number o ≡ None
 unrefused o ch number there revoked unkept = rw (there, revoked, unkept) refl
 
--- a side whose book keeps the set, and one whose book does not
+-- a side whose book keeps the set, and one whose book refuses
 pub is_kept_by : (n new : Node) (channel number : ℕ) (claims : List ClaimParts) (m : Option Message) → IsSetFor n channel number claims → IsAnswered (calls.Keep channel number claims) (Ok m) n new
     → (keep_refusal number (channel_of n channel) ≡ None) × IsKept n channel number new
 is_kept_by n new channel number claims m set is =

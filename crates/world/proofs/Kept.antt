@@ -1,4 +1,4 @@
--- Each event keeps what holds of a world.
+-- Each event keeps the invariant of a world.
 use Rattle.std.proofs.Common.{◌≡◌, ℕ, ◌-◌, Bool, true, false, List, [], ◌∷◌, drop, Option, Some, None, Result, Ok, Err, refl, sym, ap, ◌∙◌, subst}
 use Rattle.std.specs.Prelude.{slice_get, nat_le, is_ok}
 use Rattle.std.proofs.lemmas.Option.{none-some}
@@ -37,7 +37,7 @@ use Rattle.world.proofs.Fitting.{AreFitting, fitting_world, is_world, history_of
 
 -- ---- refusals
 
--- where nothing is refused, the later tests refuse nothing
+-- if no test refuses, the later tests do not refuse
 pub none_if : {E : Type 0} (b : Bool) (e : E) (later : Option E) → if_so b e later ≡ None → later ≡ None
 none_if true e later none = absurd (none-some _ (sym none))
 none_if false e later none = none
@@ -50,7 +50,7 @@ revoked_is : (r : Result ℕ StepError) → refusal_in (revoked r) ≡ None → 
 revoked_is (Ok n) none = refl
 revoked_is (Err e) none = absurd (none-some _ (sym none))
 
--- a message that no refusal meets is taken
+-- a message that nothing refuses is taken
 pub is_taken : (m : Message) (c : ℕ) (history : List Entry) → refusal_in (reply_of peer_tokens history (call_of c m)) ≡ None → is_accepted (reply_of peer_tokens history (call_of c m)) ≡ true
 is_taken (Updated u) c history none = stepped_is _ none
 is_taken (CommitmentSigned tokens) c history none = stepped_is _ none
@@ -99,7 +99,7 @@ in_line s c w (Some line) fit there none = in_queue s c w line.inbox fit (got_of
 receiving : (s : Side) (c : ℕ) (w : World) → AreFitting w.a w.b → receipt_refusal s c w ≡ None → AreFitting (after_receipt s c w).a (after_receipt s c w).b
 receiving s c w fit none = in_line s c w (slice_get (node_of s w).lines c) fit refl none
 
--- ---- penalties that are kept, and claims that are released
+-- ---- kept penalties, and released claims
 
 keeping : (s : Side) (c n : ℕ) (after : Node) (w : World) → AreFitting w.a w.b → IsKept (node_of s w) c n after → AreFitting (with_node s after w).a (with_node s after w).b
 keeping s c n after w fit kept =
@@ -119,7 +119,7 @@ releasing s k after t w fit done =
     (one_fits s (without_taken k (after_call call me)) w fit (adds_call SEAT call (history_of s w fit))
     (released_by s me.history peer.history (inboxes me) (inboxes peer) SEAT done.channel done.batch (agree_from s w fit) (ap is_accepted done.answer)))
 
--- ---- blocks that are read and forgotten
+-- ---- blocks that are read, and sides that go back
 
 looking : (s : Side) (blocks : List Contents) (after : Node) (count : ℕ) (w : World) → AreFitting w.a w.b → Looks (node_of s w) blocks after count
     → AreFitting (with_node s after w).a (with_node s after w).b

@@ -14,7 +14,7 @@ use Rattle.book.specs.Openings.{bases_of, are_seeds}
 use Rattle.scenario.specs.declared.seeds.Seeds.{Seeds}
 use Rattle.world.specs.Opening.{seed_in, AreTermsOf, HaveKeys}
 
--- of the base keys that were agreed on
+-- if the base keys are those of the two signers, so are those of the terms
 pub are_terms : (seeds : Seeds) (c : ℕ) (o : OutPoint) (p : ProposedTerms) (r : Option Terms) (a b : BaseKeys) → a ≡ bases_of (seed_in seeds c A) → b ≡ bases_of (seed_in seeds c B)
     → IfSome r (λ t. HasFields t o p.capacity p.opener p.feerate (party_of p.a a) (party_of p.b b)) → IfSome r (AreTermsOf seeds c o p)
 are_terms seeds c o p r a b ea eb fields =

@@ -1,4 +1,4 @@
--- What holds of a world at a moment.
+-- What holds in a world at a moment.
 use Rattle.std.proofs.Common.{◌≡◌, ◌⊎◌, ℕ, Bool, true, false, List, [], ◌∷◌, Option, Some, None, Ok, Err, refl, sym, ap, ◌∙◌, inl, inr}
 use Rattle.std.specs.Prelude.{slice_get}
 use Rattle.std.proofs.lemmas.Option.{none-some, same_Some}
@@ -22,7 +22,7 @@ use Rattle.world.proofs.Whole.{are_whole}
 use Rattle.world.proofs.Inboxes.{got_of_map}
 use Rattle.world.proofs.Fitting.{fitting_world, history_of, agree_from}
 
--- what is accepted is not refused
+-- an accepted reply is not a refusal
 unrefused : (r : Reply) → is_accepted r ≡ true → refusal_in r ≡ None
 unrefused (opened r) ok = refl
 unrefused (stepped (Ok x)) ok = refl
@@ -38,7 +38,7 @@ unrefused (released (Err e)) ok = absurd cc
 
 -- ---- deliveries
 
--- that the oldest message of a queue is taken
+-- the oldest message of a queue is taken
 abbrev TakesOf : ℕ → Node → List Message → Type 0
 TakesOf c me queue = (m : Message) (rest : List Message) → queue ≡ m ∷ rest → is_accepted (answer_to me (call_of c m)) ≡ true
 

@@ -1,4 +1,4 @@
--- What is so of the channels that are opened.
+-- What is true of the channels that are opened.
 use Rattle.std.proofs.Common.{◌≡◌, ℕ, zero, suc, ◌<◌, Bool, true, false, not, ◌||◌, nat_le, List, [], ◌∷◌, ◌++◌, length, Some, None, refl, sym, ap, ◌∙◌, subst, arith, length-append}
 use Rattle.std.specs.Prelude.{nat_lt, if◌then◌else◌, Ok, Err}
 use Rattle.std.specs.Result.{result_ok}
@@ -51,7 +51,7 @@ fundings_are_spent seeds c o p t h =
       script = script_hash_program (spelling (funding (sym h.a_is i).bases.funding.bytes (sym h.b_is i).bases.funding.bytes));
     }
 
--- a script hash program has 34 bytes, which an output may have
+-- a script hash program has 34 bytes, fewer than the limit of an output
 short : (s : List ℕ) → nat_lt max_bytes (length (script_hash_program s)) ≡ false
 unfolding script_hash_program
 short s = rw (length-sha256 s) refl
@@ -90,7 +90,7 @@ openings_are_paired seeds c t B mine peers h g = both seeds c t peers mine (stat
 
 -- ---- the books
 
--- the outpoints of the first grants are as many as there are grants
+-- there are as many outpoints as grants
 count_grants : (c : ℕ) → length (first_grants c) ≡ c
 count_grants zero = refl
 count_grants (suc c) = let s = count_grants c in omega (arith, length-append (first_grants c) (grant_outpoint c ∷ []))
@@ -128,7 +128,7 @@ not_refused seeds c side t o chs h funding l same =
     ∙ ap (list_any (λ q. same_outpoint q (grant_outpoint c))) same ∙ apart c l)
     (token_is_good seeds c side t o h)
 
--- one entry more
+-- one more entry
 replay_more : (history : List Entry) (e : Entry) → replay (history ++ e ∷ []) ≡ channels_after e.call (replay history)
 replay_more history e = ap replayed (reverse-append history (e ∷ []))
 

@@ -1,4 +1,4 @@
--- The seeds of signers, with hashes from outside, and the greatest capacity that is funded.
+-- The seeds of signers, whose hashes were computed elsewhere, and the greatest capacity that is funded.
 use Rattle.std.proofs.Common.{◌≡◌, ℕ, [], ◌∷◌, replicate, Some, None, refl}
 use Rattle.sha2.specs.Sha256.{sha256, digest_bytes, hash_after, compress, rounds, schedule, first_words}
 use Rattle.tx.specs.Spelling.{number}
@@ -16,7 +16,7 @@ far : channel_seed (replicate 32 0x0b) 0x01020304 ≡ 0xfa ∷ 0x99 ∷ 0x36 ∷
 unfolding channel_seed number sha256 digest_bytes hash_after compress rounds schedule first_words
 far = refl
 
--- 21,000,000 bitcoins are funded, and no satoshi more
+-- 21,000,000 bitcoins are funded; one satoshi more is not
 module _ (seeds : Seeds) (channel : ℕ) (a b : ProposedParty) where
   abbrev terms : ℕ → ProposedTerms
   terms capacity = record { capacity = capacity; opener = A; feerate = 1000; a = a; b = b }

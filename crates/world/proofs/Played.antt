@@ -1,4 +1,4 @@
--- What an event makes of the world, by what it makes of the sides.
+-- What an event does to the world, by what it does to the sides.
 use Rattle.std.proofs.Common.{◌≡◌, ℕ, ◌-◌, ◌+◌, ◌≤◌, ◌==◌, ◌||◌, Bool, true, false, List, [], ◌∷◌, ◌++◌, length, take, Option, Some, None, Result, Ok, Err, refl, sym, ap, subst, ◌∙◌, arith}
 use Rattle.std.specs.Prelude.{nat_lt, if◌then◌else◌, MatchResult, IfOk, IfErr, OnErr, slice_get, option_map}
 use Rattle.std.specs.List.{list_any}
@@ -88,7 +88,7 @@ acted w done new e r o is it event = subst (λ (x : Result Outcome EventError). 
     by (Ok x) event = (event.0, subst (λ (v : World). Happens w e v Done) (sym event.1) it)
     by (Err x) event = event
 
--- a call of which the peer is to hear
+-- a call whose message goes to the peer
 is_called : (w : World) (s : Side) (c : ℕ) (call : Call) (r : Result (Unit {0}) EventError) (me peer : Node)
     → IsEvent (call_refusal s c call w) r (node_of s w) (after_call call (node_of s w)) me
     → IsEvent (call_refusal s c call w) r (node_of (other s) w) (sent_by c call (node_of s w) (node_of (other s) w)) peer
@@ -111,7 +111,7 @@ pub is_signed : (w : World) (s : Side) (c : ℕ) (r : Result (Unit {0}) EventErr
 is_signed w s c r o me peer by is peers =
     acted w (world_after_call s c (calls.Sign c) w) (with_nodes s me peer w) (events.Sign s c) r o by signs (is_called w s c (calls.Sign c) r me peer is peers)
 
--- a message that comes
+-- a delivered message
 pub is_received : (w : World) (s : Side) (c : ℕ) (r : Result (Unit {0}) EventError) (o : Result Outcome EventError) (me peer : Node) → o ≡ done_by r
     → IsEvent (receipt_refusal s c w) r (node_of s w) (delivered c (oldest_in (slice_get (node_of s w).lines c)) (node_of s w)) me
     → IsEvent (receipt_refusal s c w) r (node_of (other s) w) (answered c (oldest_in (slice_get (node_of s w).lines c)) (node_of s w) (node_of (other s) w)) peer
@@ -148,7 +148,7 @@ is_taken w s k r o me by is =
 
 -- ---- the pool
 
--- the refusal in an answer is a refusal
+-- the refusal in a result is a refusal
 pub unanswered : {X : Type 0} (answer : Result X EventError) (e : EventError) → IsAnswer answer (Err e) → IsRefusal (refusal_by answer) e
 unanswered answer errors.NoMemory is = tt
 unanswered answer errors.NoSuchChannel is = ap refusal_by is
@@ -179,7 +179,7 @@ pub is_htlc_broadcast : (w v : World) (s : Side) (c n k : ℕ) (t : Transaction)
     → htlc_tx_in n k (preimages_known c (node_of s w)) (channel_of (node_of s w) c) ≡ Ok t → IsWaiting t w r v → IsPlayed w (events.BroadcastHtlc s c n k) r v
 is_htlc_broadcast w v s c n k t r found is = published w v (events.BroadcastHtlc s c n k) t r (ap refusal_by found) (broadcasts_htlc found) is
 
--- what a side releases waits, and is among what was ever released
+-- a side's release waits for a block, and is among the released
 pub is_released : (w : World) (s : Side) (k : ℕ) (r : Result Outcome EventError) (me : Node) (waiting fillings : List Transaction)
     → MatchResult r (λ o. (release_refusal k (node_of s w) ≡ None) × (o ≡ Done) × IsReleasedTo k (node_of s w) me w.pool w.released waiting fillings)
     (λ e. IsRefusal (release_refusal k (node_of s w)) e × (me ≡ node_of s w) × (waiting ≡ w.pool) × (fillings ≡ w.released))
@@ -205,7 +205,7 @@ pub is_mined : (w : World) (k : ℕ) (m : Mined) (height : ℕ) → mined_by k w
     → IsPlayed w (events.Blocks k) (Ok (MinedBlocks height m.txs)) (with_mined m w)
 is_mined w k m height is tip = (refl, subst (λ (h : ℕ). Happens w (events.Blocks k) (with_mined m w) (MinedBlocks h m.txs)) (sym tip) (mines (sym is)))
 
--- as many blocks as give way stand above the first
+-- there are as many blocks above the first as are replaced
 pub not_deep : (s : Standing) (depth forgotten : ℕ) → reorg_refusal s depth forgotten ≡ None → depth ≤ height_of s.blocks
 not_deep s depth forgotten none =
     by (depth == 0) (nat_lt (height_of s.blocks) depth) (nat_lt (height_of s.blocks - depth + 6) s.greatest) (list_any has_grant (take depth s.blocks))

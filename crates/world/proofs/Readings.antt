@@ -39,7 +39,7 @@ more_of s kept ps shown k is = record {
   preimages_are = ap (λ xs. xs ++ shown) is.preimages_are;
 }
 
--- what the book told, with what was learnt
+-- what the book told, together with what was learnt
 pub knows : (history : List Entry) (learnt : List (List ℕ)) (c : ℕ) (k : Known) (o : Option ChannelBook) → slice_get (replay history) c ≡ o → IsKnownIn history c o k → Knows history learnt c (with_preimages learnt k)
 knows history learnt c k None e is = absurd is
 knows history learnt c k (Some ch) e is = record { ch = ch; there = e; is = more_of ch.state (is_kept ch.kept) (preimages_in c history) learnt k is }
@@ -94,7 +94,7 @@ known_after history learnt old_learnt shown given new_learnt knowns new are l k 
 
 -- ---- what is asked
 
--- the first that is to be asked is not below the number from which on they are
+-- the first number to ask about is not below the number to start from
 not_below : (b : Bool) (c n : ℕ) (xs rest : List ℕ) → (xs ≡ n ∷ rest → c + 1 ≤ n) → (if b then c ∷ xs else xs) ≡ n ∷ rest → c ≤ n
 not_below true c n xs rest go e = let h : c ≡ n = cc in omega arith
 not_below false c n xs rest go e = let h = go e in omega (arith, h)
@@ -107,7 +107,7 @@ asked_above c (o ∷ fundings) (s ∷ seen) [] txs n rest e = absurd (cc)
 asked_above c (o ∷ fundings) (s ∷ seen) (k ∷ knowns) txs n rest e =
     not_below (is_to_ask o s k txs) c n (numbers_to_ask (c + 1) fundings seen knowns txs) rest (λ h. asked_above (c + 1) fundings seen knowns txs n rest h) e
 
--- once the first is answered, the others are to be asked
+-- after the first is answered, the others remain
 asked_at : (i : ℕ) (b : Bool) (c n : ℕ) (o : OutPoint) (fundings : List OutPoint) (s : Seen) (seen : List Seen) (k : Option Known) (knowns : List (Option Known)) (txs : List Transaction)
     (rest : List ℕ) (known : Known) → is_to_ask o s k txs ≡ b → n ≡ c + i
     → ((j : ℕ) → n ≡ c + 1 + j → numbers_to_ask (c + 1) fundings seen knowns txs ≡ n ∷ rest → numbers_to_ask (c + 1) fundings seen (set knowns j (Some known)) txs ≡ rest)
@@ -134,7 +134,7 @@ answered r next txs n rest left known l e w =
     let after = asked_then 0 r.fundings r.seen r.knowns txs n n rest (with_preimages r.learnt known) (omega arith) (sym e ∙ l) in
     sym after ∙ ap (λ (x : Reader). numbers_to_ask 0 x.fundings x.seen x.knowns txs) (sym w)
 
--- nothing but what is known changes
+-- only what is known changes
 pub answered_same : (first r next : Reader) (n : ℕ) (known : Known) → r ≡ record first { knowns = r.knowns } → next ≡ with_answer n known r → next ≡ record first { knowns = next.knowns }
 answered_same first r next n known e w =
     let is : next ≡ with_answer n known (record first { knowns = r.knowns }) = w ∙ ap (with_answer n known) e in is ∙ sym (ap (λ (x : Reader). record first { knowns = x.knowns }) is)
@@ -146,7 +146,7 @@ answered_known history r next n known are is w =
     let told = knows history r.learnt n known (slice_get (replay history) n) refl is in
     subst (λ (x : Reader). AreKnown history x.learnt x.knowns) (sym w) (known_then history r.learnt r.knowns n (with_preimages r.learnt known) are told)
 
--- where none is left, each channel is ready
+-- if no number remains, each channel is ready
 none_asked : (b : Bool) (c : ℕ) (xs : List ℕ) → (if b then c ∷ xs else xs) ≡ [] → (b ≡ false) × (xs ≡ [])
 none_asked true c xs e = absurd (cc)
 none_asked false c xs e = (refl, e)
@@ -195,18 +195,18 @@ all_ready history learnt knowns fundings seen txs are f l none =
 
 -- ---- a block
 
--- what is found of channels that are ready is what the side reads by its book
+-- what is found for channels that are ready is what the side reads with its book
 pub reads_by_book : {history : List Entry} {learnt : List (List ℕ)} {height : ℕ} {txs : List Transaction} {c : ℕ} {knowns : List (Option Known)} {older newer : List Seen} {jobs : List DueClaim}
     {shown : List (List ℕ)} → AreReady history learnt c knowns older txs → FindsBlock height txs c knowns older newer jobs shown → ReadsBlock history learnt height txs c older newer jobs shown
 reads_by_book ready no_more = none_read
 reads_by_book {history} {learnt} {height} {txs} {c} ready (channel jobs shown one rest) = one_read (reads_channel history learnt height txs c _ _ jobs shown _ ready.0 one) (reads_by_book ready.1 rest)
 
--- what follows from each result that is Ok
+-- maps the value of a result that is Ok
 pub if_ok_then : {A E : Type 0} (P Q : A → Type 0) (result : Result A E) → ((a : A) → P a → Q a) → IfOk result P → IfOk result Q
 if_ok_then P Q (Ok a) f h = f a h
 if_ok_then P Q (Err e) f h = tt
 
--- a block was read by the answers, and what it showed is known from then on
+-- a block was read with the answers, and what it showed is known from then on
 pub after_read : (history : List Entry) (height : ℕ) (txs : List Transaction) (r asked next : Reader) → AreReady history r.learnt 0 asked.knowns r.seen txs → asked ≡ record r { knowns = asked.knowns }
     → IsRead height txs asked next → IsAfter history height txs (reading_in r) (reading_in next)
 after_read history height txs r asked next ready same is = record {
@@ -224,7 +224,7 @@ known_read history height txs r asked next are same is =
 
 -- ---- blocks
 
--- reading the blocks above a height makes what was read up to it the whole
+-- reading the blocks above a height completes what was read up to it
 abbrev pub Upward : List Entry → List Contents → ℕ → Reading → ℕ → Reading → Type 0
 Upward history blocks from r at now = (done : Reading) → Reads history (at + 1) (drop (at + 1) blocks) now done → Reads history (from + 1) (drop (from + 1) blocks) r done
 
@@ -266,15 +266,15 @@ as_many_reads : {history : List Entry} {height : ℕ} {blocks : List Contents} {
 as_many_reads all_read = refl
 as_many_reads (block after rest) = as_many_reads rest ∙ as_many after.channels
 
--- what a reader has once it is done is what it has read
+-- what a reader holds at the end is what it has read
 pub parts_are : (p : ReadParts) (r : Reader) → p.watches.items ≡ r.seen → p.learnt.items ≡ r.learnt → p.due.items ≡ r.jobs → parts_read p ≡ reading_in r
 parts_are p r s l j = rw (s, l, j) refl
 
--- what was read from a side on is of each of its channels
+-- what was read has an entry for each channel of the side
 pub each_line : (n : Node) (height : ℕ) (blocks : List Contents) (r : Reading) → Reads n.history height blocks (reading_of n) r → length r.seen ≡ length n.lines
 each_line n height blocks r reads = as_many_reads reads ∙ length-map n.lines (λ line. line.seen)
 
--- a side that took it over, and its invariant
+-- a side that stored what was read, and its invariant
 seen_length : (seen : List Seen) (lines : List Line) → length (with_seen seen lines) ≡ length lines
 seen_length [] lines = refl
 seen_length (s ∷ seen) [] = refl
@@ -303,7 +303,7 @@ is_node_after n more jobs new items seen len read learnt is w j same long l =
 split : {A : Type 0} (xs : List A) (i : ℕ) (x : A) → i < length xs → x ≡ get_or xs i x → drop i xs ≡ x ∷ drop (i + 1) xs
 split xs i x l e = drop_more xs i x l ∙ ap (λ y. y ∷ drop (i + 1) xs) (sym e)
 
--- each line in its turn
+-- one more line
 pub put_step : (i : ℕ) (lines lines' : List Line) (line : Line) (s : Seen) (rest seen : List Seen) (whole : List Line) → i < length lines → line ≡ get_or lines i line
     → lines' ≡ set lines i (record line { seen = s }) → rest ≡ s ∷ seen → take i lines ++ with_seen rest (drop i lines) ≡ whole → take (i + 1) lines' ++ with_seen seen (drop (i + 1) lines') ≡ whole
 put_step i lines lines' line s rest seen whole l e w r h =

@@ -1,4 +1,4 @@
--- Why claims are not released together, and by which batch they are.
+-- Why claims are not released together, and the batch that releases them.
 use Rattle.std.proofs.Common.{◌≡◌, ℕ, ◌≤◌, Bool, true, false, List, [], ◌∷◌, map, take, length, Option, Some, None, Result, Ok, Err, refl, sym, ap, subst, ◌∙◌, inl, inr, arith}
 use Rattle.std.specs.Prelude.{slice_get, option_map, nat_lt, not}
 use Rattle.std.proofs.lemmas.Bool.Decides.{nat_tests}
@@ -42,7 +42,7 @@ pub first_of_map : {A B : Type 0} (f : A → B) (xs : List A) (x : A) → slice_
 first_of_map f [] x found = absurd (none-some x found)
 first_of_map f (y ∷ ys) x found = ap (λ z. Some (f z)) (same_Some y x found)
 
--- claims that can be released together are of one channel and are not worth too much
+-- claims that can be released together are of one channel, and their worth is within the limit
 pub record AreTogether (c : ℕ) (jobs : List DueClaim) : Type 0 where
   pub all_of : are_of c jobs ≡ true
   pub little : nat_lt max_value (value_of jobs) ≡ false
@@ -60,7 +60,7 @@ are_together c jobs none =
 pub small_enough : (v : ℕ) → nat_lt max_value v ≡ false → v ≤ max_value
 small_enough v little = grind (arith, nat_tests)
 
--- the first refusal, by the oldest of the claims
+-- the first refusal, given the oldest of the claims
 by_first : (jobs : List DueClaim) (n : Node) (j : DueClaim) → slice_get jobs 0 ≡ Some j
     → refusal_of jobs n ≡ if_so (not (are_of j.channel jobs)) errors.MixedChannels (if_so (nat_lt max_value (value_of jobs)) errors.OverValue (refusal_in (release_answer j.channel jobs n)))
 by_first [] n j found = absurd (none-some j found)
@@ -88,7 +88,7 @@ refused_together jobs n j e x found is by =
 
 -- ---- the channel
 
--- a channel that is not there
+-- there is no such channel
 pub not_there : (jobs : List DueClaim) (n : Node) (j : DueClaim) → slice_get jobs 0 ≡ Some j → batch_refusal j.channel jobs ≡ None → None ≡ option_map (λ (ch : ChannelBook). ch.state) (channel_of n j.channel)
     → refusal_of jobs n ≡ Some errors.NoSuchChannel
 not_there jobs n j found none missing =
@@ -169,7 +169,7 @@ unrefused : (k : ℕ) (n : Node) (channel : ℕ) (batch : Batch) → is_no_count
     → release_refusal k n ≡ refusal_in (answer_to n (Release channel batch))
 unrefused k n channel batch counted ready = ap (λ b. if_so b errors.NoJob (refusal_of (take k n.taken) n)) counted ∙ ready.left
 
--- the filling that the book answers is that of the batch
+-- the filling in the book's reply is that of the batch
 same_filling : (o : Option ChannelBook) (b : Batch) (f : Filling) → released (asked NoSuchChannel o (λ ch. fill_answer ch.state b.claims b.outputs b.preimages)) ≡ released (Ok f)
     → f.tx ≡ filling_of b.claims b.outputs b.preimages
 same_filling None b f e = absurd cc
@@ -201,7 +201,7 @@ abbrev is_release : Reply → Bool
 is_release (released r) = true
 is_release reply = false
 
--- the reply to a release is one of a release
+-- the reply to a release is one for a release
 pub always_released : (old new : List Entry) (channel : ℕ) (batch : Batch) (answer : Answer) → IsCall (no_memory_of (Release channel batch)) (reply_form answer) old new SEAT (Release channel batch)
     → ((r : Result Filling ReleaseError) → answer ≡ answers.Released r → ⊥) → ⊥
 always_released old new channel batch answer is other = by answer (told is) other

@@ -1,4 +1,4 @@
--- What messages that come and go make of a side.
+-- What messages do to a side that sends or receives them.
 use Rattle.std.proofs.Common.{◌≡◌, ℕ, zero, suc, ◌<◌, ◌≤◌, Bool, true, false, List, [], ◌∷◌, ◌++◌, length, set, drop, Some, Result, Ok, Err, refl, sym, ap, subst, ◌∙◌, arith}
 use Rattle.std.specs.Prelude.{slice_get, nat_le}
 use Rattle.std.proofs.lemmas.Bool.Decides.{nat_tests}
@@ -27,7 +27,7 @@ unchanged c [] x y found e = absurd (none-some x found)
 unchanged zero (z ∷ xs) x y found e = ap (λ w. w ∷ xs) (e ∙ sym (same_Some z x found))
 unchanged (suc c) (z ∷ xs) x y found e = ap (λ ys. z ∷ ys) (unchanged c xs x y found e)
 
--- one that is written as changed
+-- writing f x in place of x is `at_index f`
 written : {A : Type 0} (f : A → A) (c : ℕ) (xs : List A) (x y : A) → slice_get xs c ≡ Some x → y ≡ f x → set xs c y ≡ at_index f c xs
 written f c [] x y found e = absurd (none-some x found)
 written f zero (z ∷ xs) x y found e = ap (λ w. w ∷ xs) (e ∙ ap f (sym (same_Some z x found)))
@@ -36,9 +36,9 @@ written f (suc c) (z ∷ xs) x y found e = ap (λ ys. z ∷ ys) (written f c xs 
 pub not_past : (n c : ℕ) → c < n → nat_le n c ≡ false
 not_past n c within = grind (arith, nat_tests)
 
--- ---- a message came
+-- ---- a message is received
 
--- it is taken by a call that opens no channel
+-- the call that takes it opens no channel
 opens_no_channel : (c : ℕ) (m : Message) → opens_none (call_of c m) ≡ true
 opens_no_channel c (Updated u) = refl
 opens_no_channel c (CommitmentSigned tokens) = refl
@@ -55,7 +55,7 @@ took_off n c line inbox found is = ap (λ ls. record n { lines = ls }) (written 
 pub none_came : (n : Node) (c : ℕ) → length n.lines ≤ c → n ≡ received_by c n
 none_came n c past = ap (λ ls. record n { lines = ls }) (sym (past_end (λ l. record l { inbox = drop 1 l.inbox }) c n.lines past))
 
--- ---- messages go
+-- ---- messages are sent
 
 pub exchanged : (r : Result (Unit {0}) EventError) (c : ℕ) (call : Call) (me peer : Node) (line : Line) (inbox : List Message) → slice_get peer.lines c ≡ Some line → nat_le (length peer.lines) c ≡ false
     → IsEvent (refusal_in (answer_to me call)) r line.inbox (line.inbox ++ messages_in (answer_to me call)) inbox

@@ -1,4 +1,4 @@
--- Worlds that do not begin, and small events that were worked out by hand from what each is said to do.
+-- Worlds that do not begin, and small events that were worked out by hand from their descriptions.
 use Rattle.std.proofs.Common.{◌≡◌, ℕ, List, [], ◌∷◌, map, replicate, Some, None, refl}
 use Rattle.tx.specs.Fields.{Transaction}
 use Rattle.terms.specs.declared.sides.Side.TheVariants.{A, B}
@@ -30,7 +30,7 @@ use Rattle.world.specs.Theorem.{claims_of}
 world_numbers : map world_error_number (worlds.NoMemory ∷ worlds.BadTerms 7 ∷ worlds.OverLimit ∷ []) ≡ 0 ∷ 1 ∷ 2 ∷ []
 world_numbers = refl
 
--- terms of 1 satoshi, of which side A has 999 millisatoshis and side B so many
+-- terms of 1 satoshi, of which side A has 999 millisatoshis and side B has b
 abbrev terms_with : ℕ → ProposedTerms
 terms_with b = record {
   capacity = 1;
@@ -40,7 +40,7 @@ terms_with b = record {
   b = record { dust = 5; delay = 3; minimum = 8; start = b };
 }
 
--- 8 channels and 9; the limit comes before terms, of which the first bad ones are named
+-- 8 channels and 9; the limit is tested before terms, and the first bad terms are named
 beginnings : map beginning_refusal ([] ∷ replicate 8 (terms_with 1) ∷ replicate 9 (terms_with 1) ∷ replicate 9 (terms_with 2) ∷ (terms_with 1 ∷ terms_with 2 ∷ terms_with 0 ∷ []) ∷ [])
     ≡ None ∷ None ∷ Some worlds.OverLimit ∷ Some worlds.OverLimit ∷ Some (worlds.BadTerms 1) ∷ []
 beginnings = refl
@@ -70,7 +70,7 @@ seen = world_at (nothing ∷ nothing ∷ []) 1 1
 abbrev nothing_found : Reading
 nothing_found = record { seen = []; learnt = []; jobs = [] }
 
--- each channel is missing, no job is there, and the first block stays
+-- there is no channel and no job, and the first block can't be replaced
 none_there : map (refusal_of beginning)
     (events.Own A 0 (Offer 1000 [] 9) ∷ events.Own B 0 (Fulfil 0 []) ∷ events.Own A 0 (Fail 0) ∷ events.Own B 0 (SetFee 253) ∷ events.Sign A 0 ∷ events.Deliver B 0 ∷ events.Keep A 0 0 ∷ events.Broadcast B 0 0
     ∷ events.BroadcastHtlc A 0 0 0 ∷ [])
@@ -83,13 +83,13 @@ jobs_there = refl
 blocks_there : map (refusal_of beginning) (events.Blocks 0 ∷ events.Blocks 9 ∷ events.Look A ∷ events.Reorg 0 0 ∷ events.Reorg 1 0 ∷ []) ≡ None ∷ None ∷ None ∷ Some TooDeep ∷ Some TooDeep ∷ []
 blocks_there = refl
 
--- 6 blocks below the greatest height, and 7; none of them has a transaction to forget
+-- 6 blocks below the greatest height, and 7; none of them has a transaction to drop
 deep : map (refusal_of (world_at (nothing ∷ nothing ∷ nothing ∷ nothing ∷ nothing ∷ nothing ∷ nothing ∷ nothing ∷ nothing ∷ []) 9 0))
     (events.Reorg 0 0 ∷ events.Reorg 5 0 ∷ events.Reorg 5 1 ∷ events.Reorg 6 0 ∷ events.Reorg 6 1 ∷ [])
     ≡ Some TooDeep ∷ None ∷ Some NoSuchTx ∷ Some TooDeep ∷ Some TooDeep ∷ []
 deep = refl
 
--- a block comes, side A reads it, a delivery is refused, and two blocks come for the one that goes
+-- a block is mined, side A reads it, a delivery is refused, and a reorganisation replaces one block by two
 played : Runs beginning (events.Blocks 1 ∷ events.Look A ∷ events.Deliver A 0 ∷ events.Reorg 1 0 ∷ []) (MinedBlocks 1 0 ∷ Looked 0 ∷ Refused NoSuchChannel ∷ MinedBlocks 2 0 ∷ [])
     (beginning ∷ grown ∷ seen ∷ seen ∷ world_at (nothing ∷ nothing ∷ nothing ∷ []) 2 0 ∷ []) (world_at (nothing ∷ nothing ∷ nothing ∷ []) 2 0)
 unfolding blocks_after
@@ -108,14 +108,14 @@ module _ (nothing_seen : Seen) (m1 m2 m3 m4 : Message) where
   abbrev listening : Node
   listening = record nobody { lines = line_of (m1 ∷ []) ∷ line_of (m2 ∷ m3 ∷ []) ∷ line_of [] ∷ [] }
 
-  -- what is sent comes last, and the oldest is received
+  -- what is sent is appended, and the oldest is received
   sent : inboxes (sent_to 1 (m4 ∷ []) listening) ≡ (m1 ∷ []) ∷ (m2 ∷ m3 ∷ m4 ∷ []) ∷ [] ∷ []
   sent = refl
 
   came : inboxes (received_by 1 listening) ≡ (m1 ∷ []) ∷ (m3 ∷ []) ∷ [] ∷ []
   came = refl
 
-  -- nothing is on its way in the last channel, and there is no other
+  -- no message is on its way in the last channel, and there is no further channel
   nothing_came : map (refusal_of (record beginning { b = listening })) (events.Deliver B 2 ∷ events.Deliver B 3 ∷ events.Deliver A 0 ∷ []) ≡ Some NoMessage ∷ Some NoSuchChannel ∷ Some NoSuchChannel ∷ []
   nothing_came = refl
 
@@ -123,20 +123,20 @@ module _ (j1 j2 j3 j4 : DueClaim) where
   abbrev busy : Node
   busy = record nobody { jobs = j2 ∷ j3 ∷ j4 ∷ []; taken = j1 ∷ [] }
 
-  -- the oldest are taken, behind those that were taken before
+  -- the oldest jobs are taken, after those taken before
   taken : with_taken 2 busy ≡ record nobody { jobs = j4 ∷ []; taken = j1 ∷ j2 ∷ j3 ∷ [] }
   taken = refl
 
   takes : map (refusal_of (record beginning { b = busy })) (events.Take B 3 ∷ events.Take B 4 ∷ events.Take A 1 ∷ events.Release B 2 ∷ []) ≡ None ∷ Some NoJob ∷ Some NoJob ∷ Some NoJob ∷ []
   takes = refl
 
-  -- the claims that are kept and released, those of jobs, and those that were taken
+  -- the claims that are kept and released, those of jobs, and those taken
   claims : (seat : ℕ) (x y : ClaimParts) (batch : Batch) → batch.claims ≡ y ∷ x ∷ []
       → claims_of (record busy { history = record { seat = seat; call = Keep 0 3 (x ∷ y ∷ []) } ∷ record { seat = seat; call = Release 1 batch } ∷ [] })
       ≡ x ∷ y ∷ y ∷ x ∷ j2.claim ∷ j3.claim ∷ j4.claim ∷ j1.claim ∷ []
   claims seat x y batch is = rw is refl
 
--- what waits comes last in the pool, and a filling is also the newest of those that were ever released
+-- a transaction that waits is last in the pool; a filling is also last among all that were released
 waiting : (t u v : Transaction) (w : World) → (with_waiting v (record w { pool = t ∷ u ∷ [] })).pool ≡ t ∷ u ∷ v ∷ []
 waiting t u v w = refl
 
@@ -158,12 +158,12 @@ module _ (t : Transaction) (m : Message) (learnt : List (List ℕ)) (job other :
   abbrev reader : List Line → ℕ → Node
   reader lines read = record nobody { lines = lines; read = read; learnt = learnt; jobs = job ∷ []; taken = other ∷ [] }
 
-  -- of blocks on both sides of the fork, those above it are forgotten, in each channel; what was learnt stays, and so do the jobs, those that were taken and the messages
+  -- in each channel, everything seen above the fork is discarded; what was learnt stays, and so do the jobs, the claims taken and the messages
   forgets : back_to 5 (reader (line_with (spend 4 ∷ spend 5 ∷ spend 6 ∷ []) (given 5 ∷ given 6 ∷ given 7 ∷ []) ∷ line_with (spend 6 ∷ []) (given 4 ∷ []) ∷ []) 7)
       ≡ reader (line_with (spend 4 ∷ spend 5 ∷ []) (given 5 ∷ []) ∷ line_with [] (given 4 ∷ []) ∷ []) 5
   forgets = refl
 
-  -- where nothing above it was read, nothing is forgotten
+  -- if nothing above it was read, nothing is discarded
   keeps : back_to 5 (reader (line_with (spend 3 ∷ []) (given 4 ∷ []) ∷ []) 4) ≡ reader (line_with (spend 3 ∷ []) (given 4 ∷ []) ∷ []) 4
   keeps = refl
 

@@ -1,4 +1,4 @@
--- One side's step leaves the two books paired.
+-- A step of one side keeps the two books paired.
 use Rattle.std.proofs.Common.{◌≡◌, ℕ, zero, suc, List, [], ◌∷◌, ◌++◌, Some, refl, sym, subst}
 use Rattle.std.specs.Prelude.{slice_get}
 use Rattle.std.proofs.lemmas.Option.{none-some, same_Some}
@@ -28,7 +28,7 @@ paired_after side me peer new p q sent rest paired acts = record {
   reached = then paired.reached (steps_on side me peer new p q sent rest acts);
 }
 
--- the channel of an index acts, and the others stay
+-- the channel at an index acts, and the others do not change
 pub acted_at : (side : Side) (f : State → State) (g : List Message → List Message) (sent : List Message) (c : ℕ) (xs ys : Channels) (ps qs : List (List Message)) (x : ChannelBook) (p : List Message)
     → slice_get xs c ≡ Some x → slice_get ps c ≡ Some p → Acts peer_tokens x.state p (f x.state) sent (g p) → ArePaired side xs ys ps qs
     → ArePaired side (at_index (with_state f) c xs) ys (at_index g c ps) (at_index (λ q. q ++ sent) c qs)
@@ -43,7 +43,7 @@ acted_at side f g sent c (z ∷ xs) [] ps qs x p here queue acts paired = absurd
 acted_at side f g sent c (z ∷ xs) (y ∷ ys) [] qs x p here queue acts paired = absurd paired
 acted_at side f g sent c (z ∷ xs) (y ∷ ys) (r ∷ ps) [] x p here queue acts paired = absurd paired
 
--- a change that leaves the states
+-- a change that does not touch the states
 pub unmoved : (side : Side) (f : ChannelBook → ChannelBook) → ((x : ChannelBook) → (f x).state ≡ x.state) → (c : ℕ) (xs ys : Channels) (ps qs : List (List Message)) → ArePaired side xs ys ps qs
     → ArePaired side (at_index f c xs) ys ps qs
 unmoved side f same c [] ys ps qs paired = paired
@@ -68,7 +68,7 @@ seen_by_peer side (x ∷ xs) [] ps qs paired = absurd paired
 seen_by_peer side (x ∷ xs) (y ∷ ys) [] qs paired = absurd paired
 seen_by_peer side (x ∷ xs) (y ∷ ys) (p ∷ ps) [] paired = absurd paired
 
--- one channel more
+-- one more channel
 pub opened_more : (side : Side) (x y : ChannelBook) (xs ys : Channels) (ps qs : List (List Message)) → IsPaired peer_tokens (placed side x.state y.state [] []) → ArePaired side xs ys ps qs
     → ArePaired side (xs ++ x ∷ []) (ys ++ y ∷ []) (ps ++ [] ∷ []) (qs ++ [] ∷ [])
 opened_more side x y [] [] [] [] one paired = (one, paired)
@@ -80,7 +80,7 @@ opened_more side x y (z ∷ xs) [] ps qs one paired = absurd paired
 opened_more side x y (z ∷ xs) (w ∷ ys) [] qs one paired = absurd paired
 opened_more side x y (z ∷ xs) (w ∷ ys) (p ∷ ps) [] one paired = absurd paired
 
--- the channel of an index with what is on its way to it
+-- the channel at an index, with the messages on their way to it
 pub record IsThere (side : Side) (x : ChannelBook) (p : List Message) (ys : Channels) (qs : List (List Message)) (c : ℕ) : Type 0 where
   pub peer : ChannelBook
   pub to_peer : List Message

@@ -1,4 +1,4 @@
--- The claims of a side are accepted ones.
+-- The claims of a side were accepted.
 use Rattle.std.proofs.Common.{ℕ, zero, suc, Bool, true, false, List, [], ◌∷◌, ◌++◌, map, take, drop}
 use Rattle.std.specs.List.{AllByRecursion, flat_map}
 use Rattle.claim.specs.Claims.{IsWhole}

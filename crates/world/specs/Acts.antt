@@ -1,4 +1,4 @@
--- The calls of a book by which messages come.
+-- The calls by which a book takes messages.
 use Rattle.std.specs.Prelude.{◌≡◌, ℕ, Result, Ok, Err}
 use Rattle.channel.specs.declared.messages.Message.{Message}
 use Rattle.book.specs.declared.calls.Call.{Call}
@@ -6,7 +6,7 @@ use Rattle.side.specs.Acts.{call_of}
 use Rattle.world.specs.declared.errors.EventError.{EventError}
 use Rattle.world.specs.declared.errors.EventError.TheVariants.{NoMemory}
 
--- the call by which the oldest message is taken, or why none is
+-- the call that takes the oldest message, if there is one
 abbrev pub TakesOldest : ℕ → Result Message EventError → Call → Type 0
 TakesOldest c (Ok m) call = call ≡ call_of c m
 TakesOldest c (Err e) call = ⊥

@@ -1,4 +1,4 @@
--- What is so of the openings of both sides: the commitments spend the funding output, the two channels are the two ends of one, and the books take them.
+-- Openings of both sides: the commitments spend the funding output, the two channels are the two ends of one, and the books take the openings.
 use Rattle.std.specs.Prelude.{◌≡◌, ℕ, zero, suc, ◌<◌, List, [], ◌∷◌, ◌++◌, Ok}
 use Rattle.tx.specs.declared.input.OutPoint.{OutPoint}
 use Rattle.chain.specs.Blocks.{grant_outpoint}
@@ -25,7 +25,7 @@ FundingsAreSpent =
     (seeds : Seeds) (channel : ℕ) (outpoint : OutPoint) (plain : ProposedTerms) (terms : Terms) → AreTermsOf seeds channel outpoint plain terms
     → funding_output seeds channel plain ≡ record { value = terms.capacity; script = script_hash_program (funding_script terms) }
 
--- the channels that the two sides open are the two ends of one, with nothing on its way
+-- the channels that the two sides open are the two ends of one, with no message on its way
 abbrev pub OpeningsArePaired : Type 0
 OpeningsArePaired =
     (seeds : Seeds) (channel : ℕ) (terms : Terms) (side : Side) (mine peers : Opening) → IsOpeningOf seeds channel side terms mine → IsOpeningOf seeds channel (other side) terms peers
@@ -36,7 +36,7 @@ abbrev pub first_grants : ℕ → List OutPoint
 first_grants zero = []
 first_grants (suc n) = first_grants n ++ grant_outpoint n ∷ []
 
--- a book with as many channels, on the first grants of a chain, takes the opening of the next one, which is on the next grant
+-- a book with c channels, on the first grants of a chain, takes the opening of the next one, which is on the next grant
 abbrev pub OpeningsAreTaken : Type 0
 OpeningsAreTaken =
     (seeds : Seeds) (channel seat : ℕ) (terms : Terms) (side : Side) (opening : Opening) (history : List Entry) → IsOpeningOf seeds channel side terms opening

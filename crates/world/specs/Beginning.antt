@@ -24,7 +24,7 @@ use Rattle.world.specs.declared.errors.WorldError.TheVariants.{NoMemory as no_me
 use Rattle.world.specs.Worlds.{World, Node, inboxes, answer_to, after_call, with_line}
 use Rattle.world.specs.Pairing.{AgreeBy}
 
--- its book accepts the opening, and it has a line for the channel; or it is as before, and the book refuses, or memory ran out
+-- the book accepts the opening, and the side has a line for the channel; or the side is as before, and the book refuses or memory ran out
 abbrev pub IsOpened : Opening → Result (Unit {0}) OpenError → Node → Node → Type 0
 IsOpened opening (Ok x) old new = (is_accepted (answer_to old (Open opening)) ≡ true) × (new ≡ with_line (after_call (Open opening) old))
 IsOpened opening (Err NoMemory) old new = new ≡ old
@@ -39,7 +39,7 @@ nothing_yet = record { history = []; lines = []; read = 0; learnt = []; jobs = [
 abbrev pub empty_world : World
 empty_world = record { a = nothing_yet; b = nothing_yet; chain = record { blocks = empty_block ∷ []; greatest = 0 }; pool = []; released = [] }
 
--- a side with a channel more
+-- a side with one more channel
 abbrev pub with_opened : Opening → Node → Node
 with_opened opening n = with_line (after_call (Open opening) n)
 
@@ -58,7 +58,7 @@ pub data AllBegin (seeds : Seeds) : ℕ → List ProposedTerms → World → Wor
   all_begun : {c : ℕ} {w : World} → AllBegin seeds c [] w w
   begins : {c : ℕ} {plain : ProposedTerms} {more : List ProposedTerms} {w v end : World} → Begins seeds c plain w v → AllBegin seeds (c + 1) more v end → AllBegin seeds c (plain ∷ more) w end
 
--- the world of these channels, in which nothing happened yet
+-- the world of these channels, before any event
 abbrev pub IsBeginning : Seeds → List ProposedTerms → World → Type 0
 IsBeginning seeds terms w = AllBegin seeds 0 terms empty_world w
 
@@ -75,7 +75,7 @@ world_error_number no_memory = 0
 world_error_number (BadTerms channel) = 1
 world_error_number OverLimit = 2
 
--- what is so of the world once the channels below a number have begun
+-- what is true of the world after the channels below number c have begun
 pub record HasBegun (c : ℕ) (w : World) : Type 0 where
   pub a_stands : fundings_of (replay w.a.history) ≡ first_grants c
   pub b_stands : fundings_of (replay w.b.history) ≡ first_grants c

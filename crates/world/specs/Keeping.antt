@@ -15,7 +15,7 @@ abbrev pub keep_refusal : ℕ → Option ChannelBook → Option EventError
 keep_refusal number None = Some NoSuchChannel
 keep_refusal number (Some ch) = if_so (not (nat_lt number (length ch.state.secrets))) (Keep NotRevoked) (if_so (is_kept ch.kept number) (Keep AlreadyKept) None)
 
--- the claims are the penalty set of the peer's commitment of a number, which is revoked and has none kept
+-- the claims are the penalty set of the peer's commitment of a number, which is revoked and whose penalties are not kept
 pub record IsSetFor (n : Node) (channel number : ℕ) (claims : List ClaimParts) : Type 0 where
   pub ch : ChannelBook
   pub there : channel_of n channel ≡ Some ch
@@ -23,7 +23,7 @@ pub record IsSetFor (n : Node) (channel number : ℕ) (claims : List ClaimParts)
   pub unkept : is_kept ch.kept number ≡ false
   pub set : is_penalty_set ch.state number claims ≡ true
 
--- the book of the side keeps it
+-- the side's book keeps the set
 pub record IsKept (n : Node) (channel number : ℕ) (done : Node) : Type 0 where
   pub claims : List ClaimParts
   pub set : IsSetFor n channel number claims

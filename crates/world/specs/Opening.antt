@@ -1,4 +1,5 @@
--- How the channels of a scenario are opened: the seeds and keys of their signers, their terms and funding outputs, and what each side's book is given.
+-- How the channels of a scenario are opened: the seeds and keys of their signers,
+-- their terms and funding outputs, and the openings that each side's book is given.
 use Rattle.std.specs.Prelude.{ℕ, nat_lt, if◌then◌else◌, List, ◌++◌, Option, Some, None, codes}
 use Rattle.sha2.specs.Sha256.{sha256}
 use Rattle.script.specs.Spelling.{spelling}
@@ -29,7 +30,7 @@ use Rattle.scenario.specs.declared.seeds.Seeds.{Seeds}
 use Rattle.scenario.specs.Seeds.{seed_of}
 use Rattle.world.specs.declared.openings.sides.Both.{Both}
 
--- the seed of a signer: SHA-256 of "channel", the side's seed, and the channel's index in four bytes, the lowest first
+-- the seed of a signer: SHA-256 of "channel", the side's seed, and the channel's index in four bytes, little-endian
 unfoldable pub channel_seed : List ℕ → ℕ → List ℕ
 channel_seed seed channel = sha256 (codes "channel" ++ seed ++ number 4 channel)
 
@@ -43,7 +44,7 @@ funding_output seeds channel plain = record {
   script = script_hash_program (spelling (funding (base_key (seed_in seeds channel A) Funding) (base_key (seed_in seeds channel B) Funding)));
 }
 
--- it, where an output may have the value
+-- the funding output, if an output may have the value
 abbrev pub funding_if_within : Seeds → ℕ → ProposedTerms → Option Output
 funding_if_within seeds channel plain = if nat_lt max_value plain.capacity then None else Some (funding_output seeds channel plain)
 
@@ -68,7 +69,7 @@ abbrev pub IsOpeningOf : Seeds → ℕ → Side → Terms → Opening → Type 0
 IsOpeningOf seeds channel side terms opening =
     IsOpenedBy terms side (seed_in seeds channel side) (point_in seeds channel (other side) 0) (point_in seeds channel (other side) 1) (token_in seeds channel side terms) opening
 
--- how both sides open a channel: there are terms as the scenario has them, which each side opens
+-- how both sides open a channel: on terms of the scenario, which are the same for both
 pub record AreOpeningsOf (seeds : Seeds) (channel : ℕ) (outpoint : OutPoint) (plain : ProposedTerms) (both : Both) : Type 0 where
   pub terms : Terms
   pub agreed : AreTermsOf seeds channel outpoint plain terms

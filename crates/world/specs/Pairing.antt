@@ -1,4 +1,4 @@
--- Two books whose channels are the two sides of the same ones, with the messages on their way between them.
+-- Two books that hold the two ends of the same channels, with the messages on their way between them.
 use Rattle.std.specs.Prelude.{◌≡◌, ℕ, ◌∷◌, List, [], Some, slice_get, true}
 use Rattle.terms.specs.declared.sides.Side.{Side}
 use Rattle.channel.specs.declared.messages.Message.{Message}
@@ -10,17 +10,17 @@ use Rattle.book.specs.Books.{Channels, replay}
 use Rattle.book.specs.Replies.{is_accepted, reply_of}
 use Rattle.side.specs.Acts.{call_of}
 
--- each channel of a side and the same one of its peer, with the messages on their way to each: they are what steps of two honest peers leave of a new channel
+-- each channel of a side, the same one of its peer, and the messages between them are what steps of two honest peers make of a new channel
 abbrev pub ArePaired : Side → Channels → Channels → List (List Message) → List (List Message) → Type 0
 ArePaired side [] [] [] [] = Unit {0}
 ArePaired side (x ∷ xs) (y ∷ ys) (p ∷ ps) (q ∷ qs) = IsPaired peer_tokens (placed side x.state y.state p q) × ArePaired side xs ys ps qs
 ArePaired side xs ys ps qs = ⊥
 
--- two books are, by their histories
+-- the same for two books, by their histories
 abbrev pub AgreeBy : Side → List Entry → List Entry → List (List Message) → List (List Message) → Type 0
 AgreeBy side mine peers to_me to_peer = ArePaired side (replay mine) (replay peers) to_me to_peer
 
--- the oldest message on its way to a side of two that agree is taken by its book
+-- if two books agree, each takes the oldest message on its way to it
 abbrev pub DeliveriesAreTaken : Type 0
 DeliveriesAreTaken = (side : Side) (mine peers : List Entry) (to_me to_peer : List (List Message)) (c : ℕ) (m : Message) (rest : List Message)
     → AgreeBy side mine peers to_me to_peer → slice_get to_me c ≡ Some (m ∷ rest) → is_accepted (reply_of peer_tokens mine (call_of c m)) ≡ true

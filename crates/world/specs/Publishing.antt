@@ -1,4 +1,4 @@
--- What a side can broadcast, by what its book and its watches know.
+-- What a side can broadcast with what its book and its watches know.
 use Rattle.std.specs.Prelude.{◌≡◌, ℕ, List, ◌++◌, Option, Some, None, Result, Ok, Err}
 use Rattle.tx.specs.Fields.{Transaction}
 use Rattle.publish.specs.Published.{signed_commitment_of, signed_htlc_tx_of}
@@ -8,7 +8,7 @@ use Rattle.world.specs.declared.errors.EventError.{EventError}
 use Rattle.world.specs.declared.errors.EventError.TheVariants.{NoMemory, NoSuchChannel, NoSuchTx}
 use Rattle.world.specs.Worlds.{Node}
 
--- the preimages that a side knows in a channel: those of its fulfils, made or received, and those that blocks showed it
+-- the preimages that a side knows in a channel: those of its fulfils, made or received, and those that blocks showed to the side
 abbrev pub preimages_known : ℕ → Node → List (List ℕ)
 preimages_known c n = preimages_in c n.history ++ n.learnt
 
@@ -21,18 +21,18 @@ abbrev pub commitment_in : ℕ → Option ChannelBook → Result Transaction Eve
 commitment_in n None = Err NoSuchChannel
 commitment_in n (Some ch) = found (signed_commitment_of ch.state n)
 
--- the HTLC transaction of its k-th untrimmed HTLC, by these preimages: NoSuchChannel, NoSuchTx
+-- the HTLC transaction of its k-th untrimmed HTLC, with these preimages: NoSuchChannel, NoSuchTx
 abbrev pub htlc_tx_in : ℕ → ℕ → List (List ℕ) → Option ChannelBook → Result Transaction EventError
 htlc_tx_in n k preimages None = Err NoSuchChannel
 htlc_tx_in n k preimages (Some ch) = found (signed_htlc_tx_of ch.state n k preimages)
 
--- an answer is this one, unless memory ran out
+-- a result is this one, unless memory ran out
 abbrev pub IsAnswer : {A : Type 0} → Result A EventError → Result A EventError → Type 0
 IsAnswer answer (Ok x) = answer ≡ Ok x
 IsAnswer answer (Err NoMemory) = Unit {0}
 IsAnswer answer (Err e) = answer ≡ Err e
 
--- the refusal in an answer
+-- the refusal in a result
 abbrev pub refusal_by : {A : Type 0} → Result A EventError → Option EventError
 refusal_by (Ok x) = None
 refusal_by (Err e) = Some e

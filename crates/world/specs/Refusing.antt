@@ -25,7 +25,7 @@ use Rattle.world.specs.Worlds.{Line, Node, answer_to, after_call, sent_to, recei
 
 -- ---- refusals
 
--- the refusals of a book, as an event has them
+-- the refusals of a book, as errors of an event
 abbrev pub by_step : StepError → EventError
 by_step (Refused refusal_memory) = NoMemory
 by_step (Refused refusal) = Channel refusal
@@ -46,18 +46,18 @@ by_release (Unfilled fill_memory) = NoMemory
 by_release (Unfilled refusal) = Fill refusal
 by_release NoChannelToRelease = NoSuchChannel
 
--- that of claims to be released together
+-- the refusal to release claims together
 abbrev pub by_batch : BatchError → EventError
 by_batch mixed_channels = MixedChannels
 by_batch over_value = OverValue
 
--- and those of blocks to give way
+-- the refusals of a reorganisation
 abbrev pub by_reorg : ReorgError → EventError
 by_reorg reorg_memory = NoMemory
 by_reorg reorg_depth = TooDeep
 by_reorg reorg_txs = NoSuchTx
 
--- the refusal in an answer of a book
+-- the refusal in a book's reply
 abbrev pub refusal_in : Reply → Option EventError
 refusal_in (stepped (Err e)) = Some (by_step e)
 refusal_in (signed (Err e)) = Some (by_sign e)
@@ -66,26 +66,26 @@ refusal_in (kept (Err e)) = Some (by_keep e)
 refusal_in (released (Err e)) = Some (by_release e)
 refusal_in reply = None
 
--- a refusal is the first condition that holds, unless memory ran out
+-- a refusal is the first that applies, or memory ran out
 abbrev pub IsRefusal : Option EventError → EventError → Type 0
 IsRefusal first NoMemory = Unit {0}
 IsRefusal first e = first ≡ Some e
 
--- an event of which this is the first refusal leaves this, and a refused one changes nothing
+-- an event with this first refusal: it leaves `done` if there is none, and changes nothing if it is refused
 abbrev pub IsEvent : {A S : Type 0} → Option EventError → Result A EventError → S → S → S → Type 0
 IsEvent first (Ok x) old done new = (first ≡ None) × (new ≡ done)
 IsEvent first (Err e) old done new = IsRefusal first e × (new ≡ old)
 
 -- ---- messages
 
--- why a side does not make a call in a channel that its peer is to hear of, and what is on its way to the peer once it does
+-- why a side does not make a call in a channel whose message goes to the peer, and the messages to the peer after it
 abbrev pub sending_refusal : ℕ → Call → Node → Node → Option EventError
 sending_refusal c call me peer = if_so (nat_le (length peer.lines) c) NoSuchChannel (refusal_in (answer_to me call))
 
 abbrev pub sent_by : ℕ → Call → Node → Node → Node
 sent_by c call me peer = sent_to c (messages_in (answer_to me call)) peer
 
--- the oldest message on its way: NoSuchChannel, NoMessage
+-- the oldest message on its way: NoMessage if there is none
 abbrev pub oldest_of : List Message → Result Message EventError
 oldest_of [] = Err NoMessage
 oldest_of (m ∷ ms) = Ok m
@@ -94,7 +94,7 @@ abbrev pub oldest_in : Option Line → Result Message EventError
 oldest_in None = Err NoSuchChannel
 oldest_in (Some line) = oldest_of line.inbox
 
--- why a message is not delivered to a side, what the side is once it is, and its peer
+-- why a message is not delivered to a side, the side after a delivery, and its peer
 abbrev pub delivery_refusal : ℕ → Result Message EventError → Node → Node → Option EventError
 delivery_refusal c (Err e) me peer = Some e
 delivery_refusal c (Ok m) me peer = sending_refusal c (call_of c m) me peer
@@ -107,9 +107,9 @@ abbrev pub answered : ℕ → Result Message EventError → Node → Node → No
 answered c (Err e) me peer = peer
 answered c (Ok m) me peer = sent_by c (call_of c m) me peer
 
--- ---- within an event
+-- ---- the parts of an event
 
--- what a side's book gives to send, by a call of an event
+-- the message that a side's book gives to send, in a call of an event
 abbrev pub IsAnswered : Call → Result (Option Message) EventError → Node → Node → Type 0
 IsAnswered call (Ok m) old new = (refusal_in (answer_to old call) ≡ None) × (messages_in (answer_to old call) ≡ cons_option m []) × (new ≡ after_call call old)
 IsAnswered call (Err e) old new = IsRefusal (refusal_in (answer_to old call)) e × (new ≡ old)

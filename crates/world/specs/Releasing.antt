@@ -20,7 +20,7 @@ use Rattle.side.specs.Batches.{are_of, value_of, claims_in, preimages_for, outpu
 use Rattle.world.specs.Worlds.{Node, channel_of, answer_to, after_call}
 use Rattle.world.specs.Refusing.{refusal_in}
 
--- so many jobs are taken, the oldest first: NoJob where there are fewer
+-- the k oldest jobs are taken: NoJob if there are fewer
 abbrev pub take_refusal : ℕ → Node → Option EventError
 take_refusal k n = if_so (nat_lt (length n.jobs) k) NoJob None
 
@@ -33,7 +33,7 @@ with_taken k n = record n { jobs = drop k n.jobs; taken = n.taken ++ take k n.jo
 abbrev pub output_for : State → List DueClaim → Output
 output_for s jobs = output_to (base_key s.seed Payment) jobs
 
--- what the book answers to the release of claims of a channel
+-- the book's reply to a release of claims of a channel
 abbrev pub release_answer : ℕ → List DueClaim → Node → Reply
 release_answer c jobs n = released (asked NoSuchChannel (channel_of n c) (λ ch. fill_answer ch.state (claims_in jobs) (output_for ch.state jobs ∷ []) (preimages_for jobs)))
 
@@ -45,18 +45,18 @@ refusal_of (j ∷ jobs) n =
     (if_so (nat_lt max_value (value_of (j ∷ jobs))) OverValue
     (refusal_in (release_answer j.channel (j ∷ jobs) n)))
 
--- a release is of 1 to 4,000 claims, of those that were taken
+-- a release has 1 to 4,000 claims, of those that were taken
 abbrev pub is_no_count : ℕ → ℕ → Bool
 is_no_count k taken = k == 0 || nat_lt max_inputs k || nat_lt taken k
 
 abbrev pub release_refusal : ℕ → Node → Option EventError
 release_refusal k n = if_so (is_no_count k (length n.taken)) NoJob (refusal_of (take k n.taken) n)
 
--- the claims that were released are no longer taken
+-- the claims that were released are no longer among those taken
 abbrev pub without_taken : ℕ → Node → Node
 without_taken k n = record n { taken = drop k n.taken }
 
--- claims, all of one channel, are released by this batch, where the book does not refuse it
+-- this batch releases claims, all of one channel, unless the book refuses it
 pub record IsReady (jobs : List DueClaim) (n : Node) (channel : ℕ) (batch : Batch) : Type 0 where
   pub ch : ChannelBook
   pub there : channel_of n channel ≡ Some ch
@@ -64,7 +64,7 @@ pub record IsReady (jobs : List DueClaim) (n : Node) (channel : ℕ) (batch : Ba
   pub batch_is : IsBatchOf (claims_in jobs) (output_for ch.state jobs ∷ []) (preimages_for jobs) batch
   pub left : refusal_of jobs n ≡ refusal_in (answer_to n (Release channel batch))
 
--- so many of the oldest claims that a side took are released: what the side is then, and the transaction
+-- the k oldest claims that a side took are released: the side after the release, and the transaction of it
 pub record IsReleased (k : ℕ) (n done : Node) (t : Transaction) : Type 0 where
   pub channel : ℕ
   pub batch : Batch
@@ -74,7 +74,7 @@ pub record IsReleased (k : ℕ) (n done : Node) (t : Transaction) : Type 0 where
   pub tx : t ≡ filling.tx
   pub after : done ≡ without_taken k (after_call (Release channel batch) n)
 
--- and the transaction waits behind the others, and is the newest of those that were ever released
+-- and the transaction is last in the pool, and last among all that were released
 pub record IsReleasedTo (k : ℕ) (n done : Node) (pool released waiting fillings : List Transaction) : Type 0 where
   pub tx : Transaction
   pub is : IsReleased k n done tx

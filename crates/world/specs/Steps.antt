@@ -1,4 +1,4 @@
--- One event of the world, by cases; and a run of events.
+-- One event of the world, case by case; and a run of events.
 use Rattle.std.specs.Prelude.{◌≡◌, ℕ, ◌-◌, List, [], ◌∷◌, ◌++◌, option_map, Option, Some, None, Result, Ok, Err, slice_get}
 use Rattle.tx.specs.Fields.{Transaction}
 use Rattle.terms.specs.declared.sides.Side.{Side}
@@ -23,19 +23,19 @@ use Rattle.world.specs.Publishing.{preimages_known, commitment_in, htlc_tx_in, r
 use Rattle.world.specs.Releasing.{take_refusal, with_taken, release_refusal, IsReleased}
 use Rattle.world.specs.Looking.{Looks, back_to}
 
--- ---- calls of a book of which the peer is to hear
+-- ---- calls of a book whose message goes to the peer
 
 abbrev pub own_call : ℕ → OwnUpdate → Call
 own_call c u = calls.Step c (Own u)
 
--- why a side does not make a call in a channel, and the world once it did: the message is on its way to the peer
+-- why a side does not make a call in a channel, and the world after the call: its message is on its way to the peer
 abbrev pub call_refusal : Side → ℕ → Call → World → Option EventError
 call_refusal s c call w = sending_refusal c call (node_of s w) (node_of (other s) w)
 
 abbrev pub world_after_call : Side → ℕ → Call → World → World
 world_after_call s c call w = with_nodes s (after_call call (node_of s w)) (sent_by c call (node_of s w) (node_of (other s) w)) w
 
--- why a side does not receive its oldest message in a channel, and the world once it did: the answer is on its way to the peer
+-- why a side does not receive its oldest message in a channel, and the world after the delivery: the answer is on its way to the peer
 abbrev pub receipt_refusal : Side → ℕ → World → Option EventError
 receipt_refusal s c w = delivery_refusal c (oldest_in (slice_get (node_of s w).lines c)) (node_of s w) (node_of (other s) w)
 
@@ -50,19 +50,19 @@ world_after_delivery s c w =
 abbrev pub with_waiting : Transaction → World → World
 with_waiting t w = record w { pool = w.pool ++ t ∷ [] }
 
--- a filling was released, and waits
+-- a filling was released, and waits for a block
 abbrev pub with_released : Transaction → World → World
 with_released t w = record w { pool = w.pool ++ t ∷ []; released = w.released ++ t ∷ [] }
 
--- the chain has other blocks, and the pool what still waits
+-- the chain has other blocks, and the pool has the transactions that still wait
 abbrev pub with_mined : Mined → World → World
 with_mined m w = record w { chain = m.chain; pool = m.waiting }
 
--- which height the chain has, and how many transactions the new blocks
+-- the height of the chain, and the number of transactions in the new blocks
 abbrev pub blocks_outcome : Mined → Outcome
 blocks_outcome m = MinedBlocks (height_of m.chain.blocks) m.txs
 
--- both sides' watches go back to a height
+-- both sides go back to a height
 abbrev pub both_back : ℕ → World → World
 both_back height w = record w { a = back_to height w.a; b = back_to height w.b }
 
@@ -82,7 +82,7 @@ refusal_of w (events.Take s k) = take_refusal k (node_of s w)
 refusal_of w (events.Release s k) = release_refusal k (node_of s w)
 refusal_of w (events.Reorg depth forgotten) = option_map by_reorg (reorg_refusal w.chain depth forgotten)
 
--- what happens where nothing refuses the event
+-- what happens if nothing refuses the event
 pub data Happens (w : World) : Event → World → Outcome → Type 0 where
   updates : {s : Side} {c : ℕ} {update : OwnUpdate} → Happens w (events.Own s c update) (world_after_call s c (own_call c update) w) Done
   signs : {s : Side} {c : ℕ} → Happens w (events.Sign s c) (world_after_call s c (calls.Sign c) w) Done
@@ -99,12 +99,12 @@ pub data Happens (w : World) : Event → World → Outcome → Type 0 where
   reorganises : {depth forgotten : ℕ} {m : Mined} → m ≡ reorganised depth forgotten w.chain w.pool w.released
       → Happens w (events.Reorg depth forgotten) (both_back (height_of w.chain.blocks - depth) (with_mined m w)) (blocks_outcome m)
 
--- what an event leaves, by its answer: it happens where nothing refuses it, and a refused one changes nothing
+-- what an event leaves: it happens if nothing refuses it, and a refused event changes nothing
 abbrev pub IsPlayed : World → Event → Result Outcome EventError → World → Type 0
 IsPlayed w e (Ok o) new = (refusal_of w e ≡ None) × Happens w e new o
 IsPlayed w e (Err r) new = IsRefusal (refusal_of w e) r × (new ≡ w)
 
--- the answer of an event of which nothing more is said, and of a look
+-- maps success to Done; and the outcome of a look
 abbrev pub done_by : Result (Unit {0}) EventError → Result Outcome EventError
 done_by (Ok x) = Ok Done
 done_by (Err r) = Err r
@@ -113,13 +113,13 @@ abbrev pub looked_by : Result ℕ EventError → Result Outcome EventError
 looked_by (Ok k) = Ok (Looked k)
 looked_by (Err r) = Err r
 
--- one event: it happens where nothing refuses it; a refused one leaves the world as it was and, barring out-of-memory, names the first condition that holds
+-- one event: it happens if nothing refuses it; a refused event leaves the world as it was and, barring out-of-memory, names the first refusal that applies
 pub data WorldSteps (w : World) (e : Event) : World → Outcome → Type 0 where
   happens : {after : World} {o : Outcome} → refusal_of w e ≡ None → Happens w e after o → WorldSteps w e after o
   refuses : {r : EventError} → refusal_of w e ≡ Some r → WorldSteps w e w (Refused r)
   runs_out : WorldSteps w e w (Refused NoMemory)
 
--- a run: each event of a list with what became of it, and the world at each moment, the first and the last included
+-- a run: each event of a list with its outcome, and the world at each moment, including the first and the last
 pub data Runs : World → List Event → List Outcome → List World → World → Type 0 where
   ends : {w : World} → Runs w [] [] (w ∷ []) w
   goes_on : {w v end : World} {e : Event} {es : List Event} {o : Outcome} {os : List Outcome} {moments : List World}

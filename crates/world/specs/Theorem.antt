@@ -1,9 +1,9 @@
--- The Enforcement theorem: what holds at every moment of every run of the world of two sides, whatever the events are. A stranger reads this file first, then `Steps.antt` for what an event is, and
--- `Enforcement.antt` for what 'due' and 'passes' mean.
+-- The Enforcement theorem: what holds at every moment of every run of the world of two sides, for all events. Read this file first, then `Steps.antt` for what an event is, and `Enforcement.antt`
+-- for what 'due' and 'passes' mean.
 --
--- Over every interleaving of channel steps, blocks, reorganisations, broadcasts, looks and releases: every filling of an accepted claim, once its output is unspent and its height and age are
--- reached, passes the chain's test of its input and runs to one true value with no missing operand, failed check or open branch, within 201 counted opcodes and 1,000 entries; and after a
--- received revocation no commitment is signed until verified penalties for every claimable output are kept.
+-- Over every interleaving of channel steps, blocks, reorganisations, broadcasts, looks and releases, two things hold. First, take any filling of an accepted claim whose output is unspent, and whose
+-- height and age are reached. It passes the chain's test of its input and runs to one true value, within 201 counted opcodes and 1,000 entries. No operand is missing, no check fails, and no branch
+-- stays open. Second, after a received revocation no commitment is signed until verified penalties for every claimable output are kept.
 use Rattle.std.specs.Prelude.{◌≡◌, ◌⊎◌, ℕ, true, List, ◌∷◌, ◌++◌, length, map, Some, slice_get}
 use Rattle.std.specs.List.{AllByRecursion, flat_map}
 use Rattle.tx.specs.declared.input.TxIn.{TxIn}
@@ -27,22 +27,22 @@ use Rattle.world.specs.Pairing.{AgreeBy}
 use Rattle.world.specs.Enforcement.{IsDue, Passes}
 use Rattle.world.specs.Steps.{refusal_of, WorldSteps, Runs}
 
--- the claims that a side has: those that its book keeps and released, those that wait as jobs, and those that were taken
+-- the claims of a side: those that its book kept and released, its jobs, and the claims that it took
 abbrev pub claims_of : Node → List ClaimParts
 claims_of n = flat_map (λ e. claims_by e.call) n.history ++ map (λ j. j.claim) (n.jobs ++ n.taken)
 
--- at a moment
+-- this holds at each moment
 pub record HoldsAt (w : World) : Type 0 where
-  -- each call in both books was accepted after those before it, and no signature stands after a revocation in its channel without the penalties kept between them (what that means, entry by
-  -- entry, is `GuardedMeans` of `book/specs/Guarding.antt`; that the kept claims are then exactly the accepted ones on all that is claimable is `PenaltySetsAreExact` of `book/specs/Penalties.antt`)
+  -- each call in both books was accepted after those before it, and no signature follows a revocation in its channel without the penalties kept between the two. (`GuardedMeans` of
+  -- `book/specs/Guarding.antt` says so entry by entry. By `PenaltySetsAreExact` of `book/specs/Penalties.antt`, the kept claims are exactly the accepted ones on all that is claimable.)
   pub accepted : (s : Side) → all_accepted peer_tokens (node_of s w).history ≡ true
   pub guarded : (s : Side) → is_guarded (node_of s w).history ≡ true
-  -- each claim that a side has is an accepted one
+  -- each claim of a side is an accepted one
   pub claims : (s : Side) → AllByRecursion IsWhole (claims_of (node_of s w))
-  -- whatever fits an accepted claim passes the chain's test for the next block and runs clean, once it is due
+  -- an input that fits an accepted claim passes the chain's test for the next block and runs clean, once it is due
   pub opens : (x : ClaimParts) (t : Transaction) (input : TxIn) → IsWhole x → (due : IsDue w.chain.blocks (length w.chain.blocks) x t input)
       → Passes w.chain.blocks (length w.chain.blocks) x t input due
-  -- the oldest message on its way to a side is taken by its book, so barring out-of-memory a delivery is refused only where there is no channel or no message
+  -- a side's book takes the oldest message on its way to it; so, barring out-of-memory, a delivery is refused only without a channel or a message
   pub takes : (s : Side) (c : ℕ) (m : Message) (rest : List Message) → slice_get (inboxes (node_of s w)) c ≡ Some (m ∷ rest) → is_accepted (answer_to (node_of s w) (call_of c m)) ≡ true
   pub delivers : (s : Side) (c : ℕ) (r : EventError) → refusal_of w (Deliver s c) ≡ Some r → (r ≡ NoSuchChannel) ⊎ (r ≡ NoMessage)
 
@@ -54,7 +54,7 @@ pub record IsPlay (w : World) (es : List Event) (os : List Outcome) (end : World
 
 -- ---- why it holds
 
--- what is kept from event to event: the histories are those of calls, and the books are two sides of the same channels with the messages on their way
+-- what each event keeps: the histories are those of calls, and the books hold the two ends of the same channels, with the messages on their way
 pub record IsWorld (w : World) : Type 0 where
   pub a : IsNode w.a
   pub b : IsNode w.b

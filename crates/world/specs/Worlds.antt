@@ -1,4 +1,4 @@
--- The world of two sides: what each has, and the chain with its pool.
+-- The world of two sides: what each side has, and the chain with its pool.
 use Rattle.std.specs.Prelude.{◌≡◌, ℕ, Bool, true, false, List, [], ◌∷◌, ◌++◌, drop, length, map, Option, slice_get}
 use Rattle.std.specs.List.{AllByRecursion}
 use Rattle.tx.specs.Fields.{Transaction}
@@ -17,13 +17,13 @@ use Rattle.book.specs.Replies.{Reply, reply_of, history_after}
 use Rattle.world.specs.declared.limits.TheConstants.{SEAT}
 use Rattle.side.specs.declared.due.DueClaim.{DueClaim}
 
--- what a side has of a channel beside its book: the messages on their way to it, the oldest first, and what its watch has seen
+-- what a side has of a channel besides its book: the messages on their way to the side, the oldest first, and what its watch has seen
 pub record Line : Type 0 where
   pub inbox : List Message
   pub seen : Seen
 
--- one side: the history of its book; what it has of each channel beside it; the height of the newest block that it read; the preimages that blocks showed it; the jobs
--- that nobody took yet, and the claims that were taken and not released yet, the oldest first
+-- one side: the history of its book; what it has of each channel besides the book; the height of the newest block that it read; the preimages that blocks showed to
+-- it; its jobs, and the claims that were taken and not released yet, the oldest first
 pub record Node : Type 0 where
   pub history : List Entry
   pub lines : List Line
@@ -43,14 +43,14 @@ abbrev pub opens_none : Call → Bool
 opens_none (Open o) = false
 opens_none call = true
 
--- what holds of each side: it has a line for each channel of its book, and its claims were accepted
+-- what is true of each side: it has a line for each channel of its book, and its claims were accepted
 pub record IsNode (n : Node) : Type 0 where
   pub lines : length n.lines ≡ length (replay n.history)
   pub claims_are_whole : AllByRecursion (λ e. AllByRecursion IsWhole (claims_by e.call)) n.history
   pub jobs : AllByRecursion (λ j. IsWhole j.claim) n.jobs
   pub taken : AllByRecursion (λ j. IsWhole j.claim) n.taken
 
--- the two sides, the chain, the transactions that wait for a block, and the fillings that were ever released
+-- the two sides, the chain, the transactions that wait for a block, and all fillings that were released so far
 pub record World : Type 0 where
   pub a : Node
   pub b : Node
@@ -66,7 +66,7 @@ abbrev pub with_node : Side → Node → World → World
 with_node A n w = record w { a = n }
 with_node B n w = record w { b = n }
 
--- the world with another side, and another peer of it
+-- the world with another node for a side, and another for its peer
 abbrev pub with_nodes : Side → Node → Node → World → World
 with_nodes A n peer w = record w { a = n; b = peer }
 with_nodes B n peer w = record w { a = peer; b = n }
@@ -75,22 +75,22 @@ with_nodes B n peer w = record w { a = peer; b = n }
 abbrev pub inboxes : Node → List (List Message)
 inboxes n = map (λ l. l.inbox) n.lines
 
--- a side's channel, where it is there
+-- a side's channel, if there is one
 abbrev pub channel_of : Node → ℕ → Option ChannelBook
 channel_of n c = slice_get (replay n.history) c
 
--- what a side's book answers to a call, and the side after it
+-- the reply of a side's book to a call, and the side after it
 abbrev pub answer_to : Node → Call → Reply
 answer_to n call = reply_of peer_tokens n.history call
 
 abbrev pub after_call : Call → Node → Node
 after_call call n = record n { history = history_after peer_tokens n.history SEAT call }
 
--- a channel has begun, of which nothing was sent or seen
+-- a new channel, in which nothing was sent or seen yet
 abbrev pub with_line : Node → Node
 with_line n = record n { lines = n.lines ++ record { inbox = []; seen = nothing_seen } ∷ [] }
 
--- messages are on their way to a side in a channel; and the oldest one came
+-- messages are on their way to a side in a channel; and the oldest one is removed
 abbrev pub sent_to : ℕ → List Message → Node → Node
 sent_to c messages n = record n { lines = at_index (λ line. record line { inbox = line.inbox ++ messages }) c n.lines }
 

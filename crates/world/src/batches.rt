@@ -20,7 +20,7 @@ use side::{DueClaim, batch_of, worth_of};
 use std::alloc::Global;
 use tx::{MAX_INPUTS, Tx};
 
-/// The call of a book by which claims are released, and the transaction that it is to give.
+/// The call of a book that releases claims, and the transaction that it will return.
 #[derive(Drop)]
 pub(crate) struct Release {
     pub(crate) channel: u64,
@@ -28,7 +28,7 @@ pub(crate) struct Release {
     pub(crate) tx: Tx,
 }
 
-// The transaction that the channel's signer makes of a batch: the refusal of `fill`.
+// The transaction of a batch, filled by the channel's signer; or the refusal of `fill`.
 fn filling_of(alloc: Global, channel: &Channel, batch: &Batch) -> Result<Tx, FillError>
     ensures { let b = batch.now in
         let first = fill_refusal b.claims b.outputs (rights_of channel.now) b.preimages in
@@ -40,14 +40,15 @@ fn filling_of(alloc: Global, channel: &Channel, batch: &Batch) -> Result<Tx, Fil
     }
 }
 
-// Whether so many of these claims can't be released together.
+// Whether this is not a possible number of claims to release: none, more than 4,000, or more than were taken.
 fn is_no_count(count: u64, taken: usize) -> bool
     ensures { result ≡ is_no_count count taken }
 {
     count == 0 || count > MAX_INPUTS as u64 || count > taken as u64
 }
 
-// The call by which claims are released, which are a side's: NoJob where there is none, MixedChannels, OverValue.
+// The call that releases claims of a side. Refused, in this order, with `NoJob` where there is none, `MixedChannels`
+// and `OverValue`, else as a book refuses to release.
 fn release_by(alloc: Global, me: &Node, jobs: &[&DueClaim]) -> Result<Release, EventError>
     requires { length jobs.now ≤ max_inputs }
     ensures { let all = map (λ j. j.now) jobs.now in
@@ -74,7 +75,8 @@ fn release_by(alloc: Global, me: &Node, jobs: &[&DueClaim]) -> Result<Release, E
     }
 }
 
-/// The call by which a side releases the oldest claims that it took, `count` of them: NoJob, MixedChannels, OverValue.
+/// The call that releases the `count` oldest claims that a side took. Refused, in this order, with `NoJob`,
+/// `MixedChannels` and `OverValue`, else as a book refuses to release.
 pub(crate) fn release_of(alloc: Global, me: &Node, count: u64) -> Result<Release, EventError>
     ensures ready { IfOk result (λ r. IsReady (take count me.now.taken) me.now r.channel r.batch) }
     ensures filled { IfOk result (λ r. r.tx ≡ (filling_by r.batch).tx) }

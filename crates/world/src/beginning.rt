@@ -32,7 +32,7 @@ pub(crate) fn first_bad_terms(terms: &[ProposedTerms]) -> Option<usize>
     terms.iter().position(|plain| !plain.can_agree())
 }
 
-// A side opens a channel, which its book does not refuse. The only error is that memory ran out.
+// A side opens a channel that its book does not refuse. The only error is that memory ran out.
 fn open(alloc: Global, node: &mut Node, opening: Opening) -> Result<(), AllocError>
     requires { is_accepted (answer_to node.old (Open opening)) ≡ true }
     ensures { OnOk result (node.new ≡ with_opened opening node.old) }
@@ -46,7 +46,8 @@ fn open(alloc: Global, node: &mut Node, opening: Opening) -> Result<(), AllocErr
     }
 }
 
-// Grants the funding output of a channel, on whose terms the two sides can agree, and gives its outpoint. The only error is that memory ran out.
+// Grants the funding output of a channel on whose terms the two sides can
+// agree, and returns its outpoint. The only error is that memory ran out.
 fn grant_funding(
     alloc: Global,
     chain: &mut Index,
@@ -88,7 +89,7 @@ fn both_of(
     }
 }
 
-// A channel begins. The only error is that memory ran out.
+// Funds a channel and opens it on both sides. The only error is that memory ran out.
 fn begin(
     alloc: Global,
     parts: &mut Parts,
@@ -101,7 +102,7 @@ fn begin(
     requires few { channel < max_channels }
     ensures { OnOk result (Begins seeds.now channel plain.now parts.old parts.new) }
 {
-    // The proof takes from it that both books take the openings.
+    // By this law the proof knows that both books take the openings.
     openings_agree();
     let outpoint = grant_funding(alloc, &mut parts.chain, seeds, channel, plain)?;
     let both = both_of(alloc, seeds, channel, outpoint, plain)?;
@@ -124,7 +125,7 @@ fn empty(alloc: Global) -> Result<Parts, AllocError>
     })
 }
 
-// The channels begin, one after another, in a world that has none. The only error is that memory ran out.
+// Begins the channels, one after another, in a world that has none. The only error is that memory ran out.
 fn begin_each(
     alloc: Global,
     parts: &mut Parts,
@@ -138,7 +139,7 @@ fn begin_each(
     ensures begins { OnOk result (IsBeginning seeds.now terms.now parts.new) }
     ensures begun { OnOk result (HasBegun (length terms.now) parts.new) }
 {
-    // The proof takes from it that the channels of both sides agree.
+    // By this law the proof knows that the channels of both sides agree.
     openings_agree();
     for channel in 0..terms.len() {
         begin(alloc, parts, seeds, channel as u32, &terms[channel])?;
@@ -146,7 +147,7 @@ fn begin_each(
     Ok(())
 }
 
-/// All channels begin. The only error is that memory ran out.
+/// Begins all channels. The only error is that memory ran out.
 pub(crate) fn begin_all(
     alloc: Global,
     seeds: &Seeds,

@@ -1,4 +1,4 @@
-//! The chain's test of what a claim is filled with.
+//! The chain's test of an input that spends a claimed output.
 
 ghost use Rattle.std.specs.Prelude.{◌≡◌, length, slice_get, Some, MatchResult, ⊤};
 ghost use Rattle.tx.specs.declared.input.TxIn.{TxIn};
@@ -12,7 +12,8 @@ use chain::{ChainError, Coins};
 use claim::Claim;
 use tx::Tx;
 
-/// Tests an input of a transaction for the next block, as `check_input` does. Where the input fits the claim and is due, nothing but memory can refuse it.
+/// Tests an input of a transaction for the next block, as `check_input` does. If
+/// the input fits the claim and is due, the only possible error is out of memory.
 pub fn check_claimed<C: Coins>(
     chain: &C,
     claim: &Claim,
@@ -26,7 +27,7 @@ pub fn check_claimed<C: Coins>(
         (length (C.standing chain.now).blocks) claim.now tx.now input
         → MatchResult result (λ _. ⊤) (λ e. e ≡ NoMemory) }
 {
-    // The proof takes from these that the claim is an accepted one, and what is so of such claims.
+    // By these the proof knows that the claim was accepted, and what holds for such claims.
     claims_spend();
     let _ = claim.path();
     chain.check_input(tx, index)

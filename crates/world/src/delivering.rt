@@ -18,7 +18,7 @@ use std::alloc::Global;
 use std::collections::VecDeque;
 use updates::OwnUpdate;
 
-// Puts a message at the end, where there is one and a place for it.
+// Appends a message, if there is one; the queue has room for it.
 fn push_message(inbox: &mut VecDeque<Message>, message: Option<Message>)
     requires { deque_len inbox.old < deque_capacity inbox.old }
     ensures { inbox.new.items ≡ inbox.old.items ++ cons_option message [] }
@@ -28,7 +28,7 @@ fn push_message(inbox: &mut VecDeque<Message>, message: Option<Message>)
     }
 }
 
-// The book of a side makes a call, and what it sends goes to the end of the messages on their way to the peer.
+// Makes a call of a side's book, and appends what it sends to the messages on their way to the peer.
 fn send(me: &mut Node, inbox: &mut VecDeque<Message>, call: Call) -> Result<(), EventError>
     requires { opens_none call ≡ true }
     ensures me { IsEvent (refusal_in (answer_to me.old call)) result me.old
@@ -43,7 +43,7 @@ fn send(me: &mut Node, inbox: &mut VecDeque<Message>, call: Call) -> Result<(), 
     Ok(())
 }
 
-// The book of a side makes a call in a channel, and what it sends is on its way to the peer.
+// Makes a call of a side's book in a channel, and puts what it sends on its way to the peer.
 fn exchange(me: &mut Node, peer: &mut Node, channel: u64, call: Call) -> Result<(), EventError>
     requires { opens_none call ≡ true }
     ensures me { IsEvent (sending_refusal channel call me.old peer.old) result me.old
@@ -59,8 +59,8 @@ fn exchange(me: &mut Node, peer: &mut Node, channel: u64, call: Call) -> Result<
     send(me, &mut line.inbox, call)
 }
 
-/// A side makes an update, and its message is on its way to the peer: NoSuchChannel, else the refusal of
-/// the book. A refusal leaves both as they were.
+/// Makes an update of a side, and puts its message on its way to the peer. Refused with `NoSuchChannel`, else as the book refuses. A refusal leaves both sides as they
+/// were.
 pub(crate) fn update(
     me: &mut Node,
     peer: &mut Node,
@@ -78,8 +78,8 @@ pub(crate) fn update(
     exchange(me, peer, channel, Call::Step { channel, step })
 }
 
-/// A side signs its peer's next commitment, and the message is on its way to the peer: NoSuchChannel, else the refusal of
-/// the book. A refusal leaves both as they were.
+/// Signs a side's peer's next commitment, and puts the message on its way to the peer. Refused with `NoSuchChannel`, else as the book refuses. A refusal leaves both
+/// sides as they were.
 pub(crate) fn sign(me: &mut Node, peer: &mut Node, channel: u64) -> Result<(), EventError>
     ensures me { let call = Signing channel in
         IsEvent (sending_refusal channel call me.old peer.old) result me.old
@@ -91,7 +91,7 @@ pub(crate) fn sign(me: &mut Node, peer: &mut Node, channel: u64) -> Result<(), E
     exchange(me, peer, channel, Call::Sign { channel })
 }
 
-// The call by which a side takes the oldest message on its way to it: NoSuchChannel, NoMessage.
+// The call by which a side takes its oldest message. Refused with `NoSuchChannel`, `NoMessage`.
 fn oldest(alloc: Global, me: &Node, channel: u64) -> Result<Call, EventError>
     ensures { IsOldest channel (oldest_in (slice_get me.now.lines channel)) result }
 {
@@ -109,14 +109,14 @@ fn oldest(alloc: Global, me: &Node, channel: u64) -> Result<Call, EventError>
     }
 }
 
-// The oldest message came.
+// Removes the oldest message.
 fn pop_message(inbox: &mut VecDeque<Message>)
     ensures { inbox.new.items ≡ drop 1 inbox.old.items }
 {
     let _came = inbox.pop_front();
 }
 
-// The oldest message on its way to a side came.
+// Removes the oldest message on its way to a side in a channel.
 fn take_off(me: &mut Node, channel: u64)
     ensures { me.new ≡ received_by channel me.old }
 {
@@ -127,8 +127,8 @@ fn take_off(me: &mut Node, channel: u64)
     }
 }
 
-/// A side receives its oldest message, and the answer is on its way to the peer: NoSuchChannel, NoMessage, else the refusal of the book. A refusal leaves both as they
-/// were.
+/// Delivers a side's oldest message, and puts the answer on its way to the peer. Refused, in this order, with `NoSuchChannel` and `NoMessage`, else as the book
+/// refuses. A refusal leaves both sides as they were.
 pub(crate) fn deliver(
     alloc: Global,
     me: &mut Node,

@@ -19,25 +19,25 @@ pub enum EventError {
     /// Memory ran out.
     #[error("NoMemory")]
     NoMemory,
-    /// The scenario has no channel of this index.
+    /// There is no channel with this index.
     #[error("NoSuchChannel")]
     NoSuchChannel,
     /// No message is on its way to the side.
     #[error("NoMessage")]
     NoMessage,
-    /// The side has no such transaction, or fewer transactions stand in the blocks that are taken off than are to be forgotten.
+    /// The side does not have this transaction. Or a reorganisation is to drop more transactions than the replaced blocks have.
     #[error("NoSuchTx")]
     NoSuchTx,
-    /// The side has fewer jobs than requested, or took fewer claims; or a release is of none, or of more than 4,000.
+    /// The side has fewer jobs than requested, or took fewer claims. Or a release asks for none, or for more than 4,000.
     #[error("NoJob")]
     NoJob,
     /// The claims of a release are not all of one channel.
     #[error("MixedChannels")]
     MixedChannels,
-    /// What a release claims is worth more than 21,000,000 bitcoins.
+    /// The claims of a release are worth more than 21,000,000 bitcoins.
     #[error("OverValue")]
     OverValue,
-    /// So many blocks can't be taken off.
+    /// This number of blocks can't be replaced.
     #[error("TooDeep")]
     TooDeep,
     /// The channel refuses the update or the message.
@@ -49,7 +49,7 @@ pub enum EventError {
     /// The book refuses to keep.
     #[error("{0}")]
     Keep(KeepError),
-    /// The claims are not filled.
+    /// The claims of a release are not filled.
     #[error("{0}")]
     Fill(FillError),
 }
@@ -94,7 +94,7 @@ impl EventError {
         }
     }
 
-    /// The refusal of blocks to give way.
+    /// The refusal of a reorganisation.
     pub(crate) fn of_reorg(error: ReorgError) -> EventError
         ensures { result ≡ by_reorg error }
     {
@@ -118,7 +118,7 @@ impl EventError {
         }
     }
 
-    /// The refusal of claims to be released together.
+    /// The refusal to release claims together.
     pub(crate) fn of_batch(error: BatchError) -> EventError
         ensures { result ≡ by_batch error }
     {
@@ -160,13 +160,13 @@ impl<T: Drop> From<AllocFailed<T>> for EventError {
     }
 }
 
-/// Why a world does not begin. OverLimit is tested before BadTerms.
+/// Why a world does not begin. `OverLimit` is tested before `BadTerms`.
 #[derive(Debug, Drop, Error)]
 pub enum WorldError {
     /// Memory ran out.
     #[error("NoMemory")]
     NoMemory,
-    /// The two sides can't agree on the terms of the channel of this index.
+    /// The first channel on whose terms the two sides can't agree, by its index.
     #[error("BadTerms {0}")]
     BadTerms(usize),
     /// There are more than 8 channels.

@@ -13,7 +13,7 @@ use lists::List;
 use side::set_of;
 use std::alloc::Global;
 
-// The claims that a side is to keep for the peer's commitment of a number: NoSuchChannel, NotRevoked, AlreadyKept.
+// The claims that a side is to keep for the peer's commitment of a number. Refused, in this order, with `NoSuchChannel`, `NotRevoked` and `AlreadyKept`.
 fn set_for(alloc: Global, me: &Node, channel: u64, number: u64) -> Result<List<Claim>, EventError>
     ensures { MatchResult result (IsSetFor me.now channel number)
         (IsRefusal (keep_refusal number (channel_of me.now channel))) }
@@ -27,7 +27,8 @@ fn set_for(alloc: Global, me: &Node, channel: u64, number: u64) -> Result<List<C
     }
 }
 
-/// A side builds the penalty set of the peer's commitment of a number, and its book keeps it: NoSuchChannel, NotRevoked, AlreadyKept. A refusal leaves the side as it was.
+/// Builds the penalty set of the peer's commitment of a number, and keeps it in the side's book. Refused, in this order, with `NoSuchChannel`, `NotRevoked` and
+/// `AlreadyKept`. A refusal leaves the side as it was.
 #[tactic(auto, using(crate::proofs::Keeps::is_kept_by, crate::proofs::Keeps::unkept_by))]
 pub(crate) fn keep(
     alloc: Global,

@@ -1,15 +1,15 @@
 //! The world of two sides on one chain, and the Enforcement theorem over every run of it.
 //!
-//! [`World::new`] grants the funding outputs of channels and opens them in both sides' books, and [`World::play`]
-//! plays events: offers, fulfils, fails, fees, signatures, deliveries, kept penalties, broadcasts, blocks, looks,
-//! takes, releases and reorganisations. What `play` ensures is the theorem of `specs/Theorem.antt`. It is a run of the
-//! relation `WorldSteps`, one case for each event. At each moment of it both books are guarded, each claim that a side
-//! has is an accepted one, whatever fits an accepted claim passes and runs clean once it is due, and the oldest message
-//! on its way to a side is taken.
+//! [`World::new`] grants the funding outputs of channels and opens them in both sides' books, and [`World::play`] plays
+//! events: offers, fulfils, fails, fees, signatures, deliveries, kept penalties, broadcasts, blocks, looks, takes,
+//! releases and reorganisations. What `play` ensures is the theorem of `specs/Theorem.antt`. It is a run of the
+//! relation `WorldSteps`, with one case for each event. At each moment of it both books are guarded, and each claim of
+//! a side is an accepted one. An input that fits an accepted claim passes and runs clean once it is due. Each side
+//! takes the oldest message on its way to it.
 //!
-//! The walks of a message and of a block meet here. `side` reads blocks, makes batches and penalty sets, and turns
-//! messages into calls of each side's `book`; `scenario` has the events, `publish` the broadcasts, and `mempool`
-//! mines them on the `chain`. `enforce_words` prints what became of each event.
+//! Messages and blocks both pass through here. `side` reads blocks, makes batches and penalty sets, and turns messages
+//! into calls of each side's `book`. `scenario` has the events, `publish` the broadcasts, and `mempool` mines them on
+//! the `chain`. `enforce_words` prints the outcome of each event.
 //!
 //! ```rust
 //! let mut world = World::new(alloc, &scenario.seeds, scenario.channels.values())?;

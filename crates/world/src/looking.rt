@@ -1,4 +1,4 @@
-//! What a side reads in blocks.
+//! How a side reads blocks.
 
 ghost use Rattle.std.specs.Prelude.{◌≡◌, ◌<◌, ◌+◌, map, length, reverse, drop, slice_get, IfOk, IfErr, OnOk, OnErr};
 ghost use Rattle.std.specs.List.{AllByRecursion};
@@ -20,7 +20,7 @@ use side::{ReadParts, Reader};
 use std::alloc::{AllocError, Global};
 use watch::Watch;
 
-// What the book knows of a channel that it has. The only error is that memory ran out.
+// What the book knows of one of its channels. The only error is that memory ran out.
 fn known_by(book: &Book, channel: u64) -> Result<Known, AllocError>
     requires { channel < length (replay book.now) }
     ensures { IfOk result (IsKnownIn book.now channel (slice_get (replay book.now) channel)) }
@@ -32,7 +32,7 @@ fn known_by(book: &Book, channel: u64) -> Result<Known, AllocError>
     }
 }
 
-// The book is asked what is known of each channel of which that is to be asked before a block is read. The only error is that memory ran out.
+// Asks the book what is known of each channel that the reader wants answered before it reads a block. The only error is that memory ran out.
 fn answer_all(
     alloc: Global,
     book: &Book,
@@ -54,7 +54,7 @@ fn answer_all(
     Ok(())
 }
 
-// A side reads a block, and what it shows is known from the next one on. The only error is that memory ran out.
+// Reads a block for a side; what it shows is known from the next block on. The only error is that memory ran out.
 fn read_block(
     alloc: Global,
     book: &Book,
@@ -85,7 +85,7 @@ fn copied_watches(alloc: Global, lines: &[Line]) -> Result<Vec<Watch>, AllocErro
     Ok(watches)
 }
 
-// What a side has read before it looks, of which nobody asked yet what is known. The only error is that memory ran out.
+// The reader of a side that is about to look, without answers. The only error is that memory ran out.
 fn reader_of(alloc: Global, me: &Node) -> Result<Reader, AllocError>
     ensures { IfOk result (λ r. r ≡ begun (fundings_of (replay me.now.history))
         (map (λ line. line.seen) me.now.lines) me.now.learnt) }
@@ -96,7 +96,7 @@ fn reader_of(alloc: Global, me: &Node) -> Result<Reader, AllocError>
     Reader::new(alloc, fundings, watches, learnt)
 }
 
-// A side reads all blocks that it has not read. The only error is that memory ran out.
+// Reads all blocks that a side has not read yet. The only error is that memory ran out.
 fn read_blocks(alloc: Global, me: &Node, chain: &Index) -> Result<Reader, AllocError>
     ensures { IfOk result (λ r. Reads me.now.history (me.now.read + 1)
         (drop (me.now.read + 1) (reverse chain.now.blocks)) (reading_of me.now) (reading_in r)) }
@@ -112,14 +112,14 @@ fn read_blocks(alloc: Global, me: &Node, chain: &Index) -> Result<Reader, AllocE
     Ok(reader)
 }
 
-// A channel has this watch.
+// Gives a channel this watch.
 fn put_watch(line: &mut Line, watch: Watch)
     ensures { line.new ≡ record line.old { seen = watch } }
 {
     line.watch = watch;
 }
 
-// Each channel has the watch of its place, of which there are as many.
+// Gives each channel the watch at its index; there are as many watches as channels.
 fn put_watches(lines: &mut [Line], watches: Vec<Watch>)
     requires { length watches.items ≡ length lines.old }
     ensures { lines.new ≡ with_seen watches.items lines.old }
@@ -131,7 +131,7 @@ fn put_watches(lines: &mut [Line], watches: Vec<Watch>)
     }
 }
 
-// A side takes over what it has read up to a height. The only error is that memory ran out, which leaves it as it was.
+// Stores in a side what it has read, up to a height. If memory runs out, the only error, the side stays as it was.
 fn take_over(me: &mut Node, height: u64, parts: ReadParts) -> Result<(), AllocError>
     requires lines { length parts.watches.items ≡ length me.old.lines }
     requires jobs { AllByRecursion (λ j. IsWhole j.claim) parts.due.items }
@@ -150,9 +150,9 @@ fn take_over(me: &mut Node, height: u64, parts: ReadParts) -> Result<(), AllocEr
     Ok(())
 }
 
-/// A side reads all blocks that it has not read, the oldest first, and for each block channel by channel: what is due becomes jobs, each with the preimages that its slots
-/// want, where they are known. What a block shows is known of all channels from the next block on. It gives how many jobs came. The only error is NoMemory, which leaves the
-/// side as it was.
+/// Reads all blocks that a side has not read yet, the oldest first, and each block channel by channel. Claims that fall due are queued as jobs, each with the known
+/// preimages that its slots need. What a block shows is known of all channels from the next block on. Returns the number of new jobs. If memory runs out, the only error,
+/// the side stays as it was.
 pub(crate) fn look(alloc: Global, me: &mut Node, chain: &Index) -> Result<u64, EventError>
     ensures looks { IfOk result (Looks me.old chain.now.blocks me.new) }
     ensures memory { IfErr result (λ e. e ≡ NoMemory) }
@@ -164,14 +164,14 @@ pub(crate) fn look(alloc: Global, me: &mut Node, chain: &Index) -> Result<u64, E
     Ok(count)
 }
 
-// The watch of a channel forgets the blocks above a height.
+// The watch of a channel discards everything seen above a height.
 fn back_on(line: &mut Line, height: u64)
     ensures { line.new ≡ seen_back_to height line.old }
 {
     line.watch.back(height);
 }
 
-// The watches of all channels do.
+// The watches of all channels discard everything seen above a height.
 fn back_all(lines: &mut [Line], height: u64)
     ensures { lines.new ≡ map (seen_back_to height) lines.old }
 {
@@ -180,7 +180,8 @@ fn back_all(lines: &mut [Line], height: u64)
     }
 }
 
-/// A side goes back to a height: its watches forget the blocks above it, which are to be read again. What it learnt, its jobs and what it took stay. It takes no memory.
+/// Takes a side back to a height: its watches discard everything seen above it, and the side will read those heights again. What it learnt, its jobs and the claims that it
+/// took stay. Does not allocate.
 pub(crate) fn back(me: &mut Node, height: u64)
     ensures { me.new ≡ back_to height me.old }
 {

@@ -16,7 +16,7 @@ use std::collections::VecDeque;
 use std::marker::Model;
 use watch::Watch;
 
-/// What a side has of a channel beside its book.
+/// What a side has of a channel besides its book.
 #[derive(Drop)]
 pub(crate) struct Line {
     /// The messages on their way to the side, the oldest first.
@@ -32,17 +32,17 @@ impl Model for Line {
     ghost view = { λ l. record { inbox = l.inbox.items; seen = l.watch } };
 }
 
-/// One side: its book, its watches, and the claims that it is to release.
+/// One side: its book, its watches, and the claims that it is yet to release.
 #[derive(Drop)]
 pub(crate) struct Node {
     pub(crate) book: Book,
     /// By channel.
     pub(crate) lines: Vec<Line>,
-    /// The height of the newest block that it read.
+    /// The height of the newest block that the side read.
     pub(crate) read: u64,
-    /// The preimages that it learnt from blocks, in order.
+    /// The preimages that blocks showed to the side, in order.
     pub(crate) learnt: Vec<[u8; 32]>,
-    /// The claims that nobody took yet, the oldest first.
+    /// The jobs: claims that fell due and were not taken yet, the oldest first.
     pub(crate) jobs: VecDeque<DueClaim>,
     /// The claims that were taken and not released yet, the oldest first.
     pub(crate) taken: VecDeque<DueClaim>,
@@ -58,7 +58,7 @@ impl Model for Node {
     ghost invariant = { λ n. IsNode (record { history = n.book; lines = n.lines.items; read = n.read; learnt = n.learnt.items; jobs = n.jobs.items; taken = n.taken.items }) };
 }
 
-// What claims are, for proofs: accepted ones.
+// Tells the proof that claims were accepted.
 fn hold_whole(claims: &[Claim])
     ensures { AllByRecursion IsWhole claims.now }
 {
@@ -67,7 +67,7 @@ fn hold_whole(claims: &[Claim])
     }
 }
 
-// And those of a call.
+// The same for the claims of a call.
 fn hold_whole_call(call: &Call)
     ensures { AllByRecursion IsWhole (claims_by call.now) }
 {
@@ -86,7 +86,7 @@ impl Node {
     ghost use Rattle.world.specs.Beginning.{IsOpened};
     ghost use Rattle.world.specs.Refusing.{IsAnswered};
 
-    /// A side without channels, which has read the first block. It takes no memory.
+    /// A side without channels, which has read the first block. Does not allocate.
     pub(crate) fn new(alloc: Global) -> Node
         ensures { result ≡ record {
           history = [];
@@ -107,15 +107,15 @@ impl Node {
         }
     }
 
-    /// What holds of it.
+    /// Tells the proof what is true of each side.
     pub(crate) fn holds(&self)
         ensures { IsNode self.now }
     {
-        // The proof takes the invariant where a field is used.
+        // The proof learns the invariant where a field is used.
         let _ = &self.book;
     }
 
-    /// Its book opens a channel, of which it has nothing yet beside it: the refusal of the book. A refusal leaves the side as it was.
+    /// Opens a channel in the side's book, refused as the book refuses. A refusal leaves the side as it was.
     pub(crate) fn open(&mut self, alloc: Global, opening: Opening) -> Result<(), OpenError>
         ensures { IsOpened opening result self.old self.new }
     {
@@ -135,7 +135,7 @@ impl Node {
         Ok(())
     }
 
-    /// Its book makes a call that opens no channel. A refusal leaves the side as it was.
+    /// Makes a call of the side's book that opens no channel. A refusal leaves the side as it was.
     pub(crate) fn call(&mut self, call: Call) -> Reply
         requires { opens_none call ≡ true }
         ensures book { IsCall (no_memory_of call)
@@ -146,7 +146,8 @@ impl Node {
         self.book.call(SEAT, call)
     }
 
-    /// Its book makes a call that opens no channel, and gives the message that it sends: the refusal of the book. A refusal leaves the side as it was.
+    /// Makes a call of the side's book that opens no channel, and returns the message
+    /// to send, refused as the book refuses. A refusal leaves the side as it was.
     pub(crate) fn answer(&mut self, call: Call) -> Result<Option<Message>, EventError>
         requires { opens_none call ≡ true }
         ensures { IsAnswered call result self.old self.new }

@@ -1,18 +1,18 @@
-//! What became of events.
+//! The outcomes of events.
 
 use crate::errors::EventError;
 use std::fmt;
 
-/// What became of an event.
+/// The outcome of an event.
 #[derive(Debug, Drop)]
 pub enum Outcome {
     /// It happened.
     Done,
-    /// So many claims became jobs.
+    /// This number of claims became jobs.
     Looked { claims: u64 },
-    /// The chain stands at this height, and this is the number of transactions in the new blocks.
+    /// The chain has this height, and the new blocks have `txs` transactions.
     Mined { height: u64, txs: u64 },
-    /// Nothing changed.
+    /// The event was refused, and nothing changed.
     Refused(EventError),
 }
 

@@ -1,4 +1,4 @@
-//! What a world consists of, and what each event does to it.
+//! The parts of a world, and what each event does to them.
 
 ghost use Rattle.std.specs.Prelude.{◌≡◌, None, MatchResult};
 ghost use Rattle.world.specs.Refusing.{IsRefusal};
@@ -27,7 +27,7 @@ pub(crate) struct Parts {
     pub(crate) chain: Index,
     /// The transactions that wait for a block, in order.
     pub(crate) pool: Vec<Tx>,
-    /// The fillings that were ever released, in order.
+    /// All fillings that were released so far, in order.
     pub(crate) released: Vec<Tx>,
 }
 
@@ -39,7 +39,7 @@ impl Model for Parts {
     ghost view = { λ p. record { a = p.a; b = p.b; chain = p.chain; pool = p.pool.items; released = p.released.items } };
 }
 
-// The answer of an event of which nothing more is said.
+// Maps success to `Done`.
 fn done(acted: Result<(), EventError>) -> Result<Outcome, EventError>
     ensures { result ≡ done_by acted }
 {
@@ -49,7 +49,7 @@ fn done(acted: Result<(), EventError>) -> Result<Outcome, EventError>
     }
 }
 
-// The answer of a look.
+// The outcome of a look.
 fn looked(found: Result<u64, EventError>) -> Result<Outcome, EventError>
     ensures { result ≡ looked_by found }
 {
@@ -59,7 +59,7 @@ fn looked(found: Result<u64, EventError>) -> Result<Outcome, EventError>
     }
 }
 
-// A side releases claims into a pool, and the transaction stays among those that were ever released. A refusal leaves all as it was.
+// Releases claims of a side into the pool, and records the transaction among those released. A refusal changes nothing.
 fn release(
     alloc: Global,
     me: &mut Node,
@@ -91,7 +91,7 @@ impl Parts {
     ghost use Rattle.world.specs.Worlds.{IsNode, node_of};
     ghost use Rattle.world.specs.Steps.{with_waiting, with_mined, blocks_outcome, both_back, IsPlayed, WorldSteps};
 
-    /// What holds of both sides.
+    /// Tells the proof what is true of both sides.
     pub(crate) fn hold_both(&self)
         ensures a { IsNode self.now.a }
         ensures b { IsNode self.now.b }
@@ -151,7 +151,7 @@ impl Parts {
         }
     }
 
-    // A transaction waits for a block. The only error is that memory ran out, which changes nothing.
+    // Adds a transaction to the pool. If memory runs out, the only error, nothing changes.
     fn publish(&mut self, tx: Tx) -> Result<Outcome, EventError>
         ensures { MatchResult result
             (λ o. (o ≡ Outcome.Done) × (self.new ≡ with_waiting tx self.old))
@@ -161,7 +161,7 @@ impl Parts {
         Ok(Outcome::Done)
     }
 
-    // A side broadcasts a commitment: NoSuchChannel, NoSuchTx.
+    // Broadcasts a side's commitment. Refused with `NoSuchChannel`, `NoSuchTx`.
     fn broadcast(&mut self, side: Side, channel: u64, number: u64) -> Result<Outcome, EventError>
         ensures { IsPlayed self.old (Event.Broadcast side channel number) result self.new }
     {
@@ -171,7 +171,7 @@ impl Parts {
         }
     }
 
-    // A side broadcasts an HTLC transaction: NoSuchChannel, NoSuchTx.
+    // Broadcasts a side's HTLC transaction. Refused with `NoSuchChannel`, `NoSuchTx`.
     fn broadcast_htlc(
         &mut self,
         side: Side,
@@ -199,7 +199,7 @@ impl Parts {
         })
     }
 
-    // A side reads the blocks that it has not read.
+    // A side reads the blocks that it has not read yet.
     fn look(&mut self, side: Side) -> Result<Outcome, EventError>
         ensures { IsPlayed self.old (Event.Look side) result self.new }
     {
@@ -242,7 +242,7 @@ impl Parts {
         }
     }
 
-    // The chain and its pool are these, and both sides go back to the block below those that gave way.
+    // Stores the reorganised chain and its pool, and takes both sides back to the fork: the block below those that were replaced.
     fn settle(&mut self, done: Reorganised, depth: u64) -> Outcome
         requires { depth ≤ height_of self.old.chain.blocks }
         ensures world { self.new ≡ both_back (height_of self.old.chain.blocks - depth)
@@ -262,7 +262,7 @@ impl Parts {
         }
     }
 
-    // The newest blocks give way to others.
+    // Replaces the newest blocks.
     fn reorganise(&mut self, depth: u64, forgotten: u64) -> Result<Outcome, EventError>
         ensures { IsPlayed self.old (Event.Reorg depth forgotten) result self.new }
     {
@@ -279,7 +279,7 @@ impl Parts {
         }
     }
 
-    // What becomes of an event, or why it is refused.
+    // Plays an event, or says why it is refused.
     fn play(&mut self, event: &Event) -> Result<Outcome, EventError>
         ensures { IsPlayed self.old event.now result self.new }
     {
@@ -315,7 +315,7 @@ impl Parts {
         }
     }
 
-    /// Plays one event. A refused one leaves all as it was.
+    /// Plays one event. A refusal changes nothing.
     pub(crate) fn step(&mut self, event: &Event) -> Outcome
         ensures { WorldSteps self.old event.now self.new result }
     {

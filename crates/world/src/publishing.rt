@@ -1,4 +1,4 @@
-//! What a side broadcasts.
+//! The transactions that a side broadcasts.
 
 ghost use Rattle.std.specs.Prelude.{◌≡◌, IfOk};
 ghost use Rattle.world.specs.Worlds.{channel_of};
@@ -10,7 +10,7 @@ use publish::{signed_commitment, signed_htlc_tx};
 use std::alloc::{AllocError, Global};
 use tx::Tx;
 
-/// A side's commitment of a number with both signatures: NoSuchChannel, NoSuchTx.
+/// A side's commitment of a number, with both signatures. Refused with `NoSuchChannel`, `NoSuchTx`.
 pub(crate) fn commitment(
     alloc: Global,
     me: &Node,
@@ -28,7 +28,7 @@ pub(crate) fn commitment(
     }
 }
 
-// The preimages that a side knows in a channel: those of its fulfils, and those that blocks showed it.
+// The preimages that a side knows in a channel: those of its fulfils, and those that blocks showed to the side.
 fn preimages_known(alloc: Global, me: &Node, channel: u64) -> Result<Vec<[u8; 32]>, AllocError>
     ensures { IfOk result (λ preimages. preimages.items ≡ preimages_known channel me.now) }
 {
@@ -37,7 +37,8 @@ fn preimages_known(alloc: Global, me: &Node, channel: u64) -> Result<Vec<[u8; 32
     Ok(preimages)
 }
 
-/// The HTLC transaction of the HTLC of an index among those untrimmed of a side's commitment of a number: NoSuchChannel, NoSuchTx.
+/// The HTLC transaction of a side's commitment of a number, for the
+/// untrimmed HTLC at an index. Refused with `NoSuchChannel`, `NoSuchTx`.
 pub(crate) fn htlc_tx(
     alloc: Global,
     me: &Node,

@@ -18,7 +18,7 @@ use std::alloc::{AllocError, Global};
 use std::collections::VecDeque;
 use tx::Tx;
 
-// So many jobs go to the end of others, the oldest first.
+// Moves the `count` oldest jobs to the end of others.
 fn move_oldest(from: &mut VecDeque<DueClaim>, to: &mut VecDeque<DueClaim>, count: usize)
     requires there { count ≤ deque_len from.old }
     requires room { deque_len to.old + count ≤ deque_capacity to.old }
@@ -33,7 +33,7 @@ fn move_oldest(from: &mut VecDeque<DueClaim>, to: &mut VecDeque<DueClaim>, count
     }
 }
 
-/// A side takes `count` jobs, the oldest first: NoJob where there are fewer. A refusal leaves the side as it was.
+/// Takes the `count` oldest jobs of a side: `NoJob` where there are fewer. A refusal leaves the side as it was.
 pub(crate) fn take(me: &mut Node, count: u64) -> Result<(), EventError>
     ensures { IsEvent (take_refusal count me.old) result me.old (with_taken count me.old) me.new }
 {
@@ -46,7 +46,7 @@ pub(crate) fn take(me: &mut Node, count: u64) -> Result<(), EventError>
     Ok(())
 }
 
-// So many of the oldest claims, lent. The only error is that memory ran out.
+// References to the `count` oldest claims. The only error is that memory ran out.
 pub(crate) fn oldest_of(
     alloc: Global,
     taken: &VecDeque<DueClaim>,
@@ -62,14 +62,14 @@ pub(crate) fn oldest_of(
     Ok(jobs)
 }
 
-// The oldest claim is no longer taken.
+// Drops the oldest taken claim.
 fn pop_job(taken: &mut VecDeque<DueClaim>)
     ensures { taken.new.items ≡ drop 1 taken.old.items }
 {
     let _job = taken.pop_front();
 }
 
-// So many of the oldest claims are no longer taken.
+// Drops the `count` oldest taken claims.
 fn pop_oldest(taken: &mut VecDeque<DueClaim>, count: usize)
     ensures { taken.new.items ≡ drop count taken.old.items }
 {
@@ -78,14 +78,14 @@ fn pop_oldest(taken: &mut VecDeque<DueClaim>, count: usize)
     }
 }
 
-// So many of the oldest claims of a side are no longer taken.
+// Drops the `count` oldest claims that a side took.
 fn drop_taken(me: &mut Node, count: u64)
     ensures { me.new ≡ without_taken count me.old }
 {
     pop_oldest(&mut me.taken, count as usize);
 }
 
-// The side's book fills the claims of a batch: the refusal of the book. A refusal leaves the side as it was.
+// Fills the claims of a batch by the side's book, refused as the book refuses. A refusal leaves the side as it was.
 fn filled_by(me: &mut Node, channel: u64, batch: Batch) -> Result<Filled, EventError>
     ensures side { let call = Releasing channel batch in
         IsEvent (refusal_in (answer_to me.old call)) result me.old (after_call call me.old) me.new }
@@ -101,15 +101,15 @@ fn filled_by(me: &mut Node, channel: u64, batch: Batch) -> Result<Filled, EventE
     }
 }
 
-/// The transaction that a release gives, twice.
+/// The transaction of a release, in two copies.
 #[derive(Drop)]
 pub(crate) struct Released {
     pub(crate) tx: Tx,
     pub(crate) copy: Tx,
 }
 
-/// A side fills the oldest claims that it took, `count` of them, in one transaction that pays their whole value to the hash of its payment key in their channel. An HTLC transaction, which stands
-/// alone, keeps its own output. Refused are NoJob, MixedChannels, OverValue, else what the book refuses. A refusal leaves the side as it was.
+/// Fills the `count` oldest claims that a side took in one transaction, which pays their whole value to the hash of the side's payment key in their channel (P2WPKH). An HTLC transaction stands
+/// alone and keeps its own output. Refused, in this order, with `NoJob`, `MixedChannels` and `OverValue`, else as the book refuses. A refusal leaves the side as it was.
 pub(crate) fn release(alloc: Global, me: &mut Node, count: u64) -> Result<Released, EventError>
     ensures { let first = release_refusal count me.old in
         MatchResult result

@@ -40,8 +40,8 @@ impl World {
     ghost use Rattle.world.specs.Steps.{WorldSteps};
     ghost use Rattle.world.specs.Theorem.{HoldsAt, IsPlay};
 
-    /// The world in which the funding outputs of these channels are granted in the first block and both sides opened them from seat 0, with the peer's token on commitment 0: OverLimit for
-    /// more than 8 channels, and BadTerms with the first one on whose terms the two sides can't agree.
+    /// The world in which the first block grants the funding outputs of these channels, and both sides opened them from seat 0, with the peer's token on commitment 0. `OverLimit` for more
+    /// than 8 channels, then `BadTerms` with the first channel on whose terms the two sides can't agree.
     pub fn new(alloc: Global, seeds: &Seeds, terms: &[ProposedTerms]) -> Result<World, WorldError>
         ensures { let first = beginning_refusal terms.now in
             MatchResult result (λ w. (first ≡ None) × IsBeginning seeds.now terms.now w)
@@ -90,7 +90,7 @@ impl World {
         }
     }
 
-    /// The jobs of a side: the claims that nobody took yet, the oldest first.
+    /// The jobs of a side: claims that fell due and were not taken yet, the oldest first.
     pub fn jobs(&self, side: Side) -> &VecDeque<DueClaim>
         ensures { result.now.items ≡ (node_of side self.now).jobs }
     {
@@ -104,28 +104,28 @@ impl World {
         &self.parts.node(side).taken
     }
 
-    // The Enforcement theorem at this moment, for proofs.
+    // Tells the proof the Enforcement theorem at this moment.
     fn holds(&self)
         ensures { HoldsAt self.now }
     {
-        // The proof takes the invariant where a field is used.
+        // The proof learns the invariant where a field is used.
         let _ = &self.parts;
         worlds_hold();
     }
 
-    // Plays one event. A refused one leaves the world as it was.
+    // Plays one event. A refusal leaves the world as it was.
     fn step(&mut self, event: &Event) -> Outcome
         ensures { WorldSteps self.old event.now self.new result }
     {
-        // The proof takes from the law that what holds of a world is kept.
+        // By this law the proof knows that the event keeps the world's invariant.
         steps_keep();
         let outcome = self.parts.step(event);
         self.parts.hold_both();
         outcome
     }
 
-    /// Plays events in turn, and gives what became of each. A refused event leaves the world as it was, and the next one is played. The only error is that no memory was
-    /// there for the outcomes: then no event was played.
+    /// Plays events in turn, and returns the outcome of each. A refused event leaves the world as it was, and the next one is played. The only error is that there was no memory for the
+    /// outcomes: then no event was played.
     pub fn play(&mut self, events: &[Event]) -> Result<Vec<Outcome>, AllocError>
         ensures { MatchResult result
             (λ outcomes. IsPlay self.old events.now outcomes.items self.new)

@@ -1,4 +1,4 @@
-// The chain's test of what a claim of one key is filled with.
+// The chain's test of an input that spends a claimed output of one key.
 
 use chain::{ChainError, Coins, Index, Scan};
 use claim::{Claim, Key, Place, Shell, Slot, accept};
@@ -21,7 +21,7 @@ fn code_of(rt: &impl Abort, alloc: Global, key: &Key) -> Vec<u8> {
     code
 }
 
-// Where an output of 1,000 satoshis to the script stands, which the chain grants.
+// Grants an output of 1,000 satoshis to the script, and returns its place.
 fn granted<C: Coins>(rt: &impl Abort, alloc: Global, chain: &mut C, code: &[u8]) -> Place {
     let program = script_hash_program(alloc, code).expect(rt, "memory");
     let copy = program.copy().expect(rt, "memory");
@@ -34,7 +34,7 @@ fn granted<C: Coins>(rt: &impl Abort, alloc: Global, chain: &mut C, code: &[u8])
     }
 }
 
-// The claim of the key on it.
+// The key's claim on that output.
 fn claim_on<C: Coins>(rt: &impl Abort, alloc: Global, chain: &mut C, key: &Key) -> Claim {
     let code = code_of(rt, alloc, key);
     let place = granted(rt, alloc, chain, &code);
@@ -45,7 +45,7 @@ fn claim_on<C: Coins>(rt: &impl Abort, alloc: Global, chain: &mut C, key: &Key) 
     accept(alloc, checked, 0, slots, place, Shell::Open).expect(rt, "accepted")
 }
 
-// The transaction that claims it for one output.
+// The transaction that spends it into one output.
 fn filled(rt: &impl Abort, alloc: Global, claim: &Claim, signer: &Signer) -> Tx {
     let output = TxOut::new(900, ByteString::new(alloc)).expect(rt, "an output");
     let mut outputs = Vec::new(alloc);
@@ -55,7 +55,7 @@ fn filled(rt: &impl Abort, alloc: Global, claim: &Claim, signer: &Signer) -> Tx 
     filled.into_tx()
 }
 
-// The block takes it, and no other block after it.
+// The next block takes the transaction, and no later block does.
 fn connect<C: Coins>(rt: &impl Abort, alloc: Global, chain: &mut C, claim: &Claim, tx: &Tx) {
     let mut block = Vec::new(alloc);
     block
@@ -65,7 +65,7 @@ fn connect<C: Coins>(rt: &impl Abort, alloc: Global, chain: &mut C, claim: &Clai
     assert_eq!(rt; check_claimed(chain, claim, tx, 0), Err(ChainError::Spent));
 }
 
-// A claim's filling passes, an input that is not there does not.
+// A claim's filling passes; an input index out of range does not.
 fn claims<C: Coins>(rt: &impl Abort, alloc: Global, chain: &mut C) {
     let signer = Signer::new(alloc, &[1; 32]);
     let claim = claim_on(rt, alloc, chain, &signer.base(Base::Payment));

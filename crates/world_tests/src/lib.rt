@@ -1,6 +1,7 @@
 //! Tests of the libraries `world` and `side`.
 //!
-//! They stand in a crate of their own, so that each library is proved once.
+//! They are in a crate of their own, so that the libraries are not proved
+//! again when a test changes.
 #![tactic(auto)]
 
 #[cfg(test)]

@@ -1,4 +1,5 @@
-// Channels between the sides of the seeds 0a..0a and 0b..0b. Programs, points and the id of the first grant are from an independent script (Python's hashlib).
+// Channels between the sides with the seeds 0a..0a and 0b..0b. Programs, points
+// and the id of the first grant are from an independent script (Python's hashlib).
 
 use crate::worlds::terms;
 use book::errors::OpenError;
@@ -15,7 +16,7 @@ const SEEDS: Seeds = Seeds {
     b: [0x0b; 32],
 };
 
-// The program of the first channel's funding output; of the two funding keys B's is the lesser.
+// The program of the first channel's funding output. Of the two funding keys B's is the lesser.
 const PROGRAM: [u8; 34] = [
     0x00, 0x20, 0xd5, 0x08, 0x39, 0xa4, 0x94, 0xba, 0xf9, 0x7c, 0xf0, 0x0b, 0x68, 0x09, 0xd1, 0x45,
     0x31, 0xb5, 0xcf, 0x29, 0x54, 0x7a, 0x3d, 0xce, 0xe4, 0xeb, 0x1f, 0x5c, 0xe7, 0x02, 0xab, 0xe3,
@@ -28,7 +29,7 @@ const TXID: [u8; 32] = [
     0x3b, 0xc3, 0xc7, 0x21, 0xde, 0x72, 0x51, 0xec, 0xec, 0x2f, 0xb9, 0x15, 0x45, 0xfa, 0x1e, 0xb5,
 ];
 
-// Whether the funding output of a channel has this front in its program, and the channel's capacity as its value.
+// Whether the program of a channel's funding output begins with these bytes, and its value is the channel's capacity.
 fn funds(rt: &impl Abort, alloc: Global, channel: u32, front: &[u8]) -> bool {
     let funded = funding_output(alloc, &SEEDS, channel, &terms(0, 0)).expect(rt, "memory");
     let output = funded.expect(rt, "an output");
@@ -51,7 +52,7 @@ fn funds_by_the_keys_of_a_channel(rt: HostRuntime) {
     );
 }
 
-// What a new book answers to an opening.
+// The result of an opening in a new book.
 fn answer(alloc: Global, opening: Opening) -> Result<u64, OpenError> {
     let mut book = Book::new(alloc);
     book.open(0, opening)

@@ -1,4 +1,4 @@
-// What becomes of events between two sides with one channel: an HTLC that is offered, signed, fulfilled and signed again, with the penalties kept in between.
+// Events between two sides with one channel: an HTLC is offered, signed, fulfilled and signed again, with penalties kept in between.
 
 use crate::worlds::first_world;
 use book::errors::KeepError;
@@ -35,7 +35,7 @@ const DELIVER_B: Event = Event::Deliver {
     channel: 0,
 };
 
-// From the offer on to the revocation of the commitment that has it on both sides.
+// From the offer until both sides have commitments with the HTLC, and revoked the ones before.
 const OFFERED: [Event; 8] = [
     Event::Own {
         side: Side::A,
@@ -100,7 +100,7 @@ const FULFILLED: [Event; 8] = [
     KEEP_B_NEXT,
 ];
 
-// A's commitment 1 stands in the next block.
+// A's commitment 1 is mined in the next block.
 const CLOSED: [Event; 2] = [
     Event::Broadcast {
         side: Side::A,
@@ -132,7 +132,7 @@ fn happen(rt: &impl Abort, world: &mut World, events: &[Event]) -> bool {
     true
 }
 
-// How many claims become jobs of a side that looks.
+// The number of claims that become jobs of a side that looks.
 fn found(rt: &impl Abort, world: &mut World, side: Side) -> Option<u64> {
     let outcomes = world.play(&[Event::Look { side }]).expect(rt, "memory");
     match outcomes.first() {
@@ -141,7 +141,7 @@ fn found(rt: &impl Abort, world: &mut World, side: Side) -> Option<u64> {
     }
 }
 
-// How many transactions the new blocks have.
+// The number of transactions in the new blocks.
 fn mined(rt: &impl Abort, world: &mut World, event: Event) -> Option<u64> {
     let outcomes = world.play(&[event]).expect(rt, "memory");
     match outcomes.first() {
@@ -201,7 +201,7 @@ fn fulfils_an_htlc(rt: HostRuntime) {
     assert!(rt; matches!(early, Some(KeepError::NotRevoked)));
 }
 
-// A broadcasts a revoked commitment: the outputs of both sides, the HTLC, and the output of the HTLC's second stage are B's. It finds them again once the block has given way to others.
+// A broadcasts a revoked commitment. Both sides' outputs, the HTLC, and the output of the HTLC's second stage are B's to claim. B finds them again after a reorganisation of that block.
 #[test]
 fn finds_a_penalty_set(rt: HostRuntime) {
     let mut world = first_world(&rt, rt.alloc());
@@ -228,7 +228,7 @@ fn finds_a_penalty_set(rt: HostRuntime) {
     assert_eq!(rt; found(&rt, &mut world, Side::B), Some(4));
 }
 
-// A broadcasts its newest commitment, with an HTLC whose preimage B tells its book after it looked. What B then takes it releases, by that preimage.
+// A broadcasts its newest commitment, with an HTLC that B fulfils after it looked. With the preimage, B finds the HTLC's claim in the next block, and releases both claims.
 #[test]
 fn finds_a_claim_by_a_preimage(rt: HostRuntime) {
     let mut world = first_world(&rt, rt.alloc());

@@ -1,4 +1,4 @@
-// Why claims are not released together, in words, with the numbers of the refusals.
+// Why claims are not released together: the texts of the errors, and their numbers.
 
 use side::BatchError;
 

@@ -1,4 +1,4 @@
-// Worlds of equal channels between the sides of the seeds 0a..0a and 0b..0b.
+// Worlds of equal channels between the sides with the seeds 0a..0a and 0b..0b.
 
 use scenario::Seeds;
 use std::alloc::Global;
@@ -21,7 +21,7 @@ fn party(start: u64) -> ProposedParty {
     }
 }
 
-// The terms of 100,000 satoshis, with the millisatoshis that the two sides begin with.
+// Terms of 100,000 satoshis, with the millisatoshis that the two sides begin with.
 pub(crate) fn terms(a: u64, b: u64) -> ProposedTerms {
     ProposedTerms {
         capacity: 100_000,
@@ -32,7 +32,8 @@ pub(crate) fn terms(a: u64, b: u64) -> ProposedTerms {
     }
 }
 
-// A world of so many equal channels, of which B has so many millisatoshis at first: 20,000,000 are what is left to it.
+// A world of `channels` equal channels, in which B begins with
+// `start` millisatoshis. The sides can agree if these are 20,000,000.
 pub(crate) fn begin(
     rt: &impl Abort,
     alloc: Global,

@@ -1,9 +1,10 @@
-//! A dump with one thing changed.
+//! Dumps with one change.
 
 use anyhow::{Context, Result};
 use std::alloc::Global;
 
-/// Where a value stands in a dump: after the first call of this name, after these words, up to this end.
+/// The position of a value in a dump: after the first
+/// call of this name, after these words, up to this end.
 #[derive(Clone, Copy, Debug, Drop)]
 pub struct Spot {
     pub call: &'static str,
@@ -18,14 +19,14 @@ pub const PATH: Spot = Spot {
     end: ",",
 };
 
-/// Its program.
+/// The program of the first claim that is kept.
 pub const PROGRAM: Spot = Spot {
     call: "[\"keep\"",
     words: "\"program\":\"",
     end: "\"",
 };
 
-/// Its value.
+/// The value of the first claim that is kept, in satoshis.
 pub const VALUE: Spot = Spot {
     call: "[\"keep\"",
     words: "\"value\":",
@@ -39,7 +40,7 @@ pub const RELEASED: Spot = Spot {
     end: ",",
 };
 
-/// The satoshis of the first output that its transaction gives.
+/// The satoshis of the first output of the released transaction.
 pub const GIVEN: Spot = Spot {
     call: "[\"release\"",
     words: "}],[[",
@@ -53,14 +54,14 @@ pub const SECRET: Spot = Spot {
     end: "\"",
 };
 
-/// The version.
+/// The version of the dump.
 pub const VERSION: Spot = Spot {
     call: "{\"history\":",
     words: "\"version\":",
     end: "}",
 };
 
-// A text around a value.
+// A text, split around a value.
 #[derive(Clone, Copy, Drop)]
 struct Parts<'a> {
     before: &'a str,
@@ -88,7 +89,7 @@ pub fn value_at<'a>(text: &'a str, spot: &Spot) -> Result<&'a str> {
     Ok(parts.value)
 }
 
-/// The text with another value at a spot.
+/// The text with a new value at a spot.
 pub fn with_value(alloc: Global, text: &str, spot: &Spot, value: &str) -> Result<String> {
     let parts = split_at_spot(text, spot).context("no such value")?;
     let mut changed = String::new(alloc);
@@ -102,12 +103,13 @@ pub fn with_value(alloc: Global, text: &str, spot: &Spot, value: &str) -> Result
     Ok(changed)
 }
 
-// Where an entry that keeps begins, and one that signs.
+// The beginning of an entry that keeps, and of one that signs.
 const KEEP_ENTRY: &str = "{\"call\":[\"keep\"";
 
 const SIGN_ENTRY: &str = "{\"call\":[\"sign\"";
 
-/// The text without the first entry that keeps, and all up to the next one that signs.
+/// The text without the first entry that keeps, and without
+/// what follows it up to the next entry that signs.
 pub fn without_keep(alloc: Global, text: &str) -> Result<String> {
     let (before, rest) = text.split_once(KEEP_ENTRY).context("nothing is kept")?;
     let (_, after) = rest.split_once(SIGN_ENTRY).context("nothing is signed")?;

@@ -1,4 +1,4 @@
-//! What dumps, and dumps with something changed, are loaded as.
+//! What dumps, and dumps with a change, are loaded as.
 
 use crate::books::damages::{
     GIVEN, PATH, PROGRAM, RELEASED, SECRET, Spot, VALUE, VERSION, value_at, with_value,
@@ -13,7 +13,7 @@ const ZEROS: &str = "00000000000000000000000000000000000000000000000000000000000
 
 const ZERO_PROGRAM: &str = "00200000000000000000000000000000000000000000000000000000000000000000";
 
-// How many entries a text is loaded as.
+// The number of entries that a text is loaded as.
 fn loaded(alloc: Global, text: &str) -> Result<usize, LoadError> {
     let book = Book::load(alloc, text)?;
     Ok(book.entries().len())
@@ -38,7 +38,7 @@ pub fn comes_back(alloc: Global, book: &Book) -> Result<bool> {
     loads_as(alloc, &dump, &dump)
 }
 
-/// Prints what a text is loaded as: how many entries, or why it is refused.
+/// Prints what a text is loaded as: the number of entries, or why it is refused.
 pub fn print_loaded(rt: &impl Print, alloc: Global, name: &str, text: &str) -> Result<()> {
     match loaded(alloc, text) {
         Ok(entries) => println!(rt; "{name}: {entries} entries")?,
@@ -47,7 +47,7 @@ pub fn print_loaded(rt: &impl Print, alloc: Global, name: &str, text: &str) -> R
     Ok(())
 }
 
-// Whether a text is refused as no JSON.
+// Whether a text is refused as invalid JSON.
 fn is_no_json(alloc: Global, text: &str) -> bool {
     match loaded(alloc, text) {
         Ok(_) => false,
@@ -55,7 +55,8 @@ fn is_no_json(alloc: Global, text: &str) -> bool {
     }
 }
 
-/// How many proper beginnings of a text of ASCII are not refused as no JSON.
+/// The number of proper beginnings of an ASCII
+/// text that are not refused as invalid JSON.
 pub fn read_beginnings(alloc: Global, text: String) -> u64 {
     let mut beginning = text;
     let mut read = 0u64;
@@ -80,7 +81,8 @@ fn print_changed(
     print_loaded(rt, alloc, name, &changed)
 }
 
-// The value of the first claim that is kept, raised by one.
+// Raises the value of the first claim that is kept by one satoshi, and prints what the
+// dump is then loaded as.
 fn print_raised(rt: &impl Print, alloc: Global, dump: &str) -> Result<()> {
     let value: u64 = value_at(dump, &VALUE)?.parse()?;
     let raised = format!(in alloc; "{}", value.saturating_add(1))?;
@@ -92,7 +94,7 @@ fn print_without(rt: &impl Print, alloc: Global, dump: &str) -> Result<()> {
     print_loaded(rt, alloc, "without entry 5", &without)
 }
 
-/// What a dump is loaded as with one thing changed, a line each.
+/// Prints what a dump is loaded as with one change, a line for each change.
 pub fn print_damages(rt: &impl Print, alloc: Global, dump: &str) -> Result<()> {
     print_changed(rt, alloc, dump, "path 9", &PATH, "9")?;
     print_changed(rt, alloc, dump, "program of zeros", &PROGRAM, ZERO_PROGRAM)?;
@@ -103,7 +105,7 @@ pub fn print_damages(rt: &impl Print, alloc: Global, dump: &str) -> Result<()> {
     print_changed(rt, alloc, dump, "secret of zeros", &SECRET, ZEROS)
 }
 
-// Prints what a text is loaded as, and whether it gives this dump.
+// Prints what a text is loaded as, and whether it is dumped again as this dump.
 fn print_again(rt: &impl Print, alloc: Global, name: &str, text: &str, dump: &str) -> Result<()> {
     print_loaded(rt, alloc, name, text)?;
     let is_same = loads_as(alloc, text, dump)?;
@@ -111,13 +113,14 @@ fn print_again(rt: &impl Print, alloc: Global, name: &str, text: &str, dump: &st
     Ok(())
 }
 
-/// What a dump is loaded as in version 1.
+/// Prints what a dump is loaded as in version 1.
 pub fn print_version(rt: &impl Print, alloc: Global, dump: &str) -> Result<()> {
     let changed = with_value(alloc, dump, &VERSION, "1")?;
     print_again(rt, alloc, "version 1", &changed, dump)
 }
 
-/// What a dump that is stored in the input is loaded as, and whether it is given again.
+/// Prints what a dump stored in the input is loaded
+/// as, and whether it is dumped again as the same.
 pub fn print_stored(rt: &impl Print, alloc: Global, dump: &str) -> Result<()> {
     print_again(rt, alloc, "stored", dump, dump)
 }

@@ -10,14 +10,14 @@ use std::alloc::Global;
 use terms::Side;
 use updates::OwnUpdate;
 
-/// How many steps make a history.
+/// The number of steps of a history.
 const STEPS: u32 = 60;
 
-/// How many entries there are of each kind.
+/// The number of entries of each kind.
 #[derive(Clone, Copy, Debug, Default, Drop)]
 pub struct Tally {
     pub histories: u64,
-    /// Whose dump is loaded and gives the same bytes again.
+    /// Histories whose dump is loaded and dumped again as the same bytes.
     pub same: u64,
     openings: u64,
     updates: u64,
@@ -29,7 +29,7 @@ pub struct Tally {
 }
 
 impl Tally {
-    /// Whether there are at least this number of each kind that is played.
+    /// Whether there are at least `least` of each kind that is played.
     pub fn has(&self, least: u64) -> bool {
         let fewest = self
             .openings
@@ -43,12 +43,12 @@ impl Tally {
     }
 }
 
-// One more.
+// Adds one.
 fn count(number: &mut u64) {
     *number = number.saturating_add(1);
 }
 
-// The next of a row of numbers (a linear congruential generator), and its upper 31 bits.
+// The next number of a linear congruential generator: its upper 31 bits.
 fn next_number(state: &mut u64) -> u64 {
     *state = state
         .wrapping_mul(6_364_136_223_846_793_005)
@@ -56,7 +56,7 @@ fn next_number(state: &mut u64) -> u64 {
     *state >> 33
 }
 
-// An update or a call by a number.
+// An update or a call, chosen by a number.
 fn act_of(number: u64) -> Act {
     let rest = number >> 4;
     let id = rest % 5;
@@ -82,7 +82,7 @@ fn keep_one(peers: &mut Peers, side: Side, channel: usize, number: u64) -> Resul
     Ok(())
 }
 
-// A side does something; where penalties are missing, it keeps them instead, and releases them.
+// A side acts. If penalties are missing, it keeps them instead, and releases them.
 fn play_one(peers: &mut Peers, side: Side, channel: usize, act: Act) -> Result<()> {
     let reply = peers.act(side, channel, act)?;
     if let Reply::NotSigned(SignError::PenaltiesMissing(number)) = reply {
@@ -91,7 +91,7 @@ fn play_one(peers: &mut Peers, side: Side, channel: usize, act: Act) -> Result<(
     Ok(())
 }
 
-// A step by a number, in one of so many channels.
+// A step, chosen by a number, in one of the channels.
 fn play_step(peers: &mut Peers, channels: u64, number: u64) -> Result<()> {
     let side = if number % 2 == 0 { Side::A } else { Side::B };
     let is_odd = (number >> 1) % 2 == 1;

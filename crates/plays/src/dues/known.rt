@@ -1,4 +1,4 @@
-// What a side knows of the channel: all that the program makes of the type `Known` is made here.
+// What a side knows of the channel. All values of the type `Known` in this program are made here.
 
 use crate::dues::settings::Setting;
 use crate::dues::sides::{informed_signer, point_of, secret_of};
@@ -23,7 +23,7 @@ fn commitment(
     Ok(KnownCommitment::new(alloc, &setting.terms, &setting.view, owner, number, &point)?)
 }
 
-/// What the peer signed of a commitment.
+/// The peer's tokens on a commitment.
 #[derive(Drop)]
 struct Tokens {
     commitment: Token,
@@ -86,7 +86,7 @@ fn revoked_state(
     Ok(RevokedState::new(setting.terms, view, owner, number, secret)?)
 }
 
-/// The revoked commitment of a number, after those before it.
+/// Adds the revoked commitment of a number, after those before it.
 fn push_revoked(
     alloc: Global,
     setting: &Setting,
@@ -100,7 +100,7 @@ fn push_revoked(
     Ok(())
 }
 
-/// The first commitments, which were revoked.
+/// Adds the first commitments, which are revoked.
 fn push_all_revoked(
     alloc: Global,
     setting: &Setting,
@@ -114,7 +114,7 @@ fn push_all_revoked(
     Ok(())
 }
 
-/// The peer's commitments.
+/// The commitments of the peer.
 #[derive(Drop)]
 struct PeersCommitments {
     newest: KnownCommitment,
@@ -122,7 +122,7 @@ struct PeersCommitments {
     revoked: RevokedCommitments,
 }
 
-/// The newest commitment of a side, the next, and those that it revoked.
+/// A side's newest and next commitment, and those that it revoked.
 fn peers_commitments(
     alloc: Global,
     setting: &Setting,
@@ -140,7 +140,7 @@ fn peers_commitments(
     })
 }
 
-/// What a side has of its own.
+/// What a side knows on its own.
 #[derive(Drop)]
 struct Own {
     signer: Signer,
@@ -148,7 +148,7 @@ struct Own {
     preimages: List<[u8; 32]>,
 }
 
-/// What a side has of its own, and a preimage where it knows one.
+/// What a side knows on its own, and a preimage if it knows one.
 fn own_of(
     alloc: Global,
     setting: &Setting,
@@ -166,7 +166,7 @@ fn own_of(
     })
 }
 
-/// What a side knows by what it has of its own and the peer's commitments.
+/// Joins what a side knows on its own with the peer's commitments.
 fn joined(alloc: Global, terms: &Terms, side: Side, own: Own, theirs: PeersCommitments) -> Known {
     let Own {
         signer,
@@ -191,7 +191,7 @@ fn joined(alloc: Global, terms: &Terms, side: Side, own: Own, theirs: PeersCommi
     }
 }
 
-/// What a side knows where the newest commitments of both have this number, those before it are revoked, and the peer's next one is signed.
+/// What a side knows if both sides' newest commitments have this number, those before it are revoked, and the peer's next one is signed.
 pub fn known(
     alloc: Global,
     setting: &Setting,

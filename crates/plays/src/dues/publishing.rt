@@ -1,4 +1,4 @@
-// Transactions that a side publishes: its commitment with both signatures, and the fillings of claims.
+// The transactions that a side broadcasts: its commitment with both signatures, and the fillings of claims.
 
 use anyhow::{Result, bail};
 use claim::Claim;
@@ -41,7 +41,8 @@ fn own_token(alloc: Global, known: &Known) -> Result<Token> {
     Ok(known.signer.sign(&key, &digests.commitment)?)
 }
 
-/// The witness that spends the funding output: the empty item, the signature of the lesser key, that of the greater, and the script.
+/// The witness that spends the funding output: the empty item (BIP 147),
+/// the signature of the lesser key, that of the greater, and the script.
 fn witness_of(
     alloc: Global,
     lesser: &Token,
@@ -80,7 +81,7 @@ pub fn closing_tx(alloc: Global, known: &Known) -> Result<Tx> {
     Ok(tx)
 }
 
-/// One output of this value for the key hash of the signer's payment key.
+/// One output of this value, in satoshis, to the hash of the signer's payment key (P2WPKH).
 fn payout(alloc: Global, signer: &Signer, value: u64) -> Result<Vec<TxOut>> {
     let program = key_hash_program(alloc, &signer.base(Base::Payment).bytes)?;
     let mut outputs = Vec::new(alloc);
@@ -88,7 +89,7 @@ fn payout(alloc: Global, signer: &Signer, value: u64) -> Result<Vec<TxOut>> {
     Ok(outputs)
 }
 
-/// What `fill` answers, of one output of this value.
+/// The result of `fill`, with one output of this value.
 pub fn answer(
     alloc: Global,
     claims: &[&Claim],

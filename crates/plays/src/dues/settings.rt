@@ -1,4 +1,4 @@
-// What a channel is, and what its commitments pay.
+// The channel, and what its commitments pay.
 
 use crate::dues::publishing::funding_output;
 use crate::dues::sides::party;
@@ -22,7 +22,7 @@ pub struct Setting {
     pub view: View,
 }
 
-/// The delays of A and of B in blocks.
+/// The delays of A and of B, in blocks.
 pub type Delays = [u16; 2];
 
 /// An HTLC that a side offered.
@@ -32,7 +32,7 @@ pub struct Offer {
     pub expiry: u32,
 }
 
-/// The terms of a channel whose funding output is granted on a chain. A opened it, at 1,000 satoshis for 1,000 units of weight.
+/// The terms of a channel whose funding output is granted on a chain. A opened it, at 1,000 satoshis per 1,000 units of weight.
 fn open(alloc: Global, delays: Delays, chain: &mut Chain) -> Result<Terms> {
     let a = party(alloc, Side::A, 80_000_000, delays[0])?;
     let b = party(alloc, Side::B, 20_000_000, delays[1])?;
@@ -41,7 +41,7 @@ fn open(alloc: Global, delays: Delays, chain: &mut Chain) -> Result<Terms> {
     Ok(Terms::new(funding, CAPACITY, Side::A, 1000, a, b)?)
 }
 
-/// What is left to a side that began with so much, and the HTLCs that it offered.
+/// The balance that is left to a side after its offers, and the HTLCs that it offered.
 fn share(alloc: Global, start: u64, offers: &[Offer]) -> Result<Share, AllocError> {
     let mut balance = start;
     let mut offered = Vec::new(alloc);

@@ -1,4 +1,4 @@
-// What is shown of what a side knows.
+// Prints what follows from what a side knows.
 
 use crate::dues::known::known;
 use crate::dues::publishing::{answer, closing_tx, show_id};
@@ -12,7 +12,7 @@ use std::alloc::Global;
 use terms::Side;
 use tx::{Tx, TxIn};
 
-/// The verdicts. The commitment 1 is none of those that B revoked.
+/// The verdicts. Commitment 1 is not among those that B revoked.
 const VERDICTS: [Verdict; 6] = [
     Verdict::Ours,
     Verdict::Theirs,
@@ -22,30 +22,30 @@ const VERDICTS: [Verdict; 6] = [
     Verdict::Unknown,
 ];
 
-/// Which of the claims that are due are taken.
+/// The due claims that are taken.
 #[derive(Clone, Copy)]
 pub enum Taken {
     FirstTwo,
-    /// The first whose first slot is a preimage.
+    /// The first claim whose first slot is a preimage.
     ByPreimage,
-    /// Those of a revoked commitment with an HTLC.
+    /// The claims on a revoked commitment with an HTLC.
     Penalties,
 }
 
-/// What is shown of what a side knows.
+/// What to show.
 #[derive(Clone, Copy)]
 pub enum Shown {
-    /// How many claims are due by each verdict.
+    /// The number of claims that are due by each verdict.
     Counts,
-    /// The same, once the next commitment of the peer is forgotten.
+    /// The same, after the next commitment of the peer is dropped.
     CountsWithoutNext,
     /// The side's newest commitment.
     Commitment,
-    /// What takes claims that are due by a verdict.
+    /// The transactions that take claims due by a verdict.
     Claims(Verdict, Taken),
 }
 
-/// What is shown, of a side that knows where the newest commitments of both have this number.
+/// What to show of a side. The newest commitments of both sides have the number `newest`.
 #[derive(Clone, Copy)]
 pub struct Step {
     pub what: &'static str,
@@ -53,16 +53,16 @@ pub struct Step {
     pub newest: u64,
     pub preimage: Option<[u8; 32]>,
     pub shown: Shown,
-    /// Whether a block takes the transaction.
+    /// Whether the transaction is mined in a block.
     pub is_mined: bool,
 }
 
-/// How many claims are due by a verdict.
+/// The number of claims that are due by a verdict.
 fn count(alloc: Global, known: &Known, verdict: Verdict) -> Result<usize> {
     Ok(due_claims(alloc, known, verdict)?.len())
 }
 
-/// Prints how many claims are due by each verdict.
+/// Prints the number of claims that are due by each verdict.
 fn show_counts<R: Print + AllocGlobal>(rt: &R, what: &str, known: &Known) -> Result<()> {
     for verdict in &VERDICTS {
         let count = count(rt.alloc(), known, *verdict)?;
@@ -71,7 +71,7 @@ fn show_counts<R: Print + AllocGlobal>(rt: &R, what: &str, known: &Known) -> Res
     Ok(())
 }
 
-/// The next commitment of the peer is forgotten.
+/// Drops the next commitment of the peer.
 fn forget_next(known: &mut Known) {
     known.next = None;
 }
@@ -98,13 +98,13 @@ fn show_tx<R: Print + AllocGlobal>(rt: &R, what: &str, tx: &Tx) -> Result<()> {
     show_id(rt, tx)
 }
 
-/// Puts a copy of a transaction into a block.
+/// Adds a copy of a transaction to a block.
 fn push_copy(tx: &Tx, block: &mut Vec<Tx>) -> Result<()> {
     block.push(tx.copy()?)?;
     Ok(())
 }
 
-/// Prints what comes of claims in one transaction, which goes into a block, where there is one.
+/// Prints the result of a filling; its transaction goes into the block, if there is one.
 fn show_filling<R: Print + AllocGlobal>(
     rt: &R,
     what: &str,
@@ -120,7 +120,7 @@ fn show_filling<R: Print + AllocGlobal>(
     }
 }
 
-/// Prints what comes of claims in one transaction.
+/// Prints the result of filling claims in one transaction.
 fn show_answer<R: Print + AllocGlobal>(
     rt: &R,
     what: &str,
@@ -133,7 +133,7 @@ fn show_answer<R: Print + AllocGlobal>(
     show_filling(rt, what, &filling, block)
 }
 
-/// The first two of three claims or more in one transaction.
+/// Fills the first two of at least three claims in one transaction.
 fn show_first_two<R: Print + AllocGlobal>(
     rt: &R,
     what: &str,
@@ -152,7 +152,7 @@ fn is_by_preimage(claim: &Claim) -> bool {
     matches!(claim.slots().first(), Some(Slot::Preimage(_)))
 }
 
-/// The first claim with a preimage.
+/// Fills the first claim with a preimage.
 fn show_by_preimage<R: Print + AllocGlobal>(
     rt: &R,
     what: &str,
@@ -198,7 +198,8 @@ fn show_three<R: Print + AllocGlobal>(
     }
 }
 
-/// Claims an output twice, and three together, with a satoshi more and with what they are worth.
+/// Claims an output twice; and three outputs together,
+/// with a satoshi too many and with their exact worth.
 fn show_penalties<R: Print + AllocGlobal>(
     rt: &R,
     what: &str,
@@ -211,7 +212,7 @@ fn show_penalties<R: Print + AllocGlobal>(
     show_three(rt, what, claims, 99_104, known, block)
 }
 
-/// What takes claims.
+/// Prints the transactions that take claims.
 fn show_taken<R: Print + AllocGlobal>(
     rt: &R,
     what: &str,
@@ -227,7 +228,7 @@ fn show_taken<R: Print + AllocGlobal>(
     }
 }
 
-/// What takes claims that are due by a verdict.
+/// Prints the transactions that take claims due by a verdict.
 fn show_due<R: Print + AllocGlobal>(
     rt: &R,
     what: &str,
@@ -240,7 +241,7 @@ fn show_due<R: Print + AllocGlobal>(
     show_taken(rt, what, claims.as_slice(), taken, known, block)
 }
 
-/// The side's newest commitment, with both signatures, which goes into a block.
+/// Prints the side's newest commitment, with both signatures; it goes into the block.
 fn show_commitment<R: Print + AllocGlobal>(
     rt: &R,
     known: &Known,
@@ -252,7 +253,7 @@ fn show_commitment<R: Print + AllocGlobal>(
     Ok(())
 }
 
-/// Shows what a side knows.
+/// Prints what to show of a side.
 fn show_known<R: Print + AllocGlobal>(
     rt: &R,
     step: &Step,
@@ -270,7 +271,7 @@ fn show_known<R: Print + AllocGlobal>(
     }
 }
 
-/// Shows what the side of a step knows.
+/// Prints what to show of the side of a step.
 fn show_step<R: Print + AllocGlobal>(
     rt: &R,
     setting: &Setting,
@@ -281,7 +282,7 @@ fn show_step<R: Print + AllocGlobal>(
     show_known(rt, step, &mut known, block)
 }
 
-/// Connects a block, and prints at which height it stands.
+/// Connects a block, and prints its height.
 fn connect(rt: &impl Print, what: &str, block: Vec<Tx>, chain: &mut Chain) -> Result<()> {
     let height = chain.connect(block)?;
     println!(rt; "{what}: height {height}")?;

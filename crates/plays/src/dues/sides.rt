@@ -1,4 +1,4 @@
-// The two sides of the channel: their keys and secrets, and what each learnt.
+// The two sides of the channel: their keys and secrets, and what each side learnt.
 
 use digest::sha256;
 use keys::{Key, Signer, point};
@@ -6,7 +6,7 @@ use secrets::from_seed;
 use std::alloc::{AllocError, Global};
 use terms::{Party, Side};
 
-/// How many commitments of each side are played with.
+/// The number of commitments of each side.
 const COMMITMENTS: u64 = 4;
 
 /// The seed of a side's signer: SHA-256 of `channel`, 32 bytes of 0a or 0b, and the channel's number in four bytes.
@@ -21,7 +21,7 @@ fn seed_of(alloc: Global, side: Side) -> Result<[u8; 32], AllocError> {
     Ok(sha256(&message))
 }
 
-/// A side's signer, which learnt nothing.
+/// A side's signer, which has learnt nothing.
 fn signer_of(alloc: Global, side: Side) -> Result<Signer, AllocError> {
     Ok(Signer::new(alloc, &seed_of(alloc, side)?))
 }
@@ -32,7 +32,7 @@ fn commitment_seed(alloc: Global, side: Side) -> Result<[u8; 32], AllocError> {
     Ok(signer.commitment_seed())
 }
 
-/// The per-commitment secret of a side's commitment. Its index is 2^48 - 1 less the number (BOLT 3), which is the lowest 48 bits of the complement.
+/// The per-commitment secret of a side's commitment. Its index is 2^48 - 1 minus the number (BOLT 3): the low 48 bits of the number's complement.
 pub fn secret_of(alloc: Global, side: Side, number: u64) -> Result<[u8; 32], AllocError> {
     let seed = commitment_seed(alloc, side)?;
     Ok(from_seed(&seed, !number))
@@ -43,7 +43,7 @@ pub fn point_of(alloc: Global, side: Side, number: u64) -> Result<Key, AllocErro
     Ok(point(&secret_of(alloc, side, number)?))
 }
 
-/// A signer learns the points of a side's commitments.
+/// Teaches a signer the points of a side's commitments.
 fn learn_points(alloc: Global, side: Side, signer: &mut Signer) -> Result<(), AllocError> {
     for number in 0..COMMITMENTS {
         signer.learn_point(&point_of(alloc, side, number)?)?;
@@ -51,7 +51,7 @@ fn learn_points(alloc: Global, side: Side, signer: &mut Signer) -> Result<(), Al
     Ok(())
 }
 
-/// A signer learns the secrets of a side's first commitments.
+/// Teaches a signer the secrets of a side's first commitments.
 fn learn_secrets(
     alloc: Global,
     side: Side,
@@ -64,7 +64,7 @@ fn learn_secrets(
     Ok(())
 }
 
-/// A side's signer, which learnt the points of both sides, and the secrets of this number of commitments that the peer revoked.
+/// A side's signer that has learnt the points of both sides, and the secrets of the first `revoked` commitments that the peer revoked.
 pub fn informed_signer(alloc: Global, side: Side, revoked: u64) -> Result<Signer, AllocError> {
     let mut signer = signer_of(alloc, side)?;
     learn_points(alloc, Side::A, &mut signer)?;
@@ -73,7 +73,7 @@ pub fn informed_signer(alloc: Global, side: Side, revoked: u64) -> Result<Signer
     Ok(signer)
 }
 
-/// What a side brings to the terms: the millisatoshis that it begins with, and how many blocks it waits for its delayed outputs.
+/// What a side brings to the terms: the millisatoshis that it begins with, and the delay of its to_local outputs, in blocks.
 pub fn party(alloc: Global, side: Side, start: u64, delay: u16) -> Result<Party, AllocError> {
     let signer = signer_of(alloc, side)?;
     Ok(Party {

@@ -1,4 +1,4 @@
-//! Runs of many shapes under ample memory, none of which runs out of it, and the printed names of stops.
+//! Runs of many shapes, none of which may run out of memory, and the printed names of stops.
 
 use super::SPEND;
 use crate::fixtures::item;
@@ -8,7 +8,7 @@ use script::{Cause, Kind, Script};
 use std::alloc::Global;
 use std::process::Abort;
 
-// Whether a run finds memory.
+// Whether a run does not run out of memory.
 fn has_memory(rt: &impl Abort, alloc: Global, code: &[u8], witness: &[ByteString]) -> bool {
     let script = Script::parse(alloc, code).expect(rt, "a script");
     !matches!(run(alloc, &script, witness, &SPEND), Err(Stop::NoMemory))
@@ -45,7 +45,7 @@ fn runs_on_items_of_every_length(rt: HostRuntime) {
     }
 }
 
-// Each number of items of a witness, and of pushes.
+// Each number of witness items, and of pushes.
 #[test]
 fn runs_on_every_count(rt: HostRuntime) {
     let alloc = rt.alloc();
@@ -59,7 +59,7 @@ fn runs_on_every_count(rt: HostRuntime) {
     }
 }
 
-// Long scripts, all of which is jumped over.
+// Long scripts that are jumped over entirely.
 #[test]
 fn runs_long_scripts(rt: HostRuntime) {
     let alloc = rt.alloc();
@@ -71,7 +71,7 @@ fn runs_long_scripts(rt: HostRuntime) {
     }
 }
 
-// The push of the key 02(11*32).
+// The push of the key of 02 and 32 bytes 11 (hexadecimal).
 const KEY: [u8; 34] = [
     0x21, 0x02, 0x11, 0x11, 0x11, 0x11, 0x11, 0x11, 0x11, 0x11, 0x11, 0x11, 0x11, 0x11, 0x11, 0x11,
     0x11, 0x11, 0x11, 0x11, 0x11, 0x11, 0x11, 0x11, 0x11, 0x11, 0x11, 0x11, 0x11, 0x11, 0x11, 0x11,
@@ -86,7 +86,7 @@ fn push_number(rt: &impl Abort, code: &mut Vec<u8>, n: u8) {
     code.push(n).expect(rt, "memory");
 }
 
-// CHECKMULTISIG of `sigs` signatures, which the witness has, and `keys` keys, all of which are one.
+// CHECKMULTISIG of `sigs` signatures from the witness and `keys` keys, all of them the same.
 fn multi_sig(rt: &impl Abort, alloc: Global, sigs: u8, keys: u8) -> Vec<u8> {
     let mut code = Vec::new(alloc);
     push_number(rt, &mut code, sigs);

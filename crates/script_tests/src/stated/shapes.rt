@@ -6,7 +6,7 @@ use lists::List;
 use std::alloc::Global;
 use std::process::Abort;
 
-// Whether a fact has copies, by itself, with its polarity and as a symbol.
+// Whether a fact can be copied: by itself, with its polarity, and as a symbol.
 fn is_copied(rt: &impl Abort, fact: Fact) -> bool {
     let copy = fact.copy().expect(rt, "memory");
     let held = Sym::Holds(copy).copy().is_ok();

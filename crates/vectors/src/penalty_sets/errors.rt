@@ -1,10 +1,10 @@
-//! Why a line has no answer.
+//! Why a line is refused.
 
 use penalty::StateError;
 use std::alloc::{AllocError, AllocFailed};
 use thiserror::Error;
 
-/// Why a line has no answer.
+/// Why a line is refused.
 #[derive(Debug, Drop, Error)]
 pub enum LineError {
     /// Memory ran out.
@@ -13,7 +13,7 @@ pub enum LineError {
     /// The words are not those of a state.
     #[error("BadLine")]
     BadLine,
-    /// The values are none of a state.
+    /// No state has these values.
     #[error("{0}")]
     State(StateError),
 }

@@ -4,7 +4,8 @@ use claim::{Claim, Slot};
 use penalty::PenaltySet;
 use std::alloc::{AllocError, Global};
 
-// The bytes in hexadecimal, behind a word.
+// Writes a word, and then
+// bytes in hexadecimal.
 fn write_hex(alloc: Global, word: &str, bytes: &[u8], text: &mut String) -> Result<(), AllocError> {
     text.push_str(word)?;
     text.push_str(hex::encode(alloc, bytes)?.as_str())?;
@@ -33,7 +34,8 @@ fn write_claim(alloc: Global, claim: &Claim, text: &mut String) -> Result<(), Al
     text.push_str("\n")
 }
 
-/// The claims of a set, a line each.
+/// Writes the claims of
+/// a set, a line each.
 pub fn write_claims(alloc: Global, set: &PenaltySet, text: &mut String) -> Result<(), AllocError> {
     let count = set.claims().len();
     text.push_str(format!(in alloc; "claims {count}\n")?.as_str())?;

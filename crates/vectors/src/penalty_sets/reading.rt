@@ -1,4 +1,4 @@
-//! Terms, and revoked states of them as a line has them.
+//! The terms, and revoked states as lines have them.
 
 use super::errors::LineError;
 use digest::sha256;
@@ -31,7 +31,7 @@ fn party_of(alloc: Global, side: Side, start: u64) -> Party {
     party(&Signer::new(alloc, &seed(side)), start)
 }
 
-// The terms of a channel of 100,000 satoshis, of which A, who opened it, has 80,000 at the start.
+// The terms of a channel of 100,000 satoshis. A opened it, and begins with 80,000.
 fn terms(alloc: Global) -> Result<Terms, LineError> {
     let a = party_of(alloc, Side::A, 80_000_000);
     let b = Party {
@@ -84,14 +84,14 @@ struct Offers {
     b: Vec<Htlc>,
 }
 
-// Puts an HTLC at the end, with the next id.
+// Appends an HTLC, with the next id.
 fn push(offered: &mut Vec<Htlc>, htlc: Htlc) -> Result<(), LineError> {
     let id = offered.len() as u64;
     offered.push(Htlc { id, ..htlc })?;
     Ok(())
 }
 
-// The HTLCs of words, each side's with ids from 0 on.
+// The HTLCs that words name, each side's with ids from 0 on.
 fn offers_of(alloc: Global, words: SplitWhitespace<'_>) -> Result<Offers, LineError> {
     let mut offers = Offers {
         a: Vec::new(alloc),
@@ -133,7 +133,7 @@ fn secret_of(alloc: Global, owner: Side, number: u64) -> [u8; 32] {
     from_seed(&signer.commitment_seed(), LAST_INDEX.saturating_sub(number))
 }
 
-// What a commitment with these numbers pays, and the HTLCs of words.
+// The view of a commitment with these numbers, and the HTLCs that words name.
 fn view_of(alloc: Global, head: &Head, words: SplitWhitespace<'_>) -> Result<View, LineError> {
     let offers = offers_of(alloc, words)?;
     Ok(View {
@@ -164,7 +164,7 @@ pub fn state_of(alloc: Global, line: &str) -> Result<RevokedState, LineError> {
     }
 }
 
-/// The signer of the owner's peer, which learnt the state's secret.
+/// The signer of the owner's peer, which has learnt the state's secret.
 pub fn learnt(alloc: Global, state: &RevokedState) -> Result<Signer, AllocError> {
     let mut signer = Signer::new(alloc, &seed(state.owner.other()));
     signer.learn_secret(&state.secret)?;

@@ -1,4 +1,4 @@
-//! Transactions that take what a commitment pays.
+//! Transactions that take the outputs of a commitment.
 
 use claim::Claim;
 use filling::{FillError, Filled, fill};
@@ -8,7 +8,7 @@ use penalty::PenaltySet;
 use std::alloc::{AllocError, Global};
 use tx::{MAX_INPUTS, MAX_OUTPUTS, Tx, TxOut, encode, txid};
 
-// One output to nobody's script.
+// One output of this value, with an empty script.
 fn outputs_of(alloc: Global, value: u64) -> Result<Vec<TxOut>, FillError> {
     let Ok(output) = TxOut::new(value, ByteString::new(alloc)) else {
         return Err(FillError::OutputsExceed);
@@ -18,7 +18,7 @@ fn outputs_of(alloc: Global, value: u64) -> Result<Vec<TxOut>, FillError> {
     Ok(outputs)
 }
 
-// The filling of claims, with one output of a value.
+// The filling of claims, with one output of this value.
 fn filled(
     alloc: Global,
     claims: &[&Claim],
@@ -32,7 +32,7 @@ fn filled(
     fill(alloc, claims, outputs, signer, &[])
 }
 
-// The hash of a transaction's bytes.
+// Writes the hash of a transaction's bytes.
 fn write_hash(alloc: Global, tx: &Tx, text: &mut String) -> Result<(), AllocError> {
     let Ok(bytes) = encode(alloc, tx) else {
         return text.push_str("none\n");
@@ -41,7 +41,7 @@ fn write_hash(alloc: Global, tx: &Tx, text: &mut String) -> Result<(), AllocErro
     text.push_str("\n")
 }
 
-// What a transaction has.
+// Writes the parts of a transaction.
 fn write_tx(alloc: Global, tx: &Tx, text: &mut String) -> Result<(), AllocError> {
     let id = hex::encode(alloc, txid(tx))?;
     let (inputs, lock_time) = (tx.inputs().len(), tx.lock_time());
@@ -54,13 +54,13 @@ fn write_refusal(alloc: Global, refusal: &FillError, text: &mut String) -> Resul
     text.push_str(format!(in alloc; "refused {refusal}\n")?.as_str())
 }
 
-// A filling, by its transaction.
+// Writes the transaction of a filling.
 fn write_filled(alloc: Global, filled: &Filled, text: &mut String) -> Result<(), AllocError> {
     write_tx(alloc, filled.tx(), text)?;
     write_hash(alloc, filled.tx(), text)
 }
 
-// The transaction that takes a value of claims, or why there is none.
+// Writes the transaction that takes claims into this value, or why there is none.
 fn write_filling(
     alloc: Global,
     claims: &[&Claim],
@@ -74,7 +74,7 @@ fn write_filling(
     }
 }
 
-/// The transaction that takes what the commitment's own outputs have together; the same with a satoshi more; and the first claim with itself.
+/// Writes the transaction that takes the commitment's own outputs together; the same with one satoshi too many; and the first claim twice.
 pub fn write_spends(
     alloc: Global,
     set: &PenaltySet,
@@ -86,7 +86,7 @@ pub fn write_spends(
     let Some(first) = set.claims().first() else {
         return Ok(());
     };
-    // The commitment's own outputs are those with the first one's id.
+    // The commitment's own outputs are those with the same id as the first one.
     for claim in set.claims() {
         if claim.outpoint().txid == first.outpoint().txid {
             own.push(claim)?;

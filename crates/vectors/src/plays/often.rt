@@ -1,11 +1,11 @@
-//! Steps that are played in turn, many times.
+//! Steps that are repeated in turn.
 
 use super::steps::step_of;
 use anyhow::{Context, Result};
 use channel::{Outcome, Pair, PairStep};
 use std::alloc::Global;
 
-/// The steps of words with commas between them.
+/// The steps that words name, separated by commas.
 fn steps_of(alloc: Global, words: &str) -> Result<Vec<PairStep>> {
     let mut steps = Vec::new(alloc);
     for step in words.split(", ") {
@@ -14,7 +14,7 @@ fn steps_of(alloc: Global, words: &str) -> Result<Vec<PairStep>> {
     Ok(steps)
 }
 
-/// How many steps were done.
+/// The number of steps that were done.
 fn count_done(outcomes: &[Outcome]) -> u64 {
     let mut done: u64 = 0;
     for outcome in outcomes {
@@ -25,7 +25,8 @@ fn count_done(outcomes: &[Outcome]) -> u64 {
     done
 }
 
-/// Plays steps in turn, so many times, and counts those that were done.
+/// Plays steps in turn, this number of
+/// times, and counts those that were done.
 fn play_times(pair: &mut Pair, steps: &[PairStep], times: u64) -> Result<u64> {
     let mut done: u64 = 0;
     for _ in 0..times {
@@ -35,7 +36,7 @@ fn play_times(pair: &mut Pair, steps: &[PairStep], times: u64) -> Result<u64> {
     Ok(done)
 }
 
-/// Plays what the words say, and prints how many steps were done.
+/// Plays what the words name, and prints how many steps were done.
 pub fn play_often(rt: &impl Print, alloc: Global, pair: &mut Pair, words: &str) -> Result<()> {
     let (times, steps) = words.split_once(' ').context("no steps")?;
     let done = play_times(pair, &steps_of(alloc, steps)?, times.parse()?)?;

@@ -1,4 +1,4 @@
-//! Steps at random.
+//! Random steps.
 
 use super::steps::PREIMAGE;
 use anyhow::Result;
@@ -8,7 +8,7 @@ use std::alloc::Global;
 use terms::Side;
 use updates::OwnUpdate;
 
-/// The HTLCs that a side offered: how many, and the ids of those that its peer removed not yet.
+/// The HTLCs that a side offered: their number, and the ids of those that its peer did not remove yet.
 #[derive(Drop)]
 struct Offers {
     made: u64,
@@ -23,7 +23,7 @@ impl Offers {
         }
     }
 
-    /// One of the ids, where there is one.
+    /// One of the ids, or 0 if there is none.
     fn choose(&self, number: u64) -> u64 {
         match self.standing.len() {
             0 => 0,
@@ -42,7 +42,7 @@ impl Offers {
     }
 }
 
-/// How many steps were done, of each kind.
+/// The number of steps that were done, of each kind.
 #[derive(Clone, Copy, Debug, Default, Drop)]
 struct Counts {
     offers: u64,
@@ -71,7 +71,8 @@ impl Game {
         }
     }
 
-    /// A step by a number. Both sides receive most of the time, and else offer, remove, change the feerate and sign.
+    /// The next step, chosen by a number. Mostly a side receives;
+    /// else it offers, removes, changes the feerate or signs.
     fn next_step(&self, number: u64) -> PairStep {
         let (side, theirs) = if number % 2 == 0 {
             (Side::A, &self.of_b)
@@ -100,7 +101,7 @@ impl Game {
         PairStep { side, action }
     }
 
-    /// The peer's HTLC is removed.
+    /// Notes that an HTLC of the peer was removed.
     fn remove(&mut self, side: Side, id: u64) {
         match side {
             Side::A => self.of_b.remove(id),
@@ -108,7 +109,7 @@ impl Game {
         }
     }
 
-    /// An update of a side was made.
+    /// Notes an update of a side.
     fn note_update(&mut self, side: Side, update: &OwnUpdate) -> Result<()> {
         match *update {
             OwnUpdate::Offer { .. } => {
@@ -131,7 +132,7 @@ impl Game {
         Ok(())
     }
 
-    /// The step was done.
+    /// Notes a step that was done.
     fn note(&mut self, step: &PairStep) -> Result<()> {
         match &step.action {
             Action::Own(update) => self.note_update(step.side, update)?,
@@ -153,7 +154,7 @@ impl Game {
     }
 }
 
-/// The next of a row of numbers (a linear congruential generator), and its upper 31 bits.
+/// The next number of a linear congruential generator: its upper 31 bits.
 fn next_number(state: &mut u64) -> u64 {
     *state = state
         .wrapping_mul(6_364_136_223_846_793_005)
@@ -169,7 +170,7 @@ fn play_step(pair: &mut Pair, game: &mut Game, step: PairStep) -> Result<()> {
     Ok(())
 }
 
-/// Plays so many steps, and prints how many of each kind were done.
+/// Plays this number of steps, and prints how many of each kind were done.
 pub fn play_at_random(rt: &impl Print, alloc: Global, pair: &mut Pair, steps: u64) -> Result<()> {
     let mut game = Game::new(alloc);
     let mut state = 1;

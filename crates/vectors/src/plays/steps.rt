@@ -1,4 +1,4 @@
-//! Steps as words.
+//! Steps, as words name them.
 
 use anyhow::{Result, bail};
 use channel::{Action, PairStep};
@@ -9,7 +9,8 @@ use updates::OwnUpdate;
 /// The preimage of every HTLC.
 pub const PREIMAGE: [u8; 32] = [9; 32];
 
-/// The update that a step's words say: its name, and the words after it.
+/// The update that a step's words name:
+/// its name, and the words after it.
 fn update_of(name: &str, first: Option<&str>, second: Option<&str>) -> Result<OwnUpdate> {
     let update = match (name, first, second) {
         ("offer", Some(amount), Some(expiry)) => OwnUpdate::Offer {
@@ -30,7 +31,7 @@ fn update_of(name: &str, first: Option<&str>, second: Option<&str>) -> Result<Ow
     Ok(update)
 }
 
-/// What a step's words after its side say.
+/// What the words after a step's side name.
 fn action_of(words: &str) -> Result<Action> {
     let mut words = words.split(' ');
     let action = match (words.next(), words.next(), words.next()) {
@@ -42,7 +43,7 @@ fn action_of(words: &str) -> Result<Action> {
     Ok(action)
 }
 
-/// The step that a line says.
+/// The step that a line names.
 pub fn step_of(line: &str) -> Result<PairStep> {
     let (side, words) = match line.split_once(' ') {
         Some(("A", words)) => (Side::A, words),

@@ -1,4 +1,4 @@
-// The channel.
+// Plays the channel whose transactions are printed.
 
 use anyhow::Result;
 use channel::{Channel, Message};
@@ -9,7 +9,7 @@ use std::alloc::Global;
 /// The preimage of every HTLC.
 pub const PREIMAGE: [u8; 32] = [0; 32];
 
-/// A message of one side comes to the other, and its answer to the first.
+/// Delivers a message and its reply.
 fn deliver(from: &mut Channel, to: &mut Channel, message: &Message) -> Result<()> {
     if let Some(answer) = to.receive(message)? {
         from.receive(&answer)?;
@@ -17,7 +17,7 @@ fn deliver(from: &mut Channel, to: &mut Channel, message: &Message) -> Result<()
     Ok(())
 }
 
-/// One side offers an HTLC of so many millisatoshis to the other.
+/// One side offers an HTLC of this amount, in millisatoshis, to the other.
 fn offer(from: &mut Channel, to: &mut Channel, amount: u64, expiry: u32) -> Result<()> {
     let message = from.offer(amount, sha256(&PREIMAGE), expiry)?;
     deliver(from, to, &message)
@@ -29,7 +29,7 @@ fn sign(from: &mut Channel, to: &mut Channel) -> Result<()> {
     deliver(from, to, &message)
 }
 
-/// A offers an HTLC, and one that is trimmed in the commitments of both sides, and B offers one; A signs, B, and A again.
+/// A offers an HTLC, and one that both sides' commitments trim; B offers one. Then A signs, B signs, and A signs again.
 fn play(sides: &mut Sides) -> Result<()> {
     offer(&mut sides.a, &mut sides.b, 10_000_000, 5)?;
     offer(&mut sides.a, &mut sides.b, 1_000_000, 6)?;

@@ -16,7 +16,7 @@ use std::alloc::{AllocError, Global};
 use terms::ProposedTerms;
 use tx::TxOut;
 
-// The program of the output that two base keys fund.
+// The program (P2WSH) of the output that two funding keys share (BOLT 3, "Funding Transaction Output").
 fn funding_program(alloc: Global, key: &Key, other: &Key) -> Result<ByteString, AllocError>
     ensures { IfOk result (λ s. s ≡ script_hash_program_of
         (spelling (funding_of key.now.bytes other.now.bytes))) }
@@ -26,7 +26,7 @@ fn funding_program(alloc: Global, key: &Key, other: &Key) -> Result<ByteString, 
     script_hash_program(alloc, checked.script().bytes())
 }
 
-/// The funding output of the channel of this index (BOLT 3, "Funding Transaction Output"): the capacity in satoshis, for the funding keys of both sides in that channel; `None` where the
+/// The funding output of the channel with this index (BOLT 3, "Funding Transaction Output"): the capacity in satoshis, for both sides' funding keys in that channel. `None` if the
 /// capacity is above 21,000,000 bitcoins. The only error is that memory ran out.
 pub fn funding_output(
     alloc: Global,

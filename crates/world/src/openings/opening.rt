@@ -14,7 +14,7 @@ use std::alloc::{AllocError, Global};
 use terms::{ProposedTerms, Side, Terms};
 use tx::OutPoint;
 
-// The terms of a channel with its funding output and both sides' base keys; `None` where the two sides can't agree on them. It takes no memory.
+// The terms of a channel with its funding output and both sides' base keys; `None` if the two sides can't agree on them. Does not allocate.
 fn agreed_terms(
     alloc: Global,
     seeds: &Seeds,
@@ -57,9 +57,9 @@ fn opening_of(
     }
 }
 
-/// How both sides open the channel of this index, whose funding output stands at `outpoint`: on the scenario's terms with the base keys of both sides' signers, each with its peer's points for
-/// commitments 0 and 1 and its peer's token on its own commitment 0. `None` takes no memory. It is given where the two sides can't agree on the terms: the capacity is above 21,000,000 bitcoins, or
-/// is not what they begin with. The only error is that memory ran out.
+/// How both sides open the channel with this index, whose funding output stands at `outpoint`. The terms are the scenario's, with the base keys of both sides' signers. Each side has its peer's
+/// points for commitments 0 and 1, and its peer's token on its own commitment 0. `None`, without allocating, if the two sides can't agree on the terms: the capacity is above 21,000,000 bitcoins,
+/// or is not the sum of what they begin with. The only error is that memory ran out.
 pub fn open_both(
     alloc: Global,
     seeds: &Seeds,

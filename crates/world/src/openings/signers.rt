@@ -1,4 +1,4 @@
-//! The signers of the channels: a side has one for each channel, from a seed of its own.
+//! The signers of the channels: a side has one for each channel, with a seed of its own.
 
 ghost use Rattle.std.specs.Prelude.{◌≡◌};
 ghost use Rattle.book.specs.Openings.{bases_of};
@@ -9,7 +9,8 @@ use sha2::{Digest, Sha256};
 use std::alloc::Global;
 use terms::BaseKeys;
 
-/// The seed of a side's signer in a channel: SHA-256 of `channel`, the side's seed, and the channel's index in four bytes, the lowest first.
+/// The seed of a side's signer in a channel: SHA-256 of the ASCII bytes `channel`,
+/// the side's seed, and the channel's index in four bytes, little-endian.
 #[tactic(auto, unfolding(crate::specs::Opening::channel_seed, tx::specs::Spelling::number))]
 pub(crate) fn channel_seed(seed: &[u8; 32], channel: u32) -> [u8; 32]
     ensures { result ≡ seed_for seed.now channel }
@@ -21,7 +22,7 @@ pub(crate) fn channel_seed(seed: &[u8; 32], channel: u32) -> [u8; 32]
     hasher.finalize()
 }
 
-/// The base keys of a side in a channel, by the side's seed. It takes no memory.
+/// The base keys of a side in a channel, which derive from the side's seed. Does not allocate.
 pub(crate) fn bases_in(alloc: Global, seed: &[u8; 32], channel: u32) -> BaseKeys
     ensures { result ≡ bases_of (seed_for seed.now channel) }
 {

@@ -9,7 +9,7 @@ use Rattle.chain.specs.Connecting.{Grants, is_program}
 use Rattle.world.proofs.Begun.{funded_by, is_granted}
 use Rattle.world.proofs.beginning.grant_funding.Goals as goal
 
--- what a grant is refused for but memory
+-- if a grant is refused for anything but memory, the output has no witness program
 not_granted : (old new : Standing) (o : Output) (e : ChainError) → Grants old o (Err e) new → (e ≡ refusals.NoMemory → ⊥) → is_program o.script ≡ false
 not_granted old new o refusals.NoMemory g not = absurd (not refl)
 not_granted old new o e g not = g.1.0

@@ -5,7 +5,7 @@ use Rattle.chain.specs.declared.errors.ChainError.TheVariants.{NoMemory}
 use Rattle.chain.specs.Refusals.{Answers}
 use Rattle.world.proofs.claimed.check_claimed.Goals as goal
 
--- where nothing refuses, memory alone can
+-- if no test refuses, only memory can
 memory_alone : {A : Type 0} (o : Option ChainError) (r : Result A ChainError) → o ≡ None → Answers o r → MatchResult r (λ _. ⊤) (λ e. e ≡ NoMemory)
 memory_alone o (Ok x) n a = tt
 memory_alone o (Err NoMemory) n a = refl

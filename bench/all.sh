@@ -1,0 +1,25 @@
+#!/usr/bin/env bash
+# Runs every benchmark on proved programs, one after another, and prints one table: what was measured, its bound, and whether it was held.
+# `.ci/program` proves what is not proved yet, in a copy of the repository; on an idle machine the rest takes some minutes. Status 1 where a bound was passed or a benchmark failed.
+set -uo pipefail
+cd "$(dirname "$0")/.."
+BOUNDS=$(mktemp)
+export BOUNDS
+trap 'rm -f "$BOUNDS"' EXIT
+failed=()
+for benchmark in ripemd160.sh costs.sh instances.py commitments.py channels.py penalties.py books.py worlds.py looks.py calls.py; do
+  echo "== bench/$benchmark"
+  "bench/$benchmark" || failed+=("bench/$benchmark")
+done
+echo
+echo "$(date -u +%Y-%m-%d), $(sed -n 's/^model name[^:]*: //p' /proc/cpuinfo | head -n 1), commit $(git rev-parse --short HEAD), load $(cut -d' ' -f1 /proc/loadavg)"
+echo
+echo '| What | Measured | Bound | Held |'
+echo '|---|---|---|---|'
+while IFS=$'\t' read -r what measured bound held; do
+  echo "| $what | $measured | $bound | $([[ $held == held ]] && echo yes || echo '**no**') |"
+done <"$BOUNDS"
+passed=$(grep -c 'PASSED$' "$BOUNDS")
+echo
+echo "bench: $(wc -l <"$BOUNDS") bounds, $passed passed, ${#failed[@]} benchmarks failed${failed[*]:+: ${failed[*]}}"
+((passed == 0 && ${#failed[@]} == 0))
