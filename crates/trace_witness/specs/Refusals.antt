@@ -1,4 +1,4 @@
--- The refusals by their numbers.
+-- The numbers of the refusals.
 use Rattle.std.specs.Prelude.{ℕ}
 use Rattle.trace_words.specs.Refusals.{input_number}
 use Rattle.trace_witness.specs.declared.errors.SpentError.{SpentError}

@@ -1,4 +1,4 @@
-// Sentences: why a run stops, and why no script is run.
+// Sentences: why a run stops, and why no script runs.
 
 use script::{Cause, Kind};
 use verdict::Fault;
@@ -34,7 +34,7 @@ pub fn cause_sentence(cause: Cause) -> &'static str {
     }
 }
 
-/// Why no script is run, in words.
+/// Why no script runs, in words.
 pub fn fault_sentence(fault: &Fault) -> &'static str {
     match fault {
         Fault::OtherProgram =>

@@ -7,16 +7,16 @@ use thiserror::Error;
 use trace_words::InputError;
 use tx::DecodeError;
 
-/// Why a text is no transaction with the outputs that it spends. It is tested in the order of the numbers, where the first line at fault is named.
+/// Why a text is not a transaction with the outputs that it spends. Checked in the order of the numbers; the first line at fault is named.
 #[derive(Debug, Drop, Error)]
 pub enum SpentError {
-    /// Memory ran out, the input can't be read or is too long, or it is not text, or its first line is not hexadecimal.
+    /// Memory ran out, the input can't be read or is too long, it is not text, or its first line is not hexadecimal.
     #[error("{0}")]
     Input(InputError),
     /// The first line is not a transaction.
     #[error("{0}")]
     Decode(DecodeError),
-    /// There are not as many lines after the first as inputs.
+    /// The number of lines after the first is not the number of inputs.
     #[error("BadCount")]
     BadCount,
     /// A line is not a value in satoshis and a program in hexadecimal, or above the limits of an output: its number, from 1.

@@ -1,12 +1,13 @@
-//! What becomes of the inputs of a transaction, told for programs (JSON) and for people: the word `trace witness`.
+//! The word `witness` of the program `trace`: what becomes of the inputs of a transaction, for programs (JSON) and for
+//! people.
 //!
-//! A transaction stands in hexadecimal on the first line of a text, and on each line after it the output that an input
-//! spends: its value in satoshis and its program in hexadecimal. [`run_words`] tells of each input which listed path its
-//! witness takes, or at which opcode its script stops, why, and what stands on the stack there. It answers a status of at
-//! most 2. What is told is what `verdict` says, whose contract is exact; how it is laid out is tested.
+//! The input has a transaction in hexadecimal on its first line, and on each line after it the output that an input
+//! spends: its value in satoshis and its program in hexadecimal. [`run_words`] prints of each input which listed path its
+//! witness takes, or at which opcode its script stops, why, and the stack there. It returns a status of at most 2. The
+//! verdicts are those of `verdict`, whose contract is exact. Their layout is tested, not proved.
 //!
-//! `verdict` judges the inputs, and `trace_words` has what each word of `trace` reads and writes by. The program `trace`
-//! hands it the words.
+//! `verdict` judges the inputs, and `trace_words` reads the input and writes the lines. The program `trace` passes it the
+//! words.
 //!
 //! ```rust
 //! let status = run_words(alloc, words, &mut input, &mut out, &mut err);

@@ -1,4 +1,4 @@
-// A transaction with the outputs that it spends, from a text.
+// Reads a transaction with the outputs that it spends.
 
 use crate::errors::SpentError;
 use hex::FromHexError;
@@ -7,7 +7,7 @@ use std::alloc::Global;
 use trace_words::InputError;
 use tx::{DecodeError, Tx, TxOut, decode};
 
-// The transaction that bytes are.
+// Decodes a transaction.
 fn tx_of(alloc: Global, bytes: &[u8]) -> Result<Tx, SpentError> {
     match decode(alloc, bytes) {
         Ok(tx) => Ok(tx),
@@ -16,7 +16,7 @@ fn tx_of(alloc: Global, bytes: &[u8]) -> Result<Tx, SpentError> {
     }
 }
 
-/// The transaction on the first line of a text.
+/// Reads the transaction on the first line of a text.
 pub fn read_tx(alloc: Global, text: &str) -> Result<Tx, SpentError> {
     match hex::decode(alloc, text.lines().next().unwrap_or("")) {
         Ok(bytes) => tx_of(alloc, bytes.as_slice()),
@@ -25,7 +25,7 @@ pub fn read_tx(alloc: Global, text: &str) -> Result<Tx, SpentError> {
     }
 }
 
-// The program that stands in hexadecimal on a line of this number.
+// Reads the program in hexadecimal on the line of this number.
 fn read_program(alloc: Global, text: &str, number: usize) -> Result<ByteString, SpentError> {
     match hex::decode(alloc, text) {
         Ok(program) => Ok(ByteString::from_vec(program)),
@@ -34,7 +34,7 @@ fn read_program(alloc: Global, text: &str, number: usize) -> Result<ByteString, 
     }
 }
 
-// The output of a line of this number.
+// Reads the output on the line of this number.
 fn read_output(alloc: Global, line: &str, number: usize) -> Result<TxOut, SpentError> {
     let Some((value, program)) = line.split_once(' ') else {
         return Err(SpentError::BadLine(number));
@@ -48,7 +48,7 @@ fn read_output(alloc: Global, line: &str, number: usize) -> Result<TxOut, SpentE
     }
 }
 
-// The output of a line of this number comes after others.
+// Adds the output on the line of this number.
 fn push_output(
     alloc: Global,
     outputs: &mut Vec<TxOut>,
@@ -61,7 +61,7 @@ fn push_output(
     }
 }
 
-/// The outputs on the lines after the first, which are to be as many.
+/// Reads the outputs on the lines after the first, which have to be this many.
 pub fn read_outputs(alloc: Global, text: &str, count: usize) -> Result<Vec<TxOut>, SpentError> {
     if text.lines().skip(1).count() != count {
         return Err(SpentError::BadCount);

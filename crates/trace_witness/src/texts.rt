@@ -1,4 +1,4 @@
-// What is said of an input, as text.
+// Writes the verdict on an input.
 
 use crate::causes::{cause_sentence, fault_sentence};
 use lists::{ByteString, Stack};
@@ -14,7 +14,7 @@ fn stack_values(stack: &Option<Stack<ByteString>>) -> &[ByteString] {
     }
 }
 
-// A run that is clean, as members of an object.
+// Writes a clean run as members of an object.
 fn clean_json(line: &mut Line, clean: &Clean) {
     line.count_or_null("path", clean.path.map(|path| path as u64));
     line.count("counted", clean.run.counted as u64);
@@ -22,7 +22,7 @@ fn clean_json(line: &mut Line, clean: &Clean) {
     line.hex("digest", &clean.digest);
 }
 
-// A run that is clean, for people.
+// Writes a clean run for people.
 fn clean_page(line: &mut Line, clean: &Clean) {
     line.push(" runs clean");
     match clean.path {
@@ -39,7 +39,7 @@ fn clean_page(line: &mut Line, clean: &Clean) {
     line.push(" elements at most\n");
 }
 
-// The opcode at which a run stops; `null` at the end.
+// Writes the opcode at which a run stops; `null` at the end.
 fn op_json(line: &mut Line, ops: &[Op], index: usize) {
     line.count("opcode", index as u64);
     line.name("op");
@@ -50,7 +50,7 @@ fn op_json(line: &mut Line, ops: &[Op], index: usize) {
     line.count("byte", byte_of(ops, index));
 }
 
-// A run that stops, as members of an object.
+// Writes a run that stops as members of an object.
 fn stopped_json(line: &mut Line, stopped: &Stopped) {
     line.shown("stopped", stopped.cause);
     op_json(line, stopped.script.ops(), stopped.index);
@@ -63,7 +63,7 @@ fn stopped_json(line: &mut Line, stopped: &Stopped) {
     line.hex("digest", &stopped.digest);
 }
 
-// The opcode at which a run stops, for people.
+// Writes the opcode at which a run stops, for people.
 fn op_page(line: &mut Line, ops: &[Op], index: usize) {
     line.push(" stops at opcode ");
     line.push_shown(index);
@@ -76,7 +76,7 @@ fn op_page(line: &mut Line, ops: &[Op], index: usize) {
     line.push_shown(byte_of(ops, index));
 }
 
-// An element of a stack, for people, on a line. The empty element is `-`.
+// Writes an element of a stack on a line. The empty element is `-`.
 fn element_page(line: &mut Line, item: &[u8]) {
     line.push("  stack   ");
     if item.is_empty() {
@@ -86,7 +86,7 @@ fn element_page(line: &mut Line, item: &[u8]) {
     line.push("\n");
 }
 
-// A run that stops, for people.
+// Writes a run that stops, for people.
 fn stopped_page(line: &mut Line, stopped: &Stopped) {
     op_page(line, stopped.script.ops(), stopped.index);
     line.push(": ");
@@ -102,13 +102,13 @@ fn stopped_page(line: &mut Line, stopped: &Stopped) {
     line.push("\n");
 }
 
-// An input for which no script is run, as members of an object.
+// Writes why no script runs as members of an object.
 fn refused_json(line: &mut Line, fault: &Fault) {
     line.shown("refused", fault);
     line.member("says", fault_sentence(fault));
 }
 
-// An input for which no script is run, for people.
+// Writes why no script runs, for people.
 fn refused_page(line: &mut Line, fault: &Fault) {
     line.push(" is refused: ");
     line.push_shown(fault);
@@ -117,7 +117,7 @@ fn refused_page(line: &mut Line, fault: &Fault) {
     line.push("\n");
 }
 
-// What is said of an input, as an object on a line.
+// Writes the verdict as an object on a line.
 fn verdict_json(line: &mut Line, input: usize, verdict: &Verdict) {
     line.open("{");
     line.count("input", input as u64);
@@ -129,7 +129,7 @@ fn verdict_json(line: &mut Line, input: usize, verdict: &Verdict) {
     line.end();
 }
 
-// What is said of an input, for people.
+// Writes the verdict for people.
 fn verdict_page(line: &mut Line, input: usize, verdict: &Verdict) {
     line.push("input ");
     line.push_shown(input);
@@ -140,7 +140,7 @@ fn verdict_page(line: &mut Line, input: usize, verdict: &Verdict) {
     }
 }
 
-/// What is said of an input: an object on a line, or lines for people.
+/// Writes the verdict on an input: an object on a line, or lines for people.
 pub fn tell_verdict(line: &mut Line, form: Form, input: usize, verdict: &Verdict) {
     match form {
         Form::Json => verdict_json(line, input, verdict),

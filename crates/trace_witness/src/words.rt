@@ -12,8 +12,8 @@ use trace_words::{Form, InputError, Line, read_all, refuse_memory, refuse_words,
 use tx::{Tx, TxIn, TxOut};
 use verdict::{Verdict, judge};
 
-/// Runs the word `witness` on the words after it and answers its status: 0 when each input runs clean, 1 for an input that does not, refused text or a failed
-/// write, 2 for wrong words, which are found before any input is read. What is told of an input is written before the next one is looked at.
+/// Runs the word `witness` on the words after it and returns its status: 0 when each input runs clean, 1 for an input that does not, refused text or a failed
+/// write, 2 for wrong words, which are detected before any input is read. The verdict on an input is written before the next input is judged.
 pub fn run_words<R: Read, W: Write, E: Write>(
     alloc: Global,
     words: &[String],
@@ -30,7 +30,7 @@ pub fn run_words<R: Read, W: Write, E: Write>(
     }
 }
 
-// Tells of the inputs of the transaction that the input has, and answers the status.
+// Judges the inputs of the transaction in the input, and returns the status.
 fn tell<R: Read, W: Write>(alloc: Global, form: Form, input: &mut R, out: &mut W) -> u8
     ensures { result ≤ 1 }
 {
@@ -70,7 +70,7 @@ fn tell_tx<W: Write>(alloc: Global, form: Form, text: &str, tx: &Tx, out: &mut W
     }
 }
 
-// Answers that a text is refused.
+// Reports that a text is refused.
 fn refuse<W: Write>(alloc: Global, form: Form, error: &SpentError, out: &mut W) -> u8
     ensures { result ≤ 1 }
 {
@@ -82,7 +82,7 @@ fn refuse<W: Write>(alloc: Global, form: Form, error: &SpentError, out: &mut W) 
     write_told(out, &line, 1)
 }
 
-// The line of a refusal.
+// Writes the line of a refusal.
 fn tell_refusal(line: &mut Line, form: Form, error: &SpentError) {
     match form {
         Form::Json => {
@@ -98,7 +98,7 @@ fn tell_refusal(line: &mut Line, form: Form, error: &SpentError) {
     }
 }
 
-// Tells of each input, at once, and answers the greatest status.
+// Judges each input, writes each verdict at once, and returns the greatest status.
 fn tell_inputs<W: Write>(alloc: Global, form: Form, tx: &Tx, outputs: &[TxOut], out: &mut W) -> u8
     ensures { result ≤ 1 }
 {
@@ -115,7 +115,7 @@ fn tell_inputs<W: Write>(alloc: Global, form: Form, tx: &Tx, outputs: &[TxOut], 
     status
 }
 
-// Tells of an input, and answers 0 where it runs clean.
+// Judges an input, and returns 0 if it runs clean.
 fn tell_input<W: Write>(
     alloc: Global,
     form: Form,
@@ -136,7 +136,7 @@ fn tell_input<W: Write>(
     }
 }
 
-// Writes what is said of an input, and answers 0 where it runs clean.
+// Writes the verdict on an input, and returns 0 if it runs clean.
 fn write_verdict<W: Write>(
     alloc: Global,
     form: Form,
@@ -151,7 +151,7 @@ fn write_verdict<W: Write>(
     write_told(out, &line, status_of(verdict))
 }
 
-// 0 where an input runs clean, else 1.
+// 0 if an input runs clean, else 1.
 fn status_of(verdict: &Verdict) -> u8
     ensures { result ≤ 1 }
 {

@@ -1,4 +1,4 @@
--- The refusals by their numbers.
+-- The numbers of the refusals.
 use Rattle.std.specs.Prelude.{ℕ}
 use Rattle.trace_words.specs.declared.input.InputError.{InputError}
 use Rattle.trace_words.specs.declared.input.InputError.TheVariants.{NoMemory, ReadFailed, TooLong, BadHex}

@@ -1,9 +1,9 @@
--- The refusals by their numbers.
+-- The numbers of the faults.
 use Rattle.std.specs.Prelude.{ℕ}
 use Rattle.verdict.specs.declared.verdicts.Fault.{Fault}
 use Rattle.verdict.specs.declared.verdicts.Fault.TheVariants.{OtherProgram, NotTwoItems, NoScript, OtherScript, BadScript}
 
--- why no script is run
+-- why no script runs
 abbrev pub fault_number : Fault → ℕ
 fault_number OtherProgram = 1
 fault_number NotTwoItems = 2

@@ -1,4 +1,4 @@
-// What is said of an input.
+// Judges an input.
 
 ghost use Rattle.std.specs.Prelude.{◌≡◌, Some, None, reverse, IfOk, option_map, option_and_then, slice_get};
 ghost use Rattle.script.specs.Run.{outcome, Stopped as StopsAt};
@@ -29,7 +29,7 @@ fn key_hash_script(alloc: Global, hash: &[u8]) -> Result<Vec<u8>, AllocError>
     Ok(script)
 }
 
-/// What is said of an input of a transaction that spends this output (BIP 141). `index` is that of the input, and `cache` that of the transaction. The only error
+/// Judges an input of a transaction that spends this output (BIP 141). `index` is that of the input, and `cache` that of the transaction. The only error
 /// is that memory ran out.
 #[tactic(auto, unfolding(crate::specs::Verdicts::case_of, sighash::specs::Programs::given_of))]
 pub fn judge(
@@ -61,7 +61,7 @@ pub fn judge(
     judge_by_hash(alloc, tx, cache, index, input, value, &program[2..])
 }
 
-// What is said of an input whose script is the last item of its witness, and has this hash.
+// Judges an input whose script is the last item of its witness, and has this hash.
 fn judge_by_hash(
     alloc: Global,
     tx: &Tx,
@@ -86,7 +86,7 @@ fn judge_by_hash(
     judge_code(alloc, tx, cache, index, input, value, code, items)
 }
 
-// What is said of an input whose script has these bytes.
+// Judges an input whose script has these bytes.
 fn judge_code(
     alloc: Global,
     tx: &Tx,
@@ -109,7 +109,7 @@ fn judge_code(
     }
 }
 
-// What a script of these bytes can ask of the input that runs it, where that spends this value.
+// What a script of these bytes can ask of the input that runs it and spends this value.
 fn spend_for(
     tx: &Tx,
     cache: &SighashCache<'_>,
@@ -133,7 +133,7 @@ fn spend_for(
     }
 }
 
-// Reads a script, as its definition has it.
+// Reads a script.
 #[tactic(auto, using(sighash::proofs::Parsing::parsed, sighash::proofs::Parsing::unparsed))]
 fn parse(alloc: Global, bytes: &[u8]) -> Result<Result<Script, ParseError>, AllocError>
     ensures { IfOk result (IsParsed (script_ops bytes.now)) }
@@ -147,7 +147,7 @@ fn parse(alloc: Global, bytes: &[u8]) -> Result<Result<Script, ParseError>, Allo
     }
 }
 
-// What is said of a script that runs on these items.
+// Runs a script on these items.
 fn judge_script(
     alloc: Global,
     script: Script,
@@ -168,7 +168,7 @@ fn judge_script(
     }
 }
 
-// What is said of a script that stops there.
+// The verdict on a script that stops at this opcode.
 fn stopped(
     alloc: Global,
     script: Script,
@@ -190,7 +190,7 @@ fn stopped(
     }))
 }
 
-// The first listed path that the items meet, where the script is listed.
+// The first listed path that the items meet, if the script is listed.
 fn path_of(
     alloc: Global,
     script: Script,

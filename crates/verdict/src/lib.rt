@@ -3,9 +3,9 @@
 //! The main contract is that of [`judge`]: an input runs clean, or stops at an opcode, exactly where the definition of a
 //! run says so for what the output's program and the witness give to be run (`case_of`, by the definitions by which
 //! `chain` takes transactions). The path is the first listed one that the witness meets ([`met_path`]), and the elements
-//! are those which the definition has before that opcode.
+//! are those that the definition has before that opcode.
 //!
-//! `machine` runs the scripts, and `paths` lists the ways. `trace_witness` tells the verdicts.
+//! `machine` runs the scripts, and `paths` lists the ways. `trace_witness` prints the verdicts.
 //!
 //! ```rust
 //! /// Whether each input of a transaction runs clean, where these are the outputs that they spend.

@@ -15,7 +15,7 @@ use script::tokens::{has_key_form, has_signature_form, is_token_of};
 use script::truths::is_true;
 use std::alloc::{AllocError, Global};
 
-// A slot's item; the empty one where there is none.
+// A slot's item; the empty item if there is none.
 #[tactic(auto, using(crate::proofs::Items::read_from_the_end, crate::proofs::Items::none_past_the_end))]
 fn item(items: &[ByteString], slot: usize) -> &[u8]
     ensures { result.now ≡ slot_of (reverse items.now) slot }

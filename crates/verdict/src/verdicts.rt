@@ -1,4 +1,4 @@
-// What is said of an input.
+// The verdict on an input.
 
 ghost use Rattle.std.specs.Prelude.{◌≡◌};
 ghost use Rattle.verdict.specs.Refusals.{fault_number};
@@ -8,7 +8,7 @@ use machine::Run;
 use script::{Cause, ParseError, Script};
 use thiserror::Error;
 
-/// Why no script is run for an input (BIP 141).
+/// Why no script runs for an input (BIP 141).
 #[derive(Debug, Drop, Error)]
 pub enum Fault {
     /// The program is not of version 0 with the hash of a key or of a script.
@@ -63,16 +63,16 @@ pub struct Stopped {
 pub struct Clean {
     /// How it went.
     pub run: Run,
-    /// The number of the first listed path that the witness meets; `None` where the script is not listed.
+    /// The number of the first listed path that the witness meets; `None` if the script is not listed.
     pub path: Option<usize>,
     /// What a signature of this input is over (BIP 143).
     pub digest: [u8; 32],
 }
 
-/// What is said of an input.
+/// The verdict on an input.
 #[derive(Drop)]
 pub enum Verdict {
-    /// No script is run.
+    /// No script runs.
     Refused(Fault),
     /// The script stops.
     Stopped(Stopped),
