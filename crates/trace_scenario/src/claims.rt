@@ -1,7 +1,7 @@
 //! The claims of a side.
 
 use crate::coins::Coins;
-use crate::writer::{tell_outpoint, tell_side};
+use crate::writer::{tell_place, tell_side};
 use claim::{Claim, Shell};
 use side::DueClaim;
 use sighash::programs::is_key_hash_program;
@@ -45,18 +45,21 @@ fn tell_claim(line: &mut Line, coins: &Coins, side: Side, due: &DueClaim) {
     line.open("{");
     tell_side(line, "side", side);
     line.count("channel", due.channel);
-    line.name("outpoint");
-    tell_outpoint(line, &place.outpoint);
-    line.count("value", place.value);
+    tell_place(line, &place.outpoint, place.value);
     line.member("by", way(due));
-    match coins.get(&place.outpoint) {
-        Some(coin) => line.count("due", due_height(&due.claim, coin.height)),
+    tell_due(line, coins, &due.claim);
+    line.close("}");
+}
+
+// Writes the height of the first block that can take a claim; `null` if its output is not on the chain.
+fn tell_due(line: &mut Line, coins: &Coins, claim: &Claim) {
+    match coins.get(&claim.place().outpoint) {
+        Some(coin) => line.count("due", due_height(claim, coin.height)),
         None => {
             line.name("due");
             line.json("null");
         }
     }
-    line.close("}");
 }
 
 /// Writes the claims that a look gave.

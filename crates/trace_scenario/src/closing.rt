@@ -3,6 +3,7 @@
 use crate::coins::{Coin, Coins, Kind};
 use crate::outputs::{outpoint_of, tell_kind, tell_output};
 use chain::Confirmed;
+use channel::CommitmentState;
 use commit::{Commitment, CommitmentOutput, Direction, OutputKind, build};
 use std::alloc::Global;
 use terms::{Htlc, Side, Terms, number_of};
@@ -123,10 +124,6 @@ fn tell_if_of(
         return;
     };
     let terms = own.terms();
-    let number = number_of(terms, confirmed.tx()).unwrap_or(u64::MAX);
-    let Some(state) = own.own_commitment(number) else {
-        return;
-    };
     let closing = Closing {
         channel,
         holder,
@@ -134,7 +131,32 @@ fn tell_if_of(
         height,
         delay: u64::from(terms.party(holder).delay),
     };
-    match build(alloc, terms, &state.view, holder, number, &state.point) {
+    let number = number_of(terms, confirmed.tx()).unwrap_or(u64::MAX);
+    if let Some(state) = own.own_commitment(number) {
+        tell_if_built(alloc, world, coins, line, closing, terms, state, confirmed);
+    }
+}
+
+// Writes a transaction as the commitment of this state, if it is that one.
+fn tell_if_built(
+    alloc: Global,
+    world: &World,
+    coins: &mut Coins,
+    line: &mut Line,
+    closing: Closing,
+    terms: &Terms,
+    state: &CommitmentState,
+    confirmed: &Confirmed,
+) {
+    let number = state.number;
+    match build(
+        alloc,
+        terms,
+        &state.view,
+        closing.holder,
+        number,
+        &state.point,
+    ) {
         Ok(commitment) => {
             if commitment.id() == confirmed.id() {
                 tell_closing(world, coins, line, closing, number, &commitment, confirmed);

@@ -48,6 +48,22 @@ fn tell_out(line: &mut Line, offerer: Side, before: &View, now: &View) {
     }
 }
 
+// Writes the new HTLCs of both sides.
+fn tell_all_in(line: &mut Line, before: &View, now: &View) {
+    line.begin("in", "[");
+    tell_in(line, Side::A, before, now);
+    tell_in(line, Side::B, before, now);
+    line.close("]");
+}
+
+// Writes the HTLCs of both sides that are gone.
+fn tell_all_out(line: &mut Line, before: &View, now: &View) {
+    line.begin("out", "[");
+    tell_out(line, Side::A, before, now);
+    tell_out(line, Side::B, before, now);
+    line.close("]");
+}
+
 // Writes that a commitment is its owner's newest one, and what changed from the one before.
 fn tell_newest(line: &mut Line, channel: u64, before: &CommitmentState, now: &CommitmentState) {
     let view = &now.view;
@@ -57,14 +73,8 @@ fn tell_newest(line: &mut Line, channel: u64, before: &CommitmentState, now: &Co
     line.count("number", now.number);
     line.count("feerate", u64::from(view.feerate));
     tell_both(line, "balance", view.a.balance, view.b.balance);
-    line.begin("in", "[");
-    tell_in(line, Side::A, &before.view, view);
-    tell_in(line, Side::B, &before.view, view);
-    line.close("]");
-    line.begin("out", "[");
-    tell_out(line, Side::A, &before.view, view);
-    tell_out(line, Side::B, &before.view, view);
-    line.close("]");
+    tell_all_in(line, &before.view, view);
+    tell_all_out(line, &before.view, view);
     line.close("}");
 }
 

@@ -47,21 +47,25 @@ fn tell_kept(line: &mut Line, name: &str, book: &Book) {
     line.close("]");
 }
 
+// Writes the penalties that the books keep, and the lengths of their histories.
+fn tell_books(line: &mut Line, a: &Book, b: &Book) {
+    line.begin("kept", "{");
+    tell_kept(line, "A", a);
+    tell_kept(line, "B", b);
+    line.close("}");
+    let (of_a, of_b) = (a.entries().len(), b.entries().len());
+    tell_both(line, "history", of_a as u64, of_b as u64);
+}
+
 /// Writes the end: the chain, the penalties that each side keeps, the lengths of their histories, and the value that is
 /// each side's alone.
 pub fn tell_end(line: &mut Line, coins: &Coins, world: &World) {
-    let (a, b) = (world.book(Side::A), world.book(Side::B));
     line.open("{");
     line.begin("end", "{");
     if tell_chain(line, world.chain()).is_err() {
         line.fail();
     }
-    line.begin("kept", "{");
-    tell_kept(line, "A", a);
-    tell_kept(line, "B", b);
-    line.close("}");
-    let entries = (a.entries().len(), b.entries().len());
-    tell_both(line, "history", entries.0 as u64, entries.1 as u64);
+    tell_books(line, world.book(Side::A), world.book(Side::B));
     tell_both(line, "onchain", coins.alone.a, coins.alone.b);
     line.close("}");
     line.end();

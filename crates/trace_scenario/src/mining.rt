@@ -100,6 +100,17 @@ fn fee(coins: &Coins, tx: &Tx) -> u64 {
     coins.worth(tx).saturating_sub(paid)
 }
 
+// Writes a transaction in a block of this height, and leaves its object open. What it spends goes.
+fn tell_mined_tx(coins: &mut Coins, line: &mut Line, height: u64, confirmed: &Confirmed) {
+    let tx = confirmed.tx();
+    line.open("{");
+    line.count("height", height);
+    line.hex("txid", confirmed.id());
+    tell_spends(line, tx);
+    line.count("fee", fee(coins, tx));
+    spend(coins, line, tx);
+}
+
 // Writes a transaction in a block of this
 // height, whose first input spends this coin.
 fn tell_tx(
@@ -111,12 +122,7 @@ fn tell_tx(
     spent: &Coin,
     confirmed: &Confirmed,
 ) {
-    line.open("{");
-    line.count("height", height);
-    line.hex("txid", confirmed.id());
-    tell_spends(line, confirmed.tx());
-    line.count("fee", fee(coins, confirmed.tx()));
-    spend(coins, line, confirmed.tx());
+    tell_mined_tx(coins, line, height, confirmed);
     match spent.kind {
         Kind::Funding => tell_commitment(
             alloc,

@@ -2,7 +2,7 @@
 
 use crate::coins::{Coin, Coins, Kind};
 use crate::writer::{side_name, tell_outpoint};
-use terms::{Side, Terms};
+use terms::{Party, Side, Terms};
 use trace_words::Line;
 use world::World;
 
@@ -22,12 +22,16 @@ fn tell_terms(line: &mut Line, terms: &Terms) {
     line.count("capacity", terms.capacity);
     line.member("opener", side_name(terms.opener));
     line.count("feerate", u64::from(terms.feerate));
-    let (a, b) = (&terms.a, &terms.b);
+    tell_parties(line, &terms.a, &terms.b);
+    line.close("}");
+}
+
+// Writes what each side brings to a new channel.
+fn tell_parties(line: &mut Line, a: &Party, b: &Party) {
     tell_pair(line, "dust", a.dust, b.dust);
     tell_pair(line, "delay", u64::from(a.delay), u64::from(b.delay));
     tell_pair(line, "minimum", a.minimum, b.minimum);
     tell_pair(line, "start", a.start, b.start);
-    line.close("}");
 }
 
 // The coin of a channel's funding output.
@@ -44,6 +48,12 @@ fn funding_coin(channel: u64, terms: &Terms) -> Coin {
     }
 }
 
+// Writes a new channel, whose funding output is on the chain.
+fn tell_channel(line: &mut Line, coins: &mut Coins, channel: u64, terms: &Terms) {
+    tell_terms(line, terms);
+    coins.begin(line, &terms.funding, funding_coin(channel, terms));
+}
+
 /// Writes the opening: the terms of each channel,
 /// whose funding outputs are on the chain.
 pub fn tell_opening(line: &mut Line, coins: &mut Coins, world: &World, events: usize) {
@@ -54,9 +64,7 @@ pub fn tell_opening(line: &mut Line, coins: &mut Coins, world: &World, events: u
     line.begin("channels", "[");
     for index in 0..book.channel_count() {
         if let Some(channel) = book.channel(index) {
-            let terms = channel.terms();
-            tell_terms(line, terms);
-            coins.begin(line, &terms.funding, funding_coin(index, terms));
+            tell_channel(line, coins, index, channel.terms());
         }
     }
     line.close("]");

@@ -1,7 +1,7 @@
 //! New outputs, and who can spend them when.
 
 use crate::coins::{Coin, Coins, Kind};
-use crate::writer::{tell_outpoint, tell_side};
+use crate::writer::{tell_place, tell_side};
 use chain::Confirmed;
 use terms::Side;
 use trace_words::Line;
@@ -64,9 +64,7 @@ fn tell_ways(line: &mut Line, coin: &Coin) {
 /// Writes a new output, and leaves its object open.
 pub fn tell_output(line: &mut Line, coins: &mut Coins, outpoint: &OutPoint, coin: Coin) {
     line.open("{");
-    line.name("outpoint");
-    tell_outpoint(line, outpoint);
-    line.count("value", coin.value);
+    tell_place(line, outpoint, coin.value);
     line.member("kind", kind_name(coin.kind));
     tell_side(line, "owner", coin.owner);
     line.begin("ways", "[");

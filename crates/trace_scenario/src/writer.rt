@@ -25,6 +25,13 @@ pub fn tell_both(line: &mut Line, name: &str, a: u64, b: u64) {
     line.close("}");
 }
 
+/// Writes where an output is, and its satoshis.
+pub fn tell_place(line: &mut Line, outpoint: &OutPoint, value: u64) {
+    line.name("outpoint");
+    tell_outpoint(line, outpoint);
+    line.count("value", value);
+}
+
 /// Writes an outpoint.
 pub fn tell_outpoint(line: &mut Line, outpoint: &OutPoint) {
     line.json("\"");

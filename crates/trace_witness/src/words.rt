@@ -23,10 +23,11 @@ pub fn run_words<R: Read, W: Write, E: Write>(
 ) -> u8
     ensures { result ≤ 2 }
 {
-    match words {
-        [] => tell(alloc, Form::Json, input, out),
-        [form] if form.as_str() == "--text" => tell(alloc, Form::Text, input, out),
-        _ => refuse_words(err),
+    let (form, rest) = Form::read(words);
+    if rest.is_empty() {
+        tell(alloc, form, input, out)
+    } else {
+        refuse_words(err)
     }
 }
 

@@ -102,13 +102,8 @@ fn tell_value(line: &mut Line, fact: &Fact) {
     }
 }
 
-// Writes a fact.
-fn tell_fact(line: &mut Line, stated: &Stated) {
-    let fact = &stated.fact;
-    line.open("{");
-    line.member("kind", kind(fact));
-    line.flag("holds", stated.holds);
-    line.member("role", Role::of(stated).text());
+// Writes what a fact is about: its slots, its keys and its value.
+fn tell_subject(line: &mut Line, fact: &Fact) {
     line.begin("slots", "[");
     tell_slots(line, fact);
     line.close("]");
@@ -117,28 +112,47 @@ fn tell_fact(line: &mut Line, stated: &Stated) {
     line.close("]");
     line.name("value");
     tell_value(line, fact);
+}
+
+// Writes a fact.
+fn tell_fact(line: &mut Line, stated: &Stated) {
+    line.open("{");
+    line.member("kind", kind(&stated.fact));
+    line.flag("holds", stated.holds);
+    line.member("role", Role::of(stated).text());
+    tell_subject(line, &stated.fact);
     line.shown("says", Sentence(stated));
     line.close("}");
 }
 
+// Writes what the witness of a path weighs.
+fn tell_weights(line: &mut Line, path: &Path, size: usize) {
+    let facts = path.facts.values();
+    line.name("weight");
+    line.number(witness_weight(facts, path.arity, size, SIGNATURE_SIZE));
+    line.name("token_weight");
+    line.number(witness_weight(facts, path.arity, size, TOKEN_SIZE));
+}
+
+// Writes facts.
+fn tell_facts(line: &mut Line, facts: &[Stated]) {
+    line.begin("facts", "[");
+    for stated in facts {
+        tell_fact(line, stated);
+    }
+    line.close("]");
+}
+
 // Writes a path through a script of this number of bytes, an element of an array.
 fn tell_path(line: &mut Line, path: &Path, size: usize) {
-    let facts = path.facts.values();
     line.open("{");
     line.count("arity", path.arity as u64);
     line.count("counted", path.ops as u64);
     line.count("height", path.height as u64);
     line.count_or_null("lock", path.lock);
     line.count_or_null("age", path.age.map(u64::from));
-    line.name("weight");
-    line.number(witness_weight(facts, path.arity, size, SIGNATURE_SIZE));
-    line.name("token_weight");
-    line.number(witness_weight(facts, path.arity, size, TOKEN_SIZE));
-    line.begin("facts", "[");
-    for stated in facts {
-        tell_fact(line, stated);
-    }
-    line.close("]");
+    tell_weights(line, path, size);
+    tell_facts(line, path.facts.values());
     line.close("}");
 }
 

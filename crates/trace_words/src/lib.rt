@@ -27,11 +27,9 @@ mod places;
 mod reading;
 mod sentences;
 mod weights;
-mod words;
 mod writer;
 
 use crate::lines::{tell_input, told};
-use crate::words::Command;
 pub use input::{InputError, MAX_INPUT, read_all};
 pub use lines::write_told;
 pub use looks::Look;
@@ -58,10 +56,29 @@ pub fn run_words<R: Read, W: Write, E: Write>(
 ) -> u8
     ensures { result ≤ 2 }
 {
-    match Command::read(words) {
-        Some(Command::Script(form, text)) => told(alloc, text, form, out),
-        Some(Command::Scripts(form)) => tell_input(alloc, form, input, out),
-        None => refuse_words(err),
+    match words.split_first() {
+        Some((word, rest)) if word.as_str() == "script" => {
+            tell_scripts(alloc, rest, input, out, err)
+        }
+        _ => refuse_words(err),
+    }
+}
+
+// Explains the scripts that the words after `script` ask for, and returns the status.
+fn tell_scripts<R: Read, W: Write, E: Write>(
+    alloc: Global,
+    words: &[String],
+    input: &mut R,
+    out: &mut W,
+    err: &mut E,
+) -> u8
+    ensures { result ≤ 2 }
+{
+    let (form, rest) = Form::read(words);
+    match rest {
+        [] => tell_input(alloc, form, input, out),
+        [text] => told(alloc, text.as_str(), form, out),
+        _ => refuse_words(err),
     }
 }
 

@@ -31,7 +31,8 @@ fn tell_push(line: &mut Line, item: &[u8]) {
 
 /// Writes an opcode on a line: the byte at which it begins, and its name, indented by branch.
 pub fn tell_op(line: &mut Line, op: &Op, byte: usize, depth: usize) {
-    line.push_shown(format_args!("{byte:>5}  "));
+    line.push_shown(format_args!("{byte:>5}"));
+    line.push("  ");
     for _ in 0..depth {
         line.push("  ");
     }
@@ -69,21 +70,31 @@ fn tell_role(line: &mut Line, facts: &[Stated], role: Role, otherwise: &str) {
     }
 }
 
+// Writes what the witness of a path weighs.
+fn tell_weights(line: &mut Line, path: &Path, size: usize) {
+    let facts = path.facts.values();
+    line.push_shown(witness_weight(facts, path.arity, size, SIGNATURE_SIZE));
+    line.push(" weight units (");
+    line.push_shown(witness_weight(facts, path.arity, size, TOKEN_SIZE));
+    line.push(" with tokens)\n");
+}
+
+// Writes the facts of a path by their roles.
+fn tell_roles(line: &mut Line, facts: &[Stated]) {
+    tell_role(line, facts, Role::Who, "  who   anyone\n");
+    tell_role(line, facts, Role::With, "");
+    tell_role(line, facts, Role::When, "  when  at once\n");
+}
+
 // Writes a path through a script of this number of bytes, with its number.
 fn tell_path(line: &mut Line, path: &Path, number: usize, size: usize) {
-    let facts = path.facts.values();
     line.push("path ");
     line.push_shown(number);
     line.push(": ");
     line.push_shown(path.arity);
     line.push(" items, ");
-    line.push_shown(witness_weight(facts, path.arity, size, SIGNATURE_SIZE));
-    line.push(" weight units (");
-    line.push_shown(witness_weight(facts, path.arity, size, TOKEN_SIZE));
-    line.push(" with tokens)\n");
-    tell_role(line, facts, Role::Who, "  who   anyone\n");
-    tell_role(line, facts, Role::With, "");
-    tell_role(line, facts, Role::When, "  when  at once\n");
+    tell_weights(line, path, size);
+    tell_roles(line, path.facts.values());
 }
 
 /// Writes the paths through a script of this number of bytes.

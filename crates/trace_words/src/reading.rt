@@ -21,6 +21,16 @@ pub enum Form {
     Text,
 }
 
+impl Form {
+    /// The format that words ask for, and the words after it: `--text` comes first.
+    pub fn read(words: &[String]) -> (Form, &[String]) {
+        match words.split_first() {
+            Some((word, rest)) if word.as_str() == "--text" => (Form::Text, rest),
+            _ => (Form::Json, words),
+        }
+    }
+}
+
 /// Explains a script in hexadecimal: its opcodes, then its paths, or why it is refused. Returns whether its paths are listed.
 pub fn tell(alloc: Global, line: &mut Line, form: Form, text: &str) -> bool {
     match hex::decode(alloc, text) {

@@ -3,7 +3,7 @@
 ghost use Rattle.std.specs.Prelude.{Some, ◌≡◌, ◌++◌, codes, decimal};
 ghost use Rattle.std.specs.Fmt.{WritesOnOk};
 ghost use Rattle.facts.specs.Texts.{hex_text, key_text, comma_separated};
-ghost use Rattle.trace_words.specs.Sentences.{is_words, are_words, truth_words, key_words, item_words, lock_words, age_words, slot_words, assigned_words, lock_sentence, age_sentence, sentence_of};
+ghost use Rattle.trace_words.specs.Sentences.{is_words, are_words, truth_words, key_words, item_words, slot_words, assigned_words, lock_sentence, age_sentence, sentence_of};
 
 use facts::texts::{Hex, Keys, Slots};
 use facts::{Fact, KeySource, Stated};
@@ -104,45 +104,6 @@ impl fmt::Display for Item<'_> {
     }
 }
 
-// An absolute lock that holds (BIP 65).
-#[derive(Drop)]
-struct Lock(u64);
-
-impl fmt::Display for Lock {
-    ghost output = { λ l. Some (lock_words l.0) };
-
-    fn fmt<W: fmt::Write>(&self, f: &mut fmt::Formatter<W>) -> fmt::Result {
-        let lock = self.0;
-        if lock < LOCKTIME_THRESHOLD {
-            let block = lock + 1;
-            return write!(f, "in block {block} at the earliest");
-        }
-        write!(
-            f,
-            "at the time {lock} in seconds since 1970, which this profile never reaches"
-        )
-    }
-}
-
-// A relative lock that holds (BIP 112).
-#[derive(Drop)]
-struct Age(u32);
-
-impl fmt::Display for Age {
-    ghost output = { λ a. Some (age_words a.0) };
-
-    fn fmt<W: fmt::Write>(&self, f: &mut fmt::Formatter<W>) -> fmt::Result {
-        let units = self.0 % 0x1_0000;
-        if self.0 / 0x40_0000 % 2 == 0 {
-            return write!(f, "after {units} blocks");
-        }
-        write!(
-            f,
-            "after {units} units of 512 seconds, which this profile never reaches"
-        )
-    }
-}
-
 // Keys whose signatures are needed in this order.
 #[derive(Drop)]
 struct KeysInOrder<'a>(&'a [KeySource]);
@@ -237,24 +198,38 @@ fn write_token<W: fmt::Write>(
     write!(f, "slot {slot} {verb} a signature by {}", Key(key))
 }
 
-// Writes that an absolute lock holds, or that its check fails.
+// Writes that an absolute lock holds (BIP 65), or that its check fails.
 fn write_lock<W: fmt::Write>(f: &mut fmt::Formatter<W>, lock: u64, holds: bool) -> fmt::Result
     ensures { WritesOnOk W.write_str_gives f.old result (lock_sentence lock holds) f.new }
 {
-    if holds {
-        return write!(f, "{}", Lock(lock));
+    if !holds {
+        return write!(f, "while the check of the lock time {lock} fails");
     }
-    write!(f, "while the check of the lock time {lock} fails")
+    if lock < LOCKTIME_THRESHOLD {
+        let block = lock + 1;
+        return write!(f, "in block {block} at the earliest");
+    }
+    write!(
+        f,
+        "at the time {lock} in seconds since 1970, which this profile never reaches"
+    )
 }
 
-// Writes that a relative lock holds, or that its check fails.
+// Writes that a relative lock holds (BIP 112), or that its check fails.
 fn write_age<W: fmt::Write>(f: &mut fmt::Formatter<W>, age: u32, holds: bool) -> fmt::Result
     ensures { WritesOnOk W.write_str_gives f.old result (age_sentence age holds) f.new }
 {
-    if holds {
-        return write!(f, "{}", Age(age));
+    if !holds {
+        return write!(f, "while the check of the relative lock {age} fails");
     }
-    write!(f, "while the check of the relative lock {age} fails")
+    let units = age % 0x1_0000;
+    if age / 0x40_0000 % 2 == 0 {
+        return write!(f, "after {units} blocks");
+    }
+    write!(
+        f,
+        "after {units} units of 512 seconds, which this profile never reaches"
+    )
 }
 
 /// A fact, printed as a sentence.
