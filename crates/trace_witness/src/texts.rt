@@ -2,7 +2,7 @@
 
 use crate::causes::{cause_sentence, fault_sentence};
 use lists::{ByteString, Stack};
-use script::Op;
+use script::{Cause, Op};
 use trace_words::{Form, Line, byte_of, opcode_name};
 use verdict::{Clean, Fault, Stopped, Verdict};
 
@@ -86,20 +86,30 @@ fn element_page(line: &mut Line, item: &[u8]) {
     line.push("\n");
 }
 
-// Writes a run that stops, for people.
-fn stopped_page(line: &mut Line, stopped: &Stopped) {
-    op_page(line, stopped.script.ops(), stopped.index);
+// Writes why a run stops, for people.
+fn cause_page(line: &mut Line, cause: Cause) {
     line.push(": ");
-    line.push_shown(stopped.cause);
+    line.push_shown(cause);
     line.push(": ");
-    line.push(cause_sentence(stopped.cause));
+    line.push(cause_sentence(cause));
     line.push("\n");
+}
+
+// Writes the stack at which a run stops, and the digest, for people.
+fn stack_page(line: &mut Line, stopped: &Stopped) {
     for item in stack_values(&stopped.stack).iter().rev() {
         element_page(line, item.bytes());
     }
     line.push("  digest  ");
     line.push_hex(&stopped.digest);
     line.push("\n");
+}
+
+// Writes a run that stops, for people.
+fn stopped_page(line: &mut Line, stopped: &Stopped) {
+    op_page(line, stopped.script.ops(), stopped.index);
+    cause_page(line, stopped.cause);
+    stack_page(line, stopped);
 }
 
 // Writes why no script runs as members of an object.

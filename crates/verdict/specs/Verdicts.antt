@@ -4,6 +4,7 @@ use Rattle.script.specs.declared.opcode.Op.{Op}
 use Rattle.script.specs.declared.spending.Spend.{Spend}
 use Rattle.script.specs.declared.parse.ParseError.{ParseError}
 use Rattle.script.specs.Step.{Elements}
+use Rattle.script.specs.Spelling.{IsFault}
 use Rattle.script.specs.Run.{Outcome, outcome, Clean as RunsClean, Stopped as StopsAt}
 use Rattle.machine.specs.Elements.{elements_at}
 use Rattle.tx.specs.declared.input.TxIn.{TxIn}
@@ -38,10 +39,10 @@ case_of_given t input value given = option_map (λ ops. record { spend = spend_o
 unfoldable pub case_of : Transaction → TxIn → Output → Option Case
 case_of t input output = option_and_then (case_of_given t input output.value) (given_of output.script input.witness)
 
--- bytes are read as these opcodes, or as none
-abbrev pub IsParsed : Option (List Op) → Result (List Op) ParseError → Type 0
-IsParsed ops (Ok script) = ops ≡ Some script
-IsParsed ops (Err error) = ops ≡ None
+-- bytes are read as these opcodes, or as none for this fault
+abbrev pub IsParsed : List ℕ → Result (List Op) ParseError → Type 0
+IsParsed bytes (Ok script) = script_ops bytes ≡ Some script
+IsParsed bytes (Err error) = (script_ops bytes ≡ None) × IsFault bytes error
 
 -- what is said of an input is so: nothing runs; the run stops there, with these elements; or it is clean, on that path; unless memory ran out
 abbrev pub IsJudged : {E : Type 0} → Option Case → Result Verdict E → Type 0

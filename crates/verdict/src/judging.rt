@@ -5,6 +5,7 @@ ghost use Rattle.script.specs.Run.{outcome, Stopped as StopsAt};
 ghost use Rattle.sighash.specs.Programs.{key_hash_script, script_ops, spend_of, given_of, given_by_hash};
 ghost use Rattle.verdict.specs.Meeting.{path_taken};
 ghost use Rattle.verdict.specs.Verdicts.{case_of_given, case_of, IsParsed, IsJudged};
+ghost use Rattle.verdict.specs.Faults.{IsBadScript, IsScriptHashFault, IsFaultOf, OnRefused};
 
 use crate::meeting::met_path;
 use crate::verdicts::{Clean, Fault, Stopped, Verdict};
@@ -42,7 +43,8 @@ pub fn judge(
 ) -> Result<Verdict, AllocError>
     requires cached { cache.now ≡ tx.now }
     requires indexed { slice_get tx.now.inputs index ≡ Some input.now }
-    ensures { IsJudged (case_of tx.now input.now output.now) result }
+    ensures judged { IsJudged (case_of tx.now input.now output.now) result }
+    ensures fault { IfOk result (OnRefused (IsFaultOf output.now.script input.now.witness)) }
 {
     let program = output.script().bytes();
     let value = output.value();
@@ -73,8 +75,10 @@ fn judge_by_hash(
 ) -> Result<Verdict, AllocError>
     requires cached { cache.now ≡ tx.now }
     requires indexed { slice_get tx.now.inputs index ≡ Some input.now }
-    ensures { IsJudged (option_and_then (case_of_given tx.now input.now value)
+    ensures judged { IsJudged (option_and_then (case_of_given tx.now input.now value)
         (given_by_hash hash.now (reverse input.now.witness))) result }
+    ensures fault { IfOk result
+        (OnRefused (IsScriptHashFault hash.now (reverse input.now.witness))) }
 {
     let Some((script, items)) = input.witness.as_slice().split_last() else {
         return Ok(Verdict::Refused(Fault::NoScript));
@@ -99,8 +103,9 @@ fn judge_code(
 ) -> Result<Verdict, AllocError>
     requires cached { cache.now ≡ tx.now }
     requires indexed { slice_get tx.now.inputs index ≡ Some input.now }
-    ensures { IsJudged (case_of_given tx.now input.now value
+    ensures judged { IsJudged (case_of_given tx.now input.now value
         (record { script = code.now; items = items.now })) result }
+    ensures fault { IfOk result (OnRefused (IsBadScript code.now)) }
 {
     let spend = spend_for(tx, cache, index, input, value, code);
     match parse(alloc, code)? {
@@ -136,7 +141,7 @@ fn spend_for(
 // Reads a script.
 #[tactic(auto, using(sighash::proofs::Parsing::parsed, sighash::proofs::Parsing::unparsed))]
 fn parse(alloc: Global, bytes: &[u8]) -> Result<Result<Script, ParseError>, AllocError>
-    ensures { IfOk result (IsParsed (script_ops bytes.now)) }
+    ensures { IfOk result (IsParsed bytes.now) }
 {
     match Script::parse(alloc, bytes) {
         Ok(script) => Ok(Ok(script)),
