@@ -1,12 +1,11 @@
 //! The claims of a side.
 
 use crate::coins::Coins;
-use crate::writer::{tell_place, tell_side};
+use crate::writer::Line;
 use claim::{Claim, Shell};
 use side::DueClaim;
 use sighash::programs::is_key_hash_program;
 use terms::Side;
-use trace_words::Line;
 use world::World;
 
 // The name of the way in which a claim spends its output.
@@ -43,30 +42,29 @@ fn due_height(claim: &Claim, height: u64) -> u64 {
 fn tell_claim(line: &mut Line, coins: &Coins, side: Side, due: &DueClaim) {
     let place = due.claim.place();
     line.open("{");
-    tell_side(line, "side", side);
+    line.side("side", side);
     line.count("channel", due.channel);
-    tell_place(line, &place.outpoint, place.value);
-    line.member("by", way(due));
-    tell_due(line, coins, &due.claim);
-    line.close("}");
-}
-
-// Writes the height of the first block that can take a claim; `null` if its output is not on the chain.
-fn tell_due(line: &mut Line, coins: &Coins, claim: &Claim) {
-    match coins.get(&claim.place().outpoint) {
-        Some(coin) => line.count("due", due_height(claim, coin.height)),
+    line.name("outpoint");
+    line.outpoint(&place.outpoint);
+    line.count("value", place.value);
+    line.name("by");
+    line.word(way(due));
+    match coins.get(&place.outpoint) {
+        Some(coin) => line.count("due", due_height(&due.claim, coin.height)),
         None => {
             line.name("due");
             line.json("null");
         }
     }
+    line.close("}");
 }
 
 /// Writes the claims that a look gave.
 pub fn tell_claims(line: &mut Line, coins: &Coins, world: &World, side: Side, count: u64) {
     let jobs = world.jobs(side);
     let before = (jobs.len() as u64).saturating_sub(count);
-    line.begin("claims", "[");
+    line.name("claims");
+    line.open("[");
     for due in jobs.iter().skip(before as usize) {
         tell_claim(line, coins, side, due);
     }
@@ -75,8 +73,9 @@ pub fn tell_claims(line: &mut Line, coins: &Coins, world: &World, side: Side, co
 
 /// Writes how many jobs a side has, and how many claims it took and did not release yet.
 pub fn tell_jobs(line: &mut Line, world: &World, side: Side) {
-    line.begin("jobs", "{");
-    tell_side(line, "side", side);
+    line.name("jobs");
+    line.open("{");
+    line.side("side", side);
     line.count("jobs", world.jobs(side).len() as u64);
     line.count("taken", world.taken(side).len() as u64);
     line.close("}");

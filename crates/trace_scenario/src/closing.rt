@@ -2,12 +2,11 @@
 
 use crate::coins::{Coin, Coins, Kind};
 use crate::outputs::{outpoint_of, tell_kind, tell_output};
+use crate::writer::Line;
 use chain::Confirmed;
-use channel::CommitmentState;
 use commit::{Commitment, CommitmentOutput, Direction, OutputKind, build};
 use std::alloc::Global;
 use terms::{Htlc, Side, Terms, number_of};
-use trace_words::Line;
 use world::World;
 
 /// A commitment in a block.
@@ -76,7 +75,8 @@ fn tell_outputs(
     confirmed: &Confirmed,
 ) {
     let mut k = 0u64;
-    line.begin("outputs", "[");
+    line.name("outputs");
+    line.open("[");
     for (index, output) in outputs.iter().enumerate() {
         let coin = output_coin(closing, output);
         tell_output(line, coins, &outpoint_of(confirmed, index), coin);
@@ -105,7 +105,8 @@ fn tell_closing(
     }
     tell_kind(line, "commitment", closing.channel, closing.holder);
     line.count("number", number);
-    line.flag("revoked", closing.is_revoked);
+    line.name("revoked");
+    line.json(if closing.is_revoked { "true" } else { "false" });
     tell_outputs(coins, line, &closing, commitment.outputs(), confirmed);
 }
 
@@ -124,6 +125,10 @@ fn tell_if_of(
         return;
     };
     let terms = own.terms();
+    let number = number_of(terms, confirmed.tx()).unwrap_or(u64::MAX);
+    let Some(state) = own.own_commitment(number) else {
+        return;
+    };
     let closing = Closing {
         channel,
         holder,
@@ -131,32 +136,7 @@ fn tell_if_of(
         height,
         delay: u64::from(terms.party(holder).delay),
     };
-    let number = number_of(terms, confirmed.tx()).unwrap_or(u64::MAX);
-    if let Some(state) = own.own_commitment(number) {
-        tell_if_built(alloc, world, coins, line, closing, terms, state, confirmed);
-    }
-}
-
-// Writes a transaction as the commitment of this state, if it is that one.
-fn tell_if_built(
-    alloc: Global,
-    world: &World,
-    coins: &mut Coins,
-    line: &mut Line,
-    closing: Closing,
-    terms: &Terms,
-    state: &CommitmentState,
-    confirmed: &Confirmed,
-) {
-    let number = state.number;
-    match build(
-        alloc,
-        terms,
-        &state.view,
-        closing.holder,
-        number,
-        &state.point,
-    ) {
+    match build(alloc, terms, &state.view, holder, number, &state.point) {
         Ok(commitment) => {
             if commitment.id() == confirmed.id() {
                 tell_closing(world, coins, line, closing, number, &commitment, confirmed);

@@ -1,10 +1,9 @@
 //! The outputs on the chain, and how to undo their changes when a block is disconnected.
 
-use crate::writer::tell_both;
+use crate::writer::Line;
 use std::alloc::Global;
 use std::collections::BTreeMap;
 use terms::Side;
-use trace_words::Line;
 use tx::{OutPoint, Tx};
 
 /// The kind of an output.
@@ -192,7 +191,7 @@ impl Coins {
     /// Writes the value that is each side's alone, if it changed since it was written last.
     pub fn tell_alone(&mut self, line: &mut Line) {
         if self.alone != self.told {
-            tell_both(line, "onchain", self.alone.a, self.alone.b);
+            line.of_both("onchain", self.alone.a, self.alone.b);
             self.told = self.alone;
         }
     }

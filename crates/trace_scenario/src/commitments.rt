@@ -1,15 +1,14 @@
 //! What changes with a side's newest commitment.
 
-use crate::writer::{tell_both, tell_side};
+use crate::writer::Line;
 use channel::CommitmentState;
 use terms::{Htlc, Side, View};
-use trace_words::Line;
 use world::World;
 
 // Writes an HTLC's name: its offerer and its id.
 fn tell_htlc_name(line: &mut Line, offerer: Side, htlc: &Htlc) {
     line.open("{");
-    tell_side(line, "offerer", offerer);
+    line.side("offerer", offerer);
     line.count("id", htlc.id);
     line.close("}");
 }
@@ -48,33 +47,26 @@ fn tell_out(line: &mut Line, offerer: Side, before: &View, now: &View) {
     }
 }
 
-// Writes the new HTLCs of both sides.
-fn tell_all_in(line: &mut Line, before: &View, now: &View) {
-    line.begin("in", "[");
-    tell_in(line, Side::A, before, now);
-    tell_in(line, Side::B, before, now);
-    line.close("]");
-}
-
-// Writes the HTLCs of both sides that are gone.
-fn tell_all_out(line: &mut Line, before: &View, now: &View) {
-    line.begin("out", "[");
-    tell_out(line, Side::A, before, now);
-    tell_out(line, Side::B, before, now);
-    line.close("]");
-}
-
 // Writes that a commitment is its owner's newest one, and what changed from the one before.
 fn tell_newest(line: &mut Line, channel: u64, before: &CommitmentState, now: &CommitmentState) {
     let view = &now.view;
-    line.begin("held", "{");
+    line.name("held");
+    line.open("{");
     line.count("channel", channel);
-    tell_side(line, "owner", now.owner);
+    line.side("owner", now.owner);
     line.count("number", now.number);
     line.count("feerate", u64::from(view.feerate));
-    tell_both(line, "balance", view.a.balance, view.b.balance);
-    tell_all_in(line, &before.view, view);
-    tell_all_out(line, &before.view, view);
+    line.of_both("balance", view.a.balance, view.b.balance);
+    line.name("in");
+    line.open("[");
+    tell_in(line, Side::A, &before.view, view);
+    tell_in(line, Side::B, &before.view, view);
+    line.close("]");
+    line.name("out");
+    line.open("[");
+    tell_out(line, Side::A, &before.view, view);
+    tell_out(line, Side::B, &before.view, view);
+    line.close("]");
     line.close("}");
 }
 

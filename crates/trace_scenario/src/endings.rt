@@ -1,12 +1,11 @@
 //! The line that ends a trace.
 
 use crate::coins::Coins;
-use crate::writer::tell_both;
+use crate::writer::Line;
 use book::Book;
 use chain::{Coins as _, Index};
 use std::alloc::AllocError;
 use terms::Side;
-use trace_words::Line;
 use world::World;
 
 // Writes the chain's height, its unspent outputs and its fees. The only error is that memory ran out.
@@ -40,33 +39,35 @@ fn tell_kept_in(line: &mut Line, book: &Book, channel: u64) {
 
 // Writes those of all channels.
 fn tell_kept(line: &mut Line, name: &str, book: &Book) {
-    line.begin(name, "[");
+    line.name(name);
+    line.open("[");
     for channel in 0..book.channel_count() {
         tell_kept_in(line, book, channel);
     }
     line.close("]");
 }
 
-// Writes the penalties that the books keep, and the lengths of their histories.
-fn tell_books(line: &mut Line, a: &Book, b: &Book) {
-    line.begin("kept", "{");
-    tell_kept(line, "A", a);
-    tell_kept(line, "B", b);
-    line.close("}");
-    let (of_a, of_b) = (a.entries().len(), b.entries().len());
-    tell_both(line, "history", of_a as u64, of_b as u64);
-}
-
 /// Writes the end: the chain, the penalties that each side keeps, the lengths of their histories, and the value that is
 /// each side's alone.
 pub fn tell_end(line: &mut Line, coins: &Coins, world: &World) {
+    let (a, b) = (world.book(Side::A), world.book(Side::B));
     line.open("{");
-    line.begin("end", "{");
+    line.name("end");
+    line.open("{");
     if tell_chain(line, world.chain()).is_err() {
         line.fail();
     }
-    tell_books(line, world.book(Side::A), world.book(Side::B));
-    tell_both(line, "onchain", coins.alone.a, coins.alone.b);
+    line.name("kept");
+    line.open("{");
+    tell_kept(line, "A", a);
+    tell_kept(line, "B", b);
+    line.close("}");
+    line.of_both(
+        "history",
+        a.entries().len() as u64,
+        b.entries().len() as u64,
+    );
+    line.of_both("onchain", coins.alone.a, coins.alone.b);
     line.close("}");
     line.end();
 }

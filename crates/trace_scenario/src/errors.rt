@@ -3,16 +3,19 @@
 use scenario::ScenarioError;
 use std::alloc::AllocError;
 use std::fmt;
-use trace_words::InputError;
 use world::errors::WorldError;
 
 /// Why a trace ends before its last line.
 #[derive(Drop)]
 pub enum TraceError {
+    /// Memory ran out.
+    NoMemory,
     /// A line can't be written.
     WriteFailed,
-    /// Memory ran out, or the input can't be read or is too long.
-    Input(InputError),
+    /// The input has more than 4,194,304 bytes.
+    TooLong,
+    /// The input can't be read.
+    ReadFailed,
     /// The input is not a scenario.
     Scenario(ScenarioError),
     /// The world of the scenario does not begin.
@@ -22,8 +25,10 @@ pub enum TraceError {
 impl fmt::Display for TraceError {
     fn fmt<W: fmt::Write>(&self, f: &mut fmt::Formatter<W>) -> fmt::Result {
         match self {
+            TraceError::NoMemory => write!(f, "NoMemory"),
             TraceError::WriteFailed => write!(f, "WriteFailed"),
-            TraceError::Input(error) => write!(f, "{error}"),
+            TraceError::TooLong => write!(f, "TooLong"),
+            TraceError::ReadFailed => write!(f, "ReadFailed"),
             TraceError::Scenario(error) => write!(f, "{error}"),
             TraceError::World(error) => write!(f, "{error}"),
         }
@@ -32,6 +37,6 @@ impl fmt::Display for TraceError {
 
 impl From<AllocError> for TraceError {
     fn from(_error: AllocError) -> TraceError {
-        TraceError::Input(InputError::NoMemory)
+        TraceError::NoMemory
     }
 }

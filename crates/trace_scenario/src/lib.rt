@@ -28,24 +28,26 @@ mod openings;
 mod outputs;
 mod playing;
 mod pool;
+mod reading;
 mod writer;
 
 use crate::endings::tell_end;
 use crate::errors::TraceError;
 use crate::openings::tell_opening;
 use crate::playing::{Told, played, tell_answer};
+use crate::reading::{read_all, scenario_in, value_in, words_in};
+use crate::writer::Line;
 use chain::Coins as _;
 use scenario::{Event, Scenario};
 use serde_json::Value;
 use std::alloc::Global;
 use std::io::{Read, Write};
-use trace_words::{InputError, Line, read_all, write_told};
 use world::World;
 
 // Writes a line at once, and clears it.
 fn write_line<W: Write>(out: &mut W, line: &mut Line) -> Result<(), TraceError> {
     let Some(text) = line.text() else {
-        return Err(TraceError::Input(InputError::NoMemory));
+        return Err(TraceError::NoMemory);
     };
     if out.write_all(text.as_bytes()).is_err() || out.flush().is_err() {
         return Err(TraceError::WriteFailed);
@@ -68,30 +70,9 @@ fn trace_event<W: Write>(
     let before = world.chain().height();
     let outcomes = played(world, event)?;
     for outcome in &outcomes {
-        tell_answer(line, index, words, outcome);
+        tell_answer(alloc, line, index, words, outcome);
         told.tell_event(alloc, line, world, before, event, outcome);
     }
-    write_line(out, line)
-}
-
-// Writes the lines of a world and its events, by a line and a state that are new.
-fn trace_events<W: Write>(
-    alloc: Global,
-    out: &mut W,
-    line: &mut Line,
-    world: &mut World,
-    told: &mut Told,
-    events: &[Event],
-    words: &[Value],
-) -> Result<(), TraceError> {
-    tell_opening(line, &mut told.coins, world, events.len());
-    write_line(out, line)?;
-    for (index, event) in events.iter().enumerate() {
-        if let Some(words) = words.get(index) {
-            trace_event(alloc, out, line, world, told, index, event, words)?;
-        }
-    }
-    tell_end(line, &told.coins, world);
     write_line(out, line)
 }
 
@@ -105,21 +86,18 @@ fn trace_world<W: Write>(
 ) -> Result<(), TraceError> {
     let mut line = Line::new(alloc);
     let mut told = Told::new(alloc);
-    trace_events(alloc, out, &mut line, world, &mut told, events, words)
-}
-
-// The events of a scenario as JSON values.
-fn words_in(value: &Value) -> &[Value] {
-    match value.get("events") {
-        Some(events) => match events.as_array() {
-            Some(events) => events.as_slice(),
-            None => &[],
-        },
-        None => &[],
+    tell_opening(&mut line, &mut told.coins, world, events.len());
+    write_line(out, &mut line)?;
+    for (index, event) in events.iter().enumerate() {
+        if let Some(words) = words.get(index) {
+            trace_event(alloc, out, &mut line, world, &mut told, index, event, words)?;
+        }
     }
+    tell_end(&mut line, &told.coins, world);
+    write_line(out, &mut line)
 }
 
-// Writes the lines of a scenario, of which `value` is the JSON.
+// Writes the lines of a scenario.
 fn trace_scenario<W: Write>(
     alloc: Global,
     out: &mut W,
@@ -138,52 +116,36 @@ fn trace_scenario<W: Write>(
     }
 }
 
-// Writes the lines of a scenario that was read from these bytes.
-fn trace_read<W: Write>(
-    alloc: Global,
-    out: &mut W,
-    scenario: &Scenario,
-    bytes: &[u8],
-) -> Result<(), TraceError> {
-    match Value::from_slice(alloc, bytes) {
-        Ok(value) => trace_scenario(alloc, out, scenario, &value),
-        Err(_) => Err(TraceError::Input(InputError::NoMemory)),
-    }
-}
-
-// Writes the lines of the scenario in the bytes.
-fn trace_bytes<W: Write>(alloc: Global, out: &mut W, bytes: &[u8]) -> Result<(), TraceError> {
-    match Scenario::read(alloc, bytes) {
-        Ok(scenario) => trace_read(alloc, out, &scenario, bytes),
-        Err(error) => Err(TraceError::Scenario(error)),
-    }
-}
-
 // Writes the lines of the scenario in the input.
 fn trace_input<R: Read, W: Write>(
     alloc: Global,
     input: &mut R,
     out: &mut W,
 ) -> Result<(), TraceError> {
-    match read_all(alloc, input) {
-        Ok(bytes) => trace_bytes(alloc, out, bytes.as_slice()),
-        Err(error) => Err(TraceError::Input(error)),
-    }
+    let bytes = read_all(alloc, input)?;
+    let scenario = scenario_in(alloc, bytes.as_slice())?;
+    let value = value_in(alloc, bytes.as_slice())?;
+    trace_scenario(alloc, out, &scenario, &value)
 }
 
 // Writes that the input is refused, or that memory ran out.
 fn refuse<W: Write>(alloc: Global, out: &mut W, error: &TraceError) {
-    let mut line = Line::new(alloc);
     match error {
-        TraceError::WriteFailed => return,
-        TraceError::Input(InputError::NoMemory) => line.fail(),
+        TraceError::WriteFailed => {}
+        TraceError::NoMemory => {
+            let _ = out.write_all(b"refused NoMemory\n");
+        }
         _ => {
-            line.open("{");
-            line.shown("refused", error);
-            line.end();
+            let mut line = Line::new(alloc);
+            if let Ok(text) = error.to_string(alloc) {
+                line.open("{");
+                line.name("refused");
+                line.word(text.as_str());
+                line.end();
+                let _ = write_line(out, &mut line);
+            }
         }
     }
-    let _ = write_told(out, &line, 1);
 }
 
 /// Plays the scenario in the input, and returns the status: 0 when all lines

@@ -1,11 +1,10 @@
 //! Messages between the sides, and their effects.
 
 use crate::commitments::tell_held;
-use crate::writer::tell_side;
+use crate::writer::Line;
 use book::{Call, Step};
 use channel::Message;
 use terms::Side;
-use trace_words::Line;
 use updates::Update;
 use world::World;
 
@@ -21,10 +20,12 @@ fn update_name(update: &Update) -> &'static str {
 
 // Writes that a message was delivered to a side, or is on its way to it.
 fn tell_message(line: &mut Line, world: &World, what: &str, to: Side, channel: u64, message: &str) {
-    line.begin(what, "{");
-    tell_side(line, "to", to);
+    line.name(what);
+    line.open("{");
+    line.side("to", to);
     line.count("channel", channel);
-    line.member("message", message);
+    line.name("message");
+    line.word(message);
     if let Some(inbox) = world.inbox(to, channel) {
         line.count("waiting", inbox.len() as u64);
     }
@@ -39,13 +40,15 @@ fn tell_htlc(line: &mut Line, channel: u64, by: Side, update: &Update, stages: [
         Update::Add(htlc) => {
             tell_stage(line, channel, by, htlc.id, offered);
             line.count("amount", htlc.amount);
-            line.hex("hash", &htlc.hash);
+            line.name("hash");
+            line.bytes(&htlc.hash);
             line.count("expiry", u64::from(htlc.expiry));
             line.close("}");
         }
         Update::Fulfil { id, preimage } => {
             tell_stage(line, channel, by.other(), *id, fulfilled);
-            line.hex("preimage", preimage);
+            line.name("preimage");
+            line.bytes(preimage);
             line.close("}");
         }
         Update::Fail { id } => {
@@ -58,11 +61,13 @@ fn tell_htlc(line: &mut Line, channel: u64, by: Side, update: &Update, stages: [
 
 // Begins the object of an HTLC that reaches a next stage.
 fn tell_stage(line: &mut Line, channel: u64, offerer: Side, id: u64, stage: &str) {
-    line.begin("htlc", "{");
+    line.name("htlc");
+    line.open("{");
     line.count("channel", channel);
-    tell_side(line, "offerer", offerer);
+    line.side("offerer", offerer);
     line.count("id", id);
-    line.member("stage", stage);
+    line.name("stage");
+    line.word(stage);
 }
 
 /// Writes an update that a side made.
@@ -80,9 +85,10 @@ pub fn tell_own(line: &mut Line, world: &World, side: Side, channel: u64) {
 
 // Writes that an owner's commitment of a number is signed or revoked.
 fn tell_commitment(line: &mut Line, what: &str, channel: u64, owner: Side, number: u64) {
-    line.begin(what, "{");
+    line.name(what);
+    line.open("{");
     line.count("channel", channel);
-    tell_side(line, "owner", owner);
+    line.side("owner", owner);
     line.count("number", number);
     line.close("}");
 }
@@ -139,8 +145,9 @@ pub fn tell_delivered(line: &mut Line, world: &World, side: Side, channel: u64) 
 
 /// Writes that a side keeps penalties.
 pub fn tell_kept(line: &mut Line, side: Side, channel: u64, number: u64) {
-    line.begin("kept", "{");
-    tell_side(line, "side", side);
+    line.name("kept");
+    line.open("{");
+    line.side("side", side);
     line.count("channel", channel);
     line.count("number", number);
     line.close("}");

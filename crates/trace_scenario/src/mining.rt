@@ -4,11 +4,11 @@ use crate::closing::tell_commitment;
 use crate::coins::{Coin, Coins, Kind};
 use crate::outputs::{outpoint_of, tell_kind, tell_output};
 use crate::pool::tell_spends;
+use crate::writer::Line;
 use chain::{Block, Coins as _, Confirmed};
 use sighash::programs::{is_script_hash_program, key_hash_program};
 use std::alloc::Global;
 use terms::Side;
-use trace_words::Line;
 use tx::{Tx, TxOut, total_value};
 use world::World;
 
@@ -79,7 +79,8 @@ fn tell_follower(
                 _ => "claim",
             };
             tell_kind(line, kind, coin.channel, coin.owner);
-            line.begin("outputs", "[");
+            line.name("outputs");
+            line.open("[");
         }
         tell_output(line, coins, &outpoint_of(confirmed, index), coin);
         line.close("}");
@@ -100,17 +101,6 @@ fn fee(coins: &Coins, tx: &Tx) -> u64 {
     coins.worth(tx).saturating_sub(paid)
 }
 
-// Writes a transaction in a block of this height, and leaves its object open. What it spends goes.
-fn tell_mined_tx(coins: &mut Coins, line: &mut Line, height: u64, confirmed: &Confirmed) {
-    let tx = confirmed.tx();
-    line.open("{");
-    line.count("height", height);
-    line.hex("txid", confirmed.id());
-    tell_spends(line, tx);
-    line.count("fee", fee(coins, tx));
-    spend(coins, line, tx);
-}
-
 // Writes a transaction in a block of this
 // height, whose first input spends this coin.
 fn tell_tx(
@@ -122,7 +112,13 @@ fn tell_tx(
     spent: &Coin,
     confirmed: &Confirmed,
 ) {
-    tell_mined_tx(coins, line, height, confirmed);
+    line.open("{");
+    line.count("height", height);
+    line.name("txid");
+    line.bytes(confirmed.id());
+    tell_spends(line, confirmed.tx());
+    line.count("fee", fee(coins, confirmed.tx()));
+    spend(coins, line, confirmed.tx());
     match spent.kind {
         Kind::Funding => tell_commitment(
             alloc,
@@ -159,7 +155,8 @@ fn tell_block(
 
 /// Writes the transactions of the blocks above a height.
 pub fn tell_mined(alloc: Global, world: &World, coins: &mut Coins, line: &mut Line, above: u64) {
-    line.begin("mined", "[");
+    line.name("mined");
+    line.open("[");
     for (height, block) in world
         .chain()
         .blocks()

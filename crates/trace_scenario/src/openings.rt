@@ -1,14 +1,14 @@
 //! The line that opens a trace.
 
 use crate::coins::{Coin, Coins, Kind};
-use crate::writer::{side_name, tell_outpoint};
-use terms::{Party, Side, Terms};
-use trace_words::Line;
+use crate::writer::{Line, side_name};
+use terms::{Side, Terms};
 use world::World;
 
 // Writes a member whose value is an array of two numbers, of A and of B.
 fn tell_pair(line: &mut Line, name: &str, a: u64, b: u64) {
-    line.begin(name, "[");
+    line.name(name);
+    line.open("[");
     line.number(u128::from(a));
     line.number(u128::from(b));
     line.close("]");
@@ -18,20 +18,17 @@ fn tell_pair(line: &mut Line, name: &str, a: u64, b: u64) {
 fn tell_terms(line: &mut Line, terms: &Terms) {
     line.open("{");
     line.name("funding");
-    tell_outpoint(line, &terms.funding);
+    line.outpoint(&terms.funding);
     line.count("capacity", terms.capacity);
-    line.member("opener", side_name(terms.opener));
+    line.name("opener");
+    line.word(side_name(terms.opener));
     line.count("feerate", u64::from(terms.feerate));
-    tell_parties(line, &terms.a, &terms.b);
-    line.close("}");
-}
-
-// Writes what each side brings to a new channel.
-fn tell_parties(line: &mut Line, a: &Party, b: &Party) {
+    let (a, b) = (&terms.a, &terms.b);
     tell_pair(line, "dust", a.dust, b.dust);
     tell_pair(line, "delay", u64::from(a.delay), u64::from(b.delay));
     tell_pair(line, "minimum", a.minimum, b.minimum);
     tell_pair(line, "start", a.start, b.start);
+    line.close("}");
 }
 
 // The coin of a channel's funding output.
@@ -48,23 +45,21 @@ fn funding_coin(channel: u64, terms: &Terms) -> Coin {
     }
 }
 
-// Writes a new channel, whose funding output is on the chain.
-fn tell_channel(line: &mut Line, coins: &mut Coins, channel: u64, terms: &Terms) {
-    tell_terms(line, terms);
-    coins.begin(line, &terms.funding, funding_coin(channel, terms));
-}
-
 /// Writes the opening: the terms of each channel,
 /// whose funding outputs are on the chain.
 pub fn tell_opening(line: &mut Line, coins: &mut Coins, world: &World, events: usize) {
     let book = world.book(Side::A);
     line.open("{");
-    line.begin("opening", "{");
+    line.name("opening");
+    line.open("{");
     line.count("events", events as u64);
-    line.begin("channels", "[");
+    line.name("channels");
+    line.open("[");
     for index in 0..book.channel_count() {
         if let Some(channel) = book.channel(index) {
-            tell_channel(line, coins, index, channel.terms());
+            let terms = channel.terms();
+            tell_terms(line, terms);
+            coins.begin(line, &terms.funding, funding_coin(index, terms));
         }
     }
     line.close("]");

@@ -1,10 +1,9 @@
 //! New outputs, and who can spend them when.
 
 use crate::coins::{Coin, Coins, Kind};
-use crate::writer::{tell_place, tell_side};
+use crate::writer::Line;
 use chain::Confirmed;
 use terms::Side;
-use trace_words::Line;
 use tx::OutPoint;
 
 /// The outpoint of an output of a transaction.
@@ -17,9 +16,10 @@ pub fn outpoint_of(confirmed: &Confirmed, index: usize) -> OutPoint {
 
 /// Writes the kind of a transaction, and whose it is.
 pub fn tell_kind(line: &mut Line, kind: &str, channel: u64, owner: Side) {
-    line.member("kind", kind);
+    line.name("kind");
+    line.word(kind);
     line.count("channel", channel);
-    tell_side(line, "owner", owner);
+    line.side("owner", owner);
 }
 
 // The name of a kind of output.
@@ -38,8 +38,9 @@ fn kind_name(kind: Kind) -> &'static str {
 // from a block of this height on.
 fn tell_way(line: &mut Line, side: Side, by: &str, due: u64) {
     line.open("{");
-    tell_side(line, "side", side);
-    line.member("by", by);
+    line.side("side", side);
+    line.name("by");
+    line.word(by);
     line.count("due", due);
     line.close("}");
 }
@@ -64,10 +65,14 @@ fn tell_ways(line: &mut Line, coin: &Coin) {
 /// Writes a new output, and leaves its object open.
 pub fn tell_output(line: &mut Line, coins: &mut Coins, outpoint: &OutPoint, coin: Coin) {
     line.open("{");
-    tell_place(line, outpoint, coin.value);
-    line.member("kind", kind_name(coin.kind));
-    tell_side(line, "owner", coin.owner);
-    line.begin("ways", "[");
+    line.name("outpoint");
+    line.outpoint(outpoint);
+    line.count("value", coin.value);
+    line.name("kind");
+    line.word(kind_name(coin.kind));
+    line.side("owner", coin.owner);
+    line.name("ways");
+    line.open("[");
     tell_ways(line, &coin);
     line.close("]");
     coins.come(line, outpoint, coin);

@@ -8,13 +8,13 @@ use crate::coins::Coins;
 use crate::messages::{tell_delivered, tell_kept, tell_own, tell_signed};
 use crate::mining::tell_mined;
 use crate::pool::Pool;
+use crate::writer::Line;
 use chain::Coins as _;
 use scenario::Event;
 use serde_json::Value;
 use std::alloc::{AllocError, Global};
 use std::slice;
 use terms::Side;
-use trace_words::Line;
 use world::{Outcome, World};
 
 /// What was written so far, as far as later lines depend on it.
@@ -43,7 +43,8 @@ impl Told {
     fn tell_reorganised(&mut self, alloc: Global, line: &mut Line, world: &World, above: u64) {
         self.pool.tell_all_left(line);
         self.pool.tell_joined(line, world.pool());
-        line.begin("undone", "[");
+        line.name("undone");
+        line.open("[");
         self.coins.back_to(line, above);
         line.close("]");
         tell_mined(alloc, world, &mut self.coins, line, above);
@@ -123,10 +124,17 @@ pub fn played(world: &mut World, event: &Event) -> Result<Vec<Outcome>, AllocErr
 }
 
 /// Writes the number of an event, its JSON and its outcome.
-pub fn tell_answer(line: &mut Line, index: usize, words: &Value, outcome: &Outcome) {
+pub fn tell_answer(alloc: Global, line: &mut Line, index: usize, words: &Value, outcome: &Outcome) {
     line.open("{");
     line.count("event", index as u64);
     line.name("words");
-    line.json_shown(words);
-    line.shown("answer", outcome);
+    match words.to_string(alloc) {
+        Ok(words) => line.json(words.as_str()),
+        Err(_) => line.fail(),
+    }
+    line.name("answer");
+    match outcome.to_string(alloc) {
+        Ok(answer) => line.word(answer.as_str()),
+        Err(_) => line.fail(),
+    }
 }

@@ -1,16 +1,16 @@
 //! The transactions that wait for a block.
 
-use crate::writer::tell_outpoint;
+use crate::writer::Line;
 use std::alloc::Global;
 use std::mem;
-use trace_words::Line;
 use tx::{Tx, txid};
 
 /// Writes the outputs that a transaction spends.
 pub fn tell_spends(line: &mut Line, tx: &Tx) {
-    line.begin("spends", "[");
+    line.name("spends");
+    line.open("[");
     for input in tx.inputs() {
-        tell_outpoint(line, &input.outpoint);
+        line.outpoint(&input.outpoint);
     }
     line.close("]");
 }
@@ -44,7 +44,8 @@ impl Pool {
     fn tell_one(&mut self, line: &mut Line, tx: &Tx) {
         let id = txid(tx);
         line.open("{");
-        line.hex("txid", &id);
+        line.name("txid");
+        line.bytes(&id);
         tell_spends(line, tx);
         line.close("}");
         if self.ids.push(id).is_err() {
@@ -57,7 +58,8 @@ impl Pool {
         if self.ids.len() >= pool.len() {
             return;
         }
-        line.begin("joined", "[");
+        line.name("joined");
+        line.open("[");
         for tx in pool.iter().skip(self.ids.len()) {
             self.tell_one(line, tx);
         }
@@ -70,7 +72,8 @@ impl Pool {
             return;
         }
         let mut kept = Vec::new(*self.ids.allocator());
-        line.begin("left", "[");
+        line.name("left");
+        line.open("[");
         for id in &self.ids {
             keep_or_tell(line, pool, &mut kept, id);
         }
