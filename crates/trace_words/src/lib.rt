@@ -5,8 +5,8 @@
 //! reader and writers, and returns a status of at most 2. The names of opcodes, what a push looks like, each fact's sentence ([`Sentence`]) and each
 //! witness's weight ([`witness_weight`]) are proved. Their layout is tested, not proved.
 //!
-//! `paths` lists the ways, and `facts` has what they ask for. The program `trace` passes it the words. `trace_scenario` and `trace_witness` write by its
-//! [`Line`], and read their input by its [`read_all`].
+//! `paths` lists the ways, and `facts` has what they ask for. The program `trace` passes it the words. `trace_witness` writes by its [`Line`], and reads
+//! its input by its [`read_all`].
 //!
 //! ```rust
 //! let status = run_words(alloc, words, &mut input, &mut out, &mut err);
