@@ -25,7 +25,7 @@ pub record HasWorked (payments : List Key) (before now : Hands) (jobs : ℕ) : T
   pub tickets : List ℕ
   pub many : length finished ≡ jobs
   pub each : length tickets ≡ jobs
-  pub taken : hand_of now.pass ≡ hand (hand_of before.pass).put ((hand_of before.pass).taken ++ finished)
+  pub taken : hand_of now.pass ≡ hand (hand_of before.pass).halvings (hand_of before.pass).put ((hand_of before.pass).taken ++ finished)
   pub drawn : known now.place ≡ with_tickets tickets (known before.place)
   pub number : number_in now.seat ≡ number_in before.seat
   pub calls : Adds (number_in before.seat) (flat_map (tasks_of payments) finished) (calls_in before.seat) (calls_in now.seat)
@@ -41,12 +41,12 @@ with_more ts us u v w first next =
 
 -- ---- jobs
 
-taken_none : (h : Hand Job) → h ≡ hand h.put (h.taken ++ [])
-taken_none h = ap (λ l. hand h.put l) (sym (append-nil h.taken))
+taken_none : (h : Hand Job) → h ≡ hand h.halvings h.put (h.taken ++ [])
+taken_none h = ap (λ l. hand h.halvings h.put l) (sym (append-nil h.taken))
 
-taken_more : (g h k : Hand Job) (done : List Job) (job : Job) → h ≡ hand g.put (g.taken ++ done) → k ≡ hand h.put (h.taken ++ job ∷ []) → k ≡ hand g.put (g.taken ++ (done ++ job ∷ []))
+taken_more : (g h k : Hand Job) (done : List Job) (job : Job) → h ≡ hand g.halvings g.put (g.taken ++ done) → k ≡ hand h.halvings h.put (h.taken ++ job ∷ []) → k ≡ hand g.halvings g.put (g.taken ++ (done ++ job ∷ []))
 taken_more g h k done job first next =
-    next ∙ ap (λ (x : Hand Job). hand x.put (x.taken ++ job ∷ [])) first ∙ ap (λ l. hand g.put l) (append_assoc g.taken done (job ∷ []))
+    next ∙ ap (λ (x : Hand Job). hand x.halvings x.put (x.taken ++ job ∷ [])) first ∙ ap (λ l. hand g.halvings g.put l) (append_assoc g.taken done (job ∷ []))
 
 tasks_more : (payments : List Key) (done : List Job) (job : Job) → flat_map (tasks_of payments) (done ++ job ∷ []) ≡ flat_map (tasks_of payments) done ++ tasks_of payments job
 tasks_more payments done job = flat_map-append (tasks_of payments) done (job ∷ []) ∙ ap (λ l. flat_map (tasks_of payments) done ++ l) (append-nil (tasks_of payments job))
@@ -128,7 +128,7 @@ ended_dry payments before now pass jobs w same empty = record {
   tickets = w.tickets;
   ends = ran_dry w.tickets (w.each ∙ sym w.many) (subst (λ (h : Hand Job). WasEmpty h) (sym same) empty);
   jobs = let m = w.many in omega (arith, ap length (append-nil w.finished));
-  taken = same ∙ w.taken ∙ ap (λ l. hand (hand_of before.pass).put ((hand_of before.pass).taken ++ l)) (sym (append-nil w.finished));
+  taken = same ∙ w.taken ∙ ap (λ l. hand (hand_of before.pass).halvings (hand_of before.pass).put ((hand_of before.pass).taken ++ l)) (sym (append-nil w.finished));
   drawn = w.drawn;
   number = w.number;
   calls = w.calls;

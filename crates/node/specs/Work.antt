@@ -70,7 +70,7 @@ pub record IsWork (payments : List Key) (before after : Hands) (done : Done) : T
   pub ends : Ends finished after dropped tickets done.stopped
   pub jobs : done.jobs ≡ length (finished ++ dropped)
   -- the pass took these jobs, in order, and put none
-  pub taken : hand_of after.pass ≡ hand (hand_of before.pass).put ((hand_of before.pass).taken ++ (finished ++ dropped))
+  pub taken : hand_of after.pass ≡ hand (hand_of before.pass).halvings (hand_of before.pass).put ((hand_of before.pass).taken ++ (finished ++ dropped))
   -- the seat at the board drew these tickets, in order, and did nothing else
   pub drawn : known after.place ≡ with_tickets tickets (known before.place)
   -- the seat at the desk keeps its number, and its new calls are for the finished jobs alone, in order
