@@ -1,13 +1,14 @@
 -- The first seat hands out its shares.
 use Rattle.std.proofs.Common.{◌≡◌, ℕ, ◌+◌, ◌-◌, List, [], ◌∷◌, ◌++◌, length, sym, ap, ◌∙◌, All, arith, length-append}
 use Rattle.std.proofs.lemmas.List.Elements.{All-push}
+use Rattle.std.proofs.lemmas.List.Sums.{sum_by_push}
 use Rattle.atomic_table.specs.declared.shared.Seat.{Seat as TableSeat}
 use Rattle.atomic_table.specs.Table.{Me}
 use Rattle.board.specs.declared.rule.SeatView.{SeatView}
 use Rattle.board.specs.declared.board.Board.{Board}
 use Rattle.board.specs.declared.board.Seat.{Seat}
 use Rattle.board.specs.Rule.{knows, less_one, one_share}
-use Rattle.board.specs.Seats.{IsNewSeatOf, IsDealer, AreSeats}
+use Rattle.board.specs.Seats.{IsNewSeatOf, IsDealer, AreSeats, known, shares_of}
 
 abbrev Table : Type 0
 Table = TableSeat (Unit {0}) SeatView
@@ -36,6 +37,9 @@ got board d r n old table me =
       view = is ∙ ap (λ (v : SeatView). knows v.shares [] [] []) (sym is);
       enough = (let s : r.me.0.shares ≡ 1 = ap (λ (v : SeatView). v.shares) is in omega arith);
     }
+
+pub shares_more : (d : Table) (list : List Seat) (s : Seat) → s.place ≡ d → shares_of (list ++ s ∷ []) ≡ shares_of list + d.me.0.shares
+shares_more d list s is = sum_by_push (λ x. (known x).shares) list s ∙ ap (λ (x : Table). shares_of list + x.me.0.shares) is
 
 pub seated : (board : Board) (d : Table) (list : List Seat) (s : Seat) → IsDealer board d 1 → s.place ≡ d → s.draws ≡ 0 → All (IsNewSeatOf board) list → AreSeats board (length list + 1) (list ++ s ∷ [])
 seated board d list s dealer is none each = record {

@@ -5,7 +5,7 @@ use Rattle.std.proofs.lemmas.List.Elements.{All-nil, All-cons, All-head, All-tai
 use Rattle.std.proofs.lemmas.List.Sorted.{IsPermutation-swap, length_permutation, sum_by-IsPermutation}
 use Rattle.board.specs.declared.marks.Mark.{Mark}
 use Rattle.board.specs.Order.{mark, start, at_most, IsGreatest, word_of, mark_in}
-use Rattle.board.specs.Rule.{knows, numbers_below, Standing, IsDrawnOnce, everything}
+use Rattle.board.specs.Rule.{knows, numbers_below, Standing, IsDrawnOnce, IsBoard, everything}
 
 less : (m n : ℕ) → m ≡ n → m < n → ⊥
 less m n e h = omega arith
@@ -102,3 +102,10 @@ skipped h = less 3 4 (sym (length_permutation (0 ∷ 2 ∷ 1 ∷ []) (0 ∷ 1 �
 -- a ticket that is not below the count
 too_early : IsDrawnOnce (board_with 3 (3 ∷ [])) → ⊥
 too_early h = less 3 5 (sum_by-IsPermutation (λ x. x) (0 ∷ 2 ∷ 3 ∷ []) (0 ∷ 1 ∷ 2 ∷ []) h.tickets) (omega arith)
+
+-- A seat holds all shares. There is another one without a share, which raised (0, 7), or one with a share.
+no_share : IsBoard (7 ∷ 0 ∷ []) (everything ∷ knows 0 [] (mark 0 7 ∷ []) [] ∷ []) → ⊥
+no_share h = less 0 0 refl (h.has_share 1 (knows 0 [] (mark 0 7 ∷ []) []) refl)
+
+one_share_more : IsBoard (7 ∷ 0 ∷ []) (everything ∷ knows 1 [] (mark 0 7 ∷ []) [] ∷ []) → ⊥
+one_share_more h = less 65536 65537 (sym h.shares) (omega arith)

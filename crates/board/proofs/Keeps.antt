@@ -30,6 +30,7 @@ begins = record {
   low = omega arith;
   drawn_once = record { tickets = IsPermutation-refl []; top = record { bound = λ k d h. absurd (omega arith); reached = inl refl } };
   shares = refl;
+  has_share = push_each (λ u. 0 < u.shares) [] everything (omega arith) (λ j u e. absurd (some-ne-none u (sym e)));
   within = push_each (λ u. length u.drawn ≤ 2 ^ 32 * u.shares) [] everything (omega arith) (λ j u e. absurd (some-ne-none u (sym e)));
   looked = push_each (λ u. AllPass (λ m. at_most m start) u.looked) [] everything (λ k d h. absurd (omega arith)) (λ j u e. absurd (some-ne-none u (sym e)));
 }
@@ -46,6 +47,7 @@ changed words' words views p v w top draws h at is low same up once few looked =
   low = low;
   drawn_once = once;
   shares = (let s = sum_by_set (λ u. u.shares) views p v w at in omega (arith, h.shares));
+  has_share = set_each (λ u. 0 < u.shares) views p w (omega (arith, same, h.has_share p v at)) h.has_share;
   within = set_each (λ u. length u.drawn ≤ 2 ^ 32 * u.shares) views p w few h.within;
   looked = set_each (λ u. AllPass (λ m. at_most m top) u.looked) views p w looked
       (λ j u e. All-weaker (λ m. at_most m h.top ≡ true) (λ m. at_most m top ≡ true) (λ m b. at_most_trans m h.top top b up) u.looked (h.looked j u e));
@@ -172,8 +174,8 @@ draw_allows slots id me empty share few s h none_out at small =
       ),
     )
 
-pub deals : (id : ℕ) (v : SeatView) → v.drawn ≡ [] → 0 < v.shares → Splits Rules id v (less_one v) one_share
-deals id v undrawn share s h at =
+pub deals : (id : ℕ) (v : SeatView) → v.drawn ≡ [] → 1 < v.shares → Splits Rules id v (less_one v) one_share
+deals id v undrawn more s h at =
     let w = less_one v in
     let views = set s.views id w in
     let once = as_before h.top h.draws s.views id v w at refl refl h.drawn_once in
@@ -188,6 +190,7 @@ deals id v undrawn share s h at =
         top = subst (λ l. IsGreatest h.top l) (sym (joined (λ u. u.raised) views one_share refl)) once.top;
       };
       shares = (let t = sum_by_set (λ u. u.shares) s.views id v w at in omega (arith, h.shares, sum_by_push (λ (u : SeatView). u.shares) views one_share));
+      has_share = push_each (λ u. 0 < u.shares) views one_share (omega arith) (set_each (λ u. 0 < u.shares) s.views id w (omega arith) h.has_share);
       within = push_each (λ u. length u.drawn ≤ 2 ^ 32 * u.shares) views one_share (omega arith) (set_each (λ u. length u.drawn ≤ 2 ^ 32 * u.shares) s.views id w (omega arith) h.within);
       looked = push_each (λ u. AllPass (λ m. at_most m h.top) u.looked) views one_share (λ k d none_there. absurd (omega arith)) (set_each (λ u. AllPass (λ m. at_most m h.top) u.looked) s.views id w (h.looked id v at) h.looked);
     }

@@ -34,7 +34,8 @@ pub record IsDrawnOnce (s : Standing) : Type 0 where
   pub tickets : IsPermutation (drawn_by_all s.views) (numbers_below s.draws)
   pub top : IsGreatest s.top (raised_by_all s.views)
 
--- Shares keep the count from wrapping: there are 65,536, at least one for each seat, and a seat draws at most 2^32 tickets for each of its shares.
+-- There are 65,536 shares, at least one for each seat. They keep the count from wrapping: a seat draws at most 2^32 tickets for each of its shares. And they tell
+-- whether there are other seats: where some seats hold all shares (`HoldAllShares`), there are none.
 
 abbrev pub everything : SeatView
 everything = knows 65536 [] [] []
@@ -53,6 +54,7 @@ pub record IsBoard (words : List ℕ) (views : List SeatView) : Type 0 where
   pub low : top.height < 2 ^ 32
   pub drawn_once : IsDrawnOnce (record { top = top; draws = draws; views = views })
   pub shares : sum_by (λ v. v.shares) views ≡ 65536
+  pub has_share : (seat : ℕ) (v : SeatView) → get_elem? views seat ≡ some v → 0 < v.shares
   pub within : (seat : ℕ) (v : SeatView) → get_elem? views seat ≡ some v → length v.drawn ≤ 2 ^ 32 * v.shares
   -- what a seat looked up was the top then, so it is not above the top now
   pub looked : (seat : ℕ) (v : SeatView) → get_elem? views seat ≡ some v → AllPass (λ m. at_most m top) v.looked

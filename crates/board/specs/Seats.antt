@@ -1,5 +1,5 @@
 -- Which seats belong to a board, and what they know.
-use Rattle.std.specs.Prelude.{◌≡◌, ◌≤◌, ◌<◌, ◌^◌, ℕ, List, [], length, All}
+use Rattle.std.specs.Prelude.{◌≡◌, ◌≤◌, ◌<◌, ◌^◌, ℕ, List, [], length, All, sum_by}
 use Rattle.atomic_table.specs.declared.shared.Seat.{Seat as TableSeat}
 use Rattle.board.specs.declared.rule.SeatView.{SeatView}
 use Rattle.board.specs.Rule.{knows}
@@ -36,3 +36,11 @@ pub record IsNewSeatOf (board : Board) (seat : Seat) : Type 0 where
 pub record AreSeats (board : Board) (count : ℕ) (seats : List Seat) : Type 0 where
   pub each : All (IsNewSeatOf board) seats
   pub many : length seats ≡ count
+
+-- the shares that these seats hold together
+abbrev pub shares_of : List Seat → ℕ
+shares_of seats = sum_by (λ s. (known s).shares) seats
+
+-- These seats hold all shares of their board. Each seat has one at least (`IsBoard`), so the board has no other seat.
+abbrev pub HoldAllShares : List Seat → Type 0
+HoldAllShares seats = shares_of seats ≡ 65536

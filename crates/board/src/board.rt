@@ -4,7 +4,7 @@ ghost use Rattle.std.specs.Prelude.{◌≡◌, ◌<◌, ◌≤◌, ◌^◌, ◌+
 ghost use Rattle.std.specs.Vec.{vec_capacity};
 ghost use Rattle.board.specs.Order.{mark};
 ghost use Rattle.board.specs.Steps.{Raised, Looked, Drawn};
-ghost use Rattle.board.specs.Seats.{IsSeatOf, IsNewSeatOf, IsDealer, AreSeats, known};
+ghost use Rattle.board.specs.Seats.{IsSeatOf, IsNewSeatOf, IsDealer, AreSeats, HoldAllShares, known, shares_of};
 
 use crate::marks::Mark;
 use crate::rule::{Deal, Draw, Look, Raise, SeatView, TwoWords};
@@ -72,6 +72,7 @@ impl Board {
         requires list { All (IsNewSeatOf self.now) list.items
             × (length list.items < vec_capacity list) }
         ensures list { AreSeats self.now (length list.items + 1) result.items }
+        ensures shares { shares_of result.items ≡ shares_of list.items + place.me.0.shares }
         ensures room { vec_capacity result ≡ vec_capacity list }
     {
         let idle = Seat::idle(place);
@@ -79,17 +80,18 @@ impl Board {
         list
     }
 
-    // makes `count` seats from the first one; the list has room for them
+    // makes `count` seats from the first one, which has all shares; the list has room for them
     fn seats(
         &self,
         mut dealer: atomic_table::Seat<(), SeatView>,
         count: u16,
         mut list: Vec<Seat>,
     ) -> Vec<Seat>
-        requires dealer { IsDealer self.now dealer 65536 }
+        requires dealer { IsDealer self.now dealer 65536 × (dealer.me.0.shares ≡ 65536) }
         requires count { 0 < count }
         requires list { (list.items ≡ []) × (count ≤ vec_capacity list) }
-        ensures { AreSeats self.now count result.items }
+        ensures seats { AreSeats self.now count result.items }
+        ensures all { HoldAllShares result.items }
     {
         for _k in 0..count - 1 {
             let next = self.table.shared.split_seat::<Deal>(&mut dealer);
@@ -98,10 +100,12 @@ impl Board {
         self.seat(list, dealer)
     }
 
-    /// A board on which nothing was raised or drawn, with this number of seats, at least one. The only error is that memory ran out.
+    /// A board on which nothing was raised or drawn, with this number of seats, at least one. These are all of its seats: each mark and
+    /// each ticket comes from one of them. The only error is that memory ran out.
     pub fn new(alloc: Global, seats: u16) -> Result<(Board, Vec<Seat>), AllocError>
         requires { 0 < seats }
-        ensures { IfOk result (λ r. AreSeats r.0 seats r.1.items) }
+        ensures seats { IfOk result (λ r. AreSeats r.0 seats r.1.items) }
+        ensures all { IfOk result (λ r. HoldAllShares r.1.items) }
     {
         let list = Vec::with_capacity(alloc, usize::from(seats))?;
         let (table, dealer) = Table::of_words(alloc, &[0, 0], &())?;

@@ -4,7 +4,7 @@
 //! Each thread has a [`Seat`] of its own, and `raise`, `look` and `draw` are one atomic step each: a maximum, a load
 //! and an addition. None of them blocks, retries or allocates. Between any two steps, the seats' tickets are the
 //! numbers below the count, each once. The top is the greatest mark that any seat raised, or (0, 0) before the first
-//! (`IsDrawnOnce` of `specs/Rule.antt`).
+//! (`IsDrawnOnce` of `specs/Rule.antt`). The seats of a board are those that [`Board::new`] returned, and no others.
 //!
 //! It stands on the library `atomic_table`, and is used only by `thread_tests`. It is for a node's threads: the top
 //! tells them the newest round and height of the chain.

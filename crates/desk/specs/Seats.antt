@@ -1,5 +1,5 @@
 -- Which seats belong to a desk, and what they know.
-use Rattle.std.specs.Prelude.{◌≡◌, ℕ, true, false, List, [], Option, None, All, map, length, IfSome}
+use Rattle.std.specs.Prelude.{◌≡◌, ℕ, Bool, true, false, List, [], Option, None, All, map, length, IfSome}
 use Rattle.std.specs.List.{range_with_len, last_or}
 use Rattle.crossbeam_channel.specs.Claims.{Pass, view, IsSeatAt}
 use Rattle.crossbeam_channel.specs.Ends.{sends_on, receives_on, ruled_capacity}
@@ -8,6 +8,7 @@ use Rattle.desk.specs.declared.rule.SeatView.{SeatView}
 use Rattle.desk.specs.declared.desk.Desk.{Desk}
 use Rattle.desk.specs.declared.desk.Seat.{Seat}
 use Rattle.desk.specs.Histories.{History}
+use Rattle.desk.specs.Rule.{taken}
 
 abbrev pub DeskPass : Type 0
 DeskPass = Pass History SeatView
@@ -22,6 +23,14 @@ calls_in seat = (view seat.pass).calls
 -- the book's history when the seat last put the book back, or when the desk was made
 abbrev pub last_in : Seat → History
 last_in seat = (view seat.pass).last
+
+-- the history with which the desk of this seat was made
+abbrev pub opening_in : Seat → History
+opening_in seat = (view seat.pass).opening
+
+-- whether this seat is the desk's last: no seat of the desk has a greater number
+abbrev pub is_last_in : Seat → Bool
+is_last_in seat = (view seat.pass).is_last
 
 -- the history of the book that is out with this seat
 abbrev pub out_with : Seat → Option History
@@ -52,6 +61,7 @@ pub record IsIdle (v : SeatView) (number : ℕ) (opening : History) : Type 0 whe
 -- a seat that has made no call, at a desk made with this history
 pub record IsNewSeatOf (desk : Desk) (opening : History) (seat : Seat) : Type 0 where
   pub seat_of : IsSeatOf desk seat
+  pub made_with : opening_in seat ≡ opening
   pub calls : calls_in seat ≡ []
   pub last : last_in seat ≡ opening
 
@@ -61,12 +71,27 @@ pub record AreSeats (desk : Desk) (opening : History) (first count : ℕ) (seats
   pub numbers : map (λ (s : Seat). s.number) seats ≡ range_with_len first count
   pub many : length seats ≡ count
 
--- the last of these seats is the desk's last: no seat of the desk has a greater number
+-- the last of these seats is the desk's last
 abbrev pub EndsWithLast : List Seat → Type 0
-EndsWithLast seats = IfSome (last_or None seats) (λ s. (view s.pass).is_last ≡ true)
+EndsWithLast seats = IfSome (last_or None seats) (λ s. is_last_in s ≡ true)
 
--- the seat belongs to the desk as before, with its number and its calls
+-- the seat belongs to the desk as before: it has its number and its place, and the desk was made with the same history
+pub record IsSameSeat (desk : Desk) (before after : Seat) : Type 0 where
+  pub seat_of : IsSeatOf desk after
+  pub number : number_in after ≡ number_in before
+  pub opening : opening_in after ≡ opening_in before
+  pub place : is_last_in after ≡ is_last_in before
+
+-- it has its calls too
 pub record HasSameCalls (desk : Desk) (before after : Seat) : Type 0 where
   pub seat_of : IsSeatOf desk after
   pub number : number_in after ≡ number_in before
+  pub opening : opening_in after ≡ opening_in before
+  pub place : is_last_in after ≡ is_last_in before
   pub calls : calls_in after ≡ calls_in before
+
+-- the seat took the book out of the desk's queue, with this history, and all else is as before
+pub record TakesBook (desk : Desk) (before after : Seat) (history : History) : Type 0 where
+  pub pass : IsPassOf desk after.pass
+  pub number : number_in after ≡ number_in before
+  pub view_is : view after.pass ≡ taken (view before.pass) history

@@ -15,7 +15,7 @@ ghost use Rattle.book.specs.Revoked.{IsRevokedIn, early_keep_refusal};
 ghost use Rattle.desk.specs.declared.desk.DeskError.TheVariants.{SeatsExhausted};
 ghost use Rattle.desk.specs.Histories.{first_seat};
 ghost use Rattle.desk.specs.Rule.{fresh, opened, last_view, returned, IsTaken, Follows};
-ghost use Rattle.desk.specs.Seats.{IsPassOf, IsSeatOf, IsIdle, AreSeats, EndsWithLast, HasSameCalls, number_in, calls_in, last_in, out_with};
+ghost use Rattle.desk.specs.Seats.{IsPassOf, IsSeatOf, IsIdle, AreSeats, EndsWithLast, IsSameSeat, HasSameCalls, TakesBook, number_in, calls_in, last_in, out_with};
 ghost use Rattle.desk.specs.Answers.{IsHistoryFor, IsAnswered};
 
 use crate::rule::{Next, OneBook, PutBack, PutFirst, SeatView, Take};
@@ -218,7 +218,7 @@ impl Desk {
     /// Makes a call on the book. Blocks while another seat has the book. A refused call drops its claims or its batch.
     pub fn call<R: Wait>(&self, rt: &R, seat: &mut Seat, call: Call) -> Reply
         requires { IsSeatOf self.now seat.old }
-        ensures seat { IsSeatOf self.now seat.new × (number_in seat.new ≡ number_in seat.old) }
+        ensures seat { IsSameSeat self.now seat.old seat.new }
         ensures reply { IsAnswered (number_in seat.old) (calls_in seat.old) (last_in seat.old)
             call (reply_form result) (calls_in seat.new) (last_in seat.new) }
     {
@@ -239,7 +239,7 @@ impl Desk {
         set: PenaltySet,
     ) -> Result<(), KeepError>
         requires { IsSeatOf self.now seat.old }
-        ensures seat { IsSeatOf self.now seat.new × (number_in seat.new ≡ number_in seat.old) }
+        ensures seat { IsSameSeat self.now seat.old seat.new }
         ensures reply { IsAnswered (number_in seat.old) (calls_in seat.old) (last_in seat.old)
             (Keep channel number set.claims) (kept result) (calls_in seat.new) (last_in seat.new) }
     {
@@ -294,6 +294,7 @@ impl Desk {
         requires { IsSeatOf self seat.old }
         ensures history { IsHistoryFor (number_in seat.old) (calls_in seat.old)
             (last_in seat.old) result }
+        ensures seat { TakesBook self seat.old seat.new result }
         ensures taken { out_with seat.new ≡ Some result }
     {
         self.take(rt, &mut seat.pass)

@@ -1,10 +1,11 @@
 -- The rule at chosen values: a queue that meets it, and queues that lost a job, duplicated one, or gave the last one first.
-use Rattle.std.proofs.Common.{◌≡◌, ℕ, zero, suc, ◌<◌, ◌≤◌, ◌==◌, false, List, [], ◌∷◌, ◌++◌, get_or, sym, refl, ap, ◌∙◌, eq-eqb, ne_eqb, arith}
+use Rattle.std.proofs.Common.{◌≡◌, ℕ, zero, suc, ◌+◌, ◌-◌, ◌^◌, ◌<◌, ◌≤◌, ◌==◌, false, List, [], ◌∷◌, ◌++◌, get_or, sym, refl, ap, ◌∙◌, eq-eqb, ne_eqb, arith}
 use Rattle.std.proofs.lemmas.List.Sorted.{IsPermutation-refl, length_permutation}
+use Rattle.std.proofs.lemmas.Nat.{pow_pos}
 use mathlib.Core.Option.{some, some-ne-none, some-injective}
 use lib.ListN.{get_elem?}
 use Rattle.jobs.specs.declared.rule.Hand.{Hand}
-use Rattle.jobs.specs.Rule.{Log, hand, jobs_of, by_pass, IsFair}
+use Rattle.jobs.specs.Rule.{Log, hand, jobs_of, by_pass, IsFair, HoldAllShares}
 
 less : (m n : ℕ) → m ≡ n → m < n → ⊥
 less m n e h = omega arith
@@ -21,10 +22,10 @@ of_none = refl
 
 -- one pass put 7 and 9 and took 7, and the queue holds 9
 abbrev views : List (Hand ℕ)
-views = hand (7 ∷ 9 ∷ []) (7 ∷ []) ∷ []
+views = hand 0 (7 ∷ 9 ∷ []) (7 ∷ []) ∷ []
 
 each_of : (pass : ℕ) (v : Hand ℕ) → get_elem? views pass ≡ some v → (v.put ≡ by_pass {J = ℕ} pass ((0, 7) ∷ (0, 9) ∷ [])) × (v.taken ≡ by_pass {J = ℕ} pass ((0, 7) ∷ []))
-each_of zero v at = let e = some-injective (hand (7 ∷ 9 ∷ []) (7 ∷ [])) v at in (sym (ap (λ (u : Hand ℕ). u.put) e), sym (ap (λ (u : Hand ℕ). u.taken) e))
+each_of zero v at = let e = some-injective (hand 0 (7 ∷ 9 ∷ []) (7 ∷ [])) v at in (sym (ap (λ (u : Hand ℕ). u.put) e), sym (ap (λ (u : Hand ℕ). u.taken) e))
 each_of (suc pass) v at = absurd (some-ne-none v (sym at))
 
 other_pass : (pass : ℕ) → (0 == suc pass) ≡ false
@@ -34,6 +35,10 @@ no_others : (pass : ℕ) → 1 ≤ pass → (by_pass {J = ℕ} pass ((0, 7) ∷ 
 no_others zero h = absurd (omega arith)
 no_others (suc pass) h = (rw (other_pass pass) refl, rw (other_pass pass) refl)
 
+few_of : (pass : ℕ) (v : Hand ℕ) → get_elem? views pass ≡ some v → v.halvings ≤ 0
+few_of zero v at = let e : 0 ≡ v.halvings = ap (λ (u : Hand ℕ). u.halvings) (some-injective (hand 0 (7 ∷ 9 ∷ []) (7 ∷ [])) v at) in omega (arith, e)
+few_of (suc pass) v at = absurd (some-ne-none v (sym at))
+
 one_left : IsFair {J = ℕ} (9 ∷ []) views
 one_left = record {
   puts = (0, 7) ∷ (0, 9) ∷ [];
@@ -42,6 +47,7 @@ one_left = record {
   each = each_of;
   no_others = no_others;
   balanced = IsPermutation-refl (7 ∷ 9 ∷ []);
+  shares = record { most = 0; few = few_of; whole = refl };
 }
 
 -- 9 was put, and is neither taken nor in the queue
@@ -63,9 +69,17 @@ alone ((zero, x) ∷ log) unheard = ap (λ l. x ∷ l) (alone log (others_none x
 alone ((suc pass, x) ∷ log) unheard = let e = rw (eq-eqb (suc pass) (suc pass) refl) at (unheard (suc pass) (omega arith)) in cc
 
 -- 7 and 9 were put, and 9 was taken first
-last_first : IsFair {J = ℕ} (7 ∷ []) (hand (7 ∷ 9 ∷ []) (9 ∷ []) ∷ []) → ⊥
+last_first : IsFair {J = ℕ} (7 ∷ []) (hand 0 (7 ∷ 9 ∷ []) (9 ∷ []) ∷ []) → ⊥
 last_first h =
-    let mine = h.each 0 (hand (7 ∷ 9 ∷ []) (9 ∷ [])) refl in
+    let mine = h.each 0 (hand 0 (7 ∷ 9 ∷ []) (9 ∷ [])) refl in
     let puts : jobs_of h.puts ≡ 7 ∷ 9 ∷ [] = sym (alone h.puts (λ pass far. (h.no_others pass far).0)) ∙ sym mine.0 in
     let takes : jobs_of h.takes ≡ 9 ∷ [] = sym (alone h.takes (λ pass far. (h.no_others pass far).1)) ∙ sym mine.1 in
     less 7 9 (ap (λ l. get_or l 0 0) (sym puts ∙ (h.in_order ∙ ap (λ l. l ++ 7 ∷ []) takes))) (omega arith)
+
+-- two passes, of which one has the whole share
+one_pass_more : (put taken : List ℕ) (halvings : ℕ) → HoldAllShares (hand 0 (7 ∷ []) [] ∷ hand halvings put taken ∷ []) → ⊥
+one_pass_more put taken halvings h =
+    let whole : 0 + 2 ^ (h.most - 0) + 2 ^ (h.most - halvings) ≡ 2 ^ h.most = h.whole in
+    let first : 2 ^ (h.most - 0) ≡ 2 ^ h.most = ap (λ k. 2 ^ k) (omega arith) in
+    let more = pow_pos (h.most - halvings) in
+    omega (arith, whole, first, more)

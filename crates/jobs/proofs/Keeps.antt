@@ -6,11 +6,12 @@ use Rattle.std.proofs.lemmas.List.Sorted.{IsPermutation-refl, IsPermutation-sym,
 use mathlib.Core.Option.{some, some-ne-none, some-injective}
 use lib.ListN.{get_elem?}
 use Rattle.crossbeam_channel.specs.Fifo.{Pushes, Pops, Forks, Learns}
-use Rattle.atomic_table.proofs.Lists.{at_set, set_again}
+use Rattle.atomic_table.proofs.Lists.{at_set}
 use Rattle.jobs.specs.declared.rule.Hand.{Hand}
-use Rattle.jobs.specs.Rule.{hand, idle, put_by_all, taken_by_all, jobs_of, by_pass, IsFair}
+use Rattle.jobs.specs.Rule.{hand, idle, halved, other_half, put_by_all, taken_by_all, jobs_of, by_pass, IsFair}
 use Rattle.jobs.specs.Steps.{IsPut, IsTake, HeldThen}
 use Rattle.jobs.proofs.Lists.{in_range, grown, unmoved, joined, jobs_of-push, by_own, by_other}
+use Rattle.jobs.proofs.Shares.{of_first, as_before, of_halves}
 
 module _ {J : Type 0} where
   -- a view at the end, or one that stood there before
@@ -20,22 +21,23 @@ module _ {J : Type 0} where
   push_cases (x ∷ xs) a b zero e = inl e
   push_cases (x ∷ xs) a b (suc j) e = ⊎_elim (λ t. inl t) (λ t. inr (ap suc t.0, t.1)) (push_cases xs a b j e)
 
-  pub begins : IsFair {J = J} [] (idle ∷ [])
+  pub begins : IsFair {J = J} [] (idle 0 ∷ [])
   begins = record {
     puts = [];
     takes = [];
     in_order = refl;
     each = λ p v at. ⊎_elim
         (λ none_there. absurd (some-ne-none v (sym none_there)))
-        (λ (is : (p ≡ 0) × (idle ≡ v)). (sym (ap (λ (u : Hand J). u.put) is.1), sym (ap (λ (u : Hand J). u.taken) is.1)))
-        (push_cases [] idle v p at);
+        (λ (is : (p ≡ 0) × (idle 0 ≡ v)). (sym (ap (λ (u : Hand J). u.put) is.1), sym (ap (λ (u : Hand J). u.taken) is.1)))
+        (push_cases [] (idle 0) v p at);
     no_others = λ p far. (refl, refl);
     balanced = IsPermutation-refl [];
+    shares = of_first;
   }
 
-  put_keeps : (p : ℕ) (v : Hand J) (x : J) (items : List J) (views : List (Hand J)) → IsFair items views → get_elem? views p ≡ some v → IsFair (items ++ x ∷ []) (set views p (hand (v.put ++ x ∷ []) v.taken))
+  put_keeps : (p : ℕ) (v : Hand J) (x : J) (items : List J) (views : List (Hand J)) → IsFair items views → get_elem? views p ≡ some v → IsFair (items ++ x ∷ []) (set views p (hand v.halvings (v.put ++ x ∷ []) v.taken))
   put_keeps p v x items views h at =
-      let w = hand (v.put ++ x ∷ []) v.taken in
+      let w = hand v.halvings (v.put ++ x ∷ []) v.taken in
       let near = in_range views p v at in
       let mine = h.each p v at in
       let after = set views p w in
@@ -55,11 +57,12 @@ module _ {J : Type 0} where
             subst Q (sym (unmoved (λ u. u.taken) views p v w at refl)) (subst R (append_assoc taken items (x ∷ [])) (IsPermutation-trans (put_by_all after) (put ++ x ∷ []) ((taken ++ items) ++ x ∷ [])
             (IsPermutation-sym (put ++ x ∷ []) (put_by_all after) (grown (λ u. u.put) views p v w x at refl))
             (IsPermutation-append_left (x ∷ []) put (taken ++ items) h.balanced)));
+        shares = as_before views p v w h.shares at refl;
       }
 
-  take_keeps : (p : ℕ) (v : Hand J) (x : J) (items : List J) (views : List (Hand J)) → IsFair (x ∷ items) views → get_elem? views p ≡ some v → IsFair items (set views p (hand v.put (v.taken ++ x ∷ [])))
+  take_keeps : (p : ℕ) (v : Hand J) (x : J) (items : List J) (views : List (Hand J)) → IsFair (x ∷ items) views → get_elem? views p ≡ some v → IsFair items (set views p (hand v.halvings v.put (v.taken ++ x ∷ [])))
   take_keeps p v x items views h at =
-      let w = hand v.put (v.taken ++ x ∷ []) in
+      let w = hand v.halvings v.put (v.taken ++ x ∷ []) in
       let near = in_range views p v at in
       let mine = h.each p v at in
       let after = set views p w in
@@ -79,36 +82,44 @@ module _ {J : Type 0} where
             subst Q (sym (unmoved (λ u. u.put) views p v w at refl)) (IsPermutation-trans put ((taken ++ x ∷ []) ++ items) (taken_by_all after ++ items)
             (subst R (sym (append_assoc taken (x ∷ []) items)) h.balanced)
             (IsPermutation-append_left items (taken ++ x ∷ []) (taken_by_all after) (grown (λ u. u.taken) views p v w x at refl)));
+        shares = as_before views p v w h.shares at refl;
       }
 
-  -- the pass does not change, and a new one comes
-  pub forks : (p : ℕ) (v : Hand J) → Forks IsFair p v v idle
+  -- a new pass comes, with half of the pass's share
+  pub forks : (p : ℕ) (v : Hand J) → Forks IsFair p v (halved v) (other_half v)
   forks p v items views h at =
-      let Q : List (Hand J) → Type 0 = λ l. IsFair items (l ++ idle ∷ []) in
-      subst Q (sym (set_again views p v at)) (record {
+      let cut = set views p (halved v) in
+      let mine = h.each p v at in
+      let same = length-set views p (halved v) in
+      let put : put_by_all (cut ++ other_half v ∷ []) ≡ put_by_all views = joined (λ u. u.put) cut (other_half v) refl ∙ unmoved (λ u. u.put) views p v (halved v) at refl in
+      let taken : taken_by_all (cut ++ other_half v ∷ []) ≡ taken_by_all views = joined (λ u. u.taken) cut (other_half v) refl ∙ unmoved (λ u. u.taken) views p v (halved v) at refl in record {
         puts = h.puts;
         takes = h.takes;
         in_order = h.in_order;
         each = λ j u e. ⊎_elim
-            (λ old. h.each j u old)
-            (λ (is : (j ≡ length views) × (idle ≡ u)). let o = h.no_others j (omega arith) in (sym (ap (λ (y : Hand J). y.put) is.1) ∙ sym o.0, sym (ap (λ (y : Hand J). y.taken) is.1) ∙ sym o.1))
-            (push_cases views idle u j e);
-        no_others = λ j far. h.no_others j (omega (arith, length-append views (idle ∷ [])));
+            (λ old. ⊎_elim
+            (λ (is : (j ≡ p) × (halved v ≡ u)). subst (λ (y : ℕ × Hand J). (y.1.put ≡ by_pass y.0 h.puts) × (y.1.taken ≡ by_pass y.0 h.takes)) (λ i. (sym is.0 i, is.1 i)) mine)
+            (λ (is : (j ≢ p) × (get_elem? views j ≡ some u)). h.each j u is.1)
+            (at_set views p j (halved v) u old))
+            (λ (is : (j ≡ length cut) × (other_half v ≡ u)). let o = h.no_others j (omega (arith, same, is.0)) in (sym (ap (λ (y : Hand J). y.put) is.1) ∙ sym o.0, sym (ap (λ (y : Hand J). y.taken) is.1) ∙ sym o.1))
+            (push_cases cut (other_half v) u j e);
+        no_others = λ j far. h.no_others j (omega (arith, same, length-append cut (other_half v ∷ [])));
         balanced =
-            let R : List J → Type 0 = λ l. IsPermutation l (taken_by_all (views ++ idle ∷ []) ++ items) in
+            let R : List J → Type 0 = λ l. IsPermutation l (taken_by_all (cut ++ other_half v ∷ []) ++ items) in
             let S : List J → Type 0 = λ l. IsPermutation (put_by_all views) (l ++ items) in
-            subst R (sym (joined (λ u. u.put) views idle refl)) (subst S (sym (joined (λ u. u.taken) views idle refl)) h.balanced);
-      })
+            subst R (sym put) (subst S (sym taken) h.balanced);
+        shares = of_halves views p v h.shares at;
+      }
 
   pub puts : (n p : ℕ) (v : Hand J) (x : J) → n ≤ 64 → Pushes IsFair n p v x (IsPut v x)
   puts n p v x le items views room h at =
-      let w = hand (v.put ++ x ∷ []) v.taken in
+      let w = hand v.halvings (v.put ++ x ∷ []) v.taken in
       let after = put_keeps p v x items views h at in
       (w, after, record { pass = p; items = items; views = views; before = h; here = at; room = omega arith; after = after; added = refl })
 
   pub takes : (p : ℕ) (v : Hand J) → Pops IsFair p v (IsTake v)
   takes p v x items views h at =
-      let w = hand v.put (v.taken ++ x ∷ []) in
+      let w = hand v.halvings v.put (v.taken ++ x ∷ []) in
       let after = take_keeps p v x items views h at in
       (w, after, record { pass = p; items = items; views = views; before = h; here = at; after = after; added = refl })
 

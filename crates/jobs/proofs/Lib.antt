@@ -1,3 +1,4 @@
 pub mod Lists
+pub mod Shares
 pub mod Keeps
 pub mod Examples

@@ -15,7 +15,7 @@ module _ {J : Type 0} where
     pub here : get_elem? views pass ≡ some v
     pub room : length items < 64
     pub after : IsFair (items ++ job ∷ []) (slice_set views pass w)
-    pub added : w ≡ hand (v.put ++ job ∷ []) v.taken
+    pub added : w ≡ hand v.halvings (v.put ++ job ∷ []) v.taken
 
   -- the job is taken from the front
   pub record IsTake (v : Hand J) (job : J) (w : Hand J) : Type 0 where
@@ -25,7 +25,7 @@ module _ {J : Type 0} where
     pub before : IsFair (job ∷ items) views
     pub here : get_elem? views pass ≡ some v
     pub after : IsFair items (slice_set views pass w)
-    pub added : w ≡ hand v.put (v.taken ++ job ∷ [])
+    pub added : w ≡ hand v.halvings v.put (v.taken ++ job ∷ [])
 
   -- the rule held with these jobs in the queue, for a pass with this view; the other passes may be made up
   pub record HeldThen (v : Hand J) (items : List J) : Type 0 where

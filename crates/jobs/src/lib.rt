@@ -4,8 +4,9 @@
 //! them out, and each thread uses a [`Pass`] of its own, which takes no bytes. Ends are copied for further threads,
 //! and the queue is closed once all senders are dropped. At every moment, the jobs that were put are those that were
 //! taken, followed by those in the queue, in order. And the jobs that all passes put are those that the passes took
-//! and those in the queue, with the same multiplicity (`IsFair` of `specs/Rule.antt`). Termination of a call is not
-//! proved: `put` and `take` may wait for another thread.
+//! and those in the queue, with the same multiplicity (`IsFair` of `specs/Rule.antt`). The passes are the first one and
+//! those that [`JobSender::pass`] returned, and no others. Termination of a call is not proved: `put` and `take` may
+//! wait for another thread.
 //!
 //! It stands on the libraries `crossbeam_channel` and `atomic_table`, and is used only by `thread_tests`. It is for a
 //! node's threads: one finds the work, others take it.

@@ -1,7 +1,7 @@
 // The queue's two ends and its passes.
 
 ghost use Rattle.std.specs.Prelude.{◌≡◌, IfOk, MatchOption, MatchResult};
-ghost use Rattle.jobs.specs.Rule.{idle};
+ghost use Rattle.jobs.specs.Rule.{idle, halved, other_half};
 ghost use Rattle.jobs.specs.Ends.{PutsWith, TakesWith, PutIntoOne, TakeFromOne, IsOneQueue, hand_of};
 ghost use Rattle.jobs.specs.Steps.{IsPut, IsTake, WasEmpty};
 
@@ -13,7 +13,7 @@ use std::sync::Wait;
 /// The greatest number of jobs that a queue holds.
 pub const CAPACITY: usize = 64;
 
-/// A thread's right to use one queue, which takes no bytes. Contracts see the jobs that it put and took.
+/// A thread's right to use one queue, which takes no bytes. Contracts see the jobs that it put and took, and its share of the queue.
 ///
 /// Keep a pass as long as the queue is used. What a dropped pass put and took still counts, but its view of it is lost.
 pub type Pass<J> = crossbeam_channel::Pass<J, Hand<J>>;
@@ -30,9 +30,9 @@ pub struct JobTaker<J: Drop> {
     taker: RuledReceiver<J, Hand<J>, Fair>,
 }
 
-/// An empty queue of at most 64 jobs: its two ends and its first pass. The only error is that memory ran out.
+/// An empty queue of at most 64 jobs: its two ends and its first pass, which has the whole share. The only error is that memory ran out.
 pub fn job_queue<J: Drop>(alloc: Global) -> Result<(JobSender<J>, JobTaker<J>, Pass<J>), AllocError>
-    ensures { IfOk result (λ r. IsOneQueue r.0 r.1 × PutsWith r.0 r.2 × (hand_of r.2 ≡ idle)) }
+    ensures { IfOk result (λ r. IsOneQueue r.0 r.1 × PutsWith r.0 r.2 × (hand_of r.2 ≡ idle 0)) }
 {
     let (sender, taker, pass) = bounded_with(alloc, CAPACITY)?;
     Ok((JobSender { sender }, JobTaker { taker }, pass))
@@ -47,11 +47,12 @@ impl<J: Drop> JobSender<J> {
         Ok(JobSender { sender })
     }
 
-    /// A further pass to the same queue, which has put and taken nothing.
+    /// A further pass to the same queue, which has put and taken nothing. Each of the two passes has half of the share that this one had. So the
+    /// passes of a queue are its first one and those that this function returned, and no others.
     pub fn pass(&self, pass: &mut Pass<J>) -> Pass<J>
         requires { PutsWith self.now pass.old }
-        ensures same { PutsWith self.now pass.new × (hand_of pass.new ≡ hand_of pass.old) }
-        ensures new { PutsWith self.now result × (hand_of result ≡ idle) }
+        ensures half { PutsWith self.now pass.new × (hand_of pass.new ≡ halved (hand_of pass.old)) }
+        ensures new { PutsWith self.now result × (hand_of result ≡ other_half (hand_of pass.old)) }
     {
         self.sender.another::<Apart>(pass)
     }

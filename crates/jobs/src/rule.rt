@@ -3,9 +3,11 @@
 use crossbeam_channel::protocol::{Lesson, Outcome, Protocol, Split};
 use std::collections::LinkedList;
 
-/// What a pass has put and taken. Only contracts
-/// use it; no program makes a value of it.
+/// What a pass has put and taken, and its share of the queue. Only
+/// contracts use it; no program makes a value of it.
 pub struct Hand<J> {
+    /// How many times its share was halved: it is 1 / 2^`halvings` of the queue.
+    pub halvings: u64,
     /// The jobs that it put, in order.
     pub put: LinkedList<J>,
     /// The jobs that it took, in order.
@@ -20,18 +22,18 @@ impl<J> Protocol<J, Hand<J>> for Fair {
 
     ghost holds = { IsFair };
 
-    ghost first = { idle };
+    ghost first = { idle 0 };
 }
 
-// a new pass, which has put and taken nothing
+// a new pass, which has put and taken nothing, with half of the share
 pub struct Apart;
 
 impl<J> Split<Hand<J>> for Apart {
-    ghost use Rattle.jobs.specs.Rule.{idle};
+    ghost use Rattle.jobs.specs.Rule.{halved, other_half};
 
-    ghost left = { λ v. v };
+    ghost left = { halved };
 
-    ghost right = { λ v. idle };
+    ghost right = { other_half };
 }
 
 // one job added at the back

@@ -1,4 +1,4 @@
--- Inputs that take an output of a revoked commitment, for which the premises of the laws hold: a penalty, the owner's input after the delay, and an HTLC-timeout transaction.
+-- Inputs that take an output of a revoked commitment, for which the premises of the laws hold, and the fate of each: a penalty, the owner's input after the delay, and an HTLC-timeout transaction.
 use Rattle.std.proofs.Common.{◌≡◌, ℕ, zero, suc, ◌+◌, ◌^◌, ◌<◌, ◌≤◌, true, false, List, [], ◌∷◌, ◌++◌, map, replicate, length, reverse, Some, None, sym, ap, ◌∙◌, refl, subst, arith, length-append, lit≤, lit<}
 use Rattle.std.specs.Prelude.{IsTrue}
 use Rattle.std.specs.List.{Contains, Any}
@@ -19,7 +19,7 @@ use Rattle.script.specs.Step.{Elements, age_passes}
 use Rattle.script.specs.Run.{Outcome, Clean, is_long, outcome}
 use Rattle.tx.specs.declared.input.OutPoint.{OutPoint}
 use Rattle.tx.specs.declared.input.TxIn.{TxIn}
-use Rattle.tx.specs.Fields.{Transaction, KeepsLimits}
+use Rattle.tx.specs.Fields.{Transaction, KeepsLimits, unsigned_transaction}
 use Rattle.sighash.specs.Programs.{given_of, given_by_hash, script_ops, spend_of, run_of, script_hash_program}
 use Rattle.sighash.specs.Signing.{signed_list}
 use Rattle.sighash.proofs.Tokens.{one_token}
@@ -48,21 +48,23 @@ use Rattle.commit.specs.Keys.{keys_of}
 use Rattle.commit.specs.Order.{output_cmp, in_order}
 use Rattle.commit.specs.Outputs.{outputs_of, to_local_script, htlc_script}
 use Rattle.commit.specs.Commitments.{Contents, commitment_of, transaction_of, htlcs_of, htlcs_from, second_stage_of, second_stage_output}
+use Rattle.commit.proofs.Collected.{short_script_program}
 use Rattle.penalty.specs.declared.states.RevokedState.{RevokedState}
 use Rattle.penalty.specs.Claimable.{Claimable, place_in, penalty_on, htlc_penalty_on, claims_by, commitment_in, claimable_of}
 use Rattle.penalty.proofs.Programs.{same_htlc}
 use Rattle.safety.specs.Signing.{digest_of}
 use Rattle.safety.specs.Spending.{spend_on, peer_keys, Takes}
 use Rattle.safety.specs.Taking.{ShowsOnly, IsAsSigned}
-use Rattle.safety.specs.Fates.{htlc_signed, signed_by_peer}
+use Rattle.safety.specs.Fates.{htlc_signed, signed_by_peer, by_peer, by_owner, Fate, by_htlc_transaction, for_good}
 use Rattle.safety.proofs.Claimed.{keys_in}
 use Rattle.safety.proofs.Limits.{no_longer, id_length}
+use Rattle.safety.proofs.Fates.{is_htlc_transaction}
 use Rattle.safety.proofs.Ran.{given_script}
 use Rattle.safety.proofs.Spelt.{to_local_ops, offered_ops}
 
 -- ---- what runs clean
 
-same_eq : (a : List ℕ) → bytes_eq a a ≡ true
+pub same_eq : (a : List ℕ) → bytes_eq a a ≡ true
 same_eq a = (bytes_eq-Decides a a).1 refl
 
 token_short : (key digest : List ℕ) → is_key key ≡ true → length digest ≡ 32 → is_long (token_of key digest) ≡ false
@@ -114,7 +116,7 @@ hashed : (script : List ℕ) (below : Elements) → given_by_hash (sha256 script
 hashed script below = rw (same_eq (sha256 script)) refl
 
 -- what runs on a script runs on its program
-shown : (t : Transaction) (input : TxIn) (value : ℕ) (ops : List Op) (below : Elements) (o : Outcome) → script_ops (spelling ops) ≡ Some ops → reverse input.witness ≡ spelling ops ∷ below
+pub shown : (t : Transaction) (input : TxIn) (value : ℕ) (ops : List Op) (below : Elements) (o : Outcome) → script_ops (spelling ops) ≡ Some ops → reverse input.witness ≡ spelling ops ∷ below
     → outcome (spend_of t input (spelling ops) value) ops (reverse below) ≡ o → run_of t input (record { value = value; script = script_hash_program (spelling ops) }) ≡ Some o
 unfolding run_of
 shown t input value ops below o parsed w e =
@@ -123,36 +125,36 @@ shown t input value ops below o parsed w e =
     rw (g, parsed) (ap Some e)
 
 -- an unspent coin whose locks are reached passes with its run
-passes : (height : ℕ) (t : Transaction) (input : TxIn) (coin : Coin) (counted tallest : ℕ) → coin.spent ≡ false → is_final height t.lock_time t.inputs ≡ true → is_old_enough height t.version input.sequence coin.height ≡ true
+pub passes : (height : ℕ) (t : Transaction) (input : TxIn) (coin : Coin) (counted tallest : ℕ) → coin.spent ≡ false → is_final height t.lock_time t.inputs ≡ true → is_old_enough height t.version input.sequence coin.height ≡ true
     → run_of t input coin.output ≡ Some (Clean counted tallest) → coin_refusal height t input (Some coin) ≡ None
 passes height t input coin counted tallest s f a r = rw (s, f, a, r) refl
 
 -- ---- the second scenario's commitment 1, with an HTLC that A offered
 
-key_form : (b : ℕ) → IsTrue (is_key (2 ∷ replicate 32 b))
+pub key_form : (b : ℕ) → IsTrue (is_key (2 ∷ replicate 32 b))
 unfolding is_key
 key_form b = refl
 
-abbrev key : ℕ → Key
+abbrev pub key : ℕ → Key
 key b = record { bytes = 2 ∷ replicate 32 b; form = key_form b }
 
-abbrev bases : ℕ → BaseKeys
+abbrev pub bases : ℕ → BaseKeys
 bases b = record { funding = key b; payment = key (b + 1); delayed = key (b + 2); htlc = key (b + 3); revocation = key (b + 4) }
 
-abbrev side : ℕ → ℕ → BaseKeys → Party
+abbrev pub side : ℕ → ℕ → BaseKeys → Party
 side start delay b = record { dust = 546; delay = delay; minimum = 0; start = start; bases = b }
 
 module _ (funding : OutPoint) (hash : List ℕ) where
-  abbrev terms : Terms
+  abbrev pub terms : Terms
   terms = record { funding = funding; capacity = 100000; opener = A; feerate = 1000; a = side 80000000 144 (bases 0x10); b = side 20000000 72 (bases 0x20); limited = lit≤ tt; whole = refl }
 
-  abbrev htlc : Htlc
+  abbrev pub htlc : Htlc
   htlc = record { id = 0; amount = 10000000; hash = hash; expiry = 5 }
 
-  abbrev view : View
+  abbrev pub view : View
   view = record { a = record { balance = 70000000; offered = htlc ∷ [] }; b = record { balance = 20000000; offered = [] }; feerate = 1000 }
 
-  abbrev state : RevokedState
+  abbrev pub state : RevokedState
   state = record { terms = terms; view = view; owner = A; number = 1; secret = replicate 32 0x55; few = lit≤ tt; heights = refl; whole = refl }
 
   abbrev c : Contents
@@ -162,7 +164,7 @@ module _ (funding : OutPoint) (hash : List ℕ) where
   abbrev on_to_local : Claimable
   on_to_local = penalty_on c (place_in (transaction_of c) 2 (record { value = 69104; script = script_hash_program (to_local_script c.delay c.keys) }))
 
-  abbrev on_htlc : Claimable
+  abbrev pub on_htlc : Claimable
   on_htlc = htlc_penalty_on c Offered htlc (place_in (transaction_of c) 0 (record { value = 10000; script = script_hash_program (htlc_script c.keys Offered htlc) }))
 
   to_local_claimable : Contains (claimable_of state) on_to_local
@@ -174,11 +176,11 @@ module _ (funding : OutPoint) (hash : List ℕ) where
   htlc_claimable = (0, lit< tt, refl)
 
   -- the coin of an output, in the block of height 1
-  abbrev coin_of : Claimable → Coin
+  abbrev pub coin_of : Claimable → Coin
   coin_of o = record { output = output_at o.place; height = 1; spent = false }
 
   -- an input with this sequence and witness, and a transaction with only this input
-  abbrev input_on : Claimable → ℕ → List (List ℕ) → TxIn
+  abbrev pub input_on : Claimable → ℕ → List (List ℕ) → TxIn
   input_on o sequence witness = record { outpoint = o.place.outpoint; sequence = sequence; witness = witness }
 
   abbrev spending : TxIn → Transaction
@@ -244,6 +246,9 @@ module _ (funding : OutPoint) (hash : List ℕ) where
     shows = penalty_shows;
   }
 
+  penalty_fate : Fate state on_to_local 1 2 (spending penalty) penalty (spend_on on_to_local (spending penalty) penalty ∷ [])
+  penalty_fate = for_good (by_peer (0, spend_on on_to_local (spending penalty) penalty, lit< tt, refl, record { transaction = refl; input = refl; code = refl; value = refl }))
+
   -- the owner's input, 144 blocks above the output's block
   abbrev late : TxIn
   late = input_on on_to_local 144 (token_of c.keys.delayed (digest_on 144) ∷ [] ∷ spelling on_to_local.form.ops ∷ [])
@@ -299,17 +304,24 @@ module _ (funding : OutPoint) (hash : List ℕ) where
     shows = late_shows;
   }
 
+  late_fate : Fate state on_to_local 1 145 (spending late) late []
+  late_fate = for_good (by_owner (record {
+    form = refl;
+    token = (0, lit< tt, ap (token_of c.keys.delayed) (sym (same_digest 144 (token_of c.keys.delayed (digest_on 144) ∷ [] ∷ spelling on_to_local.form.ops ∷ []))));
+    late = omega (arith, delay_is);
+  }))
+
   -- the HTLC-timeout transaction, with a witness
-  abbrev offer : HtlcOutput
+  abbrev pub offer : HtlcOutput
   offer = record { index = 0; direction = Offered; htlc = htlc }
 
-  abbrev timeout : TxIn → Transaction
+  abbrev pub timeout : TxIn → Transaction
   timeout input = record { version = 2; inputs = input ∷ []; outputs = second_stage_output c offer ∷ []; lock_time = 5 }
 
   abbrev timeout_digest : List ℕ
   timeout_digest = digest_of (spend_on on_htlc (timeout (input_on on_htlc 0 [])) (input_on on_htlc 0 []))
 
-  abbrev timed_out : TxIn
+  abbrev pub timed_out : TxIn
   timed_out = input_on on_htlc 0 ([] ∷ token_of c.keys.remote_htlc timeout_digest ∷ token_of c.keys.local_htlc timeout_digest ∷ [] ∷ spelling on_htlc.form.ops ∷ [])
 
   same_timeout : digest_of (spend_on on_htlc (timeout timed_out) timed_out) ≡ timeout_digest
@@ -320,7 +332,7 @@ module _ (funding : OutPoint) (hash : List ℕ) where
   unfolding commitment_of keys_of revocation_key point_of sha256 digest_bytes hash_after compress rounds schedule first_words left_words right_words left_rotations right_rotations left_constants right_constants block_words left_line right_line blocks ripemd_compress ripemd_hash_after ripemd_bytes ripemd160
   no_revocation = refl
 
-  timeout_takes : Takes state on_htlc 6 (timeout timed_out) timed_out (coin_of on_htlc)
+  pub timeout_takes : Takes state on_htlc 6 (timeout timed_out) timed_out (coin_of on_htlc)
   timeout_takes = record {
     claimable = htlc_claimable;
     output = refl;
@@ -337,7 +349,7 @@ module _ (funding : OutPoint) (hash : List ℕ) where
   unfolding htlcs_from commitment_of outputs_of in_order output_cmp keys_of
   htlcs_are = refl
 
-  second_is : second_stage_of c offer ≡ timeout (input_on on_htlc 0 [])
+  pub second_is : second_stage_of c offer ≡ timeout (input_on on_htlc 0 [])
   unfolding second_stage_of
   second_is = refl
 
@@ -348,6 +360,44 @@ module _ (funding : OutPoint) (hash : List ℕ) where
       ∙ ap (λ (t : Transaction). sha256 (sha256 (signed_list t (input_on on_htlc 0 []) (spelling on_htlc.form.ops) 10000))) (sym second_is)
       ∙ ap (λ (code : List ℕ). sha256 (sha256 (signed_list (second_stage_of c offer) (input_on on_htlc 0 []) code 10000))) (sym (same_htlc c.keys Offered htlc))
 
-  timeout_shows : ShowsOnly c.keys (signed_by_peer c []) (spend_on on_htlc (timeout timed_out) timed_out)
+  pub timeout_shows : ShowsOnly c.keys (signed_by_peer c []) (spend_on on_htlc (timeout timed_out) timed_out)
   timeout_shows key i s =
       subst (λ hs. Any (λ z. digest_of (spend_on on_htlc (timeout timed_out) timed_out) ≡ digest_of z) (map (htlc_signed c) hs ++ [])) (sym htlcs_are) (0, htlc_signed c offer, lit< tt, refl, timeout_is)
+
+  pub offer_among : Contains (htlcs_of c) offer
+  offer_among = subst (λ hs. Contains hs offer) (sym htlcs_are) (0, lit< tt, refl)
+
+  timeout_short : length (spelling on_htlc.form.ops) ≤ max_script_size
+  timeout_short =
+      no_longer _ _ (offered_ops (hash160 c.keys.revocation) c.keys.remote_htlc c.keys.local_htlc (ripemd160 hash) (length-ripemd160 _) (length-ripemd160 _) (keys_in state).remote_htlc (keys_in state).local_htlc)
+
+  timeout_limits : KeepsLimits (timeout timed_out)
+  timeout_limits =
+      let remote = token_low c.keys.remote_htlc timeout_digest (keys_in state).remote_htlc (length-sha256 _) in
+      let local = token_low c.keys.local_htlc timeout_digest (keys_in state).local_htlc (length-sha256 _) in
+      record {
+        version = omega arith;
+        some_input = omega arith;
+        inputs = record {
+          count = omega arith;
+          each = (
+            record {
+              txid = id_length c;
+              index = omega arith;
+              sequence = omega arith;
+              witness = record { count = omega arith; each = (omega arith, (omega (arith, remote), (omega (arith, local), (omega arith, (omega (arith, timeout_short), tt))))) };
+            },
+            tt,
+          );
+        };
+        outputs = record { count = omega arith; each = (record { value = omega arith; script = short_script_program (to_local_script c.delay c.keys) }, tt) };
+        lock_time = omega arith;
+      }
+
+  pub timeout_signed : IsAsSigned c.keys (signed_by_peer c []) (spend_on on_htlc (timeout timed_out) timed_out)
+  timeout_signed = record { limits = timeout_limits; among = (0, lit< tt, refl); shows = timeout_shows }
+
+  timeout_fate : Fate state on_htlc 1 6 (timeout timed_out) timed_out []
+  timeout_fate =
+      by_htlc_transaction (is_htlc_transaction state on_htlc 6 (timeout timed_out) timed_out offer offer_among
+      (record { transaction = sym (ap unsigned_transaction second_is); input = refl; code = sym (same_htlc c.keys Offered htlc); value = refl }) refl)

@@ -1,6 +1,6 @@
 -- Where outputs can go.
-use Rattle.std.proofs.Common.{◌≡◌, ℕ, zero, suc, ◌+◌, ◌<◌, Bool, true, false, List, [], ◌∷◌, ◌++◌, map, length, Some, None, sym, ap, ◌∙◌, refl, subst, inl, inr, ⊎_elim, arith}
-use Rattle.std.specs.Prelude.{◌⊎◌, ◌&&◌, ◌||◌, ◌==◌, nat_lt, nat_le, slice_get, slice_index_or}
+use Rattle.std.proofs.Common.{◌≡◌, ℕ, ◌+◌, ◌<◌, Bool, true, false, List, [], ◌∷◌, map, Some, None, sym, ap, ◌∙◌, refl, subst, inl, inr, ⊎_elim, arith}
+use Rattle.std.specs.Prelude.{◌⊎◌, ◌&&◌, ◌||◌, ◌==◌, nat_lt, nat_le}
 use Rattle.std.specs.List.{Contains, Any, All, cons_option, list_all}
 use Rattle.std.proofs.lemmas.Bool.{false≢true, ltb-true, lt-leb}
 use Rattle.std.proofs.lemmas.List.Elements.{All-nil, All-cons, All-append, All-head, All-tail, All-contains}
@@ -33,9 +33,9 @@ use Rattle.penalty.proofs.Second.{transaction_at, first_output}
 use Rattle.safety.specs.Signing.{Signed, IsSignable, AreSame}
 use Rattle.safety.specs.Spending.{spend_on}
 use Rattle.safety.specs.Taking.{IsTaken, as_signed, by_owner, by_twin, by_collision}
-use Rattle.safety.specs.Fates.{htlc_signed, SignedWithCommitment, signed_by_peer, IsHtlcTransaction, Fate, by_htlc_transaction, by_peer, NothingEscapes, NothingEscapesOnChains}
-use Rattle.safety.specs.Fates.{by_owner as fated_by_owner, by_twin as fated_by_twin, by_collision as fated_by_collision}
-use Rattle.safety.proofs.Slots.{any_first, any_none, contains_first, contains_later}
+use Rattle.safety.specs.Fates.{htlc_signed, SignedWithCommitment, signed_by_peer, IsHtlcTransaction, Ending, by_peer, Fate, by_htlc_transaction, for_good, NothingEscapes, NothingEscapesOnChains}
+use Rattle.safety.specs.Fates.{by_owner as ended_by_owner, by_twin as ended_by_twin, by_collision as ended_by_collision}
+use Rattle.safety.proofs.Lists.{any_append, any_map, got}
 use Rattle.safety.proofs.Claimed.{outputs_in}
 use Rattle.safety.proofs.Limits.{htlcs_signable}
 use Rattle.safety.proofs.OnChain.{passed}
@@ -45,27 +45,6 @@ use Rattle.safety.proofs.Taken.{only_as_signed}
 pub signed_with_commitment : SignedWithCommitment
 unfolding htlc_digest
 signed_with_commitment c h = refl
-
--- ---- one of two lists, and one of what a function makes of a list
-
-any_append : {X : Type 0} (P : X → Type 0) (xs ys : List X) → Any P (xs ++ ys) → Any P xs ⊎ Any P ys
-any_append P [] ys a = inr a
-any_append {X} P (x ∷ xs) ys a =
-    ⊎_elim (λ (p : P x). inl (0, x, omega arith, refl, p))
-    (λ (b : Any P (xs ++ ys)). ⊎_elim (λ (c : Any P xs). inl (suc c.0, c.1, (let l = c.2 in omega (arith, l)), c.3, c.4)) (λ (c : Any P ys). inr c) (any_append P xs ys b))
-    (any_first P x (xs ++ ys) a)
-
-any_map : {X Y : Type 0} (P : Y → Type 0) (f : X → Y) (xs : List X) → Any P (map f xs) → (x : X) × Contains xs x × P (f x)
-any_map P f [] a = absurd (any_none P a)
-any_map {X} {Y} P f (x ∷ xs) a =
-    ⊎_elim {C = (x' : X) × Contains (x ∷ xs) x' × P (f x')} (λ (p : P (f x)). (x, contains_first x xs, p))
-    (λ (b : Any P (map f xs)). let r = any_map P f xs b in (r.0, contains_later x xs r.0 r.1, r.2))
-    (any_first P (f x) (map f xs) a)
-
-got : {X : Type 0} (xs : List X) (x : X) (k : ℕ) → k < length xs → slice_index_or xs k x ≡ x → slice_get xs k ≡ Some x
-got [] x k l e = absurd (omega (arith, l))
-got (y ∷ ys) x zero l e = ap Some e
-got (y ∷ ys) x (suc k) l e = got ys x k (omega (arith, l)) e
 
 -- ---- the lock time of an HTLC transaction
 
@@ -115,7 +94,7 @@ lock_reached height lock_time inputs l f e =
 
 -- ---- an HTLC transaction
 
-bare_second : (c : Contents) (h : HtlcOutput) → unsigned_transaction (second_stage_of c h) ≡ second_stage_of c h
+pub bare_second : (c : Contents) (h : HtlcOutput) → unsigned_transaction (second_stage_of c h) ≡ second_stage_of c h
 unfolding second_stage_of
 bare_second c h = refl
 
@@ -132,7 +111,7 @@ second_final c h t l e height final =
     let reached = lock_reached height t.lock_time t.inputs (omega (arith, lock, low)) (not_final t.inputs _ (ap (λ (u : Transaction). u.inputs) e)) final in
     omega (arith, lock, reached)
 
-is_htlc_transaction : (state : RevokedState) (o : Claimable) (height : ℕ) (t : Transaction) (input : TxIn) (h : HtlcOutput) → Contains (htlcs_of (commitment_in state)) h
+pub is_htlc_transaction : (state : RevokedState) (o : Claimable) (height : ℕ) (t : Transaction) (input : TxIn) (h : HtlcOutput) → Contains (htlcs_of (commitment_in state)) h
     → AreSame (spend_on o t input) (htlc_signed (commitment_in state) h) → is_final height t.lock_time t.inputs ≡ true → IsHtlcTransaction state height t input
 is_htlc_transaction state o height t input h (k, l, i) s final =
     let c = commitment_in state in
@@ -154,18 +133,31 @@ is_htlc_transaction state o height t input h (k, l, i) s final =
 
 -- ---- each fate
 
-fated : (state : RevokedState) (o : Claimable) (since height : ℕ) (t : Transaction) (input : TxIn) (own : List Signed) → is_final height t.lock_time t.inputs ≡ true
-    → IsTaken state o since height t input (signed_by_peer (commitment_in state) own) → Fate state o since height t input own
-fated state o since height t input own final (by_owner b) = fated_by_owner b
-fated state o since height t input own final (by_twin w) = fated_by_twin w
-fated state o since height t input own final (by_collision a) = fated_by_collision a
-fated state o since height t input own final (as_signed a) =
-    ⊎_elim of_htlc by_peer (any_append (AreSame (spend_on o t input)) (map (htlc_signed (commitment_in state)) (htlcs_of (commitment_in state))) own a)
+-- the input is as the peer signed it with the commitment, for an HTLC
+pub record IsForHtlc (c : Contents) (o : Claimable) (t : Transaction) (input : TxIn) : Type 0 where
+  pub htlc : HtlcOutput
+  pub among : Contains (htlcs_of c) htlc
+  pub same : AreSame (spend_on o t input) (htlc_signed c htlc)
+
+-- it is so, or it takes the output for good
+pub taken_so : (state : RevokedState) (o : Claimable) (since height : ℕ) (t : Transaction) (input : TxIn) (own : List Signed)
+    → IsTaken state o since height t input (signed_by_peer (commitment_in state) own) → IsForHtlc (commitment_in state) o t input ⊎ Ending state o since height t input own
+taken_so state o since height t input own (by_owner b) = inr (ended_by_owner b)
+taken_so state o since height t input own (by_twin w) = inr (ended_by_twin w)
+taken_so state o since height t input own (by_collision a) = inr (ended_by_collision a)
+taken_so state o since height t input own (as_signed a) =
+    ⊎_elim of_htlc (λ (b : Any (AreSame (spend_on o t input)) own). inr (by_peer b)) (any_append (AreSame (spend_on o t input)) (map (htlc_signed (commitment_in state)) (htlcs_of (commitment_in state))) own a)
   where
-    of_htlc : Any (AreSame (spend_on o t input)) (map (htlc_signed (commitment_in state)) (htlcs_of (commitment_in state))) → Fate state o since height t input own
+    of_htlc : Any (AreSame (spend_on o t input)) (map (htlc_signed (commitment_in state)) (htlcs_of (commitment_in state))) → IsForHtlc (commitment_in state) o t input ⊎ Ending state o since height t input own
     of_htlc b =
         let r = any_map (AreSame (spend_on o t input)) (htlc_signed (commitment_in state)) (htlcs_of (commitment_in state)) b in
-        by_htlc_transaction (is_htlc_transaction state o height t input r.0 r.1 r.2 final)
+        inl (record { htlc = r.0; among = r.1; same = r.2 })
+
+fated : (state : RevokedState) (o : Claimable) (since height : ℕ) (t : Transaction) (input : TxIn) (own : List Signed) → is_final height t.lock_time t.inputs ≡ true
+    → IsTaken state o since height t input (signed_by_peer (commitment_in state) own) → Fate state o since height t input own
+fated state o since height t input own final taken =
+    ⊎_elim (λ (h : IsForHtlc (commitment_in state) o t input). by_htlc_transaction (is_htlc_transaction state o height t input h.htlc h.among h.same final)) for_good
+    (taken_so state o since height t input own taken)
 
 pub nothing_escapes : NothingEscapes
 nothing_escapes state short o height t input coin k own all w =

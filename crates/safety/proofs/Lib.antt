@@ -1,4 +1,5 @@
 pub mod Slots
+pub mod Lists
 pub mod Satisfied
 pub mod Spelt
 pub mod Ran
@@ -11,4 +12,11 @@ pub mod Limits
 pub mod Passed
 pub mod Taken
 pub mod Fates
+pub mod Standing
+pub mod Stripped
+pub mod Indices
+pub mod Seconds
+pub mod Distinct
+pub mod Whereabouts
 pub mod Examples
+pub mod ChainExamples

@@ -93,7 +93,7 @@ from_here c index (o ∷ os) l k a b =
 not_refused : (state : RevokedState) → refusal_of (commitment_in state).outputs ≡ None
 not_refused state = shared state.terms state.view state.owner state.number (point_of state.secret) state.whole state.few
 
-limited : (state : RevokedState) → All (λ o. IsOutputOf (commitment_in state).keys o) (commitment_in state).outputs
+pub limited : (state : RevokedState) → All (λ o. IsOutputOf (commitment_in state).keys o) (commitment_in state).outputs
 unfolding commitment_of
 limited state =
     each_output (party state.owner state.terms).delay (keys_of state.terms state.owner (point_of state.secret)) (amounts_of state.terms state.view state.owner) (not_refused state)
@@ -151,7 +151,10 @@ signables_from c index (o ∷ os) k l a b =
         All-cons IsSignable (htlc_signed c (record { index = index; direction = direction; htlc = htlc })) (map (htlc_signed c) (htlcs_from (index + 1) os))
         (signable c (record { index = index; direction = direction; htlc = htlc }) k (omega (arith, l)) (omega (arith, h)) (omega (arith, v, z))) rest
 
+pub few_in : (state : RevokedState) → length (commitment_in state).outputs ≤ max_outputs
+few_in state = few_outputs (commitment_in state).outputs (not_refused state)
+
 pub htlcs_signable : (state : RevokedState) → All IsSignable (map (htlc_signed (commitment_in state)) (htlcs_of (commitment_in state)))
 htlcs_signable state =
-    let few = few_outputs (commitment_in state).outputs (not_refused state) in
+    let few = few_in state in
     signables_from (commitment_in state) 0 (commitment_in state).outputs (keys_in state) (omega (arith, few)) (outputs_in state) (limited state)

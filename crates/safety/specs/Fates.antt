@@ -49,13 +49,17 @@ pub record IsHtlcTransaction (state : RevokedState) (height : ℕ) (t : Transact
   pub alone : t.outputs ≡ output ∷ []
   pub again : IsClaimedAt (claimable_of state) (place_in t 0 output)
 
--- what such an input is: of an HTLC transaction; one of the peer's own, whatever its witness; the owner's after the delay; or a collision
+-- what an input is that takes such an output for good: one of the peer's own, whatever its witness; the owner's after the delay; or a collision
+pub data Ending (state : RevokedState) (o : Claimable) (since height : ℕ) (t : Transaction) (input : TxIn) (own : List Signed) : Type 0 where
+  by_peer : Any (AreSame (spend_on o t input)) own → Ending state o since height t input own
+  by_owner : IsOwners (IsLate state since height) (commitment_in state) o t input → Ending state o since height t input own
+  by_twin : ShowsTwin (commitment_in state) o input → Ending state o since height t input own
+  by_collision : Any (ListsCollide (spend_on o t input)) (signed_by_peer (commitment_in state) own) → Ending state o since height t input own
+
+-- what such an input is: it is of an HTLC transaction, whose output the peer can claim again; or it takes the output for good
 pub data Fate (state : RevokedState) (o : Claimable) (since height : ℕ) (t : Transaction) (input : TxIn) (own : List Signed) : Type 0 where
   by_htlc_transaction : IsHtlcTransaction state height t input → Fate state o since height t input own
-  by_peer : Any (AreSame (spend_on o t input)) own → Fate state o since height t input own
-  by_owner : IsOwners (IsLate state since height) (commitment_in state) o t input → Fate state o since height t input own
-  by_twin : ShowsTwin (commitment_in state) o input → Fate state o since height t input own
-  by_collision : Any (ListsCollide (spend_on o t input)) (signed_by_peer (commitment_in state) own) → Fate state o since height t input own
+  for_good : Ending state o since height t input own → Fate state o since height t input own
 
 -- it has a fate, whatever inputs of its own the peer signed, if each signature of the peer's in it is over an input that the peer signed
 abbrev pub HasFate : RevokedState → Claimable → (since height : ℕ) → Transaction → TxIn → Type 0

@@ -5,3 +5,4 @@ pub mod Owning
 pub mod Standing
 pub mod Taking
 pub mod Fates
+pub mod Whereabouts

@@ -10,6 +10,7 @@ ghost use Rattle.safety.specs.Owning.{OnlyPeerSigns};
 ghost use Rattle.safety.specs.Standing.{HavePassed};
 ghost use Rattle.safety.specs.Taking.{OnlyAsSigned};
 ghost use Rattle.safety.specs.Fates.{SignedWithCommitment, NothingEscapes, NothingEscapesAbove, NothingEscapesOnChains};
+ghost use Rattle.safety.specs.Whereabouts.{NothingIsLost};
 
 use penalty::RevokedState;
 
@@ -97,4 +98,17 @@ pub fn nothing_escapes()
     ensures above { (blocks : List Block) (height : ℕ) (state : State) → HasShortDelay state
         → NothingEscapesAbove blocks height state }
     ensures chains { NothingEscapesOnChains }
+{}
+
+/// Suppose that a revoked commitment stands on a chain that passed its tests, and that each token of the peer's keys in an input there is over what the peer signed.
+/// Then for each output of the commitment there is one on the chain that the peer can claim: the output itself or, if its HTLC transaction stands there, the output of
+/// that. No two of these are at one outpoint. With fees, dust and what was rounded off they are worth the capacity. For each of them, one of four things holds:
+/// - it is unspent;
+/// - the peer took it;
+/// - the owner took it after the delay;
+/// - named byte strings collide.
+///
+/// The ids of the chain's grants must differ from one another and from those of its transactions.
+pub fn nothing_is_lost()
+    ensures { NothingIsLost }
 {}

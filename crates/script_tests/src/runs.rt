@@ -1,6 +1,7 @@
 //! Runs that compare a hash. All other rows are proved from the definitions of `script`, since a run is exactly what is
 //! defined there.
 
+mod elements;
 mod shapes;
 
 use lists::ByteString;

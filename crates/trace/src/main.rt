@@ -1,38 +1,42 @@
-//! The program `trace` explains scripts, and who can spend an output to one, for programs and for people.
+//! The program `trace` explains scripts, and who can spend an output to one, what becomes of the inputs of a transaction,
+//! and what each event of a scenario changes, for programs and for people.
 //!
-//! `trace_words::run_words` does what the words say, and returns a status of at most 2. This file has only the
-//! streams and the arguments.
+//! `trace_words`, `trace_witness` and `trace_scenario` do what the words say, and return a status of at most 2. This file
+//! has only the streams and the arguments.
 #![tactic(auto)]
 
+use std::alloc::Global;
 use std::env::{self, Env};
-use std::io;
+use std::io::{self, Read, Write};
 use std::process::ExitCode;
-use trace_words::{refuse_memory, refuse_words, run_words};
+use trace_words::{refuse_memory, refuse_words};
 
 /// The words after the program's name.
 fn words<R: Env + Alloc>(rt: &R) -> io::Result<Vec<String<R::A>, R::A>> {
-    let mut words = Vec::new(rt.alloc());
-    for word in env::args(rt)?.skip(1) {
-        words.push(word)?;
-    }
-    Ok(words)
+    Ok(env::args(rt)?.skip(1).collect(rt.alloc())?)
 }
 
-/// Whether the words ask for a scenario on standard input.
-fn is_scenario(words: &[String]) -> bool {
+/// Does what the words say. The first word names the library that does it.
+fn run<R: Read, W: Write, E: Write>(
+    alloc: Global,
+    words: &[String],
+    input: &mut R,
+    out: &mut W,
+    err: &mut E,
+) -> u8 {
     match words {
-        [word] => word.as_str() == "scenario",
-        _ => false,
+        [word] if word.as_str() == "scenario" => trace_scenario::run(alloc, input, out),
+        [word, rest @ ..] if word.as_str() == "witness" => {
+            trace_witness::run_words(alloc, rest, input, out, err)
+        }
+        _ => trace_words::run_words(alloc, words, input, out, err),
     }
 }
 
 /// Runs the words that the program was called with. Arguments that are not UTF-8 are wrong words.
 fn main(rt: HostRuntime) -> ExitCode {
     let status = match words(&rt) {
-        Ok(words) if is_scenario(words.as_slice()) => {
-            trace_scenario::run(rt.alloc(), &mut rt.stdin(), &mut rt.stdout())
-        }
-        Ok(words) => run_words(
+        Ok(words) => run(
             rt.alloc(),
             words.as_slice(),
             &mut rt.stdin(),

@@ -1,39 +1,7 @@
-//! The output for people, wrong words, and readers and writers that fail.
+//! The output for people, wrong words, input that is refused, and readers and writers that fail.
 
-use crate::fixtures::{Broken, Endless};
-use std::alloc::Global;
-use std::io;
-use std::process::Abort;
-use std::test::Fail;
-use trace_words::{USAGE, run_words};
-
-// The words of a call.
-fn words_of(alloc: Global, words: &[&str]) -> Result<Vec<String>, Fail> {
-    let mut all = Vec::new(alloc);
-    for word in words {
-        all.push(String::from_str(alloc, word)?)?;
-    }
-    Ok(all)
-}
-
-// Asserts the output of a call on both streams, one after the other, and its status.
-fn prints<R: io::Read>(
-    rt: &impl Abort,
-    alloc: Global,
-    words: &[&str],
-    input: &mut R,
-    wanted: &str,
-    status: u8,
-) -> Result<(), Fail> {
-    let all = words_of(alloc, words)?;
-    let mut printed: Vec<u8> = Vec::new(alloc);
-    let mut complained: Vec<u8> = Vec::new(alloc);
-    let answered = run_words(alloc, all.as_slice(), input, &mut printed, &mut complained);
-    printed.extend_from_slice(complained.as_slice())?;
-    assert_eq!(rt; printed.as_slice(), wanted.as_bytes());
-    assert_eq!(rt; answered, status);
-    Ok(())
-}
+use crate::fixtures::{Broken, Endless, prints, status_of};
+use trace_words::USAGE;
 
 // An IF with a lock of 144 blocks in its first branch,
 // a script with a fault, and a script without a path.
@@ -55,47 +23,99 @@ refused BadHex
 ";
 
 #[test]
-fn prints_pages(rt: HostRuntime) -> Result<(), Fail> {
-    let alloc = rt.alloc();
+fn prints_pages(rt: HostRuntime) {
     let mut scripts: &[u8] = b"63029000b2670068\r\n0181ff\n00\nno\n";
-    prints(&rt, alloc, &["script", "--text"], &mut scripts, PAGES, 1)?;
-    let mut none: &[u8] = b"";
-    prints(
-        &rt,
-        alloc,
+    let call = ["script", "--text"];
+    prints(&rt, rt.alloc(), &call, &mut scripts, PAGES, 1);
+}
+
+// Calls without input, and what they print.
+const CALLS: [(&[&str], &str, u8); 7] = [
+    (
         &["script", "--text", "020aff7500"],
-        &mut none,
         "    0  PUSH 0aff (number -32522)\n    3  DROP\n    4  PUSH - (the empty item, number 0)\nno path: no witness opens this script\n",
         0,
-    )?;
-    prints(&rt, alloc, &["script"], &mut none, "", 0)
-}
+    ),
+    (&["script"], "", 0),
+    (&["scenario"], "{\"refused\":\"NotJson\"}\n", 1),
+    (&["witness"], "{\"refused\":\"Truncated\"}\n", 1),
+    (&["scripts"], USAGE, 2),
+    (&["script", "51", "51"], USAGE, 2),
+    (&["witness", "51"], USAGE, 2),
+];
 
 #[test]
-fn refuses_words_and_input(rt: HostRuntime) -> Result<(), Fail> {
-    let alloc = rt.alloc();
-    let mut endless = Endless { fails: false };
-    for words in [&[] as &[&str], &["scripts"], &["script", "51", "51"]] {
-        prints(&rt, alloc, words, &mut endless, USAGE, 2)?;
+fn prints_answers(rt: HostRuntime) {
+    for (call, wanted, status) in &CALLS {
+        let mut none: &[u8] = b"";
+        prints(&rt, rt.alloc(), call, &mut none, wanted, *status);
     }
-    let long = "{\"bytes\":null,\"opcodes\":[],\"refused\":\"TooLong\",\"byte\":null}\n";
-    prints(&rt, alloc, &["script"], &mut endless, long, 1)?;
-    endless.fails = true;
-    let failed = "refused ReadFailed\n";
-    prints(&rt, alloc, &["script", "--text"], &mut endless, failed, 1)?;
-    let mut bytes: &[u8] = &[0x35, 0x31, 0x0a, 0xff];
-    let bad = "{\"bytes\":null,\"opcodes\":[],\"refused\":\"BadHex\",\"byte\":null}\n";
-    prints(&rt, alloc, &["script"], &mut bytes, bad, 1)
 }
 
+// Calls, their output for an input that is too long, and for one that can't be read. Wrong words are detected before any of it is read.
+const INPUTS: [(&[&str], &str, &str, u8); 5] = [
+    (
+        &["script"],
+        "{\"bytes\":null,\"opcodes\":[],\"refused\":\"TooLong\",\"byte\":null}\n",
+        "{\"bytes\":null,\"opcodes\":[],\"refused\":\"ReadFailed\",\"byte\":null}\n",
+        1,
+    ),
+    (
+        &["witness", "--text"],
+        "refused TooLong\n",
+        "refused ReadFailed\n",
+        1,
+    ),
+    (
+        &["scenario"],
+        "{\"refused\":\"TooLong\"}\n",
+        "{\"refused\":\"ReadFailed\"}\n",
+        1,
+    ),
+    (&["witness", "--text", "51"], USAGE, USAGE, 2),
+    (&[], USAGE, USAGE, 2),
+];
+
 #[test]
-fn tells_a_failed_write(rt: HostRuntime) -> Result<(), Fail> {
+fn refuses_input(rt: HostRuntime) {
+    for (call, long, failed, status) in &INPUTS {
+        let mut endless = Endless { fails: false };
+        prints(&rt, rt.alloc(), call, &mut endless, long, *status);
+        endless.fails = true;
+        prints(&rt, rt.alloc(), call, &mut endless, failed, *status);
+    }
+}
+
+// Calls on a line that is not text.
+const OTHERS: [(&[&str], &str); 3] = [
+    (&["script", "--text"], "refused BadHex\n"),
+    (&["witness"], "{\"refused\":\"BadHex\"}\n"),
+    (&["scenario"], "{\"refused\":\"NotJson\"}\n"),
+];
+
+#[test]
+fn refuses_what_is_not_text(rt: HostRuntime) {
+    for (call, wanted) in &OTHERS {
+        let mut bytes: &[u8] = &[0x35, 0x31, 0x0a, 0xff];
+        prints(&rt, rt.alloc(), call, &mut bytes, wanted, 1);
+    }
+}
+
+// Calls whose answer can't be written.
+const ANSWERS: [&[&str]; 5] = [
+    &["script"],
+    &["script", "51"],
+    &["witness"],
+    &["scenario"],
+    &[],
+];
+
+#[test]
+fn tells_a_failed_write(rt: HostRuntime) {
     let alloc = rt.alloc();
-    let mut input: &[u8] = b"51\n";
-    for words in [&["script"] as &[&str], &["script", "51"], &[]] {
-        let all = words_of(alloc, words)?;
-        let status = run_words(alloc, all.as_slice(), &mut input, &mut Broken, &mut Broken);
+    for call in &ANSWERS {
+        let mut input: &[u8] = b"51\n";
+        let status = status_of(&rt, alloc, call, &mut input, &mut Broken, &mut Broken);
         assert_eq!(rt; status, 1);
     }
-    Ok(())
 }

@@ -4,7 +4,6 @@ use facts::{Fact, KeySource, Stated};
 use lists::{ByteString, List};
 use std::alloc::{AllocError, Global};
 use std::process::Abort;
-use std::test::Fail;
 use trace_words::Sentence;
 
 // The number of kinds of facts.
@@ -93,51 +92,61 @@ fn kind_of(fact: &Fact) -> usize {
     }
 }
 
-// Asserts the sentence of a fact.
-fn says(rt: &impl Abort, alloc: Global, fact: Fact, holds: bool, wanted: &str) -> Result<(), Fail> {
+// Asserts the kind of a fact, and its sentence.
+fn says(
+    rt: &impl Abort,
+    alloc: Global,
+    fact: Result<Fact, AllocError>,
+    kind: usize,
+    holds: bool,
+    wanted: &str,
+) {
+    let fact = fact.expect(rt, "memory");
+    assert_eq!(rt; kind_of(&fact), kind);
     let stated = Stated { fact, holds };
-    let text = format!(in alloc; "{}", Sentence(&stated))?;
+    let text = Sentence(&stated).to_string(alloc).expect(rt, "memory");
     assert_eq!(rt; text.as_str(), wanted);
-    Ok(())
 }
 
 #[test]
-fn says_each_kind_of_fact(rt: HostRuntime) -> Result<(), Fail> {
+fn says_each_kind_of_fact(rt: HostRuntime) {
     let alloc = rt.alloc();
-    for (kind, sentences) in SENTENCES.iter().enumerate() {
-        let fact = fact_of(alloc, kind)?;
-        assert_eq!(rt; kind_of(&fact), kind);
-        says(&rt, alloc, fact, true, sentences.0)?;
-        says(&rt, alloc, fact_of(alloc, kind)?, false, sentences.1)?;
+    for (kind, (holding, failing)) in SENTENCES.iter().enumerate() {
+        says(&rt, alloc, fact_of(alloc, kind), kind, true, holding);
+        says(&rt, alloc, fact_of(alloc, kind), kind, false, failing);
     }
-    Ok(())
 }
 
-// Locks that this profile never reaches, the bounds of those that it does, an empty item, and a key from the witness.
+// Locks that this profile never reaches, and the bounds of those that it does.
+const LOCKS: [(u64, &str); 2] = [
+    (499_999_999, "in block 500000000 at the earliest"),
+    (
+        500_000_000,
+        "at the time 500000000 in seconds since 1970, which this profile never reaches",
+    ),
+];
+
+const AGES: [(u32, &str); 2] = [
+    (0xffff, "after 65535 blocks"),
+    (
+        0x40_0003,
+        "after 3 units of 512 seconds, which this profile never reaches",
+    ),
+];
+
+// The same, an empty item, and a key that the witness brings.
 #[test]
-fn says_other_forms(rt: HostRuntime) -> Result<(), Fail> {
+fn says_other_forms(rt: HostRuntime) {
     let alloc = rt.alloc();
-    for (lock, wanted) in [
-        (499_999_999, "in block 500000000 at the earliest"),
-        (
-            500_000_000,
-            "at the time 500000000 in seconds since 1970, which this profile never reaches",
-        ),
-    ] {
-        says(&rt, alloc, Fact::Lock(lock), true, wanted)?;
+    for (lock, wanted) in &LOCKS {
+        says(&rt, alloc, Ok(Fact::Lock(*lock)), 8, true, wanted);
     }
-    for (age, wanted) in [
-        (0xffff, "after 65535 blocks"),
-        (
-            0x40_0003,
-            "after 3 units of 512 seconds, which this profile never reaches",
-        ),
-    ] {
-        says(&rt, alloc, Fact::Age(age), true, wanted)?;
+    for (age, wanted) in &AGES {
+        says(&rt, alloc, Ok(Fact::Age(*age)), 9, true, wanted);
     }
     let empty = Fact::Is(3, ByteString::new(alloc));
-    says(&rt, alloc, empty, true, "slot 3 is the empty item")?;
+    says(&rt, alloc, Ok(empty), 3, true, "slot 3 is the empty item");
     let brought = Fact::Token(1, KeySource::Slot(0));
     let wanted = "slot 1 is a signature by the key in slot 0";
-    says(&rt, alloc, brought, true, wanted)
+    says(&rt, alloc, Ok(brought), 6, true, wanted);
 }

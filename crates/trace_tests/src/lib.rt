@@ -1,7 +1,8 @@
-//! Tests of the words of `trace`: a sentence for each kind of fact, the output for people, a scenario's trace, and
-//! input that never ends or that fails. The output for programs is compared by the rows of the program.
+//! Tests of the words of `trace`: a sentence for each kind of fact, the output for people, a scenario's trace, the inputs
+//! of a transaction, and input that never ends or that fails. The output for programs is compared by the rows of the
+//! program, and that of more inputs by `bench/witnesses.py`.
 //!
-//! They are in a crate of their own, so that the library is proved without them.
+//! They are in a crate of their own, so that the libraries are proved without them.
 #![tactic(auto)]
 
 #[cfg(test)]
@@ -12,3 +13,7 @@ mod fixtures;
 mod kinds;
 #[cfg(test)]
 mod scenarios;
+#[cfg(test)]
+mod verdicts;
+#[cfg(test)]
+mod witnesses;

@@ -1,27 +1,6 @@
-//! A scenario's trace, input that is not a
-//! scenario, and readers and writers that fail.
+//! A scenario's trace.
 
-use crate::fixtures::{Broken, Endless};
-use std::alloc::Global;
-use std::io;
-use std::process::Abort;
-use std::test::Fail;
-use trace_scenario::run;
-
-// Asserts the trace of a scenario, and the status.
-fn tells<R: io::Read>(
-    rt: &impl Abort,
-    alloc: Global,
-    input: &mut R,
-    wanted: &str,
-    status: u8,
-) -> Result<(), Fail> {
-    let mut told: Vec<u8> = Vec::new(alloc);
-    let answered = run(alloc, input, &mut told);
-    assert_eq!(rt; told.as_slice(), wanted.as_bytes());
-    assert_eq!(rt; answered, status);
-    Ok(())
-}
+use crate::fixtures::{Broken, prints, status_of};
 
 // A scenario without channels.
 const EMPTY: &str =
@@ -34,31 +13,25 @@ const LINES: &str = "{\"opening\":{\"events\":2,\"channels\":[]}}
 ";
 
 #[test]
-fn tells_a_scenario(rt: HostRuntime) -> Result<(), Fail> {
-    let mut text = EMPTY.as_bytes();
-    tells(&rt, rt.alloc(), &mut text, LINES, 0)
-}
-
-#[test]
-fn refuses_input(rt: HostRuntime) -> Result<(), Fail> {
+fn tells_a_scenario(rt: HostRuntime) {
     let alloc = rt.alloc();
-    for (text, line) in [("", "NotJson"), ("{}", "BadShape")] {
-        let wanted = format!(in alloc; "{{\"refused\":\"{line}\"}}\n")?;
-        tells(&rt, alloc, &mut text.as_bytes(), wanted.as_str(), 1)?;
-    }
-    let mut endless = Endless { fails: false };
-    let long = "{\"refused\":\"TooLong\"}\n";
-    tells(&rt, alloc, &mut endless, long, 1)?;
-    endless.fails = true;
-    let failed = "{\"refused\":\"ReadFailed\"}\n";
-    tells(&rt, alloc, &mut endless, failed, 1)
-}
-
-#[test]
-fn tells_a_failed_write_of_lines(rt: HostRuntime) -> Result<(), Fail> {
-    for text in [EMPTY, ""] {
-        let status = run(rt.alloc(), &mut text.as_bytes(), &mut Broken);
-        assert_eq!(&rt; status, 1);
-    }
-    Ok(())
+    let call = ["scenario"];
+    prints(&rt, alloc, &call, &mut EMPTY.as_bytes(), LINES, 0);
+    prints(
+        &rt,
+        alloc,
+        &call,
+        &mut b"{}".as_slice(),
+        "{\"refused\":\"BadShape\"}\n",
+        1,
+    );
+    let status = status_of(
+        &rt,
+        alloc,
+        &call,
+        &mut EMPTY.as_bytes(),
+        &mut Broken,
+        &mut Broken,
+    );
+    assert_eq!(rt; status, 1);
 }

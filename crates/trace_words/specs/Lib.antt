@@ -2,3 +2,4 @@ pub mod Names
 pub mod Looks
 pub mod Weights
 pub mod Sentences
+pub mod Refusals

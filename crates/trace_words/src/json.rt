@@ -1,101 +1,42 @@
 // Opcodes and paths as JSON.
 
 use crate::looks::Look;
-use crate::names::{depth, depth_after, name};
+use crate::names::opcode_name;
 use crate::sentences::{Role, Sentence};
 use crate::weights::{SIGNATURE_SIZE, TOKEN_SIZE, witness_weight};
-use facts::texts::Hex;
+use crate::writer::Line;
 use facts::{Fact, KeySource, Stated};
 use paths::Path;
 use script::Op;
-use script::num::Number;
-use std::fmt;
 
-// The comma before an element, except the first.
-fn comma(index: usize) -> &'static str {
-    if index == 0 { "" } else { "," }
-}
-
-// A number, printed as `null` if there is none.
-#[derive(Drop)]
-pub struct OrNull(pub Option<u64>);
-
-impl fmt::Display for OrNull {
-    fn fmt<W: fmt::Write>(&self, f: &mut fmt::Formatter<W>) -> fmt::Result {
-        match self.0 {
-            Some(n) => write!(f, "{n}"),
-            None => write!(f, "null"),
+// Writes the members of a push besides its opcode.
+fn tell_push(line: &mut Line, item: &[u8]) {
+    line.hex("hex", item);
+    line.name("looks");
+    match Look::of(item) {
+        Look::Key => line.word("key"),
+        Look::Hash => line.word("hash"),
+        Look::Bytes => line.word("bytes"),
+        Look::Number(number) => {
+            line.word("number");
+            line.name("number");
+            line.push_signed(&number);
         }
     }
 }
 
-/// A number with its sign.
-#[derive(Drop)]
-pub struct Signed(pub Number);
-
-impl fmt::Display for Signed {
-    fn fmt<W: fmt::Write>(&self, f: &mut fmt::Formatter<W>) -> fmt::Result {
-        let sign = if self.0.negative { "-" } else { "" };
-        let magnitude = self.0.magnitude;
-        write!(f, "{sign}{magnitude}")
+/// Writes an opcode, an element of an array: it begins at this byte, and is in this number of branches.
+pub fn tell_op(line: &mut Line, op: &Op, byte: usize, depth: usize) {
+    line.open("{");
+    line.count("byte", byte as u64);
+    line.count("depth", depth as u64);
+    line.member("op", opcode_name(op));
+    match op {
+        Op::Push(item) => tell_push(line, item.bytes()),
+        Op::Number(n) => tell_push(line, &[*n]),
+        _ => {}
     }
-}
-
-// The members of a push besides its opcode.
-#[derive(Drop)]
-struct Pushed<'a>(&'a [u8]);
-
-impl fmt::Display for Pushed<'_> {
-    fn fmt<W: fmt::Write>(&self, f: &mut fmt::Formatter<W>) -> fmt::Result {
-        let hex = Hex(self.0);
-        match Look::of(self.0) {
-            Look::Key => write!(f, ",\"hex\":\"{hex}\",\"looks\":\"key\""),
-            Look::Hash => write!(f, ",\"hex\":\"{hex}\",\"looks\":\"hash\""),
-            Look::Bytes => write!(f, ",\"hex\":\"{hex}\",\"looks\":\"bytes\""),
-            Look::Number(n) => {
-                let number = Signed(n);
-                write!(
-                    f,
-                    ",\"hex\":\"{hex}\",\"looks\":\"number\",\"number\":{number}"
-                )
-            }
-        }
-    }
-}
-
-// The members of an opcode that only a push has.
-#[derive(Drop)]
-struct Operand<'a>(&'a Op);
-
-impl fmt::Display for Operand<'_> {
-    fn fmt<W: fmt::Write>(&self, f: &mut fmt::Formatter<W>) -> fmt::Result {
-        match self.0 {
-            Op::Push(item) => write!(f, "{}", Pushed(item.bytes())),
-            Op::Number(n) => write!(f, "{}", Pushed(&[*n])),
-            _ => Ok(()),
-        }
-    }
-}
-
-/// The opcodes of a script, the elements of an array.
-#[derive(Drop)]
-pub struct Ops<'a>(pub &'a [Op]);
-
-impl fmt::Display for Ops<'_> {
-    fn fmt<W: fmt::Write>(&self, f: &mut fmt::Formatter<W>) -> fmt::Result {
-        let (mut byte, mut ifs) = (0usize, 0usize);
-        for (index, op) in self.0.iter().enumerate() {
-            let (comma, depth, name) = (comma(index), depth(op, ifs), name(op));
-            let operand = Operand(op);
-            write!(
-                f,
-                "{comma}{{\"byte\":{byte},\"depth\":{depth},\"op\":\"{name}\"{operand}}}"
-            )?;
-            byte = byte.saturating_add(op.payload_len()).saturating_add(1);
-            ifs = depth_after(op, ifs);
-        }
-        Ok(())
-    }
+    line.close("}");
 }
 
 // The kind of a fact.
@@ -114,135 +55,113 @@ fn kind(fact: &Fact) -> &'static str {
     }
 }
 
-// The slots of a fact, the elements of an array.
-#[derive(Drop)]
-struct SlotsOf<'a>(&'a Fact);
-
-impl fmt::Display for SlotsOf<'_> {
-    fn fmt<W: fmt::Write>(&self, f: &mut fmt::Formatter<W>) -> fmt::Result {
-        match self.0 {
-            Fact::Hash(slot, _) | Fact::Is(slot, _) => write!(f, "{slot}"),
-            Fact::Size(slot, _) => write!(f, "{slot}"),
-            Fact::Token(slot, _) => write!(f, "{slot}"),
-            Fact::Truth(slot) | Fact::KeyForm(slot) | Fact::Form(slot) => write!(f, "{slot}"),
-            Fact::Assigned(slots, _) => {
-                for (index, slot) in slots.values().iter().enumerate() {
-                    write!(f, "{}{slot}", comma(index))?;
-                }
-                Ok(())
+// Writes the slots of a fact, the elements of an array.
+fn tell_slots(line: &mut Line, fact: &Fact) {
+    match fact {
+        Fact::Hash(slot, _) | Fact::Is(slot, _) => line.number(*slot as u128),
+        Fact::Size(slot, _) => line.number(*slot as u128),
+        Fact::Token(slot, _) => line.number(*slot as u128),
+        Fact::Truth(slot) | Fact::KeyForm(slot) | Fact::Form(slot) => line.number(*slot as u128),
+        Fact::Assigned(slots, _) => {
+            for slot in slots.values() {
+                line.number(*slot as u128);
             }
-            Fact::Lock(_) | Fact::Age(_) => Ok(()),
         }
+        Fact::Lock(_) | Fact::Age(_) => {}
     }
 }
 
-// A key: a text in hexadecimal, or the number of the slot that has it.
-#[derive(Drop)]
-struct KeyOf<'a>(&'a KeySource);
-
-impl fmt::Display for KeyOf<'_> {
-    fn fmt<W: fmt::Write>(&self, f: &mut fmt::Formatter<W>) -> fmt::Result {
-        match self.0 {
-            KeySource::Const(key) => write!(f, "\"{}\"", Hex(key.bytes())),
-            KeySource::Slot(slot) => write!(f, "{slot}"),
-        }
+// Writes a key: a text in hexadecimal, or the number of the slot that has it.
+fn tell_key(line: &mut Line, key: &KeySource) {
+    match key {
+        KeySource::Const(key) => line.bytes(key.bytes()),
+        KeySource::Slot(slot) => line.number(*slot as u128),
     }
 }
 
-// The keys of a fact, the elements of an array.
-#[derive(Drop)]
-struct KeysOf<'a>(&'a Fact);
-
-impl fmt::Display for KeysOf<'_> {
-    fn fmt<W: fmt::Write>(&self, f: &mut fmt::Formatter<W>) -> fmt::Result {
-        match self.0 {
-            Fact::Token(_, key) => write!(f, "{}", KeyOf(key)),
-            Fact::Assigned(_, keys) => {
-                for (index, key) in keys.values().iter().enumerate() {
-                    write!(f, "{}{}", comma(index), KeyOf(key))?;
-                }
-                Ok(())
+// Writes the keys of a fact, the elements of an array.
+fn tell_keys(line: &mut Line, fact: &Fact) {
+    match fact {
+        Fact::Token(_, key) => tell_key(line, key),
+        Fact::Assigned(_, keys) => {
+            for key in keys.values() {
+                tell_key(line, key);
             }
-            _ => Ok(()),
         }
+        _ => {}
     }
 }
 
-// The value that a fact compares with: bytes, a number, or nothing.
-#[derive(Drop)]
-struct ValueOf<'a>(&'a Fact);
-
-impl fmt::Display for ValueOf<'_> {
-    fn fmt<W: fmt::Write>(&self, f: &mut fmt::Formatter<W>) -> fmt::Result {
-        match self.0 {
-            Fact::Hash(_, bytes) | Fact::Is(_, bytes) => write!(f, "\"{}\"", Hex(bytes.bytes())),
-            Fact::Size(_, n) | Fact::Age(n) => write!(f, "{n}"),
-            Fact::Lock(n) => write!(f, "{n}"),
-            _ => write!(f, "null"),
-        }
+// Writes the value that a fact compares with: bytes, a number, or nothing.
+fn tell_value(line: &mut Line, fact: &Fact) {
+    match fact {
+        Fact::Hash(_, bytes) | Fact::Is(_, bytes) => line.bytes(bytes.bytes()),
+        Fact::Size(_, n) | Fact::Age(n) => line.number(u128::from(*n)),
+        Fact::Lock(n) => line.number(u128::from(*n)),
+        _ => line.json("null"),
     }
 }
 
-// A fact.
-#[derive(Drop)]
-struct FactOf<'a>(&'a Stated);
-
-impl fmt::Display for FactOf<'_> {
-    fn fmt<W: fmt::Write>(&self, f: &mut fmt::Formatter<W>) -> fmt::Result {
-        let Stated { fact, holds } = self.0;
-        let (kind, role) = (kind(fact), Role::of(self.0).text());
-        let (slots, keys, value) = (SlotsOf(fact), KeysOf(fact), ValueOf(fact));
-        let says = Sentence(self.0);
-        write!(
-            f,
-            "{{\"kind\":\"{kind}\",\"holds\":{holds},\"role\":\"{role}\",\"slots\":[{slots}],\"keys\":[{keys}],\"value\":{value},\"says\":\"{says}\"}}"
-        )
-    }
+// Writes what a fact is about: its slots, its keys and its value.
+fn tell_subject(line: &mut Line, fact: &Fact) {
+    line.begin("slots", "[");
+    tell_slots(line, fact);
+    line.close("]");
+    line.begin("keys", "[");
+    tell_keys(line, fact);
+    line.close("]");
+    line.name("value");
+    tell_value(line, fact);
 }
 
-// Facts, the elements of an array.
-#[derive(Drop)]
-struct Facts<'a>(&'a [Stated]);
-
-impl fmt::Display for Facts<'_> {
-    fn fmt<W: fmt::Write>(&self, f: &mut fmt::Formatter<W>) -> fmt::Result {
-        for (index, stated) in self.0.iter().enumerate() {
-            write!(f, "{}{}", comma(index), FactOf(stated))?;
-        }
-        Ok(())
-    }
+// Writes a fact.
+fn tell_fact(line: &mut Line, stated: &Stated) {
+    line.open("{");
+    line.member("kind", kind(&stated.fact));
+    line.flag("holds", stated.holds);
+    line.member("role", Role::of(stated).text());
+    tell_subject(line, &stated.fact);
+    line.shown("says", Sentence(stated));
+    line.close("}");
 }
 
-// A path through a script of this number of bytes.
-#[derive(Drop)]
-struct PathOf<'a>(&'a Path, usize);
-
-impl fmt::Display for PathOf<'_> {
-    fn fmt<W: fmt::Write>(&self, f: &mut fmt::Formatter<W>) -> fmt::Result {
-        let path = self.0;
-        let facts = path.facts.values();
-        let (arity, counted, height) = (path.arity, path.ops, path.height);
-        let (lock, age) = (OrNull(path.lock), OrNull(path.age.map(u64::from)));
-        let weight = witness_weight(facts, arity, self.1, SIGNATURE_SIZE);
-        let tokens = witness_weight(facts, arity, self.1, TOKEN_SIZE);
-        let facts = Facts(facts);
-        write!(
-            f,
-            "{{\"arity\":{arity},\"counted\":{counted},\"height\":{height},\"lock\":{lock},\"age\":{age},\"weight\":{weight},\"token_weight\":{tokens},\"facts\":[{facts}]}}"
-        )
-    }
+// Writes what the witness of a path weighs.
+fn tell_weights(line: &mut Line, path: &Path, size: usize) {
+    let facts = path.facts.values();
+    line.name("weight");
+    line.number(witness_weight(facts, path.arity, size, SIGNATURE_SIZE));
+    line.name("token_weight");
+    line.number(witness_weight(facts, path.arity, size, TOKEN_SIZE));
 }
 
-/// The paths through a script of this number
-/// of bytes, the elements of an array.
-#[derive(Drop)]
-pub struct Paths<'a>(pub &'a [Path], pub usize);
-
-impl fmt::Display for Paths<'_> {
-    fn fmt<W: fmt::Write>(&self, f: &mut fmt::Formatter<W>) -> fmt::Result {
-        for (index, path) in self.0.iter().enumerate() {
-            write!(f, "{}{}", comma(index), PathOf(path, self.1))?;
-        }
-        Ok(())
+// Writes facts.
+fn tell_facts(line: &mut Line, facts: &[Stated]) {
+    line.begin("facts", "[");
+    for stated in facts {
+        tell_fact(line, stated);
     }
+    line.close("]");
+}
+
+// Writes a path through a script of this number of bytes, an element of an array.
+fn tell_path(line: &mut Line, path: &Path, size: usize) {
+    line.open("{");
+    line.count("arity", path.arity as u64);
+    line.count("counted", path.ops as u64);
+    line.count("height", path.height as u64);
+    line.count_or_null("lock", path.lock);
+    line.count_or_null("age", path.age.map(u64::from));
+    tell_weights(line, path, size);
+    tell_facts(line, path.facts.values());
+    line.close("}");
+}
+
+/// Writes the paths through a script of this number of bytes, with which its object ends.
+pub fn tell_paths(line: &mut Line, paths: &[Path], size: usize) {
+    line.begin("paths", "[");
+    for path in paths {
+        tell_path(line, path, size);
+    }
+    line.close("]");
+    line.end();
 }

@@ -5,7 +5,8 @@
 //! reader and writers, and returns a status of at most 2. The names of opcodes, what a push looks like, each fact's sentence ([`Sentence`]) and each
 //! witness's weight ([`witness_weight`]) are proved. Their layout is tested, not proved.
 //!
-//! `paths` lists the ways, and `facts` has what they ask for. The program `trace` passes it the words.
+//! `paths` lists the ways, and `facts` has what they ask for. The program `trace` passes it the words. `trace_witness` writes by its [`Line`], and reads
+//! its input by its [`read_all`].
 //!
 //! ```rust
 //! let status = run_words(alloc, words, &mut input, &mut out, &mut err);
@@ -16,7 +17,7 @@
 
 ghost use Rattle.std.specs.Prelude.{◌≡◌, ◌≤◌, ◌⊎◌};
 
-mod errors;
+mod input;
 mod json;
 mod lines;
 mod looks;
@@ -26,18 +27,23 @@ mod places;
 mod reading;
 mod sentences;
 mod weights;
-mod words;
+mod writer;
 
 use crate::lines::{tell_input, told};
-use crate::words::Command;
+pub use input::{InputError, MAX_INPUT, read_all};
+pub use lines::write_told;
 pub use looks::Look;
+pub use names::opcode_name;
+pub use places::byte_of;
+pub use reading::Form;
 pub use sentences::{Role, Sentence};
 use std::alloc::Global;
 use std::io::{Read, Write};
 pub use weights::{SIGNATURE_SIZE, TOKEN_SIZE, witness_weight};
+pub use writer::Line;
 
 /// The line that is printed for wrong words.
-pub const USAGE: &str = "usage: trace scenario | script [--text] [HEX]\n";
+pub const USAGE: &str = "usage: trace scenario | script [--text] [HEX] | witness [--text]\n";
 
 /// Runs the program on its words (without its name) and returns its status: 0 when all scripts are listed, 1 for a refused script, refused input or a failed
 /// write, 2 for wrong words, which are detected before any input is read. All text about a script is made before its first byte is written.
@@ -50,10 +56,29 @@ pub fn run_words<R: Read, W: Write, E: Write>(
 ) -> u8
     ensures { result ≤ 2 }
 {
-    match Command::read(words) {
-        Some(Command::Script(form, text)) => told(alloc, text, form, out),
-        Some(Command::Scripts(form)) => tell_input(alloc, form, input, out),
-        None => refuse_words(err),
+    match words.split_first() {
+        Some((word, rest)) if word.as_str() == "script" => {
+            tell_scripts(alloc, rest, input, out, err)
+        }
+        _ => refuse_words(err),
+    }
+}
+
+// Explains the scripts that the words after `script` ask for, and returns the status.
+fn tell_scripts<R: Read, W: Write, E: Write>(
+    alloc: Global,
+    words: &[String],
+    input: &mut R,
+    out: &mut W,
+    err: &mut E,
+) -> u8
+    ensures { result ≤ 2 }
+{
+    let (form, rest) = Form::read(words);
+    match rest {
+        [] => tell_input(alloc, form, input, out),
+        [text] => told(alloc, text.as_str(), form, out),
+        _ => refuse_words(err),
     }
 }
 
@@ -71,8 +96,8 @@ pub fn refuse_memory<W: Write>(out: &mut W) -> u8
     written(out, "refused NoMemory\n", 1)
 }
 
-// Writes a text, and returns the status, or 1 if the write fails.
-fn written<W: Write>(out: &mut W, text: &str, status: u8) -> u8
+/// Writes a text, and returns the status, or 1 if the write fails.
+pub fn written<W: Write>(out: &mut W, text: &str, status: u8) -> u8
     ensures { (result ≡ status) ⊎ (result ≡ 1) }
 {
     match out.write_all(text.as_bytes()) {

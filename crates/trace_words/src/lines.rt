@@ -1,39 +1,54 @@
 // Explains the scripts on standard input.
 
-ghost use Rattle.std.specs.Prelude.{◌≡◌, ◌≤◌};
+ghost use Rattle.std.specs.Prelude.{◌≡◌, ◌≤◌, ◌⊎◌};
 
-use crate::errors::TraceError;
+use crate::input::{InputError, read_all};
 use crate::reading::{Form, refuse, tell};
+use crate::writer::Line;
 use crate::{refuse_memory, written};
 use std::alloc::Global;
-use std::io;
 use std::io::{Read, Write};
 
-// The greatest number of bytes of the input.
-const MAX_INPUT: usize = 4_194_304;
+/// Writes what was explained, and returns the status. Returns 1 if the write fails, or if memory ran out before, which it then reports instead.
+pub fn write_told<W: Write>(out: &mut W, line: &Line, status: u8) -> u8
+    ensures { (result ≡ status) ⊎ (result ≡ 1) }
+{
+    match line.text() {
+        Some(text) => written(out, text, status),
+        None => refuse_memory(out),
+    }
+}
 
 /// Explains a script, and returns the status.
 pub fn told<W: Write>(alloc: Global, text: &str, form: Form, out: &mut W) -> u8
     ensures { result ≤ 1 }
 {
-    match tell(alloc, text, form) {
-        Ok(told) if told.is_listed => written(out, told.text.as_str(), 0),
-        Ok(told) => written(out, told.text.as_str(), 1),
-        Err(_) => refuse_memory(out),
-    }
+    let mut line = Line::new(alloc);
+    let status = if tell(alloc, &mut line, form, text) {
+        0
+    } else {
+        1
+    };
+    write_told(out, &line, status)
 }
 
 /// Explains each script of the input, one a line and each at once, and returns the greatest status.
 pub fn tell_input<R: Read, W: Write>(alloc: Global, form: Form, input: &mut R, out: &mut W) -> u8
     ensures { result ≤ 1 }
 {
-    let bytes = match read_all(alloc, input) {
-        Ok(bytes) => bytes,
-        Err(refusal) => return refuse_input(alloc, form, &refusal, out),
-    };
-    match str::from_utf8(bytes.as_slice()) {
+    match read_all(alloc, input) {
+        Ok(bytes) => tell_text(alloc, bytes.as_slice(), form, out),
+        Err(refusal) => refuse_input(alloc, form, refusal, out),
+    }
+}
+
+// Explains each script of the bytes of a text.
+fn tell_text<W: Write>(alloc: Global, bytes: &[u8], form: Form, out: &mut W) -> u8
+    ensures { result ≤ 1 }
+{
+    match str::from_utf8(bytes) {
         Ok(text) => tell_lines(alloc, text, form, out),
-        Err(_) => refuse_input(alloc, form, &TraceError::BadHex, out),
+        Err(_) => refuse_input(alloc, form, InputError::BadHex, out),
     }
 }
 
@@ -51,27 +66,13 @@ fn tell_lines<W: Write>(alloc: Global, text: &str, form: Form, out: &mut W) -> u
 }
 
 // Reports that the input is refused.
-fn refuse_input<W: Write>(alloc: Global, form: Form, refusal: &TraceError, out: &mut W) -> u8
+fn refuse_input<W: Write>(alloc: Global, form: Form, refusal: InputError, out: &mut W) -> u8
     ensures { result ≤ 1 }
 {
-    match refuse(alloc, form, None, &[], refusal, None) {
-        Ok(told) => written(out, told.text.as_str(), 1),
-        Err(_) => refuse_memory(out),
+    let mut line = Line::new(alloc);
+    match refusal {
+        InputError::NoMemory => line.fail(),
+        _ => refuse(&mut line, form, None, &[], refusal, None),
     }
-}
-
-// Reads the whole input, but at most one byte above the limit.
-fn read_all<R: Read>(alloc: Global, input: &mut R) -> Result<Vec<u8>, TraceError> {
-    let mut bytes = Vec::new(alloc);
-    match input.take(MAX_INPUT as u64 + 1).read_to_end(&mut bytes) {
-        Ok(_) => {}
-        Err(error) if error.kind() == io::ErrorKind::OutOfMemory => return Err(
-            TraceError::NoMemory,
-        ),
-        Err(_) => return Err(TraceError::ReadFailed),
-    }
-    if bytes.len() > MAX_INPUT {
-        return Err(TraceError::TooLong);
-    }
-    Ok(bytes)
+    write_told(out, &line, 1)
 }

@@ -6,7 +6,7 @@ ghost use Rattle.trace_words.specs.Names.{name_of, shown_depth, depth_after as d
 use script::Op;
 
 /// The opcode's name in Bitcoin's standards, without `OP_`; `PUSH` for each push.
-pub fn name(op: &Op) -> &'static str
+pub fn opcode_name(op: &Op) -> &'static str
     ensures { result.now ≡ name_of op.now }
 {
     match op {

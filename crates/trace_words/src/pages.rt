@@ -1,133 +1,108 @@
 // Opcodes and paths as text for people.
 
-use crate::json::Signed;
 use crate::looks::Look;
-use crate::names::{depth, depth_after, name};
+use crate::names::opcode_name;
 use crate::sentences::{Role, Sentence};
 use crate::weights::{SIGNATURE_SIZE, TOKEN_SIZE, witness_weight};
+use crate::writer::Line;
 use facts::Stated;
-use facts::texts::Hex;
 use paths::Path;
 use script::Op;
-use std::fmt;
 
-// The bytes of a push, and what they look like.
-#[derive(Drop)]
-struct Pushed<'a>(&'a [u8]);
-
-impl fmt::Display for Pushed<'_> {
-    fn fmt<W: fmt::Write>(&self, f: &mut fmt::Formatter<W>) -> fmt::Result {
-        if self.0.is_empty() {
-            return write!(f, " - (the empty item, number 0)");
-        }
-        let hex = Hex(self.0);
-        match Look::of(self.0) {
-            Look::Key => write!(f, " {hex} (key)"),
-            Look::Hash => write!(f, " {hex} (hash)"),
-            Look::Bytes => write!(f, " {hex}"),
-            Look::Number(n) => write!(f, " {hex} (number {})", Signed(n)),
+// Writes the bytes of a push, and what they look like.
+fn tell_push(line: &mut Line, item: &[u8]) {
+    if item.is_empty() {
+        line.push(" - (the empty item, number 0)");
+        return;
+    }
+    line.push(" ");
+    line.push_hex(item);
+    match Look::of(item) {
+        Look::Key => line.push(" (key)"),
+        Look::Hash => line.push(" (hash)"),
+        Look::Bytes => {}
+        Look::Number(number) => {
+            line.push(" (number ");
+            line.push_signed(&number);
+            line.push(")");
         }
     }
 }
 
-// The text after the name of a push.
-#[derive(Drop)]
-struct Operand<'a>(&'a Op);
+/// Writes an opcode on a line: the byte at which it begins, and its name, indented by branch.
+pub fn tell_op(line: &mut Line, op: &Op, byte: usize, depth: usize) {
+    line.push_shown(format_args!("{byte:>5}"));
+    line.push("  ");
+    for _ in 0..depth {
+        line.push("  ");
+    }
+    line.push(opcode_name(op));
+    match op {
+        Op::Push(item) => tell_push(line, item.bytes()),
+        Op::Number(n) => tell_push(line, &[*n]),
+        _ => {}
+    }
+    line.push("\n");
+}
 
-impl fmt::Display for Operand<'_> {
-    fn fmt<W: fmt::Write>(&self, f: &mut fmt::Formatter<W>) -> fmt::Result {
-        match self.0 {
-            Op::Push(item) => write!(f, "{}", Pushed(item.bytes())),
-            Op::Number(n) => write!(f, "{}", Pushed(&[*n])),
-            _ => Ok(()),
-        }
+// The text before a sentence.
+fn label(role: Role) -> &'static str {
+    match role {
+        Role::Who => "  who   ",
+        Role::With => "  with  ",
+        Role::When => "  when  ",
     }
 }
 
-// Two spaces for each branch.
-#[derive(Drop)]
-struct Indent(usize);
-
-impl fmt::Display for Indent {
-    fn fmt<W: fmt::Write>(&self, f: &mut fmt::Formatter<W>) -> fmt::Result {
-        for _ in 0..self.0 {
-            write!(f, "  ")?;
+// Writes the sentences of one role, a line each, or another line if there are none.
+fn tell_role(line: &mut Line, facts: &[Stated], role: Role, otherwise: &str) {
+    let mut is_told = false;
+    for stated in facts {
+        if Role::of(stated) == role {
+            line.push(label(role));
+            line.push_shown(Sentence(stated));
+            line.push("\n");
+            is_told = true;
         }
-        Ok(())
+    }
+    if !is_told {
+        line.push(otherwise);
     }
 }
 
-/// The opcodes of a script, a line each: the byte at which
-/// the opcode begins, and its name, indented by branch.
-#[derive(Drop)]
-pub struct OpLines<'a>(pub &'a [Op]);
-
-impl fmt::Display for OpLines<'_> {
-    fn fmt<W: fmt::Write>(&self, f: &mut fmt::Formatter<W>) -> fmt::Result {
-        let (mut byte, mut ifs) = (0usize, 0usize);
-        for op in self.0 {
-            let (indent, name, operand) = (Indent(depth(op, ifs)), name(op), Operand(op));
-            writeln!(f, "{byte:>5}  {indent}{name}{operand}")?;
-            byte = byte.saturating_add(op.payload_len()).saturating_add(1);
-            ifs = depth_after(op, ifs);
-        }
-        Ok(())
-    }
+// Writes what the witness of a path weighs.
+fn tell_weights(line: &mut Line, path: &Path, size: usize) {
+    let facts = path.facts.values();
+    line.push_shown(witness_weight(facts, path.arity, size, SIGNATURE_SIZE));
+    line.push(" weight units (");
+    line.push_shown(witness_weight(facts, path.arity, size, TOKEN_SIZE));
+    line.push(" with tokens)\n");
 }
 
-// The sentences of one role, a line each, or another line if there are none.
-#[derive(Drop)]
-struct Sentences<'a>(&'a [Stated], Role, &'static str);
-
-impl fmt::Display for Sentences<'_> {
-    fn fmt<W: fmt::Write>(&self, f: &mut fmt::Formatter<W>) -> fmt::Result {
-        let mut is_told = false;
-        for stated in self.0 {
-            if Role::of(stated) == self.1 {
-                writeln!(f, "  {:<4}  {}", self.1.text(), Sentence(stated))?;
-                is_told = true;
-            }
-        }
-        if is_told {
-            Ok(())
-        } else {
-            write!(f, "{}", self.2)
-        }
-    }
+// Writes the facts of a path by their roles.
+fn tell_roles(line: &mut Line, facts: &[Stated]) {
+    tell_role(line, facts, Role::Who, "  who   anyone\n");
+    tell_role(line, facts, Role::With, "");
+    tell_role(line, facts, Role::When, "  when  at once\n");
 }
 
-// A path through a script of this number of bytes, with its number.
-#[derive(Drop)]
-struct PathLines<'a>(&'a Path, usize, usize);
-
-impl fmt::Display for PathLines<'_> {
-    fn fmt<W: fmt::Write>(&self, f: &mut fmt::Formatter<W>) -> fmt::Result {
-        let (path, number) = (self.0, self.1);
-        let (arity, facts) = (path.arity, path.facts.values());
-        let weight = witness_weight(facts, arity, self.2, SIGNATURE_SIZE);
-        let tokens = witness_weight(facts, arity, self.2, TOKEN_SIZE);
-        let who = Sentences(facts, Role::Who, "  who   anyone\n");
-        let with = Sentences(facts, Role::With, "");
-        let when = Sentences(facts, Role::When, "  when  at once\n");
-        write!(
-            f,
-            "path {number}: {arity} items, {weight} weight units ({tokens} with tokens)\n{who}{with}{when}"
-        )
-    }
+// Writes a path through a script of this number of bytes, with its number.
+fn tell_path(line: &mut Line, path: &Path, number: usize, size: usize) {
+    line.push("path ");
+    line.push_shown(number);
+    line.push(": ");
+    line.push_shown(path.arity);
+    line.push(" items, ");
+    tell_weights(line, path, size);
+    tell_roles(line, path.facts.values());
 }
 
-/// The paths through a script of this number of bytes.
-#[derive(Drop)]
-pub struct PathsLines<'a>(pub &'a [Path], pub usize);
-
-impl fmt::Display for PathsLines<'_> {
-    fn fmt<W: fmt::Write>(&self, f: &mut fmt::Formatter<W>) -> fmt::Result {
-        if self.0.is_empty() {
-            return writeln!(f, "no path: no witness opens this script");
-        }
-        for (number, path) in self.0.iter().enumerate() {
-            write!(f, "{}", PathLines(path, number, self.1))?;
-        }
-        Ok(())
+/// Writes the paths through a script of this number of bytes.
+pub fn tell_paths(line: &mut Line, paths: &[Path], size: usize) {
+    if paths.is_empty() {
+        line.push("no path: no witness opens this script\n");
+    }
+    for (number, path) in paths.iter().enumerate() {
+        tell_path(line, path, number, size);
     }
 }

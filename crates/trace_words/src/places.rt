@@ -7,8 +7,8 @@ use script::branches::pass_branch;
 use script::limits::MAX_OPS_PER_SCRIPT;
 use std::alloc::{AllocError, Global};
 
-// The byte at which an opcode begins; the end of the script for an index past the last one.
-fn byte_of(ops: &[Op], index: usize) -> u64 {
+/// The byte at which an opcode begins; the end of the script for an index past the last one.
+pub fn byte_of(ops: &[Op], index: usize) -> u64 {
     let mut byte = 0u64;
     for (at, op) in ops.iter().enumerate() {
         if at >= index {

@@ -1,17 +1,19 @@
 // Reads and explains a script.
 
-use crate::errors::TraceError;
-use crate::json::{Ops, OrNull, Paths};
-use crate::pages::{OpLines, PathsLines};
+use crate::input::InputError;
+use crate::names::{depth, depth_after};
 use crate::places::place;
+use crate::writer::Line;
+use crate::{json, pages};
 use hex::FromHexError;
-use paths::{CheckError, check};
+use paths::{CheckError, Path, check};
 use script::limits::MAX_SCRIPT_SIZE;
 use script::{Op, ParseError, Script};
-use std::alloc::{AllocError, Global};
+use std::alloc::Global;
+use std::fmt::Display;
 
 /// The format of an answer.
-#[derive(Clone, Copy, Drop)]
+#[derive(Clone, Copy)]
 pub enum Form {
     /// One JSON object on a line.
     Json,
@@ -19,110 +21,156 @@ pub enum Form {
     Text,
 }
 
-/// The explanation of a script.
-#[derive(Drop)]
-pub struct Told {
-    /// The lines.
-    pub text: String,
-    /// Whether its paths are listed.
-    pub is_listed: bool,
+impl Form {
+    /// The format that words ask for, and the words after it: `--text` comes first.
+    pub fn read(words: &[String]) -> (Form, &[String]) {
+        match words.split_first() {
+            Some((word, rest)) if word.as_str() == "--text" => (Form::Text, rest),
+            _ => (Form::Json, words),
+        }
+    }
 }
 
-/// Explains a script in hexadecimal: its opcodes, then its paths, or why it is refused. The only error is that memory ran out.
-pub fn tell(alloc: Global, text: &str, form: Form) -> Result<Told, AllocError> {
+/// Explains a script in hexadecimal: its opcodes, then its paths, or why it is refused. Returns whether its paths are listed.
+pub fn tell(alloc: Global, line: &mut Line, form: Form, text: &str) -> bool {
     match hex::decode(alloc, text) {
-        Ok(bytes) => tell_bytes(alloc, bytes.as_slice(), form),
-        Err(FromHexError::OutOfMemory) => Err(AllocError),
-        Err(_) => refuse(alloc, form, None, &[], &TraceError::BadHex, None),
+        Ok(bytes) => tell_bytes(alloc, line, form, bytes.as_slice()),
+        Err(FromHexError::OutOfMemory) => {
+            line.fail();
+            false
+        }
+        Err(_) => {
+            refuse(line, form, None, &[], InputError::BadHex, None);
+            false
+        }
     }
 }
 
 // Explains the bytes of a script.
-fn tell_bytes(alloc: Global, bytes: &[u8], form: Form) -> Result<Told, AllocError> {
+fn tell_bytes(alloc: Global, line: &mut Line, form: Form, bytes: &[u8]) -> bool {
     match Script::parse(alloc, bytes) {
-        Ok(script) => tell_script(alloc, &script, form),
-        Err(ParseError::NoMemory) => Err(AllocError),
-        Err(error) => tell_part(alloc, bytes, error, form),
+        Ok(script) => tell_script(alloc, line, form, &script),
+        Err(error) => {
+            tell_part(alloc, line, form, bytes, error);
+            false
+        }
     }
 }
 
 // Explains bytes that are not a script: the opcodes before the fault.
-fn tell_part(
-    alloc: Global,
-    bytes: &[u8],
-    error: ParseError,
-    form: Form,
-) -> Result<Told, AllocError> {
+fn tell_part(alloc: Global, line: &mut Line, form: Form, bytes: &[u8], error: ParseError) {
     let (read, fault) = match error {
+        ParseError::NoMemory => {
+            line.fail();
+            return;
+        }
         ParseError::BadOpcode(at) | ParseError::Truncated(at) => (at, at),
-        _ => (0, MAX_SCRIPT_SIZE),
+        ParseError::TooLong => (0, MAX_SCRIPT_SIZE),
     };
-    let Ok(part) = Script::parse(alloc, &bytes[..read.min(bytes.len())]) else {
-        return Err(AllocError);
-    };
-    let refusal = TraceError::Parse(error);
-    let len = Some(bytes.len() as u64);
-    refuse(alloc, form, len, part.ops(), &refusal, Some(fault as u64))
+    match Script::parse(alloc, &bytes[..read.min(bytes.len())]) {
+        Ok(part) => {
+            let (size, fault) = (bytes.len() as u64, fault as u64);
+            refuse(line, form, Some(size), part.ops(), error, Some(fault));
+        }
+        Err(_) => line.fail(),
+    }
 }
 
-// Explains a script.
-fn tell_script(alloc: Global, script: &Script, form: Form) -> Result<Told, AllocError> {
-    let (ops, size) = (script.ops(), script.bytes().len());
-    match check(alloc, script.copy()?) {
+// Explains a script, and returns whether its paths are listed.
+fn tell_script(alloc: Global, line: &mut Line, form: Form, script: &Script) -> bool {
+    let Ok(copy) = script.copy() else {
+        line.fail();
+        return false;
+    };
+    match check(alloc, copy) {
         Ok(checked) => {
-            let paths = checked.paths();
-            let (lines, listed) = (OpLines(ops), PathsLines(paths, size));
-            let text = match form {
-                Form::Text => format!(in alloc; "{lines}{listed}")?,
-                Form::Json => json_text(alloc, size, Ops(ops), Paths(paths, size))?,
-            };
-            Ok(Told {
-                text,
-                is_listed: true,
-            })
+            tell_listed(line, form, script, checked.paths());
+            true
         }
-        Err(CheckError::NoMemory) => Err(AllocError),
         Err(error) => {
-            let byte = place(alloc, ops, &error)?;
-            let refusal = TraceError::Check(error);
-            refuse(alloc, form, Some(size as u64), ops, &refusal, byte)
+            tell_unlisted(alloc, line, form, script, error);
+            false
         }
     }
 }
 
-// The JSON object of a script that is listed.
-fn json_text(
-    alloc: Global,
-    size: usize,
-    ops: Ops<'_>,
-    paths: Paths<'_>,
-) -> Result<String, AllocError> {
-    format!(in alloc; "{{\"bytes\":{size},\"opcodes\":[{ops}],\"paths\":[{paths}]}}\n")
+// Explains a script that is listed.
+fn tell_listed(line: &mut Line, form: Form, script: &Script, paths: &[Path]) {
+    let size = script.bytes().len();
+    begin(line, form, Some(size as u64), script.ops());
+    match form {
+        Form::Json => json::tell_paths(line, paths, size),
+        Form::Text => pages::tell_paths(line, paths, size),
+    }
+}
+
+// Explains a script that is not listed.
+fn tell_unlisted(alloc: Global, line: &mut Line, form: Form, script: &Script, error: CheckError) {
+    if let CheckError::NoMemory = error {
+        line.fail();
+        return;
+    }
+    match place(alloc, script.ops(), &error) {
+        Ok(byte) => {
+            let size = script.bytes().len() as u64;
+            refuse(line, form, Some(size), script.ops(), error, byte);
+        }
+        Err(_) => line.fail(),
+    }
+}
+
+// Writes what comes first of each script: its number of bytes, and its opcodes.
+fn begin(line: &mut Line, form: Form, bytes: Option<u64>, ops: &[Op]) {
+    match form {
+        Form::Json => {
+            line.open("{");
+            line.count_or_null("bytes", bytes);
+            line.begin("opcodes", "[");
+            tell_ops(line, form, ops);
+            line.close("]");
+        }
+        Form::Text => tell_ops(line, form, ops),
+    }
+}
+
+// Writes the opcodes of a script.
+fn tell_ops(line: &mut Line, form: Form, ops: &[Op]) {
+    let (mut byte, mut ifs) = (0usize, 0usize);
+    for op in ops {
+        let depth = depth(op, ifs);
+        match form {
+            Form::Json => json::tell_op(line, op, byte, depth),
+            Form::Text => pages::tell_op(line, op, byte, depth),
+        }
+        byte = byte.saturating_add(op.payload_len()).saturating_add(1);
+        ifs = depth_after(op, ifs);
+    }
 }
 
 /// Explains a refusal: the script's number of bytes, the opcodes that were read, the reason, and the byte at which it is refused.
-pub fn refuse(
-    alloc: Global,
+pub fn refuse<D: Display + Drop>(
+    line: &mut Line,
     form: Form,
     bytes: Option<u64>,
     ops: &[Op],
-    refusal: &TraceError,
+    refusal: D,
     byte: Option<u64>,
-) -> Result<Told, AllocError> {
-    let text = match form {
+) {
+    begin(line, form, bytes, ops);
+    match form {
         Form::Json => {
-            let (bytes, ops, byte) = (OrNull(bytes), Ops(ops), OrNull(byte));
-            format!(in alloc;
-                "{{\"bytes\":{bytes},\"opcodes\":[{ops}],\"refused\":\"{refusal}\",\"byte\":{byte}}}\n"
-            )?
+            line.shown("refused", refusal);
+            line.count_or_null("byte", byte);
+            line.end();
         }
-        Form::Text => match byte {
-            Some(byte) => format!(in alloc; "{}refused {refusal} at byte {byte}\n", OpLines(ops))?,
-            None => format!(in alloc; "{}refused {refusal}\n", OpLines(ops))?,
-        },
-    };
-    Ok(Told {
-        text,
-        is_listed: false,
-    })
+        Form::Text => {
+            line.push("refused ");
+            line.push_shown(refusal);
+            if let Some(byte) = byte {
+                line.push(" at byte ");
+                line.push_shown(byte);
+            }
+            line.push("\n");
+        }
+    }
 }

@@ -1,9 +1,9 @@
 // Facts in plain words.
 
-ghost use Rattle.std.specs.Prelude.{Some, ◌≡◌, ◌++◌, codes};
+ghost use Rattle.std.specs.Prelude.{Some, ◌≡◌, ◌++◌, codes, decimal};
 ghost use Rattle.std.specs.Fmt.{WritesOnOk};
 ghost use Rattle.facts.specs.Texts.{hex_text, key_text, comma_separated};
-ghost use Rattle.trace_words.specs.Sentences.{is_words, are_words, truth_words, key_words, item_words, lock_words, age_words, slot_words, assigned_words, sentence_of};
+ghost use Rattle.trace_words.specs.Sentences.{is_words, are_words, truth_words, key_words, item_words, slot_words, assigned_words, lock_sentence, age_sentence, sentence_of};
 
 use facts::texts::{Hex, Keys, Slots};
 use facts::{Fact, KeySource, Stated};
@@ -104,45 +104,6 @@ impl fmt::Display for Item<'_> {
     }
 }
 
-// An absolute lock that holds (BIP 65).
-#[derive(Drop)]
-struct Lock(u64);
-
-impl fmt::Display for Lock {
-    ghost output = { λ l. Some (lock_words l.0) };
-
-    fn fmt<W: fmt::Write>(&self, f: &mut fmt::Formatter<W>) -> fmt::Result {
-        let lock = self.0;
-        if lock < LOCKTIME_THRESHOLD {
-            let block = lock + 1;
-            return write!(f, "in block {block} at the earliest");
-        }
-        write!(
-            f,
-            "at the time {lock} in seconds since 1970, which this profile never reaches"
-        )
-    }
-}
-
-// A relative lock that holds (BIP 112).
-#[derive(Drop)]
-struct Age(u32);
-
-impl fmt::Display for Age {
-    ghost output = { λ a. Some (age_words a.0) };
-
-    fn fmt<W: fmt::Write>(&self, f: &mut fmt::Formatter<W>) -> fmt::Result {
-        let units = self.0 % 0x1_0000;
-        if self.0 / 0x40_0000 % 2 == 0 {
-            return write!(f, "after {units} blocks");
-        }
-        write!(
-            f,
-            "after {units} units of 512 seconds, which this profile never reaches"
-        )
-    }
-}
-
 // Keys whose signatures are needed in this order.
 #[derive(Drop)]
 struct KeysInOrder<'a>(&'a [KeySource]);
@@ -198,6 +159,79 @@ fn write_assigned<W: fmt::Write>(
     write!(f, "slots {} {verb}{}", Slots(slots), KeysInOrder(keys))
 }
 
+// Writes that a slot has a size, or has not.
+fn write_size<W: fmt::Write>(
+    f: &mut fmt::Formatter<W>,
+    slot: usize,
+    verb: &str,
+    size: u32,
+) -> fmt::Result
+    ensures { WritesOnOk W.write_str_gives f.old result
+        (slot_words slot verb.now (codes " " ++ (decimal size ++ codes " bytes long"))) f.new }
+{
+    write!(f, "slot {slot} {verb} {size} bytes long")
+}
+
+// Writes that a slot is an item, or is not.
+fn write_item<W: fmt::Write>(
+    f: &mut fmt::Formatter<W>,
+    slot: usize,
+    verb: &str,
+    item: &[u8],
+) -> fmt::Result
+    ensures { WritesOnOk W.write_str_gives f.old result
+        (slot_words slot verb.now (codes " " ++ item_words item.now)) f.new }
+{
+    write!(f, "slot {slot} {verb} {}", Item(item))
+}
+
+// Writes that a slot is a signature by a key, or is not.
+fn write_token<W: fmt::Write>(
+    f: &mut fmt::Formatter<W>,
+    slot: usize,
+    verb: &str,
+    key: &KeySource,
+) -> fmt::Result
+    ensures { WritesOnOk W.write_str_gives f.old result
+        (slot_words slot verb.now (codes " a signature by " ++ key_words key.now)) f.new }
+{
+    write!(f, "slot {slot} {verb} a signature by {}", Key(key))
+}
+
+// Writes that an absolute lock holds (BIP 65), or that its check fails.
+fn write_lock<W: fmt::Write>(f: &mut fmt::Formatter<W>, lock: u64, holds: bool) -> fmt::Result
+    ensures { WritesOnOk W.write_str_gives f.old result (lock_sentence lock holds) f.new }
+{
+    if !holds {
+        return write!(f, "while the check of the lock time {lock} fails");
+    }
+    if lock < LOCKTIME_THRESHOLD {
+        let block = lock + 1;
+        return write!(f, "in block {block} at the earliest");
+    }
+    write!(
+        f,
+        "at the time {lock} in seconds since 1970, which this profile never reaches"
+    )
+}
+
+// Writes that a relative lock holds (BIP 112), or that its check fails.
+fn write_age<W: fmt::Write>(f: &mut fmt::Formatter<W>, age: u32, holds: bool) -> fmt::Result
+    ensures { WritesOnOk W.write_str_gives f.old result (age_sentence age holds) f.new }
+{
+    if !holds {
+        return write!(f, "while the check of the relative lock {age} fails");
+    }
+    let units = age % 0x1_0000;
+    if age / 0x40_0000 % 2 == 0 {
+        return write!(f, "after {units} blocks");
+    }
+    write!(
+        f,
+        "after {units} units of 512 seconds, which this profile never reaches"
+    )
+}
+
 /// A fact, printed as a sentence.
 #[derive(Drop)]
 pub struct Sentence<'a>(pub &'a Stated);
@@ -210,19 +244,17 @@ impl fmt::Display for Sentence<'_> {
         let is = is(holds);
         match &self.0.fact {
             Fact::Hash(slot, hash) => write_hash(f, *slot, is, hash.bytes()),
-            Fact::Size(slot, size) => write!(f, "slot {slot} {is} {size} bytes long"),
-            Fact::Truth(slot) => write!(f, "slot {slot} is {}", truth(holds)),
-            Fact::Is(slot, item) => write!(f, "slot {slot} {is} {}", Item(item.bytes())),
+            Fact::Size(slot, size) => write_size(f, *slot, is, *size),
+            Fact::Truth(slot) => write_slot(f, *slot, "is ", truth(holds)),
+            Fact::Is(slot, item) => write_item(f, *slot, is, item.bytes()),
             Fact::KeyForm(slot) => write_slot(f, *slot, is, " a public key of 33 bytes"),
             Fact::Form(slot) => write_slot(f, *slot, is, " a signature or the empty item"),
-            Fact::Token(slot, key) => write!(f, "slot {slot} {is} a signature by {}", Key(key)),
+            Fact::Token(slot, key) => write_token(f, *slot, is, key),
             Fact::Assigned(slots, keys) => {
                 write_assigned(f, slots.values(), are(holds), keys.values())
             }
-            Fact::Lock(lock) if holds => write!(f, "{}", Lock(*lock)),
-            Fact::Lock(lock) => write!(f, "while the check of the lock time {lock} fails"),
-            Fact::Age(age) if holds => write!(f, "{}", Age(*age)),
-            Fact::Age(age) => write!(f, "while the check of the relative lock {age} fails"),
+            Fact::Lock(lock) => write_lock(f, *lock, holds),
+            Fact::Age(age) => write_age(f, *age, holds),
         }
     }
 }

@@ -6,6 +6,7 @@ mod WatchExamples
 mod Finding
 mod HtlcScripts
 mod Showing
+mod ShowingExamples
 mod Settled
 mod Learnt
 mod LookoutExamples

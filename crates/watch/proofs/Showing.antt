@@ -1,7 +1,7 @@
 -- A clean run of an HTLC's script takes one of its paths, and the path with the preimage shows it.
 use Rattle.std.proofs.Common.{◌≡◌, ℕ, zero, suc, ◌<◌, ◌==◌, Bool, true, false, ◌&&◌, cond, List, [], ◌∷◌, ◌++◌, length, reverse, get_or, Option, Some, None, refl, sym, ap, subst, ◌∙◌, arith, inl, inr}
 use Rattle.std.specs.Prelude.{slice_get, Contains, Any, ◌⊎◌, option_map, option_and_then, codes}
-use Rattle.std.specs.List.{list_any, filter_map, cons_option}
+use Rattle.std.specs.List.{list_any, filter_map, cons_option, AllByRecursion}
 use Rattle.std.specs.Str.{bytes_eq}
 use Rattle.std.proofs.lemmas.Bool.{and_from, and_right, eq-eqb, false≢true}
 use Rattle.std.proofs.lemmas.List.{reverse-append, reverse-reverse}
@@ -36,7 +36,7 @@ use Rattle.penalty.specs.Claimable.{htlc_form}
 use Rattle.resolve.specs.Preimages.{shown_by, if_32, shown_by_input}
 use Rattle.watch.specs.declared.learning.CommitmentHtlcs.{CommitmentHtlcs}
 use Rattle.watch.specs.Learning.{htlcs_in, is_paid_by, learnt_if, learnt_by, learnt_from}
-use Rattle.watch.specs.Showing.{SpendsHtlc, Goes, KeysAreKeys, ScriptCollides, SpendersGo, preimage_way, IsLearnt, HashCollides, PreimagesAreLearnt}
+use Rattle.watch.specs.Showing.{SpendsHtlc, Goes, KeysAreKeys, IsBytes, ScriptCollides, SpendersGo, preimage_way, IsLearnt, HashCollides, PreimagesAreLearnt}
 use Rattle.watch.proofs.HtlcScripts.{IsRead, form_read}
 
 -- ---- what a witness shows
@@ -90,7 +90,7 @@ learnt commitments c h t i x known spends shown e =
 -- an item of 32 bytes with the HASH160 that the way asks for
 by_item : (commitments : List CommitmentHtlcs) (c : Contents) (h : HtlcOutput) (t : Transaction) (i : TxIn) (w : List (List ℕ)) (x : List ℕ) → Contains commitments (htlcs_in c) → SpendsHtlc c h t i
     → slot_of w 0 ≡ x → shown_by i.witness ≡ Some x → (length (slot_of w 0) == 32) ≡ true → bytes_eq (hash160 (slot_of w 0)) (ripemd160 h.htlc.hash) ≡ true
-    → IsLearnt commitments h.htlc.hash t.inputs ⊎ HashCollides h.htlc.hash
+    → IsLearnt commitments h.htlc.hash t.inputs ⊎ HashCollides h.htlc.hash i
 by_item commitments c h t i w x known spends at shown long hashed = by_test (bytes_eq (sha256 x) h.htlc.hash) refl
   where
     size : (length x == 32) ≡ true
@@ -102,13 +102,13 @@ by_item commitments c h t i w x known spends at shown long hashed = by_test (byt
     same : ripemd160 (sha256 x) ≡ ripemd160 h.htlc.hash
     same = ap hash160 (sym at) ∙ (bytes_eq-Decides (hash160 (slot_of w 0)) (ripemd160 h.htlc.hash)).0 hashed
 
-    by_test : (b : Bool) → bytes_eq (sha256 x) h.htlc.hash ≡ b → IsLearnt commitments h.htlc.hash t.inputs ⊎ HashCollides h.htlc.hash
+    by_test : (b : Bool) → bytes_eq (sha256 x) h.htlc.hash ≡ b → IsLearnt commitments h.htlc.hash t.inputs ⊎ HashCollides h.htlc.hash i
     by_test true e = inl (record { preimage = x; hashed = (bytes_eq-Decides (sha256 x) h.htlc.hash).0 e; learnt = learnt commitments c h t i x known spends of_32 e })
-    by_test false e = inr (x, record { apart = λ is. false≢true (sym e ∙ (bytes_eq-Decides (sha256 x) h.htlc.hash).1 is); same = same })
+    by_test false e = inr (record { item = x; shown = of_32; collide = record { apart = λ is. false≢true (sym e ∙ (bytes_eq-Decides (sha256 x) h.htlc.hash).1 is); same = same } })
 
 along : (commitments : List CommitmentHtlcs) (c : Contents) (h : HtlcOutput) (d : Direction) (t : Transaction) (i : TxIn) (spend : Spend) (p : Path) (items : List (List ℕ)) (script : List ℕ) → Contains commitments (htlcs_in c)
     → SpendsHtlc c h t i → slice_get (htlc_form c.keys d h.htlc).paths (preimage_way d) ≡ Some p → i.witness ≡ items ++ script ∷ [] → Meets spend items p.arity p.facts
-    → IsLearnt commitments h.htlc.hash t.inputs ⊎ HashCollides h.htlc.hash
+    → IsLearnt commitments h.htlc.hash t.inputs ⊎ HashCollides h.htlc.hash i
 along commitments c h Offered t i spend p items script known spends there w m =
     let met = subst (λ (q : Path). Meets spend items q.arity q.facts) (sym (same_Some _ p there)) m in
     let (x, at, shown) = of_two items script met.exact in
@@ -131,6 +131,15 @@ derived_form base point = let h = length-sha256 (codes "derive" ++ base ++ point
 pub keys_are_keys : KeysAreKeys
 unfolding keys_of
 keys_are_keys terms owner point = record { local = derived_form _ _; remote = derived_form _ _ }
+
+-- a witness that is given from its last item on
+last_of : (witness : List (List ℕ)) (found : List ℕ) (below : List (List ℕ)) → reverse witness ≡ found ∷ below → witness ≡ reverse below ++ found ∷ []
+last_of witness found below r = sym (reverse-reverse witness) ∙ ap reverse r ∙ reverse-append (found ∷ []) below
+
+-- what holds of all items holds of the last
+of_last : (P : List ℕ → Type 0) (items : List (List ℕ)) (script : List ℕ) → AllByRecursion P (items ++ script ∷ []) → P script
+of_last P [] script all = all.0
+of_last P (x ∷ xs) script all = of_last P xs script all.1
 
 -- what a script's program gives to be run
 given_script : (script : List ℕ) (witness : List (List ℕ)) → given_of (script_hash_program script) witness ≡ given_by_hash (sha256 script) (reverse witness)
@@ -165,22 +174,30 @@ module _ (exact : SatisfiedExactly) (c : Contents) (h : HtlcOutput) (t : Transac
   known_script below r run =
       let ran : Some (outcome (spend_of t i script value) form.ops (reverse below)) ≡ Some (Clean counted height) =
       ap (option_map (λ ops. outcome (spend_of t i script value) ops (reverse below))) (sym read.ops) ∙ run in
-      let whole : i.witness ≡ reverse below ++ script ∷ [] = sym (reverse-reverse i.witness) ∙ ap reverse r ∙ reverse-append (script ∷ []) below in
-      one_of (reverse below) whole ((exact form.ops form.paths (spend_of t i script value) (reverse below) counted height read.ways).0 (same_Some _ _ ran))
+      one_of (reverse below) (last_of i.witness script below r) ((exact form.ops form.paths (spend_of t i script value) (reverse below) counted height read.ways).0 (same_Some _ _ ran))
 
   by_script : (found : List ℕ) (below : List (List ℕ)) (b : Bool) → reverse i.witness ≡ found ∷ below → sha256 found ≡ sha256 script → bytes_eq found script ≡ b
-      → run_of_given t i value (record { script = found; items = reverse below }) ≡ Some (Clean counted height) → ((index : ℕ) × Goes c h t i index) ⊎ ScriptCollides c h
+      → run_of_given t i value (record { script = found; items = reverse below }) ≡ Some (Clean counted height) → ((index : ℕ) × Goes c h t i index) ⊎ ScriptCollides c h i
   by_script found below true r e same run =
       let is : found ≡ script = (bytes_eq-Decides found script).0 same in
       inl (known_script below (r ∙ ap (λ s. s ∷ below) is) (subst (λ s. run_of_given t i value (record { script = s; items = reverse below }) ≡ Some (Clean counted height)) is run))
-  by_script found below false r e same run = inr (found, record { apart = λ is. false≢true (sym same ∙ (bytes_eq-Decides found script).1 is); same = e })
+  by_script found below false r e same run =
+      let shown = last_of i.witness found below r in
+      inr
+      (record {
+        items = reverse below;
+        script = found;
+        shown = shown;
+        bytes = λ all. of_last IsBytes (reverse below) found (subst (AllByRecursion IsBytes) shown all);
+        collide = record { apart = λ is. false≢true (sym same ∙ (bytes_eq-Decides found script).1 is); same = e };
+      })
 
   by_hash : (found : List ℕ) (below : List (List ℕ)) (b : Bool) → reverse i.witness ≡ found ∷ below → bytes_eq (sha256 found) (sha256 script) ≡ b
-      → option_and_then (run_of_given t i value) (cond b (Some (record { script = found; items = reverse below })) None) ≡ Some (Clean counted height) → ((index : ℕ) × Goes c h t i index) ⊎ ScriptCollides c h
+      → option_and_then (run_of_given t i value) (cond b (Some (record { script = found; items = reverse below })) None) ≡ Some (Clean counted height) → ((index : ℕ) × Goes c h t i index) ⊎ ScriptCollides c h i
   by_hash found below true r e run = by_script found below (bytes_eq found script) r ((bytes_eq-Decides (sha256 found) (sha256 script)).0 e) refl run
   by_hash found below false r e run = absurd (cc)
 
-  by_witness : (w : List (List ℕ)) → reverse i.witness ≡ w → option_and_then (run_of_given t i value) (given_by_hash (sha256 script) w) ≡ Some (Clean counted height) → ((index : ℕ) × Goes c h t i index) ⊎ ScriptCollides c h
+  by_witness : (w : List (List ℕ)) → reverse i.witness ≡ w → option_and_then (run_of_given t i value) (given_by_hash (sha256 script) w) ≡ Some (Clean counted height) → ((index : ℕ) × Goes c h t i index) ⊎ ScriptCollides c h i
   by_witness [] r run = absurd (cc)
   by_witness (found ∷ below) r run = by_hash found below (bytes_eq (sha256 found) (sha256 script)) r refl run
 

@@ -1,5 +1,6 @@
 -- Whoever spends the output of an HTLC by its preimage shows the preimage to the watch.
 use Rattle.std.specs.Prelude.{◌≡◌, ◌≢◌, ℕ, ◌<◌, ◌⊎◌, true, List, [], ◌∷◌, ◌++◌, Some, slice_get, Contains}
+use Rattle.std.specs.List.{AllByRecursion}
 use Rattle.sha2.specs.Sha256.{sha256}
 use Rattle.digest.specs.Ripemd160.{ripemd160}
 use Rattle.script.specs.Limits.{locktime_threshold}
@@ -20,6 +21,7 @@ use Rattle.commit.specs.Keys.{KeyBytes, keys_of}
 use Rattle.commit.specs.Outputs.{htlc_script, htlc_output}
 use Rattle.commit.specs.Commitments.{Contents, id_of, htlcs_of, tx_output}
 use Rattle.penalty.specs.Claimable.{htlc_form}
+use Rattle.resolve.specs.Preimages.{shown_by_input}
 use Rattle.watch.specs.declared.learning.CommitmentHtlcs.{CommitmentHtlcs}
 use Rattle.watch.specs.Learning.{htlcs_in, learnt_from}
 
@@ -52,15 +54,25 @@ pub record AreKeys (k : KeyBytes) : Type 0 where
 abbrev pub KeysAreKeys : Type 0
 KeysAreKeys = (terms : Terms) (owner : Side) (point : List ℕ) → AreKeys (keys_of terms owner point)
 
--- another script has its SHA-256
-abbrev pub ScriptCollides : Contents → HtlcOutput → Type 0
-ScriptCollides c h = (script : List ℕ) × Collide sha256 script (htlc_script c.keys h.direction h.htlc)
+-- each number is a byte
+abbrev pub IsBytes : List ℕ → Type 0
+IsBytes bytes = AllByRecursion (λ b. b < 256) bytes
 
--- where the output runs clean (BIP 141), the witness takes one of the paths, or its script is another one with the same SHA-256
+-- the input's witness ends with another script that has the SHA-256 of the HTLC's. That script is a byte string if all items of the witness are, which an
+-- input's Rust type ensures. (`sha256` hashes lists of any numbers. A list that is no byte string can have the hash of one: `twins` in
+-- `proofs/ShowingExamples.antt`)
+pub record ScriptCollides (c : Contents) (h : HtlcOutput) (i : TxIn) : Type 0 where
+  pub items : List (List ℕ)
+  pub script : List ℕ
+  pub shown : i.witness ≡ items ++ script ∷ []
+  pub bytes : AllByRecursion IsBytes i.witness → IsBytes script
+  pub collide : Collide sha256 script (htlc_script c.keys h.direction h.htlc)
+
+-- where the output runs clean (BIP 141), the witness takes one of the paths, or it ends with another script with the same SHA-256
 abbrev pub SpendersGo : Type 0
 SpendersGo =
     (c : Contents) (h : HtlcOutput) (t : Transaction) (i : TxIn) (counted height : ℕ) → AreKeys c.keys → h.htlc.expiry < locktime_threshold
-    → run_of t i (tx_output (htlc_output c.keys h.direction h.htlc)) ≡ Some (Clean counted height) → ((index : ℕ) × Goes c h t i index) ⊎ ScriptCollides c h
+    → run_of t i (tx_output (htlc_output c.keys h.direction h.htlc)) ≡ Some (Clean counted height) → ((index : ℕ) × Goes c h t i index) ⊎ ScriptCollides c h i
 
 -- ---- the preimage
 
@@ -76,12 +88,14 @@ pub record IsLearnt (commitments : List CommitmentHtlcs) (hash : List ℕ) (inpu
   pub hashed : sha256 preimage ≡ hash
   pub learnt : Contains (learnt_from commitments inputs) preimage
 
--- the SHA-256 of what is shown is another value with the RIPEMD-160 of the HTLC's hash
-abbrev pub HashCollides : List ℕ → Type 0
-HashCollides hash = (item : List ℕ) × Collide ripemd160 (sha256 item) hash
+-- the input shows an item of 32 bytes whose SHA-256 is another value than this hash, with the same RIPEMD-160
+pub record HashCollides (hash : List ℕ) (i : TxIn) : Type 0 where
+  pub item : List ℕ
+  pub shown : shown_by_input (Some i) ≡ Some item
+  pub collide : Collide ripemd160 (sha256 item) hash
 
 -- whoever takes that path shows the preimage, or an item with that collision
 abbrev pub PreimagesAreLearnt : Type 0
 PreimagesAreLearnt =
     (commitments : List CommitmentHtlcs) (c : Contents) (h : HtlcOutput) (t : Transaction) (i : TxIn) → Contains commitments (htlcs_in c) → SpendsHtlc c h t i
-    → Goes c h t i (preimage_way h.direction) → IsLearnt commitments h.htlc.hash t.inputs ⊎ HashCollides h.htlc.hash
+    → Goes c h t i (preimage_way h.direction) → IsLearnt commitments h.htlc.hash t.inputs ⊎ HashCollides h.htlc.hash i

@@ -19,8 +19,8 @@ pub fn revoked_are_found()
     ensures only { OnlyRevokedAreFound }
 {}
 
-/// If an input spends the output of an HTLC by a clean run (BIP 141), its witness takes one of the paths of the HTLC's script. Otherwise it has another script with the same SHA-256. Whoever takes
-/// the path with the preimage shows the watch a preimage of the payment hash, or an item whose SHA-256 is another value with the same RIPEMD-160.
+/// If an input spends the output of an HTLC by a clean run (BIP 141), its witness takes one of the paths of the HTLC's script. Otherwise the witness ends with another script with the same SHA-256.
+/// Whoever takes the path with the preimage shows the watch a preimage of the payment hash, or an item of 32 bytes whose SHA-256 is another value with the same RIPEMD-160.
 pub fn preimages_are_learnt()
     ensures keys { KeysAreKeys }
     ensures go { SpendersGo }

@@ -1,0 +1,218 @@
+#!/usr/bin/env python3
+"""Transactions for `trace witness`, with digests made anew by BIP 143, and what is said of their inputs, worked by hand from BIPs 65, 112, 141 and 147.
+
+  bench/witnesses.py            compares what ./trace witness prints of nineteen inputs, and crates/trace_tests/src/witnesses.rt, with it; status 1 where they differ
+  bench/witnesses.py --write    writes that file's three constants, of four inputs
+  bench/witnesses.py --given    prints the text that `trace witness` reads; --json and --pages print what it answers
+"""
+import hashlib
+import json
+import os
+import re
+import struct
+import subprocess
+import sys
+
+TOP = os.path.dirname(os.path.dirname(os.path.abspath(__file__)))
+FILE = "crates/trace_tests/src/witnesses.rt"
+VERSION, LOCK_TIME = 2, 120
+FINAL = 0xFFFFFFFF
+KEYS = [bytes([2]) + bytes([byte]) * 32 for byte in (0x11, 0x22)]
+# HASH160 of the first key
+KEY_HASH = bytes.fromhex("adfce54f529b2154e3c361bbe3f7d41db0635717")
+PUSHES = [b"\x21" + key for key in KEYS]
+TO_LOCAL = b"\x63" + PUSHES[0] + bytes.fromhex("67029000b275") + PUSHES[1] + bytes.fromhex("68ac")
+BOTH = b"\x52" + PUSHES[0] + PUSHES[1] + b"\x52\xae"
+LATER = bytes.fromhex("0164b175") + PUSHES[0] + b"\xac"
+MANY = b"\x63\x67\x68" * 7
+SAYS = {
+    "FailedCheck Verify": "the two elements on top differ",
+    "FailedCheck TokenForm": "a signature is neither empty nor a token of 66 bytes",
+    "FailedCheck LockTime": "the transaction's lock time does not reach the one on top, or the input is final",
+    "FailedCheck Sequence": "the input's sequence does not reach the relative lock on top",
+    "OpenBranch": "an IF, ELSE or ENDIF stands alone",
+    "NotOneValue": "the run ends with another number of elements than one",
+    "FalseEnd": "the run ends with a false element, as after a signature that is not the key's over the digest",
+    "OtherProgram": "the program is not of version 0 with the hash of a key or of a script",
+    "NotTwoItems": "the program has the hash of a key, and the witness has not two items",
+    "NoScript": "the program has the hash of a script, and the witness has no item",
+    "OtherScript": "the last item of the witness has another hash than the program",
+    "BadOpcode 1": "the last item of the witness is not a script",
+}
+
+
+def by_script(script):
+    return b"\x00\x20" + hashlib.sha256(script).digest()
+
+
+def by_key(key_hash):
+    return b"\x00\x14" + key_hash
+
+
+def key_script(key_hash):
+    """The script code of a key's hash (BIP 143)."""
+    return b"\x76\xa9\x14" + key_hash + b"\x88\xac"
+
+
+def clean(path, counted, height):
+    return {"path": path, "counted": counted, "height": height}
+
+
+def stops(cause, opcode, op, byte, *stack):
+    return {"stopped": cause, "opcode": opcode, "op": op, "byte": byte, "stack": stack}
+
+
+def refused(fault):
+    return {"refused": fault}
+
+
+# Of each input: its sequence, the program that it spends, its script code, its witness (a number is the token of the key with this index, a negative one lacks its
+# last byte), and what is said of it. A stack has the top first; in it a number is that token again.
+ROWS = [
+    (144, by_script(TO_LOCAL), TO_LOCAL, [1, b"", TO_LOCAL], clean(1, 6, 2)),
+    (0, by_script(TO_LOCAL), TO_LOCAL, [0, b"\x01", TO_LOCAL], clean(0, 6, 2)),
+    (0, by_script(TO_LOCAL), TO_LOCAL, [1, b"\x01", TO_LOCAL], stops("FalseEnd", 9, None, 77, b"")),
+    (143, by_script(TO_LOCAL), TO_LOCAL, [1, b"", TO_LOCAL], stops("FailedCheck Sequence", 4, "CHECKSEQUENCEVERIFY", 39, b"\x90\x00", 1)),
+    (0, by_script(TO_LOCAL), TO_LOCAL, [-1, b"\x01", TO_LOCAL], stops("FailedCheck TokenForm", 8, "CHECKSIG", 76, KEYS[0], -1)),
+    (0, by_script(TO_LOCAL), TO_LOCAL, [b"\x05", TO_LOCAL + b"\x51"], refused("OtherScript")),
+    (0, by_script(TO_LOCAL), TO_LOCAL, [], refused("NoScript")),
+    (0, by_key(KEY_HASH), key_script(KEY_HASH), [0, KEYS[0]], clean(0, 4, 4)),
+    (0, by_key(b"\x33" * 20), key_script(b"\x33" * 20), [b"", KEYS[0]], stops("FailedCheck Verify", 3, "EQUALVERIFY", 23, b"\x33" * 20, KEY_HASH, KEYS[0], b"")),
+    (0, by_key(KEY_HASH), key_script(KEY_HASH), [KEYS[0]], refused("NotTwoItems")),
+    (0, b"\x51", b"", [], refused("OtherProgram")),
+    (0, by_script(b"\x51\x93"), b"", [b"\x51\x93"], refused("BadOpcode 1")),
+    (0, by_script(BOTH), BOTH, [b"", 0, 1, BOTH], clean(0, 3, 7)),
+    (0, by_script(BOTH), BOTH, [b"", 1, 0, BOTH], stops("FalseEnd", 5, None, 71, b"")),
+    (0, by_script(LATER), LATER, [0, LATER], clean(0, 3, 2)),
+    (FINAL, by_script(LATER), LATER, [0, LATER], stops("FailedCheck LockTime", 1, "CHECKLOCKTIMEVERIFY", 2, b"\x64", 0)),
+    (0, by_script(MANY), MANY, [b"\x01"] * 8 + [MANY], clean(None, 21, 8)),
+    (0, by_script(b"\x63"), b"\x63", [b"\x01", b"\x63"], stops("OpenBranch", 1, None, 1)),
+    (0, by_script(b"\x51"), b"\x51", [b"\x07", b"\x51"], stops("NotOneValue", 1, None, 1, b"\x01", b"\x07")),
+]
+# those of the test: a clean run on a path and one on none, a stop with a stack, and a refusal
+FEW = [
+    (0, by_script(b"\x51"), b"\x51", [b"\x51"], clean(0, 0, 1)),
+    ROWS[16],
+    ROWS[18],
+    ROWS[10],
+]
+OUTPUTS = [(1000, by_key(b"\x07" * 20))]
+
+
+def value(index):
+    """What an input's output has, in satoshis."""
+    return 1000 * index + 5
+
+
+def sha256d(message):
+    return hashlib.sha256(hashlib.sha256(message).digest()).digest()
+
+
+def compact(n):
+    return bytes([n]) if n < 0xFD else b"\xfd" + struct.pack("<H", n)
+
+
+def outpoint(index):
+    return bytes([index + 1]) * 32 + struct.pack("<I", 0)
+
+
+def output(amount, program):
+    return struct.pack("<Q", amount) + compact(len(program)) + program
+
+
+def digest(rows, index):
+    """The digest for an input (BIP 143, hash type ALL)."""
+    sequence, _, code, _, _ = rows[index]
+    signed = struct.pack("<I", VERSION) + sha256d(b"".join(outpoint(it) for it in range(len(rows)))) + sha256d(b"".join(struct.pack("<I", it[0]) for it in rows))
+    signed += outpoint(index) + compact(len(code)) + code + struct.pack("<Q", value(index)) + struct.pack("<I", sequence)
+    signed += sha256d(b"".join(output(*it) for it in OUTPUTS)) + struct.pack("<I", LOCK_TIME) + struct.pack("<I", 1)
+    return sha256d(signed)
+
+
+def bytes_of(item, rows, index):
+    """An item of a witness or a stack."""
+    if isinstance(item, bytes):
+        return item
+    if item < 0:
+        return KEYS[item + 1] + digest(rows, index)
+    return KEYS[item] + digest(rows, index) + b"\x01"
+
+
+def given(rows):
+    """The text that is read."""
+    tx = struct.pack("<I", VERSION) + b"\x00\x01" + compact(len(rows))
+    tx += b"".join(outpoint(index) + b"\x00" + struct.pack("<I", row[0]) for index, row in enumerate(rows))
+    tx += compact(len(OUTPUTS)) + b"".join(output(*it) for it in OUTPUTS)
+    for index, row in enumerate(rows):
+        items = [bytes_of(item, rows, index) for item in row[3]]
+        tx += compact(len(items)) + b"".join(compact(len(item)) + item for item in items)
+    lines = [(tx + struct.pack("<I", LOCK_TIME)).hex()] + [f"{value(index)} {row[1].hex()}" for index, row in enumerate(rows)]
+    return "".join(f"{line}\n" for line in lines)
+
+
+def object_of(rows, index):
+    """What is said of an input, for programs."""
+    said = dict(rows[index][4])
+    stack = [bytes_of(item, rows, index).hex() for item in said.pop("stack", [])]
+    if "path" in said:
+        return {"input": index, **said, "digest": digest(rows, index).hex()}
+    says = SAYS[said.get("stopped") or said["refused"]]
+    if "refused" in said:
+        return {"input": index, **said, "says": says}
+    return {"input": index, **said, "says": says, "stack": stack, "digest": digest(rows, index).hex()}
+
+
+def page_of(rows, index):
+    """The same for people."""
+    it = object_of(rows, index)
+    if "refused" in it:
+        return f"input {index} is refused: {it['refused']}: {it['says']}\n"
+    if "path" in it:
+        on = "its paths are not listed" if it["path"] is None else f"on path {it['path']}"
+        comma = "," if it["path"] is None else ""
+        return f"input {index} runs clean{comma} {on}: {it['counted']} opcodes counted, {it['height']} elements at most\n"
+    stack = "".join(f"  stack   {item or '-'}\n" for item in it["stack"])
+    return f"input {index} stops at opcode {it['opcode']} ({it['op'] or 'end'}), byte {it['byte']}: {it['stopped']}: {it['says']}\n{stack}  digest  {it['digest']}\n"
+
+
+def jsons(rows):
+    return "".join(json.dumps(object_of(rows, index), separators=(",", ":")) + "\n" for index in range(len(rows)))
+
+
+def pages(rows):
+    return "".join(page_of(rows, index) for index in range(len(rows)))
+
+
+def constant(name, text):
+    """A constant of the test, a string of several lines."""
+    inside = text.replace("\\", "\\\\").replace('"', '\\"')
+    return f'const {name}: &str = "{inside}";'
+
+
+def told(*words):
+    """What the program says of the nineteen inputs."""
+    ran = subprocess.run(["./trace", "witness", *words], input=given(ROWS), capture_output=True, encoding="utf-8")
+    return ran.stdout
+
+
+def main(words):
+    os.chdir(TOP)
+    for word, make in (("--given", given), ("--json", jsons), ("--pages", pages)):
+        if word in words:
+            sys.stdout.write(make(ROWS))
+            return 0
+    with open(FILE, encoding="utf-8") as file:
+        before = after = file.read()
+    for name, text in (("GIVEN", given(FEW)), ("OBJECTS", jsons(FEW)), ("PAGES", pages(FEW))):
+        after = re.sub(rf'const {name}: &str =\s+"(?:[^"\\]|\\.)*";', lambda _: constant(name, text), after, flags=re.S)
+    if "--write" in words:
+        with open(FILE, "w", encoding="utf-8") as file:
+            file.write(after)
+        return 0
+    differ = int(told() != jsons(ROWS)) + int(told("--text") != pages(ROWS)) + int(re.sub(r"\s+", " ", before) != re.sub(r"\s+", " ", after))
+    print(f"witnesses: {len(ROWS)} inputs, told twice, and the test's {len(FEW)}: {differ} differ")
+    return int(differ > 0)
+
+
+if __name__ == "__main__":
+    sys.exit(main(sys.argv[1:]))

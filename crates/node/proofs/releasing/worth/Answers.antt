@@ -1,0 +1,9 @@
+use Rattle.std.proofs.Common.{◌≤◌, ℕ, sym, subst}
+use Rattle.tx.specs.Limits.{max_value}
+use Rattle.node.proofs.Releases.{little_enough}
+use Rattle.node.proofs.releasing.worth.Goals as goal
+
+pub returns-in-Ok : goal.returns-in-Ok
+returns-in-Ok c =
+    let fits = c.in-Ok.ensures in
+    (fits.1, subst (λ (v : ℕ). v ≤ max_value) (sym fits.1) (little_enough c.args.due.now fits.0))

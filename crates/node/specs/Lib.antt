@@ -1,0 +1,4 @@
+pub mod Tasks
+pub mod Entering
+pub mod Ready
+pub mod Work

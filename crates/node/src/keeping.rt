@@ -1,0 +1,79 @@
+//! The penalties that a worker keeps.
+
+ghost use Rattle.std.specs.Prelude.{◌≡◌, [], ◌∷◌, OnErr};
+ghost use Rattle.desk.specs.Seats.{IsSeatOf, number_in, calls_in};
+ghost use Rattle.node.specs.Tasks.{keeping};
+ghost use Rattle.node.specs.Entering.{Adds};
+
+use book::errors::KeepError;
+use desk::{Desk, Seat};
+use penalty::{RevokedState, penalties};
+use std::alloc::Global;
+use std::sync::Wait;
+use std::thread;
+
+// Builds the penalty set of a revoked state while other threads may have the book, and keeps it.
+fn keep_set_of<R: Wait>(
+    rt: &R,
+    alloc: Global,
+    desk: &Desk,
+    seat: &mut Seat,
+    channel: u64,
+    number: u64,
+    state: &RevokedState,
+) -> Result<(), KeepError>
+    requires { IsSeatOf desk.now seat.old }
+    ensures seat { IsSeatOf desk.now seat.new × (number_in seat.new ≡ number_in seat.old) }
+    ensures calls { Adds (number_in seat.old) (keeping channel number ∷ [])
+        (calls_in seat.old) (calls_in seat.new) }
+    ensures err { OnErr result (calls_in seat.new ≡ calls_in seat.old) }
+{
+    match penalties(alloc, state) {
+        Ok(set) => desk.keep_set(rt, seat, channel, number, set),
+        Err(_) => Err(KeepError::NoMemory),
+    }
+}
+
+// Keeps the penalties of the peer's revoked commitment of this number.
+fn try_to_keep<R: Wait>(
+    rt: &R,
+    alloc: Global,
+    desk: &Desk,
+    seat: &mut Seat,
+    channel: u64,
+    number: u64,
+) -> Result<(), KeepError>
+    requires { IsSeatOf desk.now seat.old }
+    ensures seat { IsSeatOf desk.now seat.new × (number_in seat.new ≡ number_in seat.old) }
+    ensures calls { Adds (number_in seat.old) (keeping channel number ∷ [])
+        (calls_in seat.old) (calls_in seat.new) }
+    ensures err { OnErr result (calls_in seat.new ≡ calls_in seat.old) }
+{
+    match desk.revoked(rt, seat, channel, number) {
+        Ok(state) => keep_set_of(rt, alloc, desk, seat, channel, number, &state),
+        Err(error) => Err(error),
+    }
+}
+
+/// Keeps the penalties of the peer's revoked commitment of this number, unless the book refuses. Retries if memory ran out.
+pub(crate) fn keep<R: Wait>(
+    rt: &R,
+    alloc: Global,
+    desk: &Desk,
+    seat: &mut Seat,
+    channel: u64,
+    number: u64,
+)
+    requires { IsSeatOf desk.now seat.old }
+    ensures seat { IsSeatOf desk.now seat.new × (number_in seat.new ≡ number_in seat.old) }
+    ensures calls { Adds (number_in seat.old) (keeping channel number ∷ [])
+        (calls_in seat.old) (calls_in seat.new) }
+{
+    for _ in rt.forever() {
+        match try_to_keep(rt, alloc, desk, seat, channel, number) {
+            Err(KeepError::NoMemory) => thread::yield_now(),
+            _ => return,
+        }
+    }
+    unreachable!()
+}

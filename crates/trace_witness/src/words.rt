@@ -1,0 +1,163 @@
+// The word `witness`.
+
+ghost use Rattle.std.specs.Prelude.{◌≡◌, ◌≤◌, Some, slice_get};
+
+use crate::errors::SpentError;
+use crate::reading::{read_outputs, read_tx};
+use crate::texts::tell_verdict;
+use sighash::SighashCache;
+use std::alloc::Global;
+use std::io::{Read, Write};
+use trace_words::{Form, InputError, Line, read_all, refuse_memory, refuse_words, write_told};
+use tx::{Tx, TxIn, TxOut};
+use verdict::{Verdict, judge};
+
+/// Runs the word `witness` on the words after it and returns its status: 0 when each input runs clean, 1 for an input that does not, refused text or a failed
+/// write, 2 for wrong words, which are detected before any input is read. The verdict on an input is written before the next input is judged.
+pub fn run_words<R: Read, W: Write, E: Write>(
+    alloc: Global,
+    words: &[String],
+    input: &mut R,
+    out: &mut W,
+    err: &mut E,
+) -> u8
+    ensures { result ≤ 2 }
+{
+    let (form, rest) = Form::read(words);
+    if rest.is_empty() {
+        tell(alloc, form, input, out)
+    } else {
+        refuse_words(err)
+    }
+}
+
+// Judges the inputs of the transaction in the input, and returns the status.
+fn tell<R: Read, W: Write>(alloc: Global, form: Form, input: &mut R, out: &mut W) -> u8
+    ensures { result ≤ 1 }
+{
+    match read_all(alloc, input) {
+        Ok(bytes) => tell_bytes(alloc, form, bytes.as_slice(), out),
+        Err(error) => refuse(alloc, form, &SpentError::Input(error), out),
+    }
+}
+
+// The same of a text's bytes.
+fn tell_bytes<W: Write>(alloc: Global, form: Form, bytes: &[u8], out: &mut W) -> u8
+    ensures { result ≤ 1 }
+{
+    match str::from_utf8(bytes) {
+        Ok(text) => tell_text(alloc, form, text, out),
+        Err(_) => refuse(alloc, form, &SpentError::Input(InputError::BadHex), out),
+    }
+}
+
+// The same of a text.
+fn tell_text<W: Write>(alloc: Global, form: Form, text: &str, out: &mut W) -> u8
+    ensures { result ≤ 1 }
+{
+    match read_tx(alloc, text) {
+        Ok(tx) => tell_tx(alloc, form, text, &tx, out),
+        Err(error) => refuse(alloc, form, &error, out),
+    }
+}
+
+// The same, where the first line of the text is this transaction.
+fn tell_tx<W: Write>(alloc: Global, form: Form, text: &str, tx: &Tx, out: &mut W) -> u8
+    ensures { result ≤ 1 }
+{
+    match read_outputs(alloc, text, tx.inputs().len()) {
+        Ok(outputs) => tell_inputs(alloc, form, tx, outputs.as_slice(), out),
+        Err(error) => refuse(alloc, form, &error, out),
+    }
+}
+
+// Reports that a text is refused.
+fn refuse<W: Write>(alloc: Global, form: Form, error: &SpentError, out: &mut W) -> u8
+    ensures { result ≤ 1 }
+{
+    let mut line = Line::new(alloc);
+    match error {
+        SpentError::Input(InputError::NoMemory) => line.fail(),
+        _ => tell_refusal(&mut line, form, error),
+    }
+    write_told(out, &line, 1)
+}
+
+// Writes the line of a refusal.
+fn tell_refusal(line: &mut Line, form: Form, error: &SpentError) {
+    match form {
+        Form::Json => {
+            line.open("{");
+            line.shown("refused", error);
+            line.end();
+        }
+        Form::Text => {
+            line.push("refused ");
+            line.push_shown(error);
+            line.push("\n");
+        }
+    }
+}
+
+// Judges each input, writes each verdict at once, and returns the greatest status.
+fn tell_inputs<W: Write>(alloc: Global, form: Form, tx: &Tx, outputs: &[TxOut], out: &mut W) -> u8
+    ensures { result ≤ 1 }
+{
+    let cache = SighashCache::new(tx);
+    let inputs = tx.inputs();
+    let mut status = 0;
+    for (index, input) in inputs.iter().enumerate() {
+        if let Some(output) = outputs.get(index) {
+            if tell_input(alloc, form, tx, &cache, index, input, output, out) == 1 {
+                status = 1;
+            }
+        }
+    }
+    status
+}
+
+// Judges an input, and returns 0 if it runs clean.
+fn tell_input<W: Write>(
+    alloc: Global,
+    form: Form,
+    tx: &Tx,
+    cache: &SighashCache<'_>,
+    index: usize,
+    input: &TxIn,
+    output: &TxOut,
+    out: &mut W,
+) -> u8
+    requires cached { cache.now ≡ tx.now }
+    requires indexed { slice_get tx.now.inputs index ≡ Some input.now }
+    ensures { result ≤ 1 }
+{
+    match judge(alloc, tx, cache, index, input, output) {
+        Ok(verdict) => write_verdict(alloc, form, index, &verdict, out),
+        Err(_) => refuse_memory(out),
+    }
+}
+
+// Writes the verdict on an input, and returns 0 if it runs clean.
+fn write_verdict<W: Write>(
+    alloc: Global,
+    form: Form,
+    input: usize,
+    verdict: &Verdict,
+    out: &mut W,
+) -> u8
+    ensures { result ≤ 1 }
+{
+    let mut line = Line::new(alloc);
+    tell_verdict(&mut line, form, input, verdict);
+    write_told(out, &line, status_of(verdict))
+}
+
+// 0 if an input runs clean, else 1.
+fn status_of(verdict: &Verdict) -> u8
+    ensures { result ≤ 1 }
+{
+    match verdict {
+        Verdict::Clean(_) => 0,
+        _ => 1,
+    }
+}

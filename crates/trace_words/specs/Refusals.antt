@@ -1,0 +1,11 @@
+-- The numbers of the refusals.
+use Rattle.std.specs.Prelude.{ℕ}
+use Rattle.trace_words.specs.declared.input.InputError.{InputError}
+use Rattle.trace_words.specs.declared.input.InputError.TheVariants.{NoMemory, ReadFailed, TooLong, BadHex}
+
+-- why an input is refused before its content is looked at
+abbrev pub input_number : InputError → ℕ
+input_number NoMemory = 0
+input_number ReadFailed = 1
+input_number TooLong = 2
+input_number BadHex = 3
