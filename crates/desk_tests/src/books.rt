@@ -1,0 +1,64 @@
+//! Books of A's with one channel, with which the tests begin.
+
+use book::{Book, Step};
+use book_peers::{offer, open_side};
+use channel::Message;
+use keys::Key;
+use std::alloc::Global;
+use std::process::Abort;
+use terms::Side;
+
+/// A book in which this seat opened the channel.
+pub(crate) fn opened(rt: &impl Abort, alloc: Global, seat: u32) -> Book {
+    let opening = open_side(alloc, 0, Side::A)
+        .expect(rt, "an opening")
+        .opening;
+    let mut book = Book::new(alloc);
+    assert!(rt; book.open(seat, opening) == Ok(0));
+    book
+}
+
+/// A step in which A offers an HTLC.
+pub(crate) fn offer_until(expiry: u32) -> Step {
+    Step::Own(offer(1_000_000, expiry))
+}
+
+/// The book offers an HTLC.
+pub(crate) fn offered(rt: &impl Abort, book: &mut Book, expiry: u32) -> Message {
+    book.step(0, 0, offer_until(expiry))
+        .expect(rt, "an offer")
+        .expect(rt, "a message")
+}
+
+/// What a revocation brings.
+#[derive(Clone, Copy)]
+pub(crate) struct Revocation {
+    pub(crate) secret: [u8; 32],
+    pub(crate) next_point: Key,
+}
+
+fn revocation_in(message: Message) -> Option<Revocation> {
+    match message {
+        Message::RevokeAndAck { secret, next_point } => Some(Revocation { secret, next_point }),
+        _ => None,
+    }
+}
+
+// B takes an offer and a signature of A's. What its answer brings.
+fn answered(rt: &impl Abort, alloc: Global, offer: &Message, signature: &Message) -> Revocation {
+    let mut b = open_side(alloc, 0, Side::B).expect(rt, "a channel").channel;
+    assert!(rt; b.receive(offer).expect(rt, "received").is_none());
+    let answer = b
+        .receive(signature)
+        .expect(rt, "received")
+        .expect(rt, "an answer");
+    revocation_in(answer).expect(rt, "a revocation")
+}
+
+/// The book offers an HTLC, signs it, and offers another one. The revocation for which it waits then.
+pub(crate) fn awaited(rt: &impl Abort, alloc: Global, book: &mut Book) -> Revocation {
+    let offer = offered(rt, book, 500);
+    let signature = book.sign(0, 0).expect(rt, "a signature");
+    drop(offered(rt, book, 501));
+    answered(rt, alloc, &offer, &signature)
+}

@@ -1,0 +1,53 @@
+//! A desk that two threads share.
+
+ghost use Rattle.desk.specs.Seats.{IsSeatOf};
+
+use crate::books::{offer_until, opened};
+use crate::desks::{desk_over, next_seat};
+use book::{Call, Reply};
+use desk::{Desk, Seat};
+use std::process::Abort;
+use std::sync::Wait;
+use std::thread;
+
+// Whether an offer of an HTLC in the first channel is taken.
+fn offers<R: Wait + Abort>(rt: &R, desk: &Desk, seat: &mut Seat, expiry: u32) -> bool
+    requires { IsSeatOf desk.now seat.old }
+    ensures { IsSeatOf desk.now seat.new }
+{
+    let call = Call::Step {
+        channel: 0,
+        step: offer_until(expiry),
+    };
+    match desk.call(rt, seat, call) {
+        Reply::Stepped(answer) => answer.err().is_none(),
+        _ => panic!(rt; "another reply"),
+    }
+}
+
+// Offers 20 HTLCs.
+fn offer_many<R: Wait + Abort>(rt: &R, desk: &Desk, seat: &mut Seat)
+    requires { IsSeatOf desk.now seat.old }
+    ensures { IsSeatOf desk.now seat.new }
+{
+    for k in 0..20 {
+        assert!(rt; offers(rt, desk, seat, 500 + k));
+    }
+}
+
+// Two threads call the book of one channel at once. A third seat closes the desk.
+#[test]
+fn two_threads_call(rt: HostRuntime) {
+    let alloc = rt.alloc();
+    let (desk, mut seats) = desk_over(&rt, alloc, opened(&rt, alloc, 0), 3);
+    let mut first = next_seat(&rt, &desk, &mut seats);
+    let mut second = next_seat(&rt, &desk, &mut seats);
+    let mut last = next_seat(&rt, &desk, &mut seats);
+    thread::join(
+        &rt,
+        || offer_many(&rt, &desk, &mut first),
+        || offer_many(&rt, &desk, &mut second),
+    );
+    let book = desk.close(&rt, &mut last);
+    assert_eq!(rt; book.entries().len(), 41);
+}
