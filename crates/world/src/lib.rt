@@ -36,9 +36,11 @@ mod outcomes;
 mod parts;
 mod publishing;
 mod releasing;
+mod taken_apart;
 mod worlds;
 
 pub use claimed::check_claimed;
 pub use outcomes::Outcome;
 pub use scenario::{Event, Scenario, Seeds};
+pub use taken_apart::BooksAndChain;
 pub use worlds::World;

@@ -115,6 +115,14 @@ impl Node {
         let _ = &self.book;
     }
 
+    /// The side's book. All else is dropped.
+    pub(crate) fn into_book(self) -> Book
+        ensures { result ≡ self.history }
+    {
+        let Node { book, .. } = self;
+        book
+    }
+
     /// Opens a channel in the side's book, refused as the book refuses. A refusal leaves the side as it was.
     pub(crate) fn open(&mut self, alloc: Global, opening: Opening) -> Result<(), OpenError>
         ensures { IsOpened opening result self.old self.new }

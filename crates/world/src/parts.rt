@@ -8,6 +8,7 @@ ghost use Rattle.world.specs.Steps.{done_by, looked_by};
 use crate::errors::EventError;
 use crate::nodes::Node;
 use crate::outcomes::Outcome;
+use crate::taken_apart::BooksAndChain;
 use crate::{delivering, keeping, looking, publishing, releasing};
 use chain::{Coins, Index};
 use mempool::{Reorganised, mine, reorganise};
@@ -98,6 +99,20 @@ impl Parts {
     {
         self.a.holds();
         self.b.holds();
+    }
+
+    /// The books of both sides, and the chain. All else is dropped.
+    pub(crate) fn into_books_and_chain(self) -> BooksAndChain
+        ensures a { result.a ≡ self.a.history }
+        ensures b { result.b ≡ self.b.history }
+        ensures chain { result.chain ≡ self.chain }
+    {
+        let Parts { a, b, chain, .. } = self;
+        BooksAndChain {
+            a: a.into_book(),
+            b: b.into_book(),
+            chain,
+        }
     }
 
     /// A side.

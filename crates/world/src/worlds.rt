@@ -5,6 +5,7 @@ use crate::errors::WorldError;
 use crate::laws::{steps_keep, worlds_hold};
 use crate::outcomes::Outcome;
 use crate::parts::Parts;
+use crate::taken_apart::BooksAndChain;
 use book::Book;
 use chain::Index;
 use channel::Message;
@@ -102,6 +103,16 @@ impl World {
         ensures { result.now.items ≡ (node_of side self.now).taken }
     {
         &self.parts.node(side).taken
+    }
+
+    /// The books of both sides, and the chain. All else is dropped.
+    pub fn into_parts(self) -> BooksAndChain
+        ensures a { result.a ≡ self.a.history }
+        ensures b { result.b ≡ self.b.history }
+        ensures chain { result.chain ≡ self.chain }
+    {
+        let World { parts } = self;
+        parts.into_books_and_chain()
     }
 
     // Tells the proof the Enforcement theorem at this moment.
