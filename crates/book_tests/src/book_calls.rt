@@ -1,164 +1,201 @@
-// The calls of two books that share a channel.
+// What a book of A's answers, call by call.
 
-use crate::two_books::{Revocation, offer, offered, opened, opening, penalties_of_first};
-use book::errors::{KeepError, OpenError, ReleaseError, SignError, StepError};
-use book::{Batch, Book, Call, Reply};
-use channel::opening_points;
-use claim::Claim;
-use filling::FillError;
-use keys::Signer;
-use lists::List;
-use std::alloc::Global;
-use std::process::Abort;
+use crate::rows::{Row, Summary, plays};
+use crate::two_books::{FIRST, PREIMAGE};
+use book::errors::{KeepError, OpenError, SignError, StepError};
 use terms::Side;
 use updates::ChannelError;
 
-#[test]
-fn opens_a_funding_output_once(rt: HostRuntime) {
-    let alloc = rt.alloc();
-    let mut book = opened(&rt, alloc, Side::A);
-    let again = book.open(1, opening(&rt, alloc, Side::A));
-    assert!(rt; again == Err(OpenError::SameFunding));
-    assert_eq!(rt; book.entries().len(), 1);
-}
+// A funding output is opened once, and there is no other channel.
+const OPENED: [Row; 10] = [
+    Row::HasOneChannel,
+    Row::Keeps(1, 0, None),
+    Row::Revoked(1, 0, Err(KeepError::NoSuchChannel)),
+    Row::Open(Some(OpenError::SameFunding)),
+    Row::Offer(1, Some(StepError::NoSuchChannel)),
+    Row::Sign(1, Some(SignError::NoSuchChannel)),
+    Row::Revoke(1, Err(StepError::NoSuchChannel)),
+    Row::KeepNone(1, 0, Some(KeepError::NoSuchChannel)),
+    Row::Sign(0, Some(SignError::NoUpdates)),
+    Row::Entries(Side::A, 1),
+];
 
 #[test]
 fn finds_no_other_channel(rt: HostRuntime) {
-    let alloc = rt.alloc();
-    let mut book = opened(&rt, alloc, Side::A);
-    assert!(rt; book.step(0, 1, offer(500)).err() == Some(StepError::NoSuchChannel));
-    assert!(rt; book.sign(0, 1).err() == Some(SignError::NoSuchChannel));
-    let point = opening_points(&Signer::new(alloc, &[2; 32])).second;
-    assert!(rt; book.revoke(0, 1, [0; 32], point) == Err(StepError::NoSuchChannel));
-    assert!(rt; book.keep(0, 1, 0, List::new(alloc)) == Err(KeepError::NoSuchChannel));
-    assert!(rt; book.sign(0, 0).err() == Some(SignError::NoUpdates));
-    assert_eq!(rt; book.entries().len(), 1);
+    plays(&rt, rt.alloc(), &OPENED);
 }
 
 // A revocation with a wrong secret changes nothing; the right one returns the number.
+const REVOKED: [Row; 6] = [
+    Row::Offered(1_000_000),
+    Row::RevokeByZeros(Err(StepError::Refused(ChannelError::WrongSecret))),
+    Row::Sign(0, Some(SignError::AwaitingRevocation)),
+    Row::Revoke(0, Ok(0)),
+    Row::Entries(Side::A, 4),
+    Row::Entries(Side::B, 3),
+];
+
 #[test]
 fn takes_the_secret_of_the_seed_alone(rt: HostRuntime) {
-    let alloc = rt.alloc();
-    let mut a = opened(&rt, alloc, Side::A);
-    let mut b = opened(&rt, alloc, Side::B);
-    let came = offered(&rt, &mut a, &mut b);
-    let wrong = a.revoke(0, 0, [0; 32], came.next_point);
-    assert!(rt; wrong == Err(StepError::Refused(ChannelError::WrongSecret)));
-    assert!(rt; a.sign(0, 0).err() == Some(SignError::AwaitingRevocation));
-    assert!(rt; a.revoke(0, 0, came.secret, came.next_point) == Ok(0));
-    assert_eq!(rt; a.entries().len(), 4);
-    assert_eq!(rt; b.entries().len(), 3);
-}
-
-// A's book offers an HTLC and signs it to a new book
-// of B's. Returns the revocation in B's answer.
-pub(crate) fn answered(rt: &impl Abort, alloc: Global, a: &mut Book) -> Revocation {
-    let mut b = opened(rt, alloc, Side::B);
-    offered(rt, a, &mut b)
+    plays(&rt, rt.alloc(), &REVOKED);
 }
 
 // The signing gate: after a revocation nothing is signed until its penalties are kept.
+const GUARDED: [Row; 7] = [
+    Row::Offered(1_000_000),
+    Row::Revoke(0, Ok(0)),
+    Row::Offer(0, None),
+    Row::Sign(0, Some(SignError::PenaltiesMissing(0))),
+    Row::KeepFirst(None),
+    Row::Sign(0, None),
+    Row::Entries(Side::A, 7),
+];
+
 #[test]
 fn signs_once_penalties_are_kept(rt: HostRuntime) {
-    let alloc = rt.alloc();
-    let mut a = opened(&rt, alloc, Side::A);
-    let came = answered(&rt, alloc, &mut a);
-    assert!(rt; a.revoke(0, 0, came.secret, came.next_point).is_ok());
-    assert!(rt; a.step(0, 0, offer(501)).err().is_none());
-    assert!(rt; a.sign(0, 0).err() == Some(SignError::PenaltiesMissing(0)));
-    let claims = penalties_of_first(&rt, alloc, came.secret);
-    assert!(rt; a.keep(3, 0, 0, claims).is_ok());
-    assert!(rt; a.sign(0, 0).err().is_none());
-    assert_eq!(rt; a.entries().len(), 7);
+    plays(&rt, rt.alloc(), &GUARDED);
 }
+
+const KEPT: [Row; 7] = [
+    Row::Offered(1_000_000),
+    Row::Revoke(0, Ok(0)),
+    Row::KeepNone(0, 1, Some(KeepError::NotRevoked)),
+    Row::KeepNone(0, 0, Some(KeepError::OtherState)),
+    Row::KeepFirst(None),
+    Row::KeepNone(0, 0, Some(KeepError::AlreadyKept)),
+    Row::Entries(Side::A, 5),
+];
 
 #[test]
 fn keeps_a_set_once(rt: HostRuntime) {
-    let alloc = rt.alloc();
-    let mut a = opened(&rt, alloc, Side::A);
-    let came = answered(&rt, alloc, &mut a);
-    assert!(rt; a.revoke(0, 0, came.secret, came.next_point).is_ok());
-    assert!(rt; a.keep(0, 0, 1, List::new(alloc)) == Err(KeepError::NotRevoked));
-    assert!(rt; a.keep(0, 0, 0, List::new(alloc)) == Err(KeepError::OtherState));
-    let claims = penalties_of_first(&rt, alloc, came.secret);
-    assert!(rt; a.keep(3, 0, 0, claims).is_ok());
-    assert!(rt; a.keep(0, 0, 0, List::new(alloc)) == Err(KeepError::AlreadyKept));
-    assert_eq!(rt; a.entries().len(), 5);
+    plays(&rt, rt.alloc(), &KEPT);
 }
 
-fn is_accepted(book: &mut Book, call: Call) -> bool {
-    let reply = book.call(0, call);
-    match &reply {
-        Reply::Opened(answer) => answer.is_ok(),
-        Reply::Stepped(answer) => answer.is_ok(),
-        Reply::Signed(answer) => answer.is_ok(),
-        Reply::Revoked(answer) => answer.is_ok(),
-        Reply::Kept(answer) => answer.is_ok(),
-        Reply::Released(answer) => answer.is_ok(),
-    }
-}
+// Penalty sets that are built outside the book.
+const BUILT: [Row; 9] = [
+    Row::Offered(1_000_000),
+    Row::Revoke(0, Ok(0)),
+    Row::KeepSet(1, 0, FIRST, 0, Some(KeepError::NoSuchChannel)),
+    Row::KeepSet(0, 1, FIRST, 0, Some(KeepError::NotRevoked)),
+    Row::KeepSet(
+        0,
+        0,
+        [70_000_000, 30_000_000],
+        0,
+        Some(KeepError::OtherState),
+    ),
+    Row::Entries(Side::A, 4),
+    Row::KeepSet(0, 0, FIRST, 0, None),
+    Row::KeepSet(0, 0, FIRST, 0, Some(KeepError::AlreadyKept)),
+    Row::Entries(Side::A, 5),
+];
 
-// A new book of A's opens the channel, offers, signs, and takes the revocation.
-fn called(rt: &impl Abort, alloc: Global, came: Revocation) -> Book {
-    let mut book = Book::new(alloc);
-    let open = Call::Open(opening(rt, alloc, Side::A));
-    let (channel, step) = (0, offer(500));
-    let secret = came.secret;
-    let next_point = came.next_point;
-    let revoke = Call::Revoke {
-        channel,
-        secret,
-        next_point,
-    };
-    assert!(rt; is_accepted(&mut book, open));
-    assert!(rt; is_accepted(&mut book, Call::Step { channel, step }));
-    assert!(rt; is_accepted(&mut book, Call::Sign { channel }));
-    assert!(rt; is_accepted(&mut book, revoke));
-    book
-}
-
-// `Book::call` accepts each of the six calls.
 #[test]
-fn makes_each_call(rt: HostRuntime) {
-    let alloc = rt.alloc();
-    let came = answered(&rt, alloc, &mut opened(&rt, alloc, Side::A));
-    let mut book = called(&rt, alloc, came);
-    let claims = penalties_of_first(&rt, alloc, came.secret);
-    let keep = Call::Keep {
-        channel: 0,
-        number: 0,
-        claims,
-    };
-    assert!(rt; is_accepted(&mut book, keep));
-    let claims = penalties_of_first(&rt, alloc, came.secret);
-    let batch = Batch::new(claims, List::new(alloc), List::new(alloc)).expect(&rt, "a batch");
-    assert!(rt; is_accepted(&mut book, Call::Release { channel: 0, batch }));
-    assert_eq!(rt; book.entries().len(), 6);
+fn keeps_a_built_set_once(rt: HostRuntime) {
+    plays(&rt, rt.alloc(), &BUILT);
 }
 
-// Why A's book does not fill these claims.
-fn release_refusal(
-    rt: &impl Abort,
-    alloc: Global,
-    book: &mut Book,
-    claims: List<Claim>,
-) -> Option<ReleaseError> {
-    let batch = Batch::new(claims, List::new(alloc), List::new(alloc)).expect(rt, "a batch");
-    book.release(2, 0, batch).err()
+// Only the low 48 bits of a number count (BOLT 3). A state with
+// other bits above them is not the book's own, but its claims are.
+const LIKE: [Row; 4] = [
+    Row::Offered(1_000_000),
+    Row::Revoke(0, Ok(0)),
+    Row::KeepSet(0, 0, FIRST, 1 << 48, None),
+    Row::Keeps(0, 0, Some(true)),
+];
+
+#[test]
+fn keeps_the_same_claims_of_another_state(rt: HostRuntime) {
+    plays(&rt, rt.alloc(), &LIKE);
 }
 
-// The penalties of a revoked commitment are filled
-// by the channel's signer, and by no other.
+// The penalties of a revoked commitment are filled by the channel's signer, in the book and outside of it, and by no
+// other. A signer that knows only the seed lacks the secret.
+const RELEASED: [Row; 7] = [
+    Row::Offered(1_000_000),
+    Row::Release(false),
+    Row::Revoke(0, Ok(0)),
+    Row::Release(true),
+    Row::Entries(Side::A, 5),
+    Row::FilledByChannel(2),
+    Row::NotFilledBySeed,
+];
+
 #[test]
 fn releases_penalties(rt: HostRuntime) {
-    let alloc = rt.alloc();
-    let mut a = opened(&rt, alloc, Side::A);
-    let came = answered(&rt, alloc, &mut a);
-    let early = penalties_of_first(&rt, alloc, came.secret);
-    let refused = release_refusal(&rt, alloc, &mut a, early);
-    assert!(rt; matches!(refused, Some(ReleaseError::Unfilled(FillError::NoRight))));
-    assert!(rt; a.revoke(0, 0, came.secret, came.next_point).is_ok());
-    let claims = penalties_of_first(&rt, alloc, came.secret);
-    assert!(rt; release_refusal(&rt, alloc, &mut a, claims).is_none());
-    assert_eq!(rt; a.entries().len(), 5);
+    plays(&rt, rt.alloc(), &RELEASED);
+}
+
+// The peer's commitment with the HTLC is its next one, until
+// the peer revokes the first, whose penalties are then kept.
+const KNOWN: [Row; 11] = [
+    Row::Offered(5_000_000),
+    Row::Knows(
+        Side::A,
+        Summary {
+            own: 0,
+            older: 0,
+            theirs: 0,
+            next: Some(1),
+            revoked: &[],
+            preimages: &[],
+        },
+    ),
+    Row::Keeps(0, 0, None),
+    Row::Revoked(0, 0, Err(KeepError::NotRevoked)),
+    Row::Revoke(0, Ok(0)),
+    Row::Keeps(0, 0, Some(false)),
+    Row::Revoked(0, 0, Ok(0)),
+    Row::KeepFirst(None),
+    Row::Keeps(0, 0, Some(true)),
+    Row::Revoked(0, 0, Err(KeepError::AlreadyKept)),
+    Row::Knows(
+        Side::A,
+        Summary {
+            own: 0,
+            older: 0,
+            theirs: 1,
+            next: None,
+            revoked: &[true],
+            preimages: &[],
+        },
+    ),
+];
+
+#[test]
+fn knows_what_is_revoked_and_kept(rt: HostRuntime) {
+    plays(&rt, rt.alloc(), &KNOWN);
+}
+
+// Once B fulfils the HTLC, B knows its preimage, and A does not.
+const FULFILLED: [Row; 4] = [
+    Row::Offered(5_000_000),
+    Row::Fulfilled,
+    Row::Knows(
+        Side::B,
+        Summary {
+            own: 1,
+            older: 1,
+            theirs: 1,
+            next: None,
+            revoked: &[false],
+            preimages: &[PREIMAGE],
+        },
+    ),
+    Row::Knows(
+        Side::A,
+        Summary {
+            own: 1,
+            older: 1,
+            theirs: 1,
+            next: None,
+            revoked: &[false],
+            preimages: &[],
+        },
+    ),
+];
+
+#[test]
+fn knows_preimages(rt: HostRuntime) {
+    plays(&rt, rt.alloc(), &FULFILLED);
 }

@@ -1,23 +1,25 @@
 //! Tests of the libraries `texts`, `scenario` and `book`.
 //!
 //! They are in a crate of their own, so that the libraries are not proved again when a test changes. The examples of
-//! the libraries' pages are among them.
+//! the libraries' pages are among them. What a book answers stands in tables of calls, which `pairs` plays row by row.
 #![tactic(auto)]
 
 #[cfg(test)]
 mod book_calls;
 #[cfg(test)]
-mod kept_sets;
-#[cfg(test)]
-mod known_states;
-#[cfg(test)]
 mod loaded_dumps;
+#[cfg(test)]
+mod made_calls;
+#[cfg(test)]
+mod pairs;
 #[cfg(test)]
 mod plain;
 #[cfg(test)]
-mod plain_calls;
-#[cfg(test)]
 mod plain_forms;
+#[cfg(test)]
+mod readings;
+#[cfg(test)]
+mod rows;
 #[cfg(test)]
 mod scenario_texts;
 #[cfg(test)]

@@ -1,13 +1,13 @@
 // Texts that are not a book's dump, and dumps written by hand.
 
+use crate::readings::read_all;
 use book::dumping::dump;
 use book::errors::LoadError;
 use book::loading::entry_of;
 use book::{Book, Entry};
-use serde_json::Value;
 use std::alloc::Global;
 use std::process::Abort;
-use texts::{PlainDump, ReadValue};
+use texts::PlainDump;
 
 // An entry that keeps a claim on a script of
 // CHECKSIG, whose two slots are a key and its token.
@@ -19,65 +19,78 @@ const BACK: &str =
 
 // The dump of this entry, with the path, the program and the script.
 fn keeping(rt: &impl Abort, alloc: Global, middle: &str) -> String {
-    format!(in alloc; "{FRONT}{middle}{BACK}").expect(rt, "memory")
+    let mut text = String::new(alloc);
+    for part in [FRONT, middle, BACK] {
+        text.push_str(part).expect(rt, "memory");
+    }
+    text
 }
 
 const GOOD: &str =
     "0,\"program\":\"0020ee6bb86b44339392bae631c8f61dd8f009243c635adab33c0b20923a2794bf22\",\"script\":\"ac\"";
 
-// Path 9, a program of zeros, a byte that is
-// not an opcode, and an IF without its ENDIF.
-const DAMAGED: [&str; 4] = [
-    "9,\"program\":\"0020ee6bb86b44339392bae631c8f61dd8f009243c635adab33c0b20923a2794bf22\",\"script\":\"ac\"",
-    "0,\"program\":\"00200000000000000000000000000000000000000000000000000000000000000000\",\"script\":\"ac\"",
-    "0,\"program\":\"0020ee6bb86b44339392bae631c8f61dd8f009243c635adab33c0b20923a2794bf22\",\"script\":\"50\"",
-    "0,\"program\":\"0020ee6bb86b44339392bae631c8f61dd8f009243c635adab33c0b20923a2794bf22\",\"script\":\"63\"",
+// The good claim is accepted, but there is no channel. Then path 9, a program of zeros, a byte that is not an opcode, and an IF without its ENDIF.
+const MIDDLES: [(&str, LoadError); 5] = [
+    (GOOD, LoadError::BadHistory(0)),
+    (
+        "9,\"program\":\"0020ee6bb86b44339392bae631c8f61dd8f009243c635adab33c0b20923a2794bf22\",\"script\":\"ac\"",
+        LoadError::BadClaim(0),
+    ),
+    (
+        "0,\"program\":\"00200000000000000000000000000000000000000000000000000000000000000000\",\"script\":\"ac\"",
+        LoadError::BadClaim(0),
+    ),
+    (
+        "0,\"program\":\"0020ee6bb86b44339392bae631c8f61dd8f009243c635adab33c0b20923a2794bf22\",\"script\":\"50\"",
+        LoadError::BadClaim(0),
+    ),
+    (
+        "0,\"program\":\"0020ee6bb86b44339392bae631c8f61dd8f009243c635adab33c0b20923a2794bf22\",\"script\":\"63\"",
+        LoadError::BadClaim(0),
+    ),
 ];
 
-fn refusal(alloc: Global, text: &str) -> Option<LoadError> {
+// Why a text is not loaded; if it is, how many entries the book has.
+fn loaded(alloc: Global, text: &str) -> Result<usize, LoadError> {
     match Book::load(alloc, text) {
-        Ok(_) => None,
-        Err(error) => Some(error),
+        Ok(book) => Ok(book.entries().len()),
+        Err(error) => Err(error),
     }
 }
+
+const EMPTY: &str = "{\"history\":[],\"version\":2}";
 
 #[test]
 fn loads_what_an_empty_book_dumps(rt: HostRuntime) {
-    let alloc = rt.alloc();
-    let text = Book::new(alloc).dump(alloc).expect(&rt, "memory");
-    assert!(rt; text.as_str() == "{\"history\":[],\"version\":2}");
-    let book = Book::load(alloc, text.as_str()).expect(&rt, "a dump");
-    assert!(rt; book.entries().is_empty());
+    let text = Book::new(rt.alloc()).dump(rt.alloc()).expect(&rt, "memory");
+    assert!(rt; text.as_str() == EMPTY);
+    assert!(rt; loaded(rt.alloc(), EMPTY) == Ok(0));
 }
+
+// What is loaded from each text, or why it is not.
+const TEXTS: [(&str, Result<usize, LoadError>); 3] = [
+    ("{}", Err(LoadError::BadShape)),
+    ("{\"history\":[],\"version\":9}", Err(LoadError::BadShape)),
+    ("{\"history\":[],\"version\":1}", Ok(0)),
+];
 
 #[test]
 fn refuses_texts_that_are_no_dump(rt: HostRuntime) {
-    let alloc = rt.alloc();
-    let whole = "{\"history\":[],\"version\":2}";
-    for end in 0..whole.len() {
-        let front = whole.get(..end).expect(&rt, "a letter ends there");
-        assert!(rt; refusal(alloc, front) == Some(LoadError::NotJson));
+    for end in 0..EMPTY.len() {
+        let front = EMPTY.get(..end).expect(&rt, "a letter ends there");
+        assert!(rt; loaded(rt.alloc(), front) == Err(LoadError::NotJson));
     }
-    assert!(rt; refusal(alloc, "{}") == Some(LoadError::BadShape));
-    assert!(rt; refusal(alloc, "{\"history\":[],\"version\":9}") == Some(LoadError::BadShape));
-    assert!(rt; refusal(alloc, "{\"history\":[],\"version\":1}").is_none());
+    for (text, wanted) in &TEXTS {
+        assert!(rt; loaded(rt.alloc(), text) == *wanted);
+    }
 }
 
 #[test]
 fn accepts_claims_anew(rt: HostRuntime) {
-    let alloc = rt.alloc();
-    // The claim is accepted, but there is no channel.
-    let good = keeping(&rt, alloc, GOOD);
-    assert!(rt; refusal(alloc, good.as_str()) == Some(LoadError::BadHistory(0)));
-    for damaged in DAMAGED {
-        let text = keeping(&rt, alloc, damaged);
-        assert!(rt; refusal(alloc, text.as_str()) == Some(LoadError::BadClaim(0)));
+    for (middle, wanted) in &MIDDLES {
+        let text = keeping(&rt, rt.alloc(), middle);
+        assert!(rt; loaded(rt.alloc(), text.as_str()) == Err(*wanted));
     }
-}
-
-fn dump_in(rt: &impl Abort, alloc: Global, text: &str) -> PlainDump {
-    let value = Value::from_str(alloc, text).expect(rt, "the text is JSON");
-    PlainDump::read_value(alloc, &value).expect(rt, "a dump")
 }
 
 // The entries of a dump, in the form that a book has them.
@@ -90,21 +103,35 @@ fn entries_of(rt: &impl Abort, alloc: Global, dump: PlainDump) -> Vec<Entry> {
     entries
 }
 
+// The dump of the entries that are read from a text.
+fn dumped(rt: &impl Abort, alloc: Global, text: &str) -> String {
+    let read = read_all(rt, alloc, text).expect(rt, "a dump");
+    dump(alloc, &entries_of(rt, alloc, read)).expect(rt, "memory")
+}
+
+const DUMPS: [&str; 4] = [
+    EMPTY,
+    "{\"history\":[{\"call\":[\"step\",0,\"fee\",5000],\"seat\":4},{\"call\":[\"step\",1,\"receive\",[\"fail\",2]],\"seat\":3},{\"call\":[\"sign\",0],\"seat\":0},{\"call\":[\"keep\",1,2,[]],\"seat\":4294967295}],\"version\":2}",
+    "{\"history\":[{\"call\":[\"revoke\",0,[\"revoke\",\"66687aadf862bd776c8fc18b8e9f8e20089714856ee233b3902a591d0d5f2925\",\"021111111111111111111111111111111111111111111111111111111111111111\"]],\"seat\":1}],\"version\":2}",
+    "{\"history\":[{\"call\":[\"step\",7,\"receive\",[\"signed\",\"021111111111111111111111111111111111111111111111111111111111111111222222222222222222222222222222222222222222222222222222222222222201\",[]]],\"seat\":1}],\"version\":2}",
+];
+
 #[test]
 fn dumps_the_entries_that_it_reads(rt: HostRuntime) {
-    let alloc = rt.alloc();
-    let text = keeping(&rt, alloc, GOOD);
-    let entries = entries_of(&rt, alloc, dump_in(&rt, alloc, text.as_str()));
-    let again = dump(alloc, &entries).expect(&rt, "memory");
-    assert!(rt; again.as_str() == text.as_str());
+    for text in &DUMPS {
+        assert!(rt; dumped(&rt, rt.alloc(), text).as_str() == *text);
+    }
+    let text = keeping(&rt, rt.alloc(), GOOD);
+    assert!(rt; dumped(&rt, rt.alloc(), text.as_str()).as_str() == text.as_str());
 }
 
 // Nested brackets, a long number and a long text.
+const UNITS: [&str; 4] = ["[", "9", "{\"a\":", "\"a"];
+
 #[test]
 fn refuses_hostile_texts(rt: HostRuntime) {
-    let alloc = rt.alloc();
-    for unit in ["[", "9", "{\"a\":", "\"a"] {
-        let text = unit.repeat(alloc, 20_000).expect(&rt, "memory");
-        assert!(rt; refusal(alloc, text.as_str()).is_some());
+    for unit in &UNITS {
+        let text = unit.repeat(rt.alloc(), 20_000).expect(&rt, "memory");
+        assert!(rt; loaded(rt.alloc(), text.as_str()).is_err());
     }
 }

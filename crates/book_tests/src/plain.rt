@@ -7,22 +7,21 @@ pub(crate) const HASH: [u8; 32] = [
     0x08, 0x97, 0x14, 0x85, 0x6e, 0xe2, 0x33, 0xb3, 0x90, 0x2a, 0x59, 0x1d, 0x0d, 0x5f, 0x29, 0x25,
 ];
 
-pub(crate) fn plain_party(start: u64) -> ProposedParty {
-    ProposedParty {
+// Terms of 100,000 satoshis, of which A begins with 80,000.
+pub(crate) const TERMS: ProposedTerms = ProposedTerms {
+    capacity: 100_000,
+    opener: Side::A,
+    feerate: 1000,
+    a: ProposedParty {
         dust: 546,
         delay: 144,
         minimum: 1000,
-        start,
-    }
-}
-
-// Terms of 100,000 satoshis, with the millisatoshis that the two sides begin with.
-pub(crate) fn plain_terms(a: u64, b: u64) -> ProposedTerms {
-    ProposedTerms {
-        capacity: 100_000,
-        opener: Side::A,
-        feerate: 1000,
-        a: plain_party(a),
-        b: plain_party(b),
-    }
-}
+        start: 80_000_000,
+    },
+    b: ProposedParty {
+        dust: 546,
+        delay: 144,
+        minimum: 1000,
+        start: 20_000_000,
+    },
+};

@@ -1,353 +1,354 @@
 // Texts of each shape, and texts that just miss a shape, written by hand.
-use crate::plain::{HASH, plain_terms};
-use claim::{Shell, Slot};
+use crate::plain::{HASH, TERMS};
+use crate::readings::{read_all, reads, refuses, refuses_all, writes_back};
+use claim::{Place, Shell, Slot};
 use lists::{ByteString, List};
 use scenario::{Event, PlainScenario};
-use serde_json::Value;
-use std::alloc::Global;
-use std::process::Abort;
 use terms::{Htlc, ProposedTerms, Side};
-use texts::{FromValue, PlainClaim, ReadValue, ShapeError, WriteValue};
+use texts::{PlainClaim, PlainDump, ShapeError};
 use tx::{OutPoint, TxOut};
 use updates::{OwnUpdate, Update};
 
-/// Reads a value of a text.
-fn read<T: FromValue + Drop>(rt: &impl Abort, alloc: Global, text: &str) -> Option<T> {
-    let value = Value::from_str(alloc, text).expect(rt, "the text is JSON");
-    T::from_value(&value)
-}
+const READ_TERMS: [(&str, ProposedTerms); 1] = [(
+    "{\"capacity\":100000,\"opener\":\"B\",\"feerate\":1000,\"dust\":[546,546],\"delay\":[144,144],\"minimum\":[1000,1000],\"start\":[80000000,20000000]}",
+    ProposedTerms {
+        opener: Side::B,
+        ..TERMS
+    },
+)];
 
-/// Reads a value of a text, with a reader that allocates.
-fn read_all<T: ReadValue + Drop>(
-    rt: &impl Abort,
-    alloc: Global,
-    text: &str,
-) -> Result<T, ShapeError> {
-    let value = Value::from_str(alloc, text).expect(rt, "the text is JSON");
-    T::read_value(alloc, &value)
-}
+const NO_TERMS: [&str; 1] = [
+    "{\"capacity\":100000,\"opener\":\"B\",\"feerate\":1000,\"dust\":[546,546],\"delay\":[144,144],\"minimum\":[1000,1000],\"start\":[80000000,20000000],\"reserve\":0}",
+];
+
+const WRITTEN_TERMS: [&str; 1] = [
+    "{\"capacity\":1,\"delay\":[2,3],\"dust\":[4,5],\"feerate\":6,\"minimum\":[7,8],\"opener\":\"B\",\"start\":[9,10]}",
+];
 
 #[test]
 fn reads_terms(rt: HostRuntime) {
-    let terms = ProposedTerms {
-        opener: Side::B,
-        ..plain_terms(80_000_000, 20_000_000)
-    };
-    let text =
-        "{\"capacity\":100000,\"opener\":\"B\",\"feerate\":1000,\"dust\":[546,546],\"delay\":[144,144],\"minimum\":[1000,1000],\"start\":[80000000,20000000]}";
-    assert!(rt; read(&rt, rt.alloc(), text) == Some(terms));
-    let longer =
-        "{\"capacity\":100000,\"opener\":\"B\",\"feerate\":1000,\"dust\":[546,546],\"delay\":[144,144],\"minimum\":[1000,1000],\"start\":[80000000,20000000],\"reserve\":0}";
-    assert!(rt; read::<ProposedTerms>(&rt, rt.alloc(), longer).is_none());
+    reads(&rt, rt.alloc(), &READ_TERMS);
+    refuses::<ProposedTerms>(&rt, rt.alloc(), &NO_TERMS);
+    writes_back::<ProposedTerms>(&rt, rt.alloc(), &WRITTEN_TERMS);
 }
 
-fn check_event(rt: &impl Abort, alloc: Global, text: &str, event: Event) {
-    assert!(rt; read(rt, alloc, text) == Some(event));
-}
-
-// An update of side A in channel 3.
-fn own(update: OwnUpdate) -> Event {
-    Event::Own {
-        side: Side::A,
-        channel: 3,
-        update,
-    }
-}
-
-#[test]
-fn reads_channel_events(rt: HostRuntime) {
-    let (side, channel) = (Side::A, 3);
-    let offer = OwnUpdate::Offer {
-        amount: 1_000_000,
-        hash: HASH,
-        expiry: 500,
-    };
-    check_event(
-        &rt,
-        rt.alloc(),
+// Updates and other events of side A in channel 3.
+const CHANNEL_EVENTS: [(&str, Event); 7] = [
+    (
         "[\"offer\",\"A\",3,1000000,\"66687aadf862bd776c8fc18b8e9f8e20089714856ee233b3902a591d0d5f2925\",500]",
-        own(offer),
-    );
-    let fulfil = OwnUpdate::Fulfil {
-        id: 4,
-        preimage: [0; 32],
-    };
-    check_event(
-        &rt,
-        rt.alloc(),
+        Event::Own {
+            side: Side::A,
+            channel: 3,
+            update: OwnUpdate::Offer {
+                amount: 1_000_000,
+                hash: HASH,
+                expiry: 500,
+            },
+        },
+    ),
+    (
         "[\"fulfil\",\"A\",3,4,\"0000000000000000000000000000000000000000000000000000000000000000\"]",
-        own(fulfil),
-    );
-    check_event(
-        &rt,
-        rt.alloc(),
+        Event::Own {
+            side: Side::A,
+            channel: 3,
+            update: OwnUpdate::Fulfil {
+                id: 4,
+                preimage: [0; 32],
+            },
+        },
+    ),
+    (
         "[\"fail\",\"A\",3,4]",
-        own(OwnUpdate::Fail { id: 4 }),
-    );
-    check_event(
-        &rt,
-        rt.alloc(),
+        Event::Own {
+            side: Side::A,
+            channel: 3,
+            update: OwnUpdate::Fail { id: 4 },
+        },
+    ),
+    (
         "[\"fee\",\"A\",3,4]",
-        own(OwnUpdate::SetFee { rate: 4 }),
-    );
-    check_event(
-        &rt,
-        rt.alloc(),
+        Event::Own {
+            side: Side::A,
+            channel: 3,
+            update: OwnUpdate::SetFee { rate: 4 },
+        },
+    ),
+    (
         "[\"sign\",\"A\",3]",
-        Event::Sign { side, channel },
-    );
-    check_event(
-        &rt,
-        rt.alloc(),
+        Event::Sign {
+            side: Side::A,
+            channel: 3,
+        },
+    ),
+    (
         "[\"deliver\",\"A\",3]",
-        Event::Deliver { side, channel },
-    );
-    check_event(
-        &rt,
-        rt.alloc(),
+        Event::Deliver {
+            side: Side::A,
+            channel: 3,
+        },
+    ),
+    (
         "[\"keep\",\"A\",3,4]",
         Event::Keep {
-            side,
-            channel,
+            side: Side::A,
+            channel: 3,
             number: 4,
         },
-    );
-}
+    ),
+];
 
-#[test]
-fn reads_chain_events(rt: HostRuntime) {
-    let (side, channel, number) = (Side::B, 3, 4);
-    let broadcast = Event::Broadcast {
-        side,
-        channel,
-        number,
-    };
-    check_event(&rt, rt.alloc(), "[\"broadcast\",\"B\",3,4]", broadcast);
-    let second = Event::BroadcastHtlc {
-        side,
-        channel,
-        number,
-        htlc: 5,
-    };
-    check_event(&rt, rt.alloc(), "[\"broadcast\",\"B\",3,4,5]", second);
-    check_event(
-        &rt,
-        rt.alloc(),
-        "[\"blocks\",10001]",
-        Event::Blocks { count: 10_001 },
-    );
-    check_event(&rt, rt.alloc(), "[\"look\",\"B\"]", Event::Look { side });
-    check_event(
-        &rt,
-        rt.alloc(),
+const CHAIN_EVENTS: [(&str, Event); 7] = [
+    (
+        "[\"broadcast\",\"B\",3,4]",
+        Event::Broadcast {
+            side: Side::B,
+            channel: 3,
+            number: 4,
+        },
+    ),
+    (
+        "[\"broadcast\",\"B\",3,4,5]",
+        Event::BroadcastHtlc {
+            side: Side::B,
+            channel: 3,
+            number: 4,
+            htlc: 5,
+        },
+    ),
+    ("[\"blocks\",10001]", Event::Blocks { count: 10_001 }),
+    ("[\"look\",\"B\"]", Event::Look { side: Side::B }),
+    (
         "[\"take\",\"B\",4]",
-        Event::Take { side, count: 4 },
-    );
-    check_event(
-        &rt,
-        rt.alloc(),
+        Event::Take {
+            side: Side::B,
+            count: 4,
+        },
+    ),
+    (
         "[\"release\",\"B\",1]",
-        Event::Release { side, count: 1 },
-    );
-    check_event(
-        &rt,
-        rt.alloc(),
+        Event::Release {
+            side: Side::B,
+            count: 1,
+        },
+    ),
+    (
         "[\"reorg\",2,5]",
         Event::Reorg {
             depth: 2,
             forgotten: 5,
         },
-    );
-}
+    ),
+];
+
+const NO_EVENTS: [&str; 16] = [
+    "[]",
+    "{}",
+    "null",
+    "[\"blocks\"]",
+    "[\"blocks\",1,1]",
+    "[\"blocks\",-1]",
+    "[\"blocks\",1.0]",
+    "[\"blocks\",\"1\"]",
+    "[\"blocks\",18446744073709551616]",
+    "[\"Blocks\",1]",
+    "[\"look\",\"C\"]",
+    "[\"look\",\"a\"]",
+    "[\"broadcast\",\"B\",3]",
+    "[\"broadcast\",\"B\",3,4,5,6]",
+    "[\"fee\",\"A\",0,4294967296]",
+    "[\"fulfil\",\"A\",3,4,\"00\"]",
+];
 
 #[test]
-fn refuses_what_is_no_event(rt: HostRuntime) {
-    let texts = [
-        "[]",
-        "{}",
-        "null",
-        "[\"blocks\"]",
-        "[\"blocks\",1,1]",
-        "[\"blocks\",-1]",
-        "[\"blocks\",1.0]",
-        "[\"blocks\",\"1\"]",
-        "[\"blocks\",18446744073709551616]",
-        "[\"Blocks\",1]",
-        "[\"look\",\"C\"]",
-        "[\"look\",\"a\"]",
-        "[\"broadcast\",\"B\",3]",
-        "[\"broadcast\",\"B\",3,4,5,6]",
-        "[\"fee\",\"A\",0,4294967296]",
-        "[\"fulfil\",\"A\",3,4,\"00\"]",
-    ];
-    for text in texts {
-        assert!(rt; read::<Event>(&rt, rt.alloc(), text).is_none());
-    }
+fn reads_events(rt: HostRuntime) {
+    reads(&rt, rt.alloc(), &CHANNEL_EVENTS);
+    reads(&rt, rt.alloc(), &CHAIN_EVENTS);
+    refuses::<Event>(&rt, rt.alloc(), &NO_EVENTS);
 }
+
+const READ_OUTPOINTS: [(&str, OutPoint); 2] = [
+    (
+        "\"66687aadf862bd776c8fc18b8e9f8e20089714856ee233b3902a591d0d5f2925:4294967295\"",
+        OutPoint {
+            txid: HASH,
+            index: 4_294_967_295,
+        },
+    ),
+    (
+        "\"66687AADF862BD776C8FC18B8E9F8E20089714856EE233B3902A591D0D5F2925:4294967295\"",
+        OutPoint {
+            txid: HASH,
+            index: 4_294_967_295,
+        },
+    ),
+];
+
+const NO_OUTPOINTS: [&str; 7] = [
+    "\"66687aadf862bd776c8fc18b8e9f8e20089714856ee233b3902a591d0d5f2925:4294967296\"",
+    "\"66687aadf862bd776c8fc18b8e9f8e20089714856ee233b3902a591d0d5f2925:00\"",
+    "\"66687aadf862bd776c8fc18b8e9f8e20089714856ee233b3902a591d0d5f2925:\"",
+    "\"66687aadf862bd776c8fc18b8e9f8e20089714856ee233b3902a591d0d5f2925:+1\"",
+    "\"66687aadf862bd776c8fc18b8e9f8e20089714856ee233b3902a591d0d5f2925\"",
+    "\"66687aadf862bd776c8fc18b8e9f8e20089714856ee233b3902a591d0d5f29250:1\"",
+    "1",
+];
+
+const WRITTEN_OUTPOINTS: [&str; 1] = [
+    "\"66687aadf862bd776c8fc18b8e9f8e20089714856ee233b3902a591d0d5f2925:4294967295\"",
+];
 
 #[test]
 fn reads_outpoints_in_both_letter_cases(rt: HostRuntime) {
-    let txid = HASH;
-    let index = 4_294_967_295;
-    let outpoint = OutPoint { txid, index };
-    assert!(rt;
-        read(
-            &rt,
-            rt.alloc(),
-            "\"66687aadf862bd776c8fc18b8e9f8e20089714856ee233b3902a591d0d5f2925:4294967295\""
-        ) == Some(outpoint)
-    );
-    assert!(rt;
-        read(
-            &rt,
-            rt.alloc(),
-            "\"66687AADF862BD776C8FC18B8E9F8E20089714856EE233B3902A591D0D5F2925:4294967295\""
-        ) == Some(outpoint)
-    );
-    let texts = [
-        "\"66687aadf862bd776c8fc18b8e9f8e20089714856ee233b3902a591d0d5f2925:4294967296\"",
-        "\"66687aadf862bd776c8fc18b8e9f8e20089714856ee233b3902a591d0d5f2925:00\"",
-        "\"66687aadf862bd776c8fc18b8e9f8e20089714856ee233b3902a591d0d5f2925:\"",
-        "\"66687aadf862bd776c8fc18b8e9f8e20089714856ee233b3902a591d0d5f2925:+1\"",
-        "\"66687aadf862bd776c8fc18b8e9f8e20089714856ee233b3902a591d0d5f2925\"",
-        "\"66687aadf862bd776c8fc18b8e9f8e20089714856ee233b3902a591d0d5f29250:1\"",
-        "1",
-    ];
-    for text in texts {
-        assert!(rt; read::<OutPoint>(&rt, rt.alloc(), text).is_none());
-    }
+    reads(&rt, rt.alloc(), &READ_OUTPOINTS);
+    refuses::<OutPoint>(&rt, rt.alloc(), &NO_OUTPOINTS);
+    writes_back::<OutPoint>(&rt, rt.alloc(), &WRITTEN_OUTPOINTS);
 }
+
+const READ_UPDATES: [(&str, Update); 4] = [
+    (
+        "[\"add\",1,2,\"66687aadf862bd776c8fc18b8e9f8e20089714856ee233b3902a591d0d5f2925\",3]",
+        Update::Add(Htlc {
+            id: 1,
+            amount: 2,
+            hash: HASH,
+            expiry: 3,
+        }),
+    ),
+    (
+        "[\"fulfil\",1,\"66687aadf862bd776c8fc18b8e9f8e20089714856ee233b3902a591d0d5f2925\"]",
+        Update::Fulfil {
+            id: 1,
+            preimage: HASH,
+        },
+    ),
+    ("[\"fail\",1]", Update::Fail { id: 1 }),
+    ("[\"fee\",9]", Update::Fee { rate: 9 }),
+];
+
+const NO_UPDATES: [&str; 1] = ["[\"signed\",9]"];
+
+const WRITTEN_UPDATES: [&str; 4] = [
+    "[\"fee\",9]",
+    "[\"fail\",1]",
+    "[\"fulfil\",1,\"66687aadf862bd776c8fc18b8e9f8e20089714856ee233b3902a591d0d5f2925\"]",
+    "[\"add\",1,2,\"66687aadf862bd776c8fc18b8e9f8e20089714856ee233b3902a591d0d5f2925\",3]",
+];
 
 #[test]
 fn reads_updates(rt: HostRuntime) {
-    let htlc = Htlc {
-        id: 1,
-        amount: 2,
-        hash: HASH,
-        expiry: 3,
-    };
-    assert!(rt;
-        read(
-            &rt,
-            rt.alloc(),
-            "[\"add\",1,2,\"66687aadf862bd776c8fc18b8e9f8e20089714856ee233b3902a591d0d5f2925\",3]"
-        ) == Some(Update::Add(htlc))
-    );
-    let fulfil = Update::Fulfil {
-        id: 1,
-        preimage: HASH,
-    };
-    assert!(rt;
-        read(
-            &rt,
-            rt.alloc(),
-            "[\"fulfil\",1,\"66687aadf862bd776c8fc18b8e9f8e20089714856ee233b3902a591d0d5f2925\"]"
-        ) == Some(fulfil)
-    );
-    assert!(rt; read(&rt, rt.alloc(), "[\"fail\",1]") == Some(Update::Fail { id: 1 }));
-    assert!(rt; read(&rt, rt.alloc(), "[\"fee\",9]") == Some(Update::Fee { rate: 9 }));
-    assert!(rt; read::<Update>(&rt, rt.alloc(), "[\"signed\",9]").is_none());
+    reads(&rt, rt.alloc(), &READ_UPDATES);
+    refuses::<Update>(&rt, rt.alloc(), &NO_UPDATES);
+    writes_back::<Update>(&rt, rt.alloc(), &WRITTEN_UPDATES);
 }
+
+const OUTPUTS: &str = "[[546,\"00fF\"],[2100000000000000,\"\"]]";
+
+fn are_the_outputs(outputs: &[TxOut]) -> bool {
+    match outputs {
+        [first, second] => {
+            first.value() == 546
+                && first.script().bytes() == [0x00, 0xff].as_slice()
+                && second.value() == 2_100_000_000_000_000
+        }
+        _ => false,
+    }
+}
+
+const NO_OUTPUTS: [&str; 1] = ["[[546,\"00\"],[2100000000000001,\"\"]]"];
+
+const ODD: [&str; 1] = ["\"123\""];
 
 #[test]
 fn reads_lists_of_outputs(rt: HostRuntime) {
-    let outputs: List<TxOut> = read_all(
-        &rt,
-        rt.alloc(),
-        "[[546,\"00fF\"],[2100000000000000,\"\"]]",
-    ).expect(&rt, "two outputs");
-    assert!(rt; outputs.len() == 2);
-    assert!(rt; outputs.values()[0].value() == 546);
-    assert!(rt; outputs.values()[0].script().bytes() == [0x00, 0xff].as_slice());
-    assert!(rt; outputs.values()[1].value() == 2_100_000_000_000_000);
-    let refused = read_all::<List<TxOut>>(
-        &rt,
-        rt.alloc(),
-        "[[546,\"00\"],[2100000000000001,\"\"]]",
-    );
-    assert!(rt; refused.is_err_and(|e| e == ShapeError::BadShape && e.number() == 2));
-    let odd = read_all::<ByteString>(&rt, rt.alloc(), "\"123\"");
-    assert!(rt; odd.is_err_and(|e| e == ShapeError::BadShape));
+    let outputs: List<TxOut> = read_all(&rt, rt.alloc(), OUTPUTS).expect(&rt, "two outputs");
+    assert!(rt; are_the_outputs(outputs.values()));
+    refuses_all::<List<TxOut>>(&rt, rt.alloc(), &NO_OUTPUTS);
+    refuses_all::<ByteString>(&rt, rt.alloc(), &ODD);
+    assert!(rt; ShapeError::BadShape.number() == 2);
 }
 
 // The fixed transaction has one input of sequence 144, one output of 1,000 satoshis, and lock time 500.
-#[test]
-fn reads_claims(rt: HostRuntime) {
-    let text =
-        "{\"outpoint\":\"66687aadf862bd776c8fc18b8e9f8e20089714856ee233b3902a591d0d5f2925:7\",\"path\":1,\"program\":\"0020\",\"script\":\"51\",\"shell\":\"020000000166687aadf862bd776c8fc18b8e9f8e20089714856ee233b3902a591d0d5f292507000000009000000001e803000000000000020014f4010000\",\"slots\":[[\"exact\",\"\"],[\"sig\",\"021111111111111111111111111111111111111111111111111111111111111111\"],[\"preimage\",\"66687aadf862bd776c8fc18b8e9f8e20089714856ee233b3902a591d0d5f2925\"]],\"value\":1000}";
-    let claim: PlainClaim = read_all(&rt, rt.alloc(), text).expect(&rt, "a claim");
-    assert!(rt; claim.script.bytes() == [0x51].as_slice() && claim.path == 1);
-    assert!(rt; claim.place.outpoint.txid == HASH && claim.place.outpoint.index == 7);
-    assert!(rt;
-        claim.place.value == 1000 && claim.place.program.bytes() == [0x00, 0x20].as_slice()
-    );
-    assert!(rt;
-        claim.slots.len() == 3
-            && matches!(&claim.slots.values()[1], Slot::Sig(key) if key.bytes[0] == 2 && key.bytes[32] == 0x11)
-    );
-    assert!(rt;
-        matches!(&claim.shell, Shell::Fixed(tx) if tx.lock_time() == 500 && tx.outputs().len() == 1)
-    );
+const CLAIM: &str =
+    "{\"outpoint\":\"66687aadf862bd776c8fc18b8e9f8e20089714856ee233b3902a591d0d5f2925:7\",\"path\":1,\"program\":\"0020\",\"script\":\"51\",\"shell\":\"020000000166687aadf862bd776c8fc18b8e9f8e20089714856ee233b3902a591d0d5f292507000000009000000001e803000000000000020014f4010000\",\"slots\":[[\"exact\",\"\"],[\"sig\",\"021111111111111111111111111111111111111111111111111111111111111111\"],[\"preimage\",\"66687aadf862bd776c8fc18b8e9f8e20089714856ee233b3902a591d0d5f2925\"]],\"value\":1000}";
+
+fn is_the_place(place: &Place) -> bool {
+    place.outpoint.txid == HASH
+        && place.outpoint.index == 7
+        && place.value == 1000
+        && place.program.bytes() == [0x00, 0x20].as_slice()
 }
 
+fn are_the_slots(slots: &[Slot]) -> bool {
+    match slots {
+        [_, Slot::Sig(key), _] => key.bytes[0] == 2 && key.bytes[32] == 0x11,
+        _ => false,
+    }
+}
+
+fn is_the_shell(shell: &Shell) -> bool {
+    match shell {
+        Shell::Fixed(tx) => tx.lock_time() == 500 && tx.outputs().len() == 1,
+        _ => false,
+    }
+}
+
+fn is_the_claim(claim: &PlainClaim) -> bool {
+    claim.script.bytes() == [0x51].as_slice()
+        && claim.path == 1
+        && is_the_place(&claim.place)
+        && are_the_slots(claim.slots.values())
+        && is_the_shell(&claim.shell)
+}
+
+const NO_CLAIMS: [&str; 3] = [
+    "{\"outpoint\":\"66687aadf862bd776c8fc18b8e9f8e20089714856ee233b3902a591d0d5f2925:7\",\"path\":1,\"program\":\"0020\",\"script\":\"51\",\"shell\":\"020000000166687aadf862bd776c8fc18b8e9f8e20089714856ee233b3902a591d0d5f292507000000009000000001e803000000000000020014f40100\",\"slots\":[[\"exact\",\"\"],[\"sig\",\"021111111111111111111111111111111111111111111111111111111111111111\"],[\"preimage\",\"66687aadf862bd776c8fc18b8e9f8e20089714856ee233b3902a591d0d5f2925\"]],\"value\":1000}",
+    "{\"outpoint\":\"66687aadf862bd776c8fc18b8e9f8e20089714856ee233b3902a591d0d5f2925:7\",\"path\":1,\"program\":\"0020\",\"script\":\"51\",\"shell\":\"00\",\"slots\":[[\"exact\",\"\"],[\"sig\",\"021111111111111111111111111111111111111111111111111111111111111111\"],[\"preimage\",\"66687aadf862bd776c8fc18b8e9f8e20089714856ee233b3902a591d0d5f2925\"]],\"value\":1000}",
+    "{\"outpoint\":\"66687aadf862bd776c8fc18b8e9f8e20089714856ee233b3902a591d0d5f2925:7\",\"path\":1,\"program\":\"0020\",\"script\":\"51\",\"shell\":0,\"slots\":[[\"exact\",\"\"],[\"sig\",\"021111111111111111111111111111111111111111111111111111111111111111\"],[\"preimage\",\"66687aadf862bd776c8fc18b8e9f8e20089714856ee233b3902a591d0d5f2925\"]],\"value\":1000}",
+];
+
+const NO_SLOTS: [&str; 3] = [
+    "[\"exact\"]",
+    "[\"sig\",\"041111111111111111111111111111111111111111111111111111111111111111\"]",
+    "[\"token\",\"\"]",
+];
+
 #[test]
-fn refuses_what_is_no_claim(rt: HostRuntime) {
-    let texts = [
-        "{\"outpoint\":\"66687aadf862bd776c8fc18b8e9f8e20089714856ee233b3902a591d0d5f2925:7\",\"path\":1,\"program\":\"0020\",\"script\":\"51\",\"shell\":\"020000000166687aadf862bd776c8fc18b8e9f8e20089714856ee233b3902a591d0d5f292507000000009000000001e803000000000000020014f40100\",\"slots\":[[\"exact\",\"\"],[\"sig\",\"021111111111111111111111111111111111111111111111111111111111111111\"],[\"preimage\",\"66687aadf862bd776c8fc18b8e9f8e20089714856ee233b3902a591d0d5f2925\"]],\"value\":1000}",
-        "{\"outpoint\":\"66687aadf862bd776c8fc18b8e9f8e20089714856ee233b3902a591d0d5f2925:7\",\"path\":1,\"program\":\"0020\",\"script\":\"51\",\"shell\":\"00\",\"slots\":[[\"exact\",\"\"],[\"sig\",\"021111111111111111111111111111111111111111111111111111111111111111\"],[\"preimage\",\"66687aadf862bd776c8fc18b8e9f8e20089714856ee233b3902a591d0d5f2925\"]],\"value\":1000}",
-        "{\"outpoint\":\"66687aadf862bd776c8fc18b8e9f8e20089714856ee233b3902a591d0d5f2925:7\",\"path\":1,\"program\":\"0020\",\"script\":\"51\",\"shell\":0,\"slots\":[[\"exact\",\"\"],[\"sig\",\"021111111111111111111111111111111111111111111111111111111111111111\"],[\"preimage\",\"66687aadf862bd776c8fc18b8e9f8e20089714856ee233b3902a591d0d5f2925\"]],\"value\":1000}",
-    ];
-    for text in texts {
-        let refused = read_all::<PlainClaim>(&rt, rt.alloc(), text);
-        assert!(rt; refused.is_err_and(|e| e == ShapeError::BadShape));
-    }
-    for text in [
-        "[\"exact\"]",
-        "[\"sig\",\"041111111111111111111111111111111111111111111111111111111111111111\"]",
-        "[\"token\",\"\"]",
-    ] {
-        assert!(rt; read_all::<Slot>(&rt, rt.alloc(), text).is_err());
-    }
+fn reads_claims(rt: HostRuntime) {
+    let claim: PlainClaim = read_all(&rt, rt.alloc(), CLAIM).expect(&rt, "a claim");
+    assert!(rt; is_the_claim(&claim));
+    refuses_all::<PlainClaim>(&rt, rt.alloc(), &NO_CLAIMS);
+    refuses_all::<Slot>(&rt, rt.alloc(), &NO_SLOTS);
+}
+
+const SCENARIO: &str =
+    "{\"seeds\":[\"0a0a0a0a0a0a0a0a0a0a0a0a0a0a0a0a0a0a0a0a0a0a0a0a0a0a0a0a0a0a0a0a\",\"0B0B0B0B0B0B0B0B0B0B0B0B0B0B0B0B0B0B0B0B0B0B0B0B0B0B0B0B0B0B0B0B\"],\"channels\":[],\"events\":[[\"sign\",\"A\",0],[\"look\",\"B\"]]}";
+
+fn is_the_scenario(scenario: &PlainScenario) -> bool {
+    scenario.seed_a == [10; 32]
+        && scenario.seed_b == [11; 32]
+        && scenario.channels.is_empty()
+        && scenario.events.len() == 2
+        && scenario.events.values().get(1) == Some(&Event::Look { side: Side::B })
 }
 
 #[test]
 fn reads_scenarios(rt: HostRuntime) {
-    let text =
-        "{\"seeds\":[\"0a0a0a0a0a0a0a0a0a0a0a0a0a0a0a0a0a0a0a0a0a0a0a0a0a0a0a0a0a0a0a0a\",\"0B0B0B0B0B0B0B0B0B0B0B0B0B0B0B0B0B0B0B0B0B0B0B0B0B0B0B0B0B0B0B0B\"],\"channels\":[],\"events\":[[\"sign\",\"A\",0],[\"look\",\"B\"]]}";
-    let scenario: PlainScenario = read_all(&rt, rt.alloc(), text).expect(&rt, "a scenario");
-    assert!(rt; scenario.seed_a == [10; 32] && scenario.seed_b == [11; 32]);
-    assert!(rt; scenario.channels.is_empty() && scenario.events.len() == 2);
-    assert!(rt; scenario.events.values()[1] == Event::Look { side: Side::B });
+    let scenario: PlainScenario = read_all(&rt, rt.alloc(), SCENARIO).expect(&rt, "a scenario");
+    assert!(rt; is_the_scenario(&scenario));
 }
 
-/// Writes the value that was read from a text, and expects the same text.
-fn check_back<T: FromValue + WriteValue + Drop>(rt: &impl Abort, alloc: Global, text: &str) {
-    let read: T = read(rt, alloc, text).expect(rt, "a value of the form");
-    let value = read.write_value(alloc).expect(rt, "memory");
-    let written = value.to_string(alloc).expect(rt, "memory");
-    assert!(rt; written.as_str() == text);
-}
+const NO_DUMPS: [&str; 8] = [
+    "{}",
+    "[]",
+    "{\"history\":[],\"version\":9}",
+    "{\"history\":[],\"version\":2,\"seat\":0}",
+    "{\"history\":{},\"version\":2}",
+    "{\"history\":[{\"call\":[\"step\",0,\"fee\",1],\"seat\":0}],\"version\":1}",
+    "{\"history\":[{\"call\":[\"release\",0,[],[],[]],\"seat\":0}],\"version\":2}",
+    "{\"history\":[{\"call\":[\"sign\",0],\"seat\":4294967296}],\"version\":2}",
+];
 
 #[test]
-fn writes_what_it_reads(rt: HostRuntime) {
-    check_back::<Update>(&rt, rt.alloc(), "[\"fee\",9]");
-    check_back::<Update>(&rt, rt.alloc(), "[\"fail\",1]");
-    check_back::<Update>(
-        &rt,
-        rt.alloc(),
-        "[\"fulfil\",1,\"66687aadf862bd776c8fc18b8e9f8e20089714856ee233b3902a591d0d5f2925\"]",
-    );
-    check_back::<Update>(
-        &rt,
-        rt.alloc(),
-        "[\"add\",1,2,\"66687aadf862bd776c8fc18b8e9f8e20089714856ee233b3902a591d0d5f2925\",3]",
-    );
-    check_back::<OutPoint>(
-        &rt,
-        rt.alloc(),
-        "\"66687aadf862bd776c8fc18b8e9f8e20089714856ee233b3902a591d0d5f2925:4294967295\"",
-    );
-    let terms =
-        "{\"capacity\":1,\"delay\":[2,3],\"dust\":[4,5],\"feerate\":6,\"minimum\":[7,8],\"opener\":\"B\",\"start\":[9,10]}";
-    check_back::<ProposedTerms>(&rt, rt.alloc(), terms);
+fn refuses_what_is_no_dump(rt: HostRuntime) {
+    refuses_all::<PlainDump>(&rt, rt.alloc(), &NO_DUMPS);
 }

@@ -8,15 +8,13 @@ ghost use Rattle.terms.specs.Sides.{other};
 
 use book::{Book, Opening, Step};
 use channel::{Message, opening_points, opening_token};
-use claim::Claim;
 use keys::{Key, Signer};
-use lists::List;
 use parties::{FUNDING, party, view};
-use penalty::{RevokedState, penalties};
+use penalty::{PenaltySet, RevokedState, penalties};
 use std::alloc::Global;
 use std::process::Abort;
 use terms::{Side, Terms};
-use updates::{OwnUpdate, Update};
+use updates::OwnUpdate;
 
 // The terms of the channel of two signers.
 fn terms_of(rt: &impl Abort, a: &Signer, b: &Signer) -> Terms
@@ -55,32 +53,33 @@ pub(crate) fn opening(rt: &impl Abort, alloc: Global, side: Side) -> Opening {
     }
 }
 
+// A new book in which this side opened the channel.
 pub(crate) fn opened(rt: &impl Abort, alloc: Global, side: Side) -> Book {
     let mut book = Book::new(alloc);
-    let index = book
-        .open(0, opening(rt, alloc, side))
-        .expect(rt, "a channel");
-    assert_eq!(rt; index, 0);
+    assert!(rt; book.open(0, opening(rt, alloc, side)) == Ok(0));
     book
 }
 
-pub(crate) fn offer(expiry: u32) -> Step {
+// A preimage, and its SHA-256 (Python's hashlib).
+pub(crate) const PREIMAGE: [u8; 32] = [5; 32];
+
+const HASH: [u8; 32] = [
+    0xf8, 0x49, 0xd6, 0x73, 0x25, 0xfa, 0xcf, 0x04, 0x17, 0x7b, 0xc6, 0x63, 0xb2, 0xdc, 0x54, 0x40,
+    0x51, 0x83, 0x1c, 0x58, 0x9e, 0xf5, 0x81, 0xd4, 0x12, 0xf2, 0xeb, 0xa4, 0x48, 0x34, 0xe7, 0x7c,
+];
+
+pub(crate) fn offer(amount: u64, expiry: u32) -> Step {
     Step::Own(OwnUpdate::Offer {
-        amount: 1_000_000,
-        hash: [9; 32],
+        amount,
+        hash: HASH,
         expiry,
     })
 }
 
-fn update_in(message: Option<Message>) -> Option<Update> {
+// The step of whoever gets this message.
+fn step_of(message: Message) -> Option<Step> {
     match message {
-        Some(Message::Updated(update)) => Some(update),
-        _ => None,
-    }
-}
-
-pub(crate) fn step_of(message: Message) -> Option<Step> {
-    match message {
+        Message::Updated(update) => Some(Step::Updated(update)),
         Message::CommitmentSigned(tokens) => Some(Step::Signed(tokens)),
         _ => None,
     }
@@ -93,7 +92,7 @@ pub(crate) struct Revocation {
     pub(crate) next_point: Key,
 }
 
-pub(crate) fn revocation_in(message: Option<Message>) -> Option<Revocation> {
+fn revocation_in(message: Option<Message>) -> Option<Revocation> {
     match message {
         Some(Message::RevokeAndAck { secret, next_point }) => Some(Revocation {
             secret,
@@ -103,23 +102,27 @@ pub(crate) fn revocation_in(message: Option<Message>) -> Option<Revocation> {
     }
 }
 
-pub(crate) fn offered(rt: &impl Abort, a: &mut Book, b: &mut Book) -> Revocation {
-    offered_by(rt, a, b, offer(500))
+// What a book answers to a message.
+fn answer(rt: &impl Abort, book: &mut Book, message: Message) -> Option<Message> {
+    let step = step_of(message).expect(rt, "a step");
+    book.step(0, 0, step).expect(rt, "taken")
+}
+
+// A book signs the channel to the other's, which answers with a revocation.
+pub(crate) fn signed(rt: &impl Abort, from: &mut Book, to: &mut Book) -> Revocation {
+    let message = from.sign(0, 0).expect(rt, "a signature");
+    revocation_in(answer(rt, to, message)).expect(rt, "a revocation")
 }
 
 // A's book offers an HTLC and signs it to B's, which answers with a revocation.
-pub(crate) fn offered_by(rt: &impl Abort, a: &mut Book, b: &mut Book, offer: Step) -> Revocation {
-    let sent = a.step(0, 0, offer).expect(rt, "an offer");
-    let update = update_in(sent).expect(rt, "an update");
-    let answer = b.step(0, 0, Step::Updated(update)).expect(rt, "taken");
-    assert!(rt; answer.is_none());
-    let message = a.sign(0, 0).expect(rt, "a signature");
-    let step = step_of(message).expect(rt, "tokens");
-    revocation_in(b.step(0, 0, step).expect(rt, "taken")).expect(rt, "a revocation")
+pub(crate) fn offered(rt: &impl Abort, a: &mut Book, b: &mut Book, amount: u64) -> Revocation {
+    let sent = a.step(0, 0, offer(amount, 500)).expect(rt, "an offer");
+    assert!(rt; answer(rt, b, sent.expect(rt, "an update")).is_none());
+    signed(rt, a, b)
 }
 
 // A state of B's with these balances and this number, revoked by the secret.
-pub(crate) fn state_of(
+fn state_of(
     rt: &impl Abort,
     alloc: Global,
     balances: [u64; 2],
@@ -135,9 +138,14 @@ pub(crate) fn state_of(
 // The millisatoshis that the two sides begin with, which B's commitment 0 pays.
 pub(crate) const FIRST: [u64; 2] = [80_000_000, 20_000_000];
 
-// The penalties of B's commitment 0.
-pub(crate) fn penalties_of_first(rt: &impl Abort, alloc: Global, secret: [u8; 32]) -> List<Claim> {
-    let state = state_of(rt, alloc, FIRST, 0, secret);
-    let set = penalties(alloc, &state).expect(rt, "memory");
-    List::from_vec(set.into_claims())
+// The penalties of such a state.
+pub(crate) fn penalties_of(
+    rt: &impl Abort,
+    alloc: Global,
+    balances: [u64; 2],
+    number: u64,
+    secret: [u8; 32],
+) -> PenaltySet {
+    let state = state_of(rt, alloc, balances, number, secret);
+    penalties(alloc, &state).expect(rt, "memory")
 }

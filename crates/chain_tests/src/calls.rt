@@ -4,7 +4,7 @@ use crate::fixtures::{GRANTED, TRUE_PROGRAM, output, transaction};
 use chain::{Answer, BlockError, Coins, Command, Index, Scan, replay_commands};
 use std::alloc::Global;
 use std::process::Abort;
-use tx::{OutPoint, Tx, TxOut};
+use tx::{Tx, TxOut};
 
 // A transaction that spends the first grant, into an output of 900 satoshis.
 fn spend_of_grant(rt: &impl Abort, alloc: Global) -> Tx {
@@ -13,27 +13,25 @@ fn spend_of_grant(rt: &impl Abort, alloc: Global) -> Tx {
 
 // A block of this one transaction.
 fn block_of_grant(rt: &impl Abort, alloc: Global) -> Vec<Tx> {
-    let mut txs = Vec::new(alloc);
-    txs.push(spend_of_grant(rt, alloc)).expect(rt, "memory");
-    txs
+    let tx = spend_of_grant(rt, alloc);
+    vec![in alloc; tx].expect(rt, "memory")
 }
 
 // Each command once: it begins with a grant, and ends by taking off the block that spends it.
 fn every_command(rt: &impl Abort, alloc: Global) -> Vec<Command> {
     let granted = output(rt, alloc, 1000, &TRUE_PROGRAM);
-    let mut commands = Vec::new(alloc);
-    commands.push(Command::Grant(granted)).expect(rt, "memory");
     let tx = spend_of_grant(rt, alloc);
-    commands
-        .push(Command::CheckInput(tx, 0))
-        .expect(rt, "memory");
     let txs = block_of_grant(rt, alloc);
-    commands.push(Command::Connect(txs)).expect(rt, "memory");
-    commands.push(Command::Unspent).expect(rt, "memory");
-    commands.push(Command::Height).expect(rt, "memory");
-    commands.push(Command::Fees).expect(rt, "memory");
-    commands.push(Command::Disconnect(1)).expect(rt, "memory");
-    commands
+    let commands = vec![in alloc;
+        Command::Grant(granted),
+        Command::CheckInput(tx, 0),
+        Command::Connect(txs),
+        Command::Unspent,
+        Command::Height,
+        Command::Fees,
+        Command::Disconnect(1),
+    ];
+    commands.expect(rt, "memory")
 }
 
 // The answers of the commands between the first and the last one.
@@ -45,19 +43,27 @@ const ANSWERS: [&str; 5] = [
     "Fees(100)",
 ];
 
-// The number of transactions in the blocks that were taken off.
-fn count_off(answer: &Answer) -> Option<usize> {
+// Whether an answer is that the first grant was made.
+fn is_first(answer: &Answer) -> bool {
     match answer {
-        Answer::Disconnect(Ok(txs)) => Some(txs.len()),
-        _ => None,
+        Answer::Grant(Ok(outpoint)) => *outpoint == GRANTED[0],
+        _ => false,
     }
 }
 
-// The outpoint of a grant.
-fn granted(answer: &Answer) -> Option<OutPoint> {
+// Whether an answer is that a block with one transaction was taken off.
+fn is_last(answer: &Answer) -> bool {
     match answer {
-        Answer::Grant(Ok(outpoint)) => Some(*outpoint),
-        _ => None,
+        Answer::Disconnect(Ok(txs)) => txs.len() == 1,
+        _ => false,
+    }
+}
+
+// Whether an answer is printed as this text.
+fn is_shown(alloc: Global, answer: &Answer, text: &str) -> bool {
+    match format!(in alloc; "{answer:?}") {
+        Ok(printed) => printed.as_str() == text,
+        Err(_) => false,
     }
 }
 
@@ -65,13 +71,12 @@ fn granted(answer: &Answer) -> Option<OutPoint> {
 fn replay_on<C: Coins>(rt: &impl Abort, alloc: Global, chain: &mut C) {
     let commands = every_command(rt, alloc);
     let answers = replay_commands(alloc, chain, &commands).expect(rt, "memory");
-    assert_eq!(rt; answers.len(), 7);
-    assert_eq!(rt; granted(&answers[0]), Some(GRANTED[0]));
-    for (answer, text) in answers[1..6].iter().zip(ANSWERS) {
-        let printed = format!(in alloc; "{answer:?}").expect(rt, "memory");
-        assert_eq!(rt; printed.as_str(), text);
+    assert!(rt; answers.len() == 7);
+    assert!(rt; is_first(&answers[0]));
+    for (answer, text) in answers[1..6].iter().zip(&ANSWERS) {
+        assert!(rt; is_shown(alloc, answer, text));
     }
-    assert_eq!(rt; count_off(&answers[6]), Some(1));
+    assert!(rt; is_last(&answers[6]));
 }
 
 #[test]
@@ -91,7 +96,7 @@ fn spend<C: Coins>(chain: &mut C, output: TxOut, tx: Vec<Tx>) -> Result<u64, Blo
 fn spend_on<C: Coins>(rt: &impl Abort, alloc: Global, chain: &mut C) {
     let output = output(rt, alloc, 1000, &TRUE_PROGRAM);
     let height = spend(chain, output, block_of_grant(rt, alloc));
-    assert_eq!(rt; height, Ok(1));
+    assert!(rt; height == Ok(1));
 }
 
 #[test]

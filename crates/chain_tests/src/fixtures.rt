@@ -2,6 +2,7 @@
 
 use lists::ByteString;
 use std::alloc::Global;
+use std::fmt::Display;
 use std::process::Abort;
 use tx::{Inputs, OutPoint, Outputs, Tx, TxIn, TxOut, Witness};
 
@@ -122,4 +123,12 @@ pub(crate) fn transaction(
     let inputs = inputs(rt, alloc, from);
     let outputs = outputs(rt, alloc, to);
     Tx::new(version, inputs, outputs, lock_time).expect(rt, "an input")
+}
+
+// Whether a value is printed as this text.
+pub(crate) fn is_printed<T: Display>(alloc: Global, value: &T, text: &str) -> bool {
+    match format!(in alloc; "{value}") {
+        Ok(printed) => printed.as_str() == text,
+        Err(_) => false,
+    }
 }

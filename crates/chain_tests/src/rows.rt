@@ -200,7 +200,7 @@ const TABLES: [&[Step]; 11] = [
 
 #[test]
 fn scan_answers(rt: HostRuntime) {
-    for table in TABLES {
+    for table in &TABLES {
         let mut chain = Scan::new(rt.alloc()).expect(&rt, "memory");
         play_all(&rt, rt.alloc(), &mut chain, table);
     }
@@ -208,7 +208,7 @@ fn scan_answers(rt: HostRuntime) {
 
 #[test]
 fn index_answers(rt: HostRuntime) {
-    for table in TABLES {
+    for table in &TABLES {
         let mut chain = Index::new(rt.alloc()).expect(&rt, "memory");
         play_all(&rt, rt.alloc(), &mut chain, table);
     }

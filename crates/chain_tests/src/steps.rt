@@ -55,12 +55,6 @@ pub(crate) struct Cast {
     made: Vec<Tx>,
 }
 
-fn push_items(rt: &impl Abort, alloc: Global, witness: &mut Witness, items: &[&[u8]]) {
-    for item in items {
-        push_item(rt, alloc, witness, item);
-    }
-}
-
 impl Cast {
     pub(crate) fn new(alloc: Global) -> Self {
         Cast {
@@ -101,30 +95,24 @@ impl Cast {
         self.made.push(tx).expect(rt, "memory");
     }
 
-    // Sets the witness of a transaction's first input.
-    fn give(&mut self, rt: &impl Abort, place: usize, witness: Witness) {
+    // Sets the witness of a transaction's first input to these items, the first ones before the others.
+    fn give(&mut self, rt: &impl Abort, place: usize, first: &[&[u8]], items: &[&[u8]]) {
+        let mut witness = Witness::new(self.alloc);
+        for item in first {
+            push_item(rt, self.alloc, &mut witness, item);
+        }
+        for item in items {
+            push_item(rt, self.alloc, &mut witness, item);
+        }
         let tx = self.made.get_mut(place).expect(rt, "a transaction");
         assert!(rt; !tx.inputs().is_empty());
         tx.set_witness(0, witness);
     }
 
-    fn give_items(&mut self, rt: &impl Abort, place: usize, items: &[&[u8]]) {
-        let mut witness = Witness::new(self.alloc);
-        push_items(rt, self.alloc, &mut witness, items);
-        self.give(rt, place, witness);
-    }
-
-    fn token(&self, rt: &impl Abort, place: usize, script: &[u8], value: u64) -> Token {
-        let digest = digest_of(self.made(rt, place), 0, script, value);
-        Token::new(&KEY, &digest.expect(rt, "an input"))
-    }
-
     fn sign(&mut self, rt: &impl Abort, place: usize, script: &[u8], value: u64, items: &[&[u8]]) {
-        let token = self.token(rt, place, script, value);
-        let mut witness = Witness::new(self.alloc);
-        push_item(rt, self.alloc, &mut witness, token.bytes());
-        push_items(rt, self.alloc, &mut witness, items);
-        self.give(rt, place, witness);
+        let digest = digest_of(self.made(rt, place), 0, script, value).expect(rt, "an input");
+        let token = Token::new(&KEY, &digest);
+        self.give(rt, place, &[token.bytes()], items);
     }
 
     // A block of these transactions.
@@ -144,11 +132,6 @@ fn grant<C: Coins>(rt: &impl Abort, cast: &mut Cast, chain: &mut C, value: u64, 
     cast.granted.push(outpoint).expect(rt, "memory");
 }
 
-fn refuse_grant<C: Coins>(rt: &impl Abort, cast: &Cast, chain: &mut C, script: &[u8]) {
-    let granted = chain.grant(output(rt, cast.alloc, 1, script));
-    assert_eq!(rt; granted, Err(ChainError::BadProgram));
-}
-
 // Adds empty blocks up to a height.
 fn raise<C: Coins>(rt: &impl Abort, alloc: Global, chain: &mut C, height: u64) {
     for _ in chain.height()..height {
@@ -156,23 +139,11 @@ fn raise<C: Coins>(rt: &impl Abort, alloc: Global, chain: &mut C, height: u64) {
     }
 }
 
-// What a chain shows of itself.
-#[derive(Clone, Copy, Debug, PartialEq, Eq)]
-struct Summary {
-    height: u64,
-    count: u64,
-    value: u128,
-    fees: u128,
-}
-
-fn summary_of<C: Coins>(rt: &impl Abort, chain: &C) -> Summary {
+// What a chain shows of itself: its height, its unspent outputs and their value, and its fees.
+fn summary_of<C: Coins>(rt: &impl Abort, chain: &C) -> (u64, u64, u128, u128) {
     let unspent = chain.unspent().expect(rt, "memory");
-    Summary {
-        height: chain.height(),
-        count: unspent.count,
-        value: unspent.value,
-        fees: chain.fees().expect(rt, "memory"),
-    }
+    let fees = chain.fees().expect(rt, "memory");
+    (chain.height(), unspent.count, unspent.value, fees)
 }
 
 // Connects a block. Where memory runs out, the chain has to be as before, and the call is made once more.
@@ -187,7 +158,7 @@ fn connect<C: Coins>(
     if !is_out_of_memory(&answer) {
         return answer;
     }
-    assert_eq!(rt; summary_of(rt, chain), before);
+    assert!(rt; summary_of(rt, chain) == before);
     chain.connect(cast.block(rt, places))
 }
 
@@ -205,71 +176,69 @@ fn disconnect<C: Coins>(rt: &impl Abort, chain: &mut C, k: u64) -> Result<Vec<Tx
     if !matches!(&answer, Err(ChainError::NoMemory)) {
         return answer;
     }
-    assert_eq!(rt; summary_of(rt, chain), before);
+    assert!(rt; summary_of(rt, chain) == before);
     chain.disconnect(k)
 }
 
-fn expect_block<C: Coins>(
+// Whether these are the transactions of a cast, in this order.
+fn are_made(rt: &impl Abort, cast: &Cast, txs: &[Tx], places: &[usize]) -> bool {
+    for (tx, place) in txs.iter().zip(places) {
+        if txid(tx) != txid(cast.made(rt, *place)) {
+            return false;
+        }
+    }
+    txs.len() == places.len()
+}
+
+// Whether this number of blocks is taken off, which hold these transactions; `None` where there are too few blocks.
+fn is_off<C: Coins>(
     rt: &impl Abort,
     cast: &Cast,
     chain: &mut C,
-    places: &[usize],
-    wanted: Result<u64, BlockError>,
-) {
-    assert_eq!(rt; connect(rt, cast, chain, places), wanted);
-}
-
-fn expect_input<C: Coins>(
-    rt: &impl Abort,
-    cast: &Cast,
-    chain: &C,
-    place: usize,
-    index: usize,
-    wanted: Result<(), ChainError>,
-) {
-    let answer = chain.check_input(cast.made(rt, place), index);
-    assert_eq!(rt; answer, wanted, "{place}");
-}
-
-fn expect_off<C: Coins>(rt: &impl Abort, cast: &Cast, chain: &mut C, k: u64, places: &[usize]) {
-    let txs = disconnect(rt, chain, k).expect(rt, "blocks");
-    assert_eq!(rt; txs.len(), places.len());
-    for (tx, place) in txs.iter().zip(places) {
-        assert_eq!(rt; txid(tx), txid(cast.made(rt, *place)));
+    k: u64,
+    wanted: Option<&[usize]>,
+) -> bool {
+    match disconnect(rt, chain, k) {
+        Ok(txs) => match wanted {
+            Some(places) => are_made(rt, cast, &txs, places),
+            None => false,
+        },
+        Err(refusal) => wanted.is_none() && refusal == ChainError::TooDeep,
     }
 }
 
-fn expect_deep<C: Coins>(rt: &impl Abort, chain: &mut C, k: u64) {
-    assert_eq!(rt; disconnect(rt, chain, k).err(), Some(ChainError::TooDeep));
-}
-
-fn expect_shown<C: Coins>(rt: &impl Abort, chain: &C, count: u64, value: u128, fees: u128) {
-    let wanted = Summary {
-        height: chain.height(),
-        count,
-        value,
-        fees,
-    };
-    assert_eq!(rt; summary_of(rt, chain), wanted);
-}
-
+// Plays a step.
 fn play<C: Coins>(rt: &impl Abort, cast: &mut Cast, chain: &mut C, step: &Step) {
     match *step {
         Step::Grant(value) => grant(rt, cast, chain, value, &TRUE_PROGRAM),
         Step::GrantTo(value, script) => grant(rt, cast, chain, value, script),
-        Step::RefuseGrant(script) => refuse_grant(rt, cast, chain, script),
         Step::Make(version, from, to, lock_time) => cast.make(rt, version, from, to, lock_time),
-        Step::Witness(place, items) => cast.give_items(rt, place, items),
+        Step::Witness(place, items) => cast.give(rt, place, &[], items),
         Step::Sign(place, script, value, items) => cast.sign(rt, place, script, value, items),
         Step::Raise(height) => raise(rt, cast.alloc, chain, height),
-        Step::Connect(places, height) => expect_block(rt, cast, chain, places, Ok(height)),
-        Step::Refuse(places, index, refusal) => {
-            expect_block(rt, cast, chain, places, Err(BlockError { index, refusal }))
+        _ => assert!(rt; is_answered(rt, cast, chain, step)),
+    }
+}
+
+// Whether a chain answers a step so.
+fn is_answered<C: Coins>(rt: &impl Abort, cast: &Cast, chain: &mut C, step: &Step) -> bool {
+    match *step {
+        Step::RefuseGrant(script) => {
+            chain.grant(output(rt, cast.alloc, 1, script)) == Err(ChainError::BadProgram)
         }
-        Step::Check(place, index, wanted) => expect_input(rt, cast, chain, place, index, wanted),
-        Step::Disconnect(k, places) => expect_off(rt, cast, chain, k, places),
-        Step::Deep(k) => expect_deep(rt, chain, k),
-        Step::Hold(count, value, fees) => expect_shown(rt, chain, count, value, fees),
+        Step::Connect(places, height) => connect(rt, cast, chain, places) == Ok(height),
+        Step::Refuse(places, index, refusal) => {
+            connect(rt, cast, chain, places) == Err(BlockError { index, refusal })
+        }
+        Step::Check(place, index, wanted) => {
+            chain.check_input(cast.made(rt, place), index) == wanted
+        }
+        Step::Disconnect(k, places) => is_off(rt, cast, chain, k, Some(places)),
+        Step::Deep(k) => is_off(rt, cast, chain, k, None),
+        Step::Hold(count, value, fees) => {
+            summary_of(rt, chain) == (chain.height(), count, value, fees)
+        }
+        _ => false,
     }
 }
 

@@ -4,6 +4,7 @@ use crate::fixtures::{GRANTED, TRUE_PROGRAM, output, transaction};
 use chain::{Coins, Index};
 use mempool::{ReorgError, mine, reorganise};
 use std::alloc::{AllocError, Global};
+use std::mem::replace;
 use std::process::Abort;
 use tx::{OutPoint, Tx, txid};
 
@@ -40,13 +41,10 @@ fn locked(rt: &impl Abort, alloc: Global) -> Tx {
 
 // The pool: the child, the parent, a second spend of the first grant, and the locked one.
 fn waiting(rt: &impl Abort, alloc: Global) -> Vec<Tx> {
-    let mut pool = Vec::new(alloc);
-    pool.push(child(rt, alloc)).expect(rt, "memory");
-    pool.push(parent(rt, alloc)).expect(rt, "memory");
+    let (child, parent) = (child(rt, alloc), parent(rt, alloc));
     let second = spend(rt, alloc, GRANTED[0], 700, 0);
-    pool.push(second).expect(rt, "memory");
-    pool.push(locked(rt, alloc)).expect(rt, "memory");
-    pool
+    let locked = locked(rt, alloc);
+    vec![in alloc; child, parent, second, locked].expect(rt, "memory")
 }
 
 // Makes this number of blocks of the pool; gives how many transactions they have, and how many still wait.
@@ -58,8 +56,9 @@ fn mine_on(
     count: u64,
 ) -> (u64, usize) {
     let mined = mine(alloc, chain, pool, count).expect(rt, "memory");
-    *pool = mined.waiting;
-    (mined.txs, pool.len())
+    let txs = mined.txs;
+    drop(replace(pool, mined.waiting));
+    (txs, pool.len())
 }
 
 // Block 1 has the parent: the child comes before it and waits, the second spend is dropped, and the locked one waits. Block 2 has the child, block 3 the
@@ -69,11 +68,11 @@ fn blocks_take_what_waits(rt: HostRuntime) {
     let alloc = rt.alloc();
     let mut chain = granted_chain(&rt, alloc);
     let mut pool = waiting(&rt, alloc);
-    assert_eq!(rt; mine_on(&rt, alloc, &mut chain, &mut pool, 1), (1, 2));
-    assert_eq!(rt; mine_on(&rt, alloc, &mut chain, &mut pool, 1), (1, 1));
-    assert_eq!(rt; mine_on(&rt, alloc, &mut chain, &mut pool, 2), (1, 0));
-    assert_eq!(rt; chain.height(), 4);
-    assert_eq!(rt; chain.fees().expect(&rt, "memory"), 600);
+    assert!(rt; mine_on(&rt, alloc, &mut chain, &mut pool, 1) == (1, 2));
+    assert!(rt; mine_on(&rt, alloc, &mut chain, &mut pool, 1) == (1, 1));
+    assert!(rt; mine_on(&rt, alloc, &mut chain, &mut pool, 2) == (1, 0));
+    assert!(rt; chain.height() == 4);
+    assert!(rt; chain.fees() == Ok(600));
 }
 
 // The result of a reorganisation: the height, the number of transactions in the new blocks, and how many still wait.
@@ -88,16 +87,14 @@ fn ended(
     Ok((new.chain.height(), new.txs, new.pool.len()))
 }
 
-// The result where the last transaction of the newest three blocks is forgotten, but was released.
-fn ended_with_released(
-    rt: &impl Abort,
-    alloc: Global,
-    chain: &Index,
-) -> Result<(u64, u64, usize), ReorgError> {
-    let mut released = Vec::new(alloc);
-    released.push(locked(rt, alloc)).expect(rt, "memory");
-    ended(alloc, chain, &released, 3, 1)
-}
+// How many blocks are replaced, how many transactions are forgotten, and the result.
+const ENDS: [(u64, u64, Result<(u64, u64, usize), ReorgError>); 5] = [
+    (3, 0, Ok((4, 3, 0))),
+    (3, 1, Ok((4, 2, 0))),
+    (3, 4, Err(ReorgError::NoSuchTx)),
+    (0, 0, Err(ReorgError::TooDeep)),
+    (4, 0, Err(ReorgError::TooDeep)),
+];
 
 // Three blocks with one transaction each are replaced by four. With the last transaction forgotten only the others come back; where it was released too, all
 // do.
@@ -106,14 +103,13 @@ fn blocks_give_way(rt: HostRuntime) {
     let alloc = rt.alloc();
     let mut chain = granted_chain(&rt, alloc);
     let mined = mine_on(&rt, alloc, &mut chain, &mut waiting(&rt, alloc), 3);
-    assert_eq!(rt; mined, (3, 0));
-    assert_eq!(rt; ended(alloc, &chain, &[], 3, 0), Ok((4, 3, 0)));
-    assert_eq!(rt; ended(alloc, &chain, &[], 3, 1), Ok((4, 2, 0)));
-    assert_eq!(rt; ended(alloc, &chain, &[], 3, 4), Err(ReorgError::NoSuchTx));
-    assert_eq!(rt; ended(alloc, &chain, &[], 0, 0), Err(ReorgError::TooDeep));
-    assert_eq!(rt; ended(alloc, &chain, &[], 4, 0), Err(ReorgError::TooDeep));
-    assert_eq!(rt; ended_with_released(&rt, alloc, &chain), Ok((4, 3, 0)));
-    assert_eq!(rt; chain.height(), 3);
+    assert!(rt; mined == (3, 0));
+    for (depth, forgotten, wanted) in &ENDS {
+        assert!(rt; ended(alloc, &chain, &[], *depth, *forgotten) == *wanted);
+    }
+    let released = [locked(&rt, alloc)];
+    assert!(rt; ended(alloc, &chain, &released, 3, 1) == Ok((4, 3, 0)));
+    assert!(rt; chain.height() == 3);
 }
 
 // The example in the documentation of `mempool`.
@@ -127,5 +123,5 @@ fn the_next_block_takes_one(rt: HostRuntime) {
     let alloc = rt.alloc();
     let mut chain = granted_chain(&rt, alloc);
     let taken = taken_by_the_next(alloc, &mut chain, &waiting(&rt, alloc));
-    assert_eq!(rt; taken.expect(&rt, "memory"), 1);
+    assert!(rt; taken == Ok(1));
 }

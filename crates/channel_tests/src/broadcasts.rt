@@ -25,24 +25,13 @@ fn side_with_an_offer(rt: &impl Abort, alloc: Global) -> Channel {
     a
 }
 
-// The number of outputs of a transaction; 0 if there is none.
-fn outputs(tx: Option<Tx>) -> usize {
+// The number of outputs of a transaction, 0 if there is none; `None` where memory ran out.
+fn outputs(tx: Result<Option<Tx>, AllocError>) -> Option<usize> {
     match tx {
-        None => 0,
-        Some(tx) => tx.outputs().len(),
+        Err(_) => None,
+        Ok(None) => Some(0),
+        Ok(Some(tx)) => Some(tx.outputs().len()),
     }
-}
-
-// Pays both sides and the HTLC. The HTLC's timeout has one output, and there is no second HTLC.
-#[test]
-fn closes_with_its_newest_commitment(rt: HostRuntime) {
-    let side = side_with_an_offer(&rt, rt.alloc());
-    let closing = closing_tx(rt.alloc(), &side).expect(&rt, "memory");
-    assert_eq!(rt; outputs(closing), 3);
-    let timeout = signed_htlc_tx(rt.alloc(), &side, 1, 0, &[]).expect(&rt, "memory");
-    assert_eq!(rt; outputs(timeout), 1);
-    let none = signed_htlc_tx(rt.alloc(), &side, 1, 1, &[]).expect(&rt, "memory");
-    assert_eq!(rt; outputs(none), 0);
 }
 
 // One's own commitment of a number, with the peer's tokens.
@@ -91,14 +80,22 @@ fn known(rt: &impl Abort, alloc: Global, side: &Channel) -> Known {
 
 // As the channel does: the newest commitment has one output more than the one before it, and the HTLC's timeout has
 // one.
-#[test]
-fn closes_by_what_is_known(rt: HostRuntime) {
-    let side = side_with_an_offer(&rt, rt.alloc());
-    let known = known(&rt, rt.alloc(), &side);
-    for (number, count) in [(0, 2), (1, 3), (2, 0)] {
-        let closing = signed_commitment_in(rt.alloc(), &known, number).expect(&rt, "memory");
-        assert_eq!(rt; outputs(closing), count);
+fn closes_by_what_is_known(rt: &impl Abort, alloc: Global, side: &Channel) {
+    let known = known(rt, alloc, side);
+    for (number, count) in &[(0, 2), (1, 3), (2, 0)] {
+        let closing = outputs(signed_commitment_in(alloc, &known, *number));
+        assert!(rt; closing == Some(*count), "{number}");
     }
-    let timeout = signed_htlc_tx_in(rt.alloc(), &known, 1, 0, &[]).expect(&rt, "memory");
-    assert_eq!(rt; outputs(timeout), 1);
+    assert!(rt; outputs(signed_htlc_tx_in(alloc, &known, 1, 0, &[])) == Some(1));
+}
+
+// Pays both sides and the HTLC. The HTLC's timeout has one output, and there is no second HTLC.
+#[test]
+fn closes_with_its_newest_commitment(rt: HostRuntime) {
+    let alloc = rt.alloc();
+    let side = side_with_an_offer(&rt, alloc);
+    assert!(rt; outputs(closing_tx(alloc, &side)) == Some(3));
+    assert!(rt; outputs(signed_htlc_tx(alloc, &side, 1, 0, &[])) == Some(1));
+    assert!(rt; outputs(signed_htlc_tx(alloc, &side, 1, 1, &[])) == Some(0));
+    closes_by_what_is_known(&rt, alloc, &side);
 }

@@ -2,42 +2,33 @@
 
 ghost use Rattle.std.specs.Prelude.{◌≤◌};
 
-use crate::fixtures::{key, one_key_party};
+use crate::fixtures::{is_hash, key, one_key_party};
 use commit::{
     Commitment, OutputKind, Side, Terms, View, build, commitment_amounts, commitment_fee, htlc_tx,
     signing_digests,
 };
-use hex::FromHex;
-use lists::List;
-use parties::{FUNDING, htlc, party_with, terms_of, view};
+use parties::{FUNDING, party_with, terms_of, view};
 use std::alloc::Global;
 use std::process::Abort;
-use terms::{BaseKeys, Party, Share};
+use terms::{BaseKeys, Htlc, Party};
 use tx::txid;
 
-fn share(rt: &impl Abort, alloc: Global, balance: u64, count: usize) -> Share {
-    let htlc = htlc(0, 2_000_000, 9, 500);
-    let offered = vec![in alloc; htlc; count].expect(rt, "memory");
-    Share {
-        balance,
-        offered: List::from_vec(offered),
-    }
-}
+const HTLCS: [Htlc; 480] = [Htlc {
+    id: 0,
+    amount: 2_000_000,
+    hash: [9; 32],
+    expiry: 500,
+}; 480];
 
 // Asserts the amounts of B's commitment with `count` HTLCs that A offered, and twelve times as many of B.
 fn has_amounts(rt: &impl Abort, alloc: Global, terms: &Terms, count: usize)
     requires { count ≤ 40 }
 {
-    let view = View {
-        a: share(rt, alloc, 4_000_000_000, count),
-        b: share(rt, alloc, 3_000_000_000, 12 * count),
-        feerate: 1000,
-    };
+    let balances = [4_000_000_000, 3_000_000_000];
+    let view = view(alloc, balances, &HTLCS[..count], &HTLCS[..12 * count]).expect(rt, "memory");
     let amounts = commitment_amounts(alloc, terms, &view, Side::B).expect(rt, "memory");
-    assert_eq!(rt;
-        (amounts.offered.len(), amounts.received.len()),
-        (12 * count, count)
-    );
+    assert!(rt; amounts.offered.len() == 12 * count);
+    assert!(rt; amounts.received.len() == count);
     assert_eq!(rt; amounts.fee, commitment_fee(13 * count, 1000));
     assert_eq!(rt; amounts.to_local, Some(3_000_000));
 }
@@ -73,27 +64,48 @@ fn unlike_terms(rt: &impl Abort) -> Terms {
     terms_of(FUNDING, 100_000, a, b).expect(rt, "terms")
 }
 
-// A offers two HTLCs of one amount and one hash, and more where B offers one too.
+// Two HTLCs of one amount and one hash, and a third.
+const OF_A: [Htlc; 3] = [
+    Htlc {
+        id: 0,
+        amount: 10_000_000,
+        hash: [9; 32],
+        expiry: 600,
+    },
+    Htlc {
+        id: 1,
+        amount: 10_000_000,
+        hash: [9; 32],
+        expiry: 500,
+    },
+    Htlc {
+        id: 2,
+        amount: 3_000_000,
+        hash: [8; 32],
+        expiry: 400_000,
+    },
+];
+
+const OF_B: [Htlc; 1] = [Htlc {
+    id: 0,
+    amount: 7_000_000,
+    hash: [5; 32],
+    expiry: 16,
+}];
+
+// A offers the first two HTLCs, and all three where B offers one too.
 fn unlike_view(rt: &impl Abort, alloc: Global, both: bool) -> View {
-    let two = [htlc(0, 10_000_000, 9, 600), htlc(1, 10_000_000, 9, 500)];
-    let of_a = [two[0], two[1], htlc(2, 3_000_000, 8, 400_000)];
-    let of_b = [htlc(0, 7_000_000, 5, 16)];
-    let built = if both {
-        view(alloc, [50_000_000, 20_000_000], &of_a, &of_b)
+    if both {
+        view(alloc, [50_000_000, 20_000_000], &OF_A, &OF_B).expect(rt, "memory")
     } else {
-        view(alloc, [60_000_000, 20_000_000], &two, &[])
-    };
-    built.expect(rt, "memory")
+        view(alloc, [60_000_000, 20_000_000], &OF_A[..2], &[]).expect(rt, "memory")
+    }
 }
 
 fn built(rt: &impl Abort, alloc: Global, owner: Side, n: u64, both: bool) -> Commitment {
     let terms = unlike_terms(rt);
     let view = unlike_view(rt, alloc, both);
     build(alloc, &terms, &view, owner, n, &key(rt, 0xcc)).expect(rt, "a commitment")
-}
-
-fn hash(rt: &impl Abort, text: &str) -> [u8; 32] {
-    <[u8; 32] as FromHex>::from_hex(text).expect(rt, "64 hex digits")
 }
 
 // The value and the expiry of the output at an index; 0 where it has none.
@@ -119,78 +131,43 @@ fn second_stage_id(rt: &impl Abort, alloc: Global, commitment: &Commitment, k: u
 #[test]
 fn equal_htlcs_stand_by_expiry(rt: HostRuntime) {
     let commitment = built(&rt, rt.alloc(), Side::A, 42, false);
-    assert_eq!(rt; output(&commitment, 0), (10_000, 500));
-    assert_eq!(rt; output(&commitment, 1), (10_000, 600));
-    assert_eq!(rt; output(&commitment, 2), (20_000, 2));
-    assert_eq!(rt; output(&commitment, 3), (58_932, 1));
-    assert_eq!(rt;
-        commitment.id(),
-        &hash(
-            &rt,
-            "0b68fca0a9b008484b31f065a8438e5570c606be55ff503cc436fa7e45f5728e"
-        )
-    );
+    assert!(rt; output(&commitment, 0) == (10_000, 500));
+    assert!(rt; output(&commitment, 1) == (10_000, 600));
+    assert!(rt; output(&commitment, 2) == (20_000, 2));
+    assert!(rt; output(&commitment, 3) == (58_932, 1));
+    let id = "0b68fca0a9b008484b31f065a8438e5570c606be55ff503cc436fa7e45f5728e";
+    assert!(rt; is_hash(commitment.id(), id));
 }
 
-// HTLCs of both directions on the accepter's commitment: the transactions and digests of an independent model.
+// The ids of a commitment and of its HTLC transactions, of an independent model; there is no fifth HTLC.
+fn has_ids(rt: &impl Abort, alloc: Global, commitment: &Commitment) {
+    let id = "395f37e01fda6d719ec41fe55cdbd9dfafcb43d0976636c37be009e40d28c612";
+    assert!(rt; is_hash(commitment.id(), id));
+    let first = "bab59d72d6c40e7b02e7438f8746940e5f40a9397c8a9fd389241844c9122606";
+    assert!(rt; is_hash(&second_stage_id(rt, alloc, commitment, 0), first));
+    let second = "512833bad453897424bfdffcd5ee2bff11e006bc1994e422d0bb0627a2751666";
+    assert!(rt; is_hash(&second_stage_id(rt, alloc, commitment, 1), second));
+    assert!(rt; second_stage_id(rt, alloc, commitment, 4) == [0; 32]);
+}
+
+// The digests that its peer signs, of the same model.
+fn has_digests(rt: &impl Abort, alloc: Global, commitment: &Commitment) {
+    let digests = signing_digests(alloc, &unlike_terms(rt), commitment).expect(rt, "memory");
+    let own = "38a5f6f1acee7cbd789414374fd467d818f47264ec6bbbeabea41597f67e37fc";
+    assert!(rt; is_hash(&digests.commitment, own));
+    let htlcs = digests.htlcs.values();
+    assert!(rt; htlcs.len() == 4);
+    let first = "77140da4f98ba2601fb531b4bb5b397528622224de921b0787bd015ed9fed149";
+    assert!(rt; is_hash(&htlcs[0], first));
+    let last = "009783a602b103fe4e80f9fbc21c0179c84b175678fa11971f351961430a7635";
+    assert!(rt; is_hash(&htlcs[3], last));
+}
+
+// HTLCs of both directions on the accepter's commitment.
 #[test]
 fn transactions_are_those_of_the_model(rt: HostRuntime) {
     let commitment = built(&rt, rt.alloc(), Side::B, 43, true);
-    assert_eq!(rt;
-        commitment.id(),
-        &hash(
-            &rt,
-            "395f37e01fda6d719ec41fe55cdbd9dfafcb43d0976636c37be009e40d28c612"
-        )
-    );
-    assert_eq!(rt;
-        second_stage_id(&rt, rt.alloc(), &commitment, 0),
-        hash(
-            &rt,
-            "bab59d72d6c40e7b02e7438f8746940e5f40a9397c8a9fd389241844c9122606"
-        )
-    );
-    assert_eq!(rt;
-        second_stage_id(&rt, rt.alloc(), &commitment, 1),
-        hash(
-            &rt,
-            "512833bad453897424bfdffcd5ee2bff11e006bc1994e422d0bb0627a2751666"
-        )
-    );
-    assert_eq!(rt; second_stage_id(&rt, rt.alloc(), &commitment, 4), [0; 32]);
-}
-
-#[test]
-fn a_copy_is_the_same_commitment(rt: HostRuntime) {
-    let commitment = built(&rt, rt.alloc(), Side::B, 43, true);
+    has_ids(&rt, rt.alloc(), &commitment);
+    has_digests(&rt, rt.alloc(), &commitment);
     assert!(rt; commitment.copy().is_ok());
-}
-
-#[test]
-fn digests_are_those_of_the_model(rt: HostRuntime) {
-    let commitment = built(&rt, rt.alloc(), Side::B, 43, true);
-    let terms = unlike_terms(&rt);
-    let digests = signing_digests(rt.alloc(), &terms, &commitment).expect(&rt, "memory");
-    assert_eq!(rt;
-        digests.commitment,
-        hash(
-            &rt,
-            "38a5f6f1acee7cbd789414374fd467d818f47264ec6bbbeabea41597f67e37fc"
-        )
-    );
-    assert_eq!(rt; digests.htlcs.len(), 4);
-    assert_eq!(rt;
-        digests.htlcs.values().first(),
-        Some(&hash(
-            &rt,
-            "77140da4f98ba2601fb531b4bb5b397528622224de921b0787bd015ed9fed149"
-        ))
-    );
-    assert_eq!(rt;
-        digests.htlcs.values().last(),
-        Some(&hash(
-            &rt,
-            "009783a602b103fe4e80f9fbc21c0179c84b175678fa11971f351961430a7635"
-        ))
-    );
 }

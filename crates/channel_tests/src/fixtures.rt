@@ -1,5 +1,6 @@
-//! Keys and parties that several modules test with.
+//! Keys, parties and hashes that several modules test with.
 
+use hex::FromHex;
 use keys::Key;
 use parties::{key_of, one_key, party_with};
 use std::process::Abort;
@@ -13,4 +14,9 @@ pub fn key(rt: &impl Abort, fill: u8) -> Key {
 /// A side with one key for all its base keys.
 pub fn one_key_party(rt: &impl Abort, start: u64) -> Party {
     party_with(one_key(key(rt, 2)), start)
+}
+
+/// Whether a hexadecimal text spells this hash.
+pub fn is_hash(hash: &[u8; 32], text: &str) -> bool {
+    <[u8; 32] as FromHex>::from_hex(text) == Ok(*hash)
 }

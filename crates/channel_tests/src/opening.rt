@@ -79,11 +79,13 @@ pub fn deliver(rt: &impl Abort, from: &mut Channel, to: &mut Channel, message: &
     }
 }
 
-/// A offers an HTLC of 20,000 satoshis to B, and signs B's commitment with it.
+/// A offers an HTLC of 20,000 satoshis to B, signs B's commitment with it, and waits for B's revocation, which comes.
 pub fn offered(rt: &impl Abort, a: &mut Channel, b: &mut Channel) -> Message {
     let sent = offer_and_sign(a, 20_000_000, [9; 32], 500);
     let (offer, tokens) = sent.expect(rt, "an offer and tokens");
+    assert!(rt; a.waits_to_sign() && a.peers_secret(0).is_none());
     deliver(rt, a, b, &offer);
     deliver(rt, a, b, &tokens);
+    assert!(rt; !a.waits_to_sign());
     tokens
 }

@@ -37,26 +37,30 @@ fn outputs_of_a(rt: &impl Abort, alloc: Global) -> usize {
 // The example of the crate's page: to_local, to_remote and the HTLC, and the HTLC transaction's output.
 #[test]
 fn claims_all_that_a_commitment_pays(rt: HostRuntime) {
-    assert_eq!(rt; outputs_of_a(&rt, rt.alloc()), 3);
+    assert!(rt; outputs_of_a(&rt, rt.alloc()) == 3);
     let set = set_of_a(&rt, rt.alloc());
     assert_eq!(rt; set.claims().len(), 4);
-    assert_eq!(rt; set.state().number, 7);
+    assert!(rt; set.state().number == 7);
+    assert!(rt; set.copy().is_ok());
 }
 
-#[test]
-fn copies_a_set(rt: HostRuntime) {
-    let set = set_of_a(&rt, rt.alloc());
-    assert!(rt; set.copy().is_ok());
+const REFUSALS: [(StateError, &str); 3] = [
+    (StateError::TooManyHtlcs, "TooManyHtlcs"),
+    (StateError::ExpiryTooLarge, "ExpiryTooLarge"),
+    (StateError::WrongTotal, "WrongTotal"),
+];
+
+// Whether a refusal is printed as this text.
+fn is_printed(alloc: Global, refusal: &StateError, text: &str) -> bool {
+    match format!(in alloc; "{refusal}") {
+        Ok(printed) => printed.as_str() == text,
+        Err(_) => false,
+    }
 }
 
 #[test]
 fn prints_every_refusal(rt: HostRuntime) {
-    for (refusal, text) in [
-        (StateError::TooManyHtlcs, "TooManyHtlcs"),
-        (StateError::ExpiryTooLarge, "ExpiryTooLarge"),
-        (StateError::WrongTotal, "WrongTotal"),
-    ] {
-        let printed = format!(in rt.alloc(); "{refusal}").expect(&rt, "memory");
-        assert_eq!(rt; printed.as_str(), text);
+    for (refusal, text) in &REFUSALS {
+        assert!(rt; is_printed(rt.alloc(), refusal, text));
     }
 }

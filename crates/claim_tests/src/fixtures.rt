@@ -1,11 +1,12 @@
-//! Keys, scripts, places and slots that several modules test with.
+//! Keys, scripts, claims and texts that several modules test with.
 
-use claim::{OutPoint, Place, Slot, WitnessItem};
+use claim::{Claim, OutPoint, Place, Shell, Slot, WitnessItem, accept};
 use keys::Key;
 use lists::ByteString;
-use paths::{Checked, check};
+use paths::{CheckError, Checked, check};
 use script::Script;
 use std::alloc::Global;
+use std::fmt::Display;
 use std::process::Abort;
 
 /// The bytes of a key: 02, and 32 times the same byte.
@@ -20,19 +21,30 @@ pub fn key(rt: &impl Abort, byte: u8) -> Key {
     Key::read(&key_bytes(byte)).expect(rt, "a key")
 }
 
-/// The bytes of these pieces, one after another.
-pub fn joined(rt: &impl Abort, alloc: Global, pieces: &[&[u8]]) -> Vec<u8> {
+/// The bytes of these parts, each repeated the given number of times.
+pub fn joined(rt: &impl Abort, alloc: Global, parts: &[(&[u8], usize)]) -> Vec<u8> {
     let mut bytes = Vec::new(alloc);
-    for piece in pieces {
-        bytes.extend_from_slice(piece).expect(rt, "memory");
+    for (part, times) in parts {
+        for _time in 0..*times {
+            bytes.extend_from_slice(part).expect(rt, "memory");
+        }
     }
     bytes
 }
 
-/// The script of these bytes, with its paths.
-pub fn checked_script(rt: &impl Abort, alloc: Global, bytes: &[u8]) -> Checked {
-    let script = Script::parse(alloc, bytes).expect(rt, "a script");
-    check(alloc, script).expect(rt, "paths")
+/// The script of these parts, with its paths or its refusal.
+pub fn listed(
+    rt: &impl Abort,
+    alloc: Global,
+    parts: &[(&[u8], usize)],
+) -> Result<Checked, CheckError> {
+    let bytes = joined(rt, alloc, parts);
+    check(alloc, Script::parse(alloc, &bytes).expect(rt, "a script"))
+}
+
+/// The script of these parts, with its paths.
+pub fn checked_parts(rt: &impl Abort, alloc: Global, parts: &[(&[u8], usize)]) -> Checked {
+    listed(rt, alloc, parts).expect(rt, "paths")
 }
 
 /// The place of an output with this program.
@@ -47,12 +59,31 @@ pub fn place(program: ByteString) -> Place {
     }
 }
 
+/// A claim by a path of a script, on an output with this program.
+pub fn claimed(
+    rt: &impl Abort,
+    alloc: Global,
+    checked: Checked,
+    path: usize,
+    slots: Vec<Slot>,
+    program: ByteString,
+) -> Claim {
+    let place = place(program);
+    accept(alloc, checked, path, slots, place, Shell::Open).expect(rt, "accepted")
+}
+
 /// A key on top, below it its signature.
 pub fn key_slots(rt: &impl Abort, alloc: Global, key: &Key) -> Vec<Slot> {
     let item = ByteString::from_slice(alloc, &key.bytes).expect(rt, "memory");
     let item = WitnessItem::new(item).expect(rt, "a short item");
-    let mut slots = Vec::new(alloc);
-    slots.push(Slot::Exact(item)).expect(rt, "memory");
-    slots.push(Slot::Sig(*key)).expect(rt, "memory");
-    slots
+    let slots = vec![in alloc; Slot::Exact(item), Slot::Sig(*key)];
+    slots.expect(rt, "memory")
+}
+
+/// Whether a value is printed as this text.
+pub fn is_printed<T: Display>(alloc: Global, value: &T, text: &str) -> bool {
+    match format!(in alloc; "{value}") {
+        Ok(printed) => printed.as_str() == text,
+        Err(_) => false,
+    }
 }

@@ -13,6 +13,8 @@ mod fixtures;
 #[cfg(test)]
 mod listings;
 #[cfg(test)]
+mod names;
+#[cfg(test)]
 mod outputs;
 #[cfg(test)]
 mod patterns;

@@ -1,64 +1,85 @@
-//! Patterns compared with what `check` gives for the bytes of their instances, and the printed names of
-//! refusals.
+//! Patterns compared with what `check` gives for the bytes of their instances.
 
-use crate::fixtures::key_bytes;
-use crate::wanted::checked_parts;
-use paths::{
-    CheckError, Checked, CheckedPattern, Fill, InstanceError, Path, PatternError, Piece,
-    check_pattern,
-};
+use crate::fixtures::{checked_parts, key_bytes};
+use facts::Stated;
+use paths::{CheckError, Checked, CheckedPattern, Fill, Path, PatternError, Piece, check_pattern};
 use script::Op;
 use std::alloc::Global;
 use std::process::Abort;
 
+fn are_same_facts(facts: &[Stated], others: &[Stated]) -> bool {
+    for (fact, other) in facts.iter().zip(others) {
+        if fact.holds != other.holds || !fact.fact.equals(&other.fact) {
+            return false;
+        }
+    }
+    facts.len() == others.len()
+}
+
 fn is_same_path(path: &Path, other: &Path) -> bool {
-    path.arity == other.arity
-        && path.ops == other.ops
-        && path.height == other.height
+    [path.arity, path.ops, path.height] == [other.arity, other.ops, other.height]
         && path.lock == other.lock
         && path.age == other.age
-        && path.facts.len() == other.facts.len()
-        && path
-            .facts
-            .values()
-            .iter()
-            .zip(other.facts.values())
-            .all(|(s, t)| s.holds == t.holds && s.fact.equals(&t.fact))
+        && are_same_facts(path.facts.values(), other.facts.values())
 }
 
 fn is_same(checked: &Checked, other: &Checked) -> bool {
-    checked.script().bytes() == other.script().bytes()
-        && checked.paths().len() == other.paths().len()
-        && checked
-            .paths()
-            .iter()
-            .zip(other.paths())
-            .all(|(path, wanted)| is_same_path(path, wanted))
+    for (path, wanted) in checked.paths().iter().zip(other.paths()) {
+        if !is_same_path(path, wanted) {
+            return false;
+        }
+    }
+    checked.paths().len() == other.paths().len()
+        && checked.script().bytes() == other.script().bytes()
+}
+
+// A copy of a piece.
+fn copied(rt: &impl Abort, piece: &Piece) -> Piece {
+    match piece {
+        Piece::Op(op) => Piece::Op(op.copy().expect(rt, "memory")),
+        Piece::KeyHole => Piece::KeyHole,
+        Piece::HashHole => Piece::HashHole,
+        Piece::NumHole => Piece::NumHole,
+    }
+}
+
+// The pattern of these pieces, or its refusal.
+fn listed(
+    rt: &impl Abort,
+    alloc: Global,
+    pieces: &[Piece],
+) -> Result<CheckedPattern, PatternError> {
+    let mut copies = Vec::new(alloc);
+    for piece in pieces {
+        copies.push(copied(rt, piece)).expect(rt, "memory");
+    }
+    check_pattern(alloc, copies)
 }
 
 // The script of a to_local output (BOLT 3): IF key ELSE delay CHECKSEQUENCEVERIFY DROP key ENDIF CHECKSIG.
-fn to_local(rt: &impl Abort, alloc: Global) -> CheckedPattern {
-    let pieces = vec![in alloc;
-        Piece::Op(Op::If),
-        Piece::KeyHole,
-        Piece::Op(Op::Else),
-        Piece::NumHole,
-        Piece::Op(Op::CheckSequenceVerify),
-        Piece::Op(Op::Drop),
-        Piece::KeyHole,
-        Piece::Op(Op::EndIf),
-        Piece::Op(Op::CheckSig),
-    ];
-    check_pattern(alloc, pieces.expect(rt, "memory")).expect(rt, "listed")
-}
+const TO_LOCAL: [Piece; 9] = [
+    Piece::Op(Op::If),
+    Piece::KeyHole,
+    Piece::Op(Op::Else),
+    Piece::NumHole,
+    Piece::Op(Op::CheckSequenceVerify),
+    Piece::Op(Op::Drop),
+    Piece::KeyHole,
+    Piece::Op(Op::EndIf),
+    Piece::Op(Op::CheckSig),
+];
+
+// A delay, the bytes of its push, and the age of the second path.
+const DELAYS: [(u32, &[u8], u16); 5] = [
+    (0, &[0x00], 0),
+    (16, &[0x60], 16),
+    (17, &[0x01, 0x11], 17),
+    (40_000, &[0x03, 0x40, 0x9c, 0x00], 40_000),
+    (144, &[0x02, 0x90, 0x00], 144),
+];
 
 // The script of to_local with this delay.
-fn filled_to_local(
-    rt: &impl Abort,
-    alloc: Global,
-    pattern: &CheckedPattern,
-    delay: u32,
-) -> Checked {
+fn filled(rt: &impl Abort, alloc: Global, pattern: &CheckedPattern, delay: u32) -> Checked {
     let fills = [
         Fill::Key(key_bytes(0x11)),
         Fill::Num(delay),
@@ -81,28 +102,26 @@ fn checked_to_local(rt: &impl Abort, alloc: Global, delay: &[u8]) -> Checked {
     checked_parts(rt, alloc, &parts)
 }
 
-#[test]
-fn fills_as_check_lists(rt: HostRuntime) {
-    let alloc = rt.alloc();
-    let pattern = to_local(&rt, alloc);
-    for (delay, spelt, age) in [
-        (0, &[0x00][..], 0),
-        (16, &[0x60][..], 16),
-        (17, &[0x01, 0x11][..], 17),
-        (40_000, &[0x03, 0x40, 0x9c, 0x00][..], 40_000),
-        (144, &[0x02, 0x90, 0x00][..], 144),
-    ] {
-        let filled = filled_to_local(&rt, alloc, &pattern, delay);
-        let wanted = checked_to_local(&rt, alloc, spelt);
-        assert!(rt; is_same(&filled, &wanted), "{delay}");
-        assert_eq!(rt; filled.paths().last().and_then(|path| path.age), Some(age));
+// The age of a script's last path.
+fn last_age(checked: &Checked) -> Option<u16> {
+    match checked.paths().last() {
+        Some(path) => path.age,
+        None => None,
     }
 }
 
-// A hash, and a number.
-fn two_holes(rt: &impl Abort, alloc: Global) -> CheckedPattern {
-    let pieces = vec![in alloc; Piece::HashHole, Piece::NumHole];
-    check_pattern(alloc, pieces.expect(rt, "memory")).expect(rt, "listed")
+#[test]
+fn fills_as_check_lists(rt: HostRuntime) {
+    let alloc = rt.alloc();
+    let pattern = listed(&rt, alloc, &TO_LOCAL).expect(&rt, "listed");
+    for (delay, spelt, age) in &DELAYS {
+        let filled = filled(&rt, alloc, &pattern, *delay);
+        assert!(rt;
+            is_same(&filled, &checked_to_local(&rt, alloc, spelt)),
+            "{delay}"
+        );
+        assert!(rt; last_age(&filled) == Some(*age));
+    }
 }
 
 // The number of the refusal of these fills; `None` where they give an instance.
@@ -113,43 +132,25 @@ fn refusal_of(alloc: Global, pattern: &CheckedPattern, fills: &[Fill]) -> Option
     }
 }
 
+const GOOD: [Fill; 2] = [Fill::Hash([1; 20]), Fill::Num(499_999_999)];
+
+const KEY_FOR_A_HASH: [Fill; 2] = [Fill::Key([2; 33]), Fill::Num(1)];
+
 // Each other wrong fill is refused by the clause of `instance`.
 #[test]
 fn refuses_wrong_fills(rt: HostRuntime) {
     let alloc = rt.alloc();
-    let pattern = two_holes(&rt, alloc);
-    let good = [Fill::Hash([1; 20]), Fill::Num(499_999_999)];
-    assert_eq!(rt; refusal_of(alloc, &pattern, &good), None);
-    let key_for_a_hash = [Fill::Key([2; 33]), Fill::Num(1)];
-    assert_eq!(rt; refusal_of(alloc, &pattern, &key_for_a_hash), Some(1));
+    let pattern = listed(&rt, alloc, &[Piece::HashHole, Piece::NumHole]).expect(&rt, "listed");
+    assert!(rt; refusal_of(alloc, &pattern, &GOOD).is_none());
+    assert!(rt; refusal_of(alloc, &pattern, &KEY_FOR_A_HASH) == Some(1));
 }
 
-// The refusal of a number that decides a branch.
-fn undecided(rt: &impl Abort, alloc: Global) -> Option<PatternError> {
-    let pieces = vec![in alloc; Piece::NumHole, Piece::Op(Op::If), Piece::Op(Op::EndIf)];
-    match check_pattern(alloc, pieces.expect(rt, "memory")) {
-        Ok(_) => None,
-        Err(refusal) => Some(refusal),
-    }
-}
+// A number decides a branch.
+const UNDECIDED: [Piece; 3] = [Piece::NumHole, Piece::Op(Op::If), Piece::Op(Op::EndIf)];
 
 #[test]
 fn refuses_patterns(rt: HostRuntime) {
-    let alloc = rt.alloc();
+    let found = listed(&rt, rt.alloc(), &UNDECIDED);
     let error = PatternError::Check(CheckError::Undecided(1));
-    assert_eq!(rt; undecided(&rt, alloc), Some(error));
-    assert_eq!(rt; error.number(), 3);
-    assert_eq!(rt; PatternError::TooLong.number(), 6);
-    assert_eq!(rt; InstanceError::WrongHoles.number(), 1);
-    let printed = format!(in alloc;
-        "{error} {} {} {} {}",
-        PatternError::TooLong,
-        PatternError::BadOpcode,
-        InstanceError::NoMemory,
-        InstanceError::WrongHoles
-    );
-    assert_eq!(rt;
-        printed.expect(&rt, "memory").as_str(),
-        "Undecided 1 TooLong BadOpcode NoMemory WrongHoles"
-    );
+    assert!(rt; matches!(&found, Err(refusal) if *refusal == error));
 }

@@ -1,73 +1,35 @@
 //! The expected paths of a script that is given in parts.
 
-use paths::{Checked, Path, check};
-use script::{ParseError, Script};
+use crate::fixtures::checked_parts;
+use paths::{Checked, Path};
 use std::alloc::Global;
 use std::process::Abort;
 
-/// The script of these parts, each repeated the given number of times.
-pub fn script_of(alloc: Global, parts: &[(&[u8], usize)]) -> Result<Script, ParseError> {
-    let mut bytes = Vec::new(alloc);
-    for (part, times) in parts {
-        for _time in 0..*times {
-            bytes.extend_from_slice(part)?;
-        }
-    }
-    Script::parse(alloc, &bytes)
-}
+/// The parts of a script, each repeated the given number of times.
+pub type Parts = &'static [(&'static [u8], usize)];
 
-/// The expected numbers of a path.
+/// The expected numbers of a path: its arity, its facts, its counted opcodes and its greatest height; its lock, and its
+/// age.
 #[derive(Clone, Copy)]
-pub struct Wanted {
-    pub arity: usize,
-    pub facts: usize,
-    pub ops: usize,
-    pub height: usize,
-    pub lock: Option<u64>,
-    pub age: Option<u16>,
-}
-
-/// A path with no lock.
-pub fn free(arity: usize, facts: usize, ops: usize, height: usize) -> Wanted {
-    Wanted {
-        arity,
-        facts,
-        ops,
-        height,
-        lock: None,
-        age: None,
-    }
-}
+pub struct Wanted(pub [usize; 4], pub Option<u64>, pub Option<u16>);
 
 fn is_wanted(path: &Path, wanted: &Wanted) -> bool {
-    path.arity == wanted.arity
-        && path.facts.len() == wanted.facts
-        && path.ops == wanted.ops
-        && path.height == wanted.height
-        && path.lock == wanted.lock
-        && path.age == wanted.age
+    [path.arity, path.facts.len(), path.ops, path.height] == wanted.0
+        && path.lock == wanted.1
+        && path.age == wanted.2
 }
 
 // Whether the paths are the expected ones, in this order.
 fn has_paths(checked: &Checked, wanted: &[Wanted]) -> bool {
-    let paths = checked.paths();
-    paths.len() == wanted.len()
-        && paths
-            .iter()
-            .zip(wanted)
-            .all(|(path, numbers)| is_wanted(path, numbers))
+    for (path, numbers) in checked.paths().iter().zip(wanted) {
+        if !is_wanted(path, numbers) {
+            return false;
+        }
+    }
+    checked.paths().len() == wanted.len()
 }
 
-/// The paths of a script of these parts, each repeated the given
-/// number of times.
-pub fn checked_parts(rt: &impl Abort, alloc: Global, parts: &[(&[u8], usize)]) -> Checked {
-    let script = script_of(alloc, parts).expect(rt, "a script");
-    check(alloc, script).expect(rt, "paths")
-}
-
-/// Asserts the paths of a script of these parts, each repeated the
-/// given number of times.
-pub fn lists(rt: &impl Abort, alloc: Global, parts: &[(&[u8], usize)], wanted: &[Wanted]) {
-    let checked = checked_parts(rt, alloc, parts);
-    assert!(rt; has_paths(&checked, wanted), "{parts:?}");
+/// Whether a script of these parts has the expected paths.
+pub fn lists(rt: &impl Abort, alloc: Global, parts: &[(&[u8], usize)], wanted: &[Wanted]) -> bool {
+    has_paths(&checked_parts(rt, alloc, parts), wanted)
 }

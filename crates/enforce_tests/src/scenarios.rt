@@ -1,80 +1,72 @@
 //! Scenarios: one in which a side tries to sign before
 //! it keeps penalties, and input that is not a scenario.
 
-use crate::fixtures::{Broken, prints_of, repeated, words_of};
-use enforce_words::run_words;
+use crate::fixtures::{breaks, joined, prints};
 use std::alloc::Global;
 use std::process::Abort;
-use std::test::Fail;
 
-// SHA-256 of 32 zero bytes (Python's hashlib).
-const HASH: &str = "66687aadf862bd776c8fc18b8e9f8e20089714856ee233b3902a591d0d5f2925";
+// The text of a scenario with one channel, up to the millisatoshis that side A begins with, and from there to the events.
+const BEGINNING: &str =
+    "{\"seeds\":[\"0a0a0a0a0a0a0a0a0a0a0a0a0a0a0a0a0a0a0a0a0a0a0a0a0a0a0a0a0a0a0a0a\",\"0b0b0b0b0b0b0b0b0b0b0b0b0b0b0b0b0b0b0b0b0b0b0b0b0b0b0b0b0b0b0b0b\"],\"channels\":[{\"capacity\":100000,\"opener\":\"A\",\"feerate\":1000,\"dust\":[546,546],\"delay\":[144,144],\"minimum\":[1000,1000],\"start\":[";
+
+const MIDDLE: &str = ",20000000]}],\"events\":[";
 
 // The millisatoshis that side A begins with. Side B begins with 20,000,000, of 100,000,000.
-const START: u64 = 80_000_000;
+const START: &str = "80000000";
+
+// A side signs before it keeps penalties, and after it. The hash is SHA-256 of 32 zero bytes (Python's hashlib).
+const SIGNS: &str =
+    "[\"offer\",\"A\",0,1000000,\"66687aadf862bd776c8fc18b8e9f8e20089714856ee233b3902a591d0d5f2925\",500],[\"deliver\",\"B\",0],[\"sign\",\"A\",0],[\"deliver\",\"B\",0],[\"deliver\",\"A\",0],[\"offer\",\"A\",0,1000000,\"66687aadf862bd776c8fc18b8e9f8e20089714856ee233b3902a591d0d5f2925\",501],[\"sign\",\"A\",0],[\"keep\",\"A\",0,0],[\"sign\",\"A\",0],[\"keep\",\"A\",0,0]";
+
+const SIGNED: &str =
+    "0 ok\n1 ok\n2 ok\n3 ok\n4 ok\n5 ok\n6 refused PenaltiesMissing 0\n7 ok\n8 ok\n9 refused AlreadyKept\nheight 0\nunspent 1 value 100000 fees 0\nA kept 0 0\nA history 7\nB history 3\n";
+
+// A commitment is mined and looked at.
+const MINES: &str = "[\"broadcast\",\"A\",0,0],[\"blocks\",2],[\"look\",\"B\"],[\"reorg\",3,0]";
+
+const MINED: &str =
+    "0 ok\n1 ok height 2 txs 1\n2 ok claims 1\n3 refused TooDeep\nheight 2\nunspent 2 value 99276 fees 724\nA history 1\nB history 1\n";
 
 // The text of a scenario with one channel, in which side A begins with `start` millisatoshis.
-fn scenario(alloc: Global, start: u64, events: &str) -> Result<String, Fail> {
-    let a = repeated(alloc, "0a", 32, "")?;
-    let b = repeated(alloc, "0b", 32, "")?;
-    Ok(format!(in alloc;
-        "{{\"seeds\":[\"{a}\",\"{b}\"],\"channels\":[{{\"capacity\":100000,\"opener\":\"A\",\"feerate\":1000,\"dust\":[546,546],\"delay\":[144,144],\"minimum\":[1000,1000],\"start\":[{start},20000000]}}],\"events\":[{events}]}}"
-    )?)
+fn scenario(rt: &impl Abort, alloc: Global, start: &str, events: &str) -> String {
+    joined(rt, alloc, &[BEGINNING, start, MIDDLE, events, "]}"])
 }
 
-// Asserts the output and the status of `run` for a text.
-fn plays(rt: &impl Abort, alloc: Global, text: &str, out: &str, status: u8) -> Result<(), Fail> {
-    let mut input = text.as_bytes();
-    prints_of(rt, alloc, &["run"], &mut input, out, "", status)
+// Asserts the output and the status of `run` for a scenario.
+fn plays(rt: &impl Abort, alloc: Global, start: &str, events: &str, out: &str, status: u8) {
+    let text = scenario(rt, alloc, start, events);
+    prints(rt, alloc, &["run"], text.as_str(), out, "", status);
 }
 
 #[test]
-fn signs_once_penalties_are_kept(rt: HostRuntime) -> Result<(), Fail> {
-    let alloc = rt.alloc();
-    let events = format!(in alloc;
-        "[\"offer\",\"A\",0,1000000,\"{HASH}\",500],[\"deliver\",\"B\",0],[\"sign\",\"A\",0],[\"deliver\",\"B\",0],[\"deliver\",\"A\",0],[\"offer\",\"A\",0,1000000,\"{HASH}\",501],[\"sign\",\"A\",0],[\"keep\",\"A\",0,0],[\"sign\",\"A\",0],[\"keep\",\"A\",0,0]"
-    )?;
-    let text = scenario(alloc, START, events.as_str())?;
-    let lines =
-        "0 ok\n1 ok\n2 ok\n3 ok\n4 ok\n5 ok\n6 refused PenaltiesMissing 0\n7 ok\n8 ok\n9 refused AlreadyKept\nheight 0\nunspent 1 value 100000 fees 0\nA kept 0 0\nA history 7\nB history 3\n";
-    plays(&rt, alloc, text.as_str(), lines, 0)
+fn signs_once_penalties_are_kept(rt: HostRuntime) {
+    plays(&rt, rt.alloc(), START, SIGNS, SIGNED, 0);
 }
 
 #[test]
-fn mines_and_looks(rt: HostRuntime) -> Result<(), Fail> {
-    let alloc = rt.alloc();
-    let events = "[\"broadcast\",\"A\",0,0],[\"blocks\",2],[\"look\",\"B\"],[\"reorg\",3,0]";
-    let text = scenario(alloc, START, events)?;
-    let lines =
-        "0 ok\n1 ok height 2 txs 1\n2 ok claims 1\n3 refused TooDeep\nheight 2\nunspent 2 value 99276 fees 724\nA history 1\nB history 1\n";
-    plays(&rt, alloc, text.as_str(), lines, 0)
+fn mines_and_looks(rt: HostRuntime) {
+    plays(&rt, rt.alloc(), START, MINES, MINED, 0);
 }
 
 #[test]
-fn refuses_input(rt: HostRuntime) -> Result<(), Fail> {
+fn refuses_input(rt: HostRuntime) {
     let alloc = rt.alloc();
-    let long = scenario(alloc, START, "[\"blocks\",10001]")?;
-    let bad = scenario(alloc, START + 1, "")?;
-    for (text, line) in [
-        ("", "refused NotJson\n"),
-        ("{}", "refused BadShape\n"),
-        (long.as_str(), "refused OverLimit\n"),
-        (bad.as_str(), "refused BadTerms 0\n"),
-    ] {
-        plays(&rt, alloc, text, line, 1)?;
-    }
-    Ok(())
+    prints(&rt, alloc, &["run"], "", "refused NotJson\n", "", 1);
+    prints(&rt, alloc, &["run"], "{}", "refused BadShape\n", "", 1);
+    plays(
+        &rt,
+        alloc,
+        START,
+        "[\"blocks\",10001]",
+        "refused OverLimit\n",
+        1,
+    );
+    plays(&rt, alloc, "80000001", "", "refused BadTerms 0\n", 1);
 }
 
 #[test]
-fn tells_a_failed_write_of_lines(rt: HostRuntime) -> Result<(), Fail> {
-    let alloc = rt.alloc();
-    let all = words_of(alloc, &["run"])?;
-    let text = scenario(alloc, START, "")?;
-    for text in [text.as_str(), ""] {
-        let mut input = text.as_bytes();
-        let status = run_words(alloc, all.as_slice(), &mut input, &mut Broken, &mut Broken);
-        assert_eq!(rt; status, 1);
-    }
-    Ok(())
+fn tells_a_failed_write_of_lines(rt: HostRuntime) {
+    let text = scenario(&rt, rt.alloc(), START, "");
+    breaks(&rt, rt.alloc(), &["run"], text.as_str());
+    breaks(&rt, rt.alloc(), &["run"], "");
 }

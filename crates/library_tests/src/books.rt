@@ -1,7 +1,7 @@
 //! Two books that share a channel: what is kept before it is sent, and the gate before signatures.
 
 use anyhow::Result;
-use book::errors::SignError;
+use book::errors::{SignError, StepError};
 use book::{Book, Step};
 use book_peers::{offer, open_side};
 use channel::Message;
@@ -46,10 +46,10 @@ fn keep_penalties(alloc: Global, book: &mut Book, number: u64) -> Result<()> {
 }
 
 /// Takes a message of the peer; the answer is to be sent once it is kept.
-fn take(book: &mut Book, message: Message) -> Result<Option<Message>> {
+fn take(book: &mut Book, message: Message) -> Result<Option<Message>, StepError> {
     match message {
-        Message::Updated(update) => Ok(book.step(SEAT, 0, Step::Updated(update))?),
-        Message::CommitmentSigned(tokens) => Ok(book.step(SEAT, 0, Step::Signed(tokens))?),
+        Message::Updated(update) => book.step(SEAT, 0, Step::Updated(update)),
+        Message::CommitmentSigned(tokens) => book.step(SEAT, 0, Step::Signed(tokens)),
         Message::RevokeAndAck { secret, next_point } => {
             let _number = book.revoke(SEAT, 0, secret, next_point)?;
             Ok(None)
@@ -60,41 +60,44 @@ fn take(book: &mut Book, message: Message) -> Result<Option<Message>> {
 // A's book offers an HTLC.
 fn offered(rt: &impl Abort, a: &mut Book, expiry: u32) -> Message {
     let step = Step::Own(offer(1_000_000, expiry));
-    a.step(SEAT, 0, step)
-        .expect(rt, "an offer")
-        .expect(rt, "a message")
-}
-
-// A book takes a message that it does not answer.
-fn takes(rt: &impl Abort, book: &mut Book, message: Message) {
-    assert!(rt; take(book, message).expect(rt, "taken").is_none());
+    let sent = a.step(SEAT, 0, step).expect(rt, "an offer");
+    sent.expect(rt, "a message")
 }
 
 // What a book answers to a message.
-fn answer(rt: &impl Abort, book: &mut Book, message: Message) -> Message {
-    take(book, message)
-        .expect(rt, "taken")
-        .expect(rt, "an answer")
+fn answer(rt: &impl Abort, book: &mut Book, message: Message) -> Option<Message> {
+    take(book, message).expect(rt, "taken")
+}
+
+// What B's new book answers to an offer of A's and its signature.
+fn revocation(rt: &impl Abort, alloc: Global, offer: Message, signature: Message) -> Message {
+    let mut b = opened(rt, alloc, Side::B);
+    assert!(rt; answer(rt, &mut b, offer).is_none());
+    answer(rt, &mut b, signature).expect(rt, "an answer")
 }
 
 // A's book offers an HTLC and signs it to B's, whose revocation it takes.
-fn played(rt: &impl Abort, alloc: Global, a: &mut Book, store: &mut Vec<u8>) {
-    let mut b = opened(rt, alloc, Side::B);
-    takes(rt, &mut b, offered(rt, a, 500));
+fn played<W: Write>(rt: &impl Abort, alloc: Global, a: &mut Book, store: &mut W) {
+    let offer = offered(rt, a, 500);
     let signature = sign(alloc, a, store).expect(rt, "a signature");
-    takes(rt, a, answer(rt, &mut b, signature));
+    let revocation = revocation(rt, alloc, offer, signature);
+    assert!(rt; answer(rt, a, revocation).is_none());
+}
+
+// Whether the book signs once the penalties are kept, and not before.
+fn guards(rt: &impl Abort, alloc: Global, a: &mut Book) -> bool {
+    drop(offered(rt, a, 501));
+    let refusal = a.sign(SEAT, 0).err();
+    keep_penalties(alloc, a, 0).expect(rt, "kept");
+    refusal == Some(SignError::PenaltiesMissing(0)) && a.sign(SEAT, 0).err().is_none()
 }
 
 // After the revocation nothing is signed until the penalties are kept.
 #[test]
 fn signs_once_penalties_are_kept(rt: HostRuntime) {
-    let alloc = rt.alloc();
-    let mut a = opened(&rt, alloc, Side::A);
-    played(&rt, alloc, &mut a, &mut Vec::new(alloc));
-    drop(offered(&rt, &mut a, 501));
-    assert!(rt; a.sign(SEAT, 0).err() == Some(SignError::PenaltiesMissing(0)));
-    keep_penalties(alloc, &mut a, 0).expect(&rt, "kept");
-    assert!(rt; a.sign(SEAT, 0).err().is_none());
+    let mut a = opened(&rt, rt.alloc(), Side::A);
+    played(&rt, rt.alloc(), &mut a, &mut Vec::new(rt.alloc()));
+    assert!(rt; guards(&rt, rt.alloc(), &mut a));
 }
 
 // How many entries are loaded from a text that was kept.
@@ -107,8 +110,12 @@ fn loaded(rt: &impl Abort, alloc: Global, kept: &[u8]) -> usize {
 // What was kept is loaded as the same history, which the revocation that came later is not in.
 #[test]
 fn loads_what_was_kept(rt: HostRuntime) {
-    let alloc = rt.alloc();
-    let mut store: Vec<u8> = Vec::new(alloc);
-    played(&rt, alloc, &mut opened(&rt, alloc, Side::A), &mut store);
-    assert_eq!(rt; loaded(&rt, alloc, &store), 3);
+    let mut store: Vec<u8> = Vec::new(rt.alloc());
+    played(
+        &rt,
+        rt.alloc(),
+        &mut opened(&rt, rt.alloc(), Side::A),
+        &mut store,
+    );
+    assert!(rt; loaded(&rt, rt.alloc(), &store) == 3);
 }

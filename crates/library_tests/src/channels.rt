@@ -24,34 +24,29 @@ fn opened(rt: &impl Abort, alloc: Global, side: Side) -> Channel {
     open_side(alloc, 0, side).expect(rt, "a channel").channel
 }
 
-// A channel receives a message that it does not answer.
-fn receives(rt: &impl Abort, channel: &mut Channel, message: &Message) {
-    assert!(rt; channel.receive(message).expect(rt, "received").is_none());
-}
-
 // What a channel answers to a message.
-fn answer(rt: &impl Abort, channel: &mut Channel, message: &Message) -> Message {
-    channel
-        .receive(message)
-        .expect(rt, "received")
-        .expect(rt, "an answer")
+fn answer(rt: &impl Abort, channel: &mut Channel, message: &Message) -> Option<Message> {
+    channel.receive(message).expect(rt, "received")
 }
 
 // B takes the offer, and answers the signature by the revocation of its commitment 0.
 fn answered(rt: &impl Abort, alloc: Global, offer: &Message, signature: &Message) -> Message {
     let mut b = opened(rt, alloc, Side::B);
-    receives(rt, &mut b, offer);
-    answer(rt, &mut b, signature)
+    assert!(rt; answer(rt, &mut b, offer).is_none());
+    answer(rt, &mut b, signature).expect(rt, "an answer")
+}
+
+// What B answers to an offer of A's and its signature.
+fn revocation(rt: &impl Abort, alloc: Global, a: &mut Channel) -> Message {
+    let sent = offer_and_sign(a, 1_000_000, [9; 32], 500).expect(rt, "messages");
+    answered(rt, alloc, &sent.0, &sent.1)
 }
 
 // A takes B's answer to its offer and its signature.
 #[test]
 fn offers_and_signs(rt: HostRuntime) {
     let mut a = opened(&rt, rt.alloc(), Side::A);
-    let (offer, signature) = offer_and_sign(&mut a, 1_000_000, [9; 32], 500).expect(
-        &rt, "messages",
-    );
-    let revocation = answered(&rt, rt.alloc(), &offer, &signature);
-    receives(&rt, &mut a, &revocation);
-    assert_eq!(rt; a.peer_number(), 1);
+    let revocation = revocation(&rt, rt.alloc(), &mut a);
+    assert!(rt; answer(&rt, &mut a, &revocation).is_none());
+    assert!(rt; a.peer_number() == 1);
 }

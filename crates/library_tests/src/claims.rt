@@ -59,26 +59,56 @@ fn output(rt: &impl Abort, alloc: Global, value: u64) -> TxOut {
     TxOut::new(value, program).expect(rt, "an output")
 }
 
-// Why a claim is not spent by an output of this value.
+// What comes of a claim of the signer with the seed 01..01, which the signer of a seed spends by an output of a value.
+#[derive(Clone, Copy)]
+enum Row {
+    Spent(u8, u64),
+    OutputsExceed(u8, u64),
+    NoRight(u8, u64),
+}
+
+// More than the claim is worth is refused, and so is the key of another signer.
+const ROWS: [Row; 3] = [
+    Row::Spent(1, 9_000),
+    Row::OutputsExceed(1, 10_001),
+    Row::NoRight(2, 9_000),
+];
+
+// Why a claim is not spent by the signer of a seed, and an output of this value.
 fn refusal(
     rt: &impl Abort,
     alloc: Global,
     claim: &Claim,
-    signer: &Signer,
+    seed: u8,
     value: u64,
 ) -> Option<FillError> {
-    spend(alloc, claim, signer, output(rt, alloc, value)).err()
+    let signer = Signer::new(alloc, &[seed; 32]);
+    spend(alloc, claim, &signer, output(rt, alloc, value)).err()
 }
 
-// More than the claim is worth is refused, and so is the key of another signer.
+fn holds(rt: &impl Abort, alloc: Global, claim: &Claim, row: Row) -> bool {
+    match row {
+        Row::Spent(seed, value) => refusal(rt, alloc, claim, seed, value).is_none(),
+        Row::OutputsExceed(seed, value) => {
+            matches!(
+                refusal(rt, alloc, claim, seed, value),
+                Some(FillError::OutputsExceed)
+            )
+        }
+        Row::NoRight(seed, value) => {
+            matches!(
+                refusal(rt, alloc, claim, seed, value),
+                Some(FillError::NoRight)
+            )
+        }
+    }
+}
+
 #[test]
 fn claims_and_spends(rt: HostRuntime) {
-    let alloc = rt.alloc();
-    let (signer, other) = (Signer::new(alloc, &[1; 32]), Signer::new(alloc, &[2; 32]));
-    let claim = claim_of(&rt, alloc, &signer.base(Base::Payment));
-    assert!(rt; refusal(&rt, alloc, &claim, &signer, 9_000).is_none());
-    let much = refusal(&rt, alloc, &claim, &signer, 10_001);
-    assert!(rt; matches!(much, Some(FillError::OutputsExceed)));
-    let foreign = refusal(&rt, alloc, &claim, &other, 9_000);
-    assert!(rt; matches!(foreign, Some(FillError::NoRight)));
+    let key = Signer::new(rt.alloc(), &[1; 32]).base(Base::Payment);
+    let claim = claim_of(&rt, rt.alloc(), &key);
+    for row in ROWS {
+        assert!(rt; holds(&rt, rt.alloc(), &claim, row));
+    }
 }

@@ -19,12 +19,17 @@ fn has_age(checked: &Checked, age: u16) -> bool {
     }
 }
 
-// IF 1 ELSE 2 CHECKSEQUENCEVERIFY ENDIF. An EQUAL of two items of the witness is undecided, and 0xff is no opcode.
+fn is_refused(alloc: Global, bytes: &[u8]) -> bool {
+    list(alloc, bytes).err().is_some()
+}
+
+// IF 1 ELSE 2 CHECKSEQUENCEVERIFY ENDIF.
+const CHOICE: [u8; 6] = [0x63, 0x51, 0x67, 0x52, 0xb2, 0x68];
+
+// An EQUAL of two items of the witness is undecided, and 0xff is no opcode.
 #[test]
 fn lists_scripts(rt: HostRuntime) {
-    let alloc = rt.alloc();
-    let checked = list(alloc, &[0x63, 0x51, 0x67, 0x52, 0xb2, 0x68]).expect(&rt, "a list");
+    let checked = list(rt.alloc(), &CHOICE).expect(&rt, "a list");
     assert!(rt; has_age(&checked, 2));
-    assert!(rt; list(alloc, &[0x87]).err().is_some());
-    assert!(rt; list(alloc, &[0xff]).err().is_some());
+    assert!(rt; is_refused(rt.alloc(), &[0x87]) && is_refused(rt.alloc(), &[0xff]));
 }

@@ -34,6 +34,6 @@ fn reads_a_block(rt: HostRuntime) {
     let alloc = rt.alloc();
     let chain = Index::new(alloc).expect(&rt, "memory");
     let mut watch = Watch::new(alloc);
-    assert_eq!(rt; counted(&rt, alloc, &mut watch, &chain.blocks()[0]), (0, 0));
+    assert!(rt; counted(&rt, alloc, &mut watch, &chain.blocks()[0]) == (0, 0));
     watch.back(0);
 }

@@ -6,7 +6,8 @@ use lists::List;
 use parties::{FUNDING, htlc, key_of, one_key, party_with, terms_of, view};
 use penalty::RevokedState;
 use resolve::{
-    Known, KnownCommitment, KnownError, RevokedCommitment, RevokedCommitments, SignedCommitment,
+    Known, KnownCommitment, KnownError, MAX_NUMBER, RevokedCommitment, RevokedCommitments,
+    SignedCommitment,
 };
 use sighash::Token;
 use std::alloc::Global;
@@ -34,32 +35,34 @@ pub fn terms_on(rt: &impl Abort, funding: OutPoint) -> Terms {
     terms_of(funding, 100_000, a, b).expect(rt, "terms")
 }
 
-/// The terms of a channel of 100,000 satoshis.
-pub fn terms(rt: &impl Abort) -> Terms {
-    terms_on(rt, FUNDING)
-}
-
 // A view with an HTLC that A offered.
 fn offered(rt: &impl Abort, alloc: Global) -> View {
     let of_a = [htlc(0, 10_000_000, 9, 500)];
     view(alloc, [70_000_000, 20_000_000], &of_a, &[]).expect(rt, "memory")
 }
 
-/// The owner's commitment of a number.
-pub fn numbered(rt: &impl Abort, alloc: Global, owner: Side, number: u64) -> KnownCommitment {
-    let view = offered(rt, alloc);
-    let built = KnownCommitment::new(alloc, &terms(rt), &view, owner, number, &key(rt, 0xcc));
+/// The owner's commitment of a number, to a view.
+pub fn commitment_to(
+    rt: &impl Abort,
+    alloc: Global,
+    terms: &Terms,
+    view: &View,
+    owner: Side,
+    number: u64,
+) -> KnownCommitment {
+    let built = KnownCommitment::new(alloc, terms, view, owner, number, &key(rt, 0xcc));
     built.expect(rt, "a commitment")
 }
 
-// The tokens of a key on the HTLC transactions of a commitment.
-fn tokens_on(rt: &impl Abort, alloc: Global, key: &Key, digests: &[[u8; 32]]) -> List<Token> {
-    let mut tokens = List::new(alloc);
-    for digest in digests {
-        let on_htlc = Token::new(&key.bytes, digest);
-        tokens.push(on_htlc).expect(rt, "memory");
-    }
-    tokens
+// The owner's commitment of a number, with an HTLC that A offered.
+fn numbered(
+    rt: &impl Abort,
+    alloc: Global,
+    terms: &Terms,
+    owner: Side,
+    number: u64,
+) -> KnownCommitment {
+    commitment_to(rt, alloc, terms, &offered(rt, alloc), owner, number)
 }
 
 /// Whose tokens come with A's commitment 3: those of B, or one of a wrong key.
@@ -87,60 +90,90 @@ fn htlc_key(known: &KnownCommitment, tokens: Tokens) -> Key {
     }
 }
 
+// The tokens of a key on the HTLC transactions of a commitment.
+fn tokens_on(rt: &impl Abort, alloc: Global, key: &Key, digests: &[[u8; 32]]) -> List<Token> {
+    let mut tokens = List::new(alloc);
+    for digest in digests {
+        let on_htlc = Token::new(&key.bytes, digest);
+        tokens.push(on_htlc).expect(rt, "memory");
+    }
+    tokens
+}
+
+// The token on a commitment, and those on its HTLC transactions.
+fn tokens_of(
+    rt: &impl Abort,
+    alloc: Global,
+    terms: &Terms,
+    known: &KnownCommitment,
+    tokens: Tokens,
+) -> (Token, List<Token>) {
+    let digests = signing_digests(alloc, terms, known.commitment()).expect(rt, "memory");
+    let token = Token::new(&funding_key(terms, tokens).bytes, &digests.commitment);
+    let key = htlc_key(known, tokens);
+    (token, tokens_on(rt, alloc, &key, digests.htlcs.values()))
+}
+
 /// A's commitment 3, with these tokens.
 pub fn signed_with(
     rt: &impl Abort,
     alloc: Global,
+    terms: &Terms,
     tokens: Tokens,
 ) -> Result<SignedCommitment, KnownError> {
-    let terms = terms(rt);
-    let known = numbered(rt, alloc, Side::A, 3);
-    let digests = signing_digests(alloc, &terms, known.commitment()).expect(rt, "memory");
-    let token = Token::new(&funding_key(&terms, tokens).bytes, &digests.commitment);
-    let key = htlc_key(&known, tokens);
-    let on_htlcs = tokens_on(rt, alloc, &key, digests.htlcs.values());
-    SignedCommitment::new(alloc, &terms, Side::A, known, token, on_htlcs)
+    let known = numbered(rt, alloc, terms, Side::A, 3);
+    let (token, on_htlcs) = tokens_of(rt, alloc, terms, &known, tokens);
+    SignedCommitment::new(alloc, terms, Side::A, known, token, on_htlcs)
 }
 
-/// A's commitment 3, with the tokens of B.
-pub fn signed(rt: &impl Abort, alloc: Global) -> SignedCommitment {
-    signed_with(rt, alloc, Tokens::OfPeer).expect(rt, "the peer's tokens")
+// A's commitment 3, with the tokens of B.
+fn signed(rt: &impl Abort, alloc: Global, terms: &Terms) -> SignedCommitment {
+    signed_with(rt, alloc, terms, Tokens::OfPeer).expect(rt, "the peer's tokens")
 }
 
-/// B's revoked commitment of a number.
-pub fn revoked(rt: &impl Abort, alloc: Global, number: u64) -> RevokedCommitment {
+// A's own older commitment.
+fn older(rt: &impl Abort, alloc: Global, terms: &Terms) -> List<SignedCommitment> {
+    let mut older = List::new(alloc);
+    older.push(signed(rt, alloc, terms)).expect(rt, "memory");
+    older
+}
+
+// B's revoked commitment of a number.
+fn revoked(rt: &impl Abort, alloc: Global, terms: &Terms, number: u64) -> RevokedCommitment {
     let view = offered(rt, alloc);
-    let state = RevokedState::new(terms(rt), view, Side::B, number, [5; 32]).expect(rt, "a state");
+    let state = RevokedState::new(*terms, view, Side::B, number, [5; 32]).expect(rt, "a state");
     RevokedCommitment::new(alloc, state, false).expect(rt, "memory")
 }
 
-/// The revoked commitments 0 and 1, with the penalties of 1 kept.
-pub fn two_revoked(rt: &impl Abort, alloc: Global) -> RevokedCommitments {
+// The revoked commitments 0 and 1, with the penalties of 1 kept.
+fn two_revoked(rt: &impl Abort, alloc: Global, terms: &Terms) -> RevokedCommitments {
     let mut list = RevokedCommitments::new(alloc);
-    list.push(revoked(rt, alloc, 0)).expect(rt, "number 0");
-    list.push(revoked(rt, alloc, 1)).expect(rt, "number 1");
+    for number in 0..2 {
+        let revoked = revoked(rt, alloc, terms, number);
+        list.push(revoked).expect(rt, "the next number");
+    }
     assert!(rt; list.keep(1));
     list
 }
 
-// A's own older commitment.
-fn older(rt: &impl Abort, alloc: Global) -> List<SignedCommitment> {
-    let mut older = List::new(alloc);
-    older.push(signed(rt, alloc)).expect(rt, "memory");
-    older
-}
-
-/// What A knows, with two revoked commitments of B.
-pub fn known(rt: &impl Abort, alloc: Global) -> Known {
+/// What A knows on these terms, with two revoked commitments of B. The peer's next commitment has the last number.
+pub fn known_with(rt: &impl Abort, alloc: Global, terms: &Terms, theirs: KnownCommitment) -> Known {
     Known {
-        terms: terms(rt),
+        terms: *terms,
         side: Side::A,
         signer: Signer::new(alloc, &[1; 32]),
-        own: signed(rt, alloc),
-        older: older(rt, alloc),
-        theirs: numbered(rt, alloc, Side::B, 2),
-        next: Some(numbered(rt, alloc, Side::B, 3)),
-        revoked: two_revoked(rt, alloc),
+        own: signed(rt, alloc, terms),
+        older: older(rt, alloc, terms),
+        theirs,
+        next: Some(numbered(rt, alloc, terms, Side::B, MAX_NUMBER)),
+        revoked: two_revoked(rt, alloc, terms),
         preimages: List::new(alloc),
     }
+}
+
+/// The same, where the peer's newest commitment has the HTLC too.
+pub fn known(rt: &impl Abort, alloc: Global) -> Known {
+    let terms = terms_on(rt, FUNDING);
+    let theirs = numbered(rt, alloc, &terms, Side::B, 2);
+    known_with(rt, alloc, &terms, theirs)
 }

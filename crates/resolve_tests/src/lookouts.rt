@@ -1,10 +1,10 @@
 //! A lookout over the blocks of a close.
 
-use crate::fixtures::{known, terms_on};
+use crate::fixtures::{commitment_to, known_with, terms_on};
 use chain::{Block, Coins, Index};
 use digest::sha256;
 use lists::ByteString;
-use parties::{key_of, view};
+use parties::view;
 use resolve::{Known, KnownCommitment};
 use sighash::programs::script_hash_program;
 use std::alloc::Global;
@@ -34,31 +34,29 @@ fn theirs(rt: &impl Abort, alloc: Global, terms: &Terms) -> KnownCommitment {
         expiry: 500,
     };
     let view = view(alloc, [80_000_000, 10_000_000], &[], &[htlc]).expect(rt, "memory");
-    let point = key_of(0xcc).expect(rt, "a key");
-    let built = KnownCommitment::new(alloc, terms, &view, Side::B, 2, &point);
-    built.expect(rt, "a commitment")
+    commitment_to(rt, alloc, terms, &view, Side::B, 2)
 }
 
 // What A knows of a channel whose funding output the chain creates by a grant.
 fn funded(rt: &impl Abort, alloc: Global, chain: &mut Index) -> Known {
     let granted = chain.grant(funding_output(rt, alloc));
     let terms = terms_on(rt, granted.expect(rt, "a grant"));
-    let theirs = theirs(rt, alloc, &terms);
-    Known {
-        terms,
-        theirs,
-        ..known(rt, alloc)
-    }
+    known_with(rt, alloc, &terms, theirs(rt, alloc, &terms))
+}
+
+// The witness that spends the funding output.
+fn witness(rt: &impl Abort, alloc: Global) -> Witness {
+    let mut witness = Witness::new(alloc);
+    let script = ByteString::from_slice(alloc, &SCRIPT).expect(rt, "memory");
+    witness.push(script).expect(rt, "an item");
+    witness
 }
 
 // B's newest commitment as the chain takes it.
 fn closing_tx(rt: &impl Abort, alloc: Global, known: &Known) -> Tx {
-    let mut witness = Witness::new(alloc);
-    let script = ByteString::from_slice(alloc, &SCRIPT).expect(rt, "memory");
-    witness.push(script).expect(rt, "an item");
     let mut tx = known.theirs.commitment().tx().copy().expect(rt, "memory");
     assert!(rt; !tx.inputs().is_empty());
-    tx.set_witness(0, witness);
+    tx.set_witness(0, witness(rt, alloc));
     tx
 }
 
@@ -70,6 +68,34 @@ fn close(rt: &impl Abort, alloc: Global, chain: &mut Index, known: &Known) {
     assert!(rt; chain.connect(Vec::new(alloc)).is_ok());
 }
 
+// What is done with the lookout, and what it answers.
+#[derive(Clone, Copy)]
+enum Row {
+    // The number of claims that it gives at a height for the block of an index.
+    Look(u64, usize, usize),
+    // It learns a preimage.
+    Learn([u8; 32]),
+    // The number of preimages that it knows.
+    Knows(usize),
+    // The blocks above a height are taken off.
+    Back(u64),
+}
+
+// to_remote is due at the close, and the HTLC once its preimage is known. Both are due again after the close is taken off and mined again.
+const ROWS: [Row; 11] = [
+    Row::Look(0, 0, 0),
+    Row::Look(1, 1, 1),
+    Row::Look(2, 2, 0),
+    Row::Learn([4; 32]),
+    Row::Look(3, 2, 0),
+    Row::Learn(PREIMAGE),
+    Row::Look(4, 2, 1),
+    Row::Look(5, 2, 0),
+    Row::Knows(2),
+    Row::Back(0),
+    Row::Look(1, 1, 2),
+];
+
 // The number of claims that a block gives.
 fn count(
     rt: &impl Abort,
@@ -79,32 +105,55 @@ fn count(
     block: &Block,
 ) -> usize {
     let sight = lookout.look(alloc, height, block).expect(rt, "memory");
-    assert_eq!(rt; sight.learnt.len(), 0);
+    assert!(rt; sight.learnt.is_empty());
     sight.claims.len()
 }
 
-// to_remote is due at the close, and the HTLC once its preimage is known. Both are due again after the close is taken off and mined again.
-fn gives_each_claim_once(rt: &impl Abort, alloc: Global, blocks: &[Block], lookout: &mut Lookout) {
-    assert_eq!(rt; blocks.len(), 3);
-    assert_eq!(rt; count(rt, alloc, lookout, 0, &blocks[0]), 0);
-    assert_eq!(rt; count(rt, alloc, lookout, 1, &blocks[1]), 1);
-    assert_eq!(rt; count(rt, alloc, lookout, 2, &blocks[2]), 0);
-    assert!(rt; lookout.learn(&[[4; 32]]).is_ok());
-    assert_eq!(rt; count(rt, alloc, lookout, 3, &blocks[2]), 0);
-    assert!(rt; lookout.learn(&[PREIMAGE]).is_ok());
-    assert_eq!(rt; count(rt, alloc, lookout, 4, &blocks[2]), 1);
-    assert_eq!(rt; count(rt, alloc, lookout, 5, &blocks[2]), 0);
-    assert_eq!(rt; lookout.known().preimages.len(), 2);
-    lookout.back(0);
-    assert_eq!(rt; count(rt, alloc, lookout, 1, &blocks[1]), 2);
+// Whether the lookout answers as the row says.
+fn answers(
+    rt: &impl Abort,
+    alloc: Global,
+    blocks: &[Block],
+    lookout: &mut Lookout,
+    row: &Row,
+) -> bool {
+    match *row {
+        Row::Look(height, index, claims) => {
+            let block = blocks.get(index).expect(rt, "a block");
+            count(rt, alloc, lookout, height, block) == claims
+        }
+        Row::Learn(preimage) => lookout.learn(&[preimage]).is_ok(),
+        Row::Knows(preimages) => lookout.known().preimages.len() == preimages,
+        Row::Back(height) => {
+            lookout.back(height);
+            true
+        }
+    }
+}
+
+// Plays the rows on the blocks of the close. The watch is left.
+fn watched(rt: &impl Abort, alloc: Global, chain: &Index, known: Known) -> Watch {
+    let mut lookout = Lookout::new(Watch::new(alloc), known);
+    for (index, row) in ROWS.iter().enumerate() {
+        assert!(rt;
+            answers(rt, alloc, chain.blocks(), &mut lookout, row),
+            "row {index}"
+        );
+    }
+    lookout.into_watch()
+}
+
+// The blocks of the close, and what A knows.
+fn closed(rt: &impl Abort, alloc: Global, chain: &mut Index) -> Known {
+    let known = funded(rt, alloc, chain);
+    close(rt, alloc, chain, &known);
+    assert!(rt; chain.blocks().len() == 3);
+    known
 }
 
 #[test]
 fn gives_what_falls_due(rt: HostRuntime) {
     let mut chain = Index::new(rt.alloc()).expect(&rt, "memory");
-    let known = funded(&rt, rt.alloc(), &mut chain);
-    close(&rt, rt.alloc(), &mut chain, &known);
-    let mut lookout = Lookout::new(Watch::new(rt.alloc()), known);
-    gives_each_claim_once(&rt, rt.alloc(), chain.blocks(), &mut lookout);
-    assert!(rt; lookout.into_watch().copy().is_ok());
+    let known = closed(&rt, rt.alloc(), &mut chain);
+    assert!(rt; watched(&rt, rt.alloc(), &chain, known).copy().is_ok());
 }

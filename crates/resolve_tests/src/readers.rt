@@ -8,6 +8,7 @@ use parties::FUNDING;
 use resolve::Known;
 use side::{ReadParts, Reader};
 use std::alloc::{AllocError, Global};
+use std::process::Abort;
 use watch::Watch;
 
 // A reader of one channel, which has learnt one preimage before.
@@ -21,11 +22,24 @@ fn reader_of_one(alloc: Global) -> Result<Reader, AllocError>
     Reader::new(alloc, fundings, watches, learnt)
 }
 
+// The number of channels that a reader asks for.
+fn count_asked(rt: &impl Abort, alloc: Global, block: &Block) -> usize {
+    let reader = reader_of_one(alloc).expect(rt, "memory");
+    let asked = reader.to_ask(alloc, block).expect(rt, "memory");
+    asked.len()
+}
+
 // The parts of a reader after it has read a block by this knowledge.
 fn read_by(alloc: Global, block: &Block, known: Known) -> Result<ReadParts, AllocError> {
     let mut reader = reader_of_one(alloc)?;
     reader.answer(0, known)?;
     reader.read(alloc, 0, block)?.into_parts()
+}
+
+// The numbers of watches, of preimages and of claims in these parts.
+fn counts_of(rt: &impl Abort, alloc: Global, block: &Block) -> [usize; 3] {
+    let parts = read_by(alloc, block, known(rt, alloc)).expect(rt, "memory");
+    [parts.watches.len(), parts.learnt.len(), parts.due.len()]
 }
 
 // Nothing is asked for a channel whose funding output is unspent, and a block without transactions makes nothing
@@ -34,12 +48,6 @@ fn read_by(alloc: Global, block: &Block, known: Known) -> Result<ReadParts, Allo
 fn reads_a_block(rt: HostRuntime) {
     let chain = Index::new(rt.alloc()).expect(&rt, "memory");
     let block = &chain.blocks()[0];
-    let reader = reader_of_one(rt.alloc()).expect(&rt, "memory");
-    let asked = reader.to_ask(rt.alloc(), block).expect(&rt, "memory");
-    assert_eq!(rt; asked.len(), 0);
-    let known = known(&rt, rt.alloc());
-    let parts = read_by(rt.alloc(), block, known).expect(&rt, "memory");
-    assert_eq!(rt; parts.watches.len(), 1);
-    assert_eq!(rt; parts.learnt.len(), 1);
-    assert_eq!(rt; parts.due.len(), 0);
+    assert!(rt; count_asked(&rt, rt.alloc(), block) == 0);
+    assert!(rt; counts_of(&rt, rt.alloc(), block) == [1, 1, 0]);
 }

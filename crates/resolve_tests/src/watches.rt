@@ -4,6 +4,7 @@ use crate::fixtures::known;
 use chain::{Block, Coins, Index};
 use resolve::Known;
 use std::alloc::{AllocError, Global};
+use std::process::Abort;
 use watch::Watch;
 
 /// The example of the page of `watch`.
@@ -17,13 +18,17 @@ fn count(
     Ok(watch.look(alloc, height, block, known)?.claims.len())
 }
 
+// A watch that has read a block, which makes nothing due.
+fn watched(rt: &impl Abort, alloc: Global, block: &Block) -> Watch {
+    let mut watch = Watch::new(alloc);
+    let counted = count(alloc, &mut watch, 0, block, &known(rt, alloc));
+    assert!(rt; counted == Ok(0));
+    watch
+}
+
 // Nothing is due by a block without transactions.
 #[test]
 fn copies_what_it_read(rt: HostRuntime) {
-    let known = known(&rt, rt.alloc());
     let chain = Index::new(rt.alloc()).expect(&rt, "memory");
-    let mut watch = Watch::new(rt.alloc());
-    let counted = count(rt.alloc(), &mut watch, 0, &chain.blocks()[0], &known);
-    assert_eq!(rt; counted.expect(&rt, "memory"), 0);
-    assert!(rt; watch.copy().is_ok());
+    assert!(rt; watched(&rt, rt.alloc(), &chain.blocks()[0]).copy().is_ok());
 }

@@ -1,6 +1,8 @@
 //! That the collections never fail under ample memory.
 
 use lists::{ByteString, List, Stack};
+use std::alloc::Global;
+use std::process::Abort;
 use std::test::Fail;
 
 // The example in the documentation of `lists`.
@@ -12,21 +14,29 @@ fn the_top_comes_back_first(rt: HostRuntime) -> Result<(), Fail> {
     Ok(())
 }
 
+const BYTES: [u8; 600] = [9; 600];
+
+// Whether a copy of a string of these bytes has them too.
+fn is_copied(rt: &impl Abort, alloc: Global, bytes: &[u8]) -> bool {
+    let string = ByteString::from_slice(alloc, bytes).expect(rt, "memory");
+    string.copy().expect(rt, "memory").bytes() == bytes
+}
+
+// The newest of so many numbers from 0 on in a list, and in a stack.
+fn newest(rt: &impl Abort, alloc: Global, count: usize) -> (Option<usize>, Option<usize>) {
+    let (mut list, mut stack) = (List::new(alloc), Stack::new(alloc));
+    for number in 0..count {
+        list.push(number).expect(rt, "memory");
+        stack.push(number).expect(rt, "memory");
+    }
+    (list.values().last().copied(), stack.pop())
+}
+
 // No length fails under ample memory.
 #[test]
 fn finds_memory_for_every_length(rt: HostRuntime) {
-    let (mut list, mut stack) = (List::new(rt.alloc()), Stack::new(rt.alloc()));
-    let mut bytes = Vec::new(rt.alloc());
     for len in 0usize..=600 {
-        let string = ByteString::from_slice(rt.alloc(), &bytes).expect(&rt, "memory");
-        let copy = string.copy().expect(&rt, "memory");
-        assert_eq!(rt; copy.bytes(), bytes.as_slice());
-        bytes.push((len % 256) as u8).expect(&rt, "memory");
-        list.push(len).expect(&rt, "memory");
-        stack.push(len).expect(&rt, "memory");
+        assert!(rt; is_copied(&rt, rt.alloc(), &BYTES[..len]));
     }
-    assert_eq!(rt;
-        (list.values().last(), stack.pop()),
-        (Some(&600), Some(600))
-    );
+    assert!(rt; newest(&rt, rt.alloc(), 601) == (Some(600), Some(600)));
 }

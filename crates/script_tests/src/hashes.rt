@@ -2,14 +2,9 @@
 
 ghost use Rattle.std.specs.Prelude.{◌<◌};
 
+use crate::fixtures::is_hex;
 use digest::{Ripemd160, hash160, ripemd160, ripemd160_of_pieces, sha256, sha256d};
 use hex::FromHex;
-use std::process::Abort;
-
-// The 20 bytes of a hexadecimal text.
-fn bytes(rt: &impl Abort, text: &str) -> [u8; 20] {
-    <[u8; 20] as FromHex>::from_hex(text).expect(rt, "40 hex digits")
-}
 
 // The digest of a message that is hashed in pieces of `size` bytes; the last one may be shorter.
 fn in_pieces(message: &[u8], size: usize) -> [u8; 20]
@@ -22,50 +17,40 @@ fn in_pieces(message: &[u8], size: usize) -> [u8; 20]
     hasher.finalize()
 }
 
-// The designers' own digests: hashed whole, a byte at a time, and cut after 55 bytes, the most whose padding fits in
-// one block.
-#[test]
-fn digests_of_the_designers(rt: HostRuntime) {
-    for (message, text) in [
-        ("", "9c1185a5c5e9fc54612808977ee8f548b2258d31"),
-        ("a", "0bdc9d2d256b3ee9daae347be6f4dc835a467ffe"),
-        ("abc", "8eb208f7e05d987a9b044a8e98c6b087f15a0bfc"),
-        ("message digest", "5d0689ef49d2fae572b881b123a85ffa21595f36"),
-        (
-            "abcdefghijklmnopqrstuvwxyz",
-            "f71c27109c692c1b56bbdceb5b9d2865b3708dbc",
-        ),
-        (
-            "abcdbcdecdefdefgefghfghighijhijkijkljklmklmnlmnomnopnopq",
-            "12a053384a9c0c88e405a06c27dcf49ada62eb2b",
-        ),
-        (
-            "ABCDEFGHIJKLMNOPQRSTUVWXYZabcdefghijklmnopqrstuvwxyz0123456789",
-            "b0e20b6e3116640286ed3a87a5713079b21f5189",
-        ),
-        (
-            "12345678901234567890123456789012345678901234567890123456789012345678901234567890",
-            "9b752e45573d4b39f4dbd3323cab82bf63326bfb",
-        ),
-    ] {
-        let (message, wanted) = (message.as_bytes(), bytes(&rt, text));
-        assert_eq!(rt; ripemd160(message), wanted);
-        assert_eq!(rt; in_pieces(message, 1), wanted);
-        assert_eq!(rt; in_pieces(message, 55), wanted);
+// Whether the message has this digest: whole, and cut into pieces of each size from 1 to 64.
+fn has_digest(message: &[u8], text: &str) -> bool {
+    let whole = ripemd160(message);
+    for size in 1..65 {
+        if in_pieces(message, size) != whole {
+            return false;
+        }
     }
+    is_hex(&whole, text)
 }
 
-// `abc` as a list of pieces, one of which is empty; by a hasher from `default`; and a list of no pieces.
-#[test]
-fn pieces_in_a_list(rt: HostRuntime) {
-    let wanted = ripemd160(b"abc");
-    let pieces: [&[u8]; 3] = [b"ab", b"", b"c"];
-    assert_eq!(rt; ripemd160_of_pieces(&pieces), wanted);
-    let mut hasher = Ripemd160::default();
-    hasher.update(b"abc");
-    assert_eq!(rt; hasher.finalize(), wanted);
-    assert_eq!(rt; ripemd160_of_pieces(&[]), ripemd160(b""));
-}
+// The designers' own digests.
+const DESIGNERS: [(&str, &str); 8] = [
+    ("", "9c1185a5c5e9fc54612808977ee8f548b2258d31"),
+    ("a", "0bdc9d2d256b3ee9daae347be6f4dc835a467ffe"),
+    ("abc", "8eb208f7e05d987a9b044a8e98c6b087f15a0bfc"),
+    ("message digest", "5d0689ef49d2fae572b881b123a85ffa21595f36"),
+    (
+        "abcdefghijklmnopqrstuvwxyz",
+        "f71c27109c692c1b56bbdceb5b9d2865b3708dbc",
+    ),
+    (
+        "abcdbcdecdefdefgefghfghighijhijkijkljklmklmnlmnomnopnopq",
+        "12a053384a9c0c88e405a06c27dcf49ada62eb2b",
+    ),
+    (
+        "ABCDEFGHIJKLMNOPQRSTUVWXYZabcdefghijklmnopqrstuvwxyz0123456789",
+        "b0e20b6e3116640286ed3a87a5713079b21f5189",
+    ),
+    (
+        "12345678901234567890123456789012345678901234567890123456789012345678901234567890",
+        "9b752e45573d4b39f4dbd3323cab82bf63326bfb",
+    ),
+];
 
 // A block of bytes.
 const BLOCK: [u8; 64] = [
@@ -74,63 +59,49 @@ const BLOCK: [u8; 64] = [
     50, 51, 52, 53, 54, 55, 56, 57, 58, 59, 60, 61, 62, 63,
 ];
 
-// Whether the message has this digest when it is cut into pieces of each size from 1 to 64.
-fn has_one_digest(message: &[u8], wanted: &[u8; 20]) -> bool {
-    for size in 1..65 {
-        if in_pieces(message, size) != *wanted {
-            return false;
-        }
-    }
-    true
-}
-
-// The greatest length whose padding fits in its block, the least one whose padding does not, and a whole block.
+// Beside the designers' messages: the greatest length whose padding fits in its block, the least one whose padding does
+// not, and a whole block.
 #[test]
-fn lengths_about_a_block(rt: HostRuntime) {
-    for (len, text) in [
-        (55, "3c86963b3ff646a65ae42996e9664c747cc7e5e6"),
-        (56, "ebdd79cfd4fd9949ef8089673d2620427f487cfb"),
-        (64, "2581f5e9f957b44b0fa24d31996de47409dd1e0f"),
-    ] {
-        assert!(rt; has_one_digest(&BLOCK[..len], &bytes(&rt, text)));
+fn digests_of_the_designers(rt: HostRuntime) {
+    for (message, text) in &DESIGNERS {
+        assert!(rt; has_digest(message.as_bytes(), text));
     }
+    let fits = "3c86963b3ff646a65ae42996e9664c747cc7e5e6";
+    assert!(rt; has_digest(&BLOCK[..55], fits));
+    let exceeds = "ebdd79cfd4fd9949ef8089673d2620427f487cfb";
+    assert!(rt; has_digest(&BLOCK[..56], exceeds));
+    let fills = "2581f5e9f957b44b0fa24d31996de47409dd1e0f";
+    assert!(rt; has_digest(&BLOCK, fills));
 }
 
-// A million letters `a`, in pieces of a thousand.
+// `abc` as a list of pieces, one of which is empty; by a hasher from `default`; a list of no pieces; and a million
+// letters `a`, in pieces of a thousand.
 #[test]
-fn digest_of_a_million_letters(rt: HostRuntime) {
-    let piece = [b'a'; 1000];
-    let mut hasher = Ripemd160::new();
-    for _ in 0..1000 {
-        hasher.update(&piece);
-    }
-    let wanted = bytes(&rt, "52783243c1697bdbe16d37f97f68f08325dc1528");
-    assert_eq!(rt; hasher.finalize(), wanted);
+fn pieces_in_a_list(rt: HostRuntime) {
+    let wanted = ripemd160(b"abc");
+    let mut hasher = Ripemd160::default();
+    hasher.update(b"abc");
+    assert!(rt; hasher.finalize() == wanted);
+    let pieces: [&[u8]; 3] = [b"ab", b"", b"c"];
+    assert!(rt; ripemd160_of_pieces(&pieces) == wanted);
+    assert!(rt; ripemd160_of_pieces(&[]) == ripemd160(b""));
+    let letters = [b'a'; 1000];
+    let million: [&[u8]; 1000] = [&letters; 1000];
+    let text = "52783243c1697bdbe16d37f97f68f08325dc1528";
+    assert!(rt; is_hex(&ripemd160_of_pieces(&million), text));
 }
 
-// HASH160 of the generator of secp256k1 as a compressed key, as in a witness program of BIP 173's examples.
+// HASH160 of the generator of secp256k1 as a compressed key, as in a witness program of BIP 173's examples; and FIPS
+// 180-4's example, once and twice.
 #[test]
 fn hash_of_a_public_key(rt: HostRuntime) {
     let key = "0279be667ef9dcbbac55a06295ce870b07029bfcdb2dce28d959f2815b16f81798";
     let key = <[u8; 33] as FromHex>::from_hex(key).expect(&rt, "66 hex digits");
-    let wanted = bytes(&rt, "751e76e8199196d454941c45d1b3a323f1433bd6");
+    let wanted = "751e76e8199196d454941c45d1b3a323f1433bd6";
+    let wanted = <[u8; 20] as FromHex>::from_hex(wanted).expect(&rt, "40 hex digits");
     assert_eq!(rt; hash160(&key), wanted);
-}
-
-// FIPS 180-4's example, once and twice.
-#[test]
-fn sha256_of_three_letters(rt: HostRuntime) {
-    for (digest, text) in [
-        (
-            sha256(b"abc"),
-            "ba7816bf8f01cfea414140de5dae2223b00361a396177a9cb410ff61f20015ad",
-        ),
-        (
-            sha256d(b"abc"),
-            "4f8b42c22dd3729b519ba6f68d2da7cc5b2d606d05daed5ad5128cc03e6c6358",
-        ),
-    ] {
-        let wanted = <[u8; 32] as FromHex>::from_hex(text).expect(&rt, "64 hex digits");
-        assert_eq!(rt; digest, wanted);
-    }
+    let once = "ba7816bf8f01cfea414140de5dae2223b00361a396177a9cb410ff61f20015ad";
+    assert!(rt; is_hex(&sha256(b"abc"), once));
+    let twice = "4f8b42c22dd3729b519ba6f68d2da7cc5b2d606d05daed5ad5128cc03e6c6358";
+    assert!(rt; is_hex(&sha256d(b"abc"), twice));
 }

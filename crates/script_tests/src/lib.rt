@@ -12,6 +12,8 @@ mod fixtures;
 #[cfg(test)]
 mod hashes;
 #[cfg(test)]
+mod names;
+#[cfg(test)]
 mod runs;
 #[cfg(test)]
 mod scripts;

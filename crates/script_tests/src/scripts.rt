@@ -1,8 +1,7 @@
-//! What no clause of `script` says: the bytes that are opcodes, every printed name, and that calls succeed under ample
-//! memory.
+//! What no clause of `script` says: the bytes that are opcodes, and that calls succeed under ample memory.
 
 use lists::ByteString;
-use script::{Cause, Kind, Op, ParseError, Script, num, truths};
+use script::{Op, ParseError, Script, num, truths};
 use std::alloc::Global;
 use std::process::Abort;
 use std::test::Fail;
@@ -17,7 +16,7 @@ fn is_script(rt: &impl Abort, alloc: Global, bytes: &[u8]) -> bool {
     match Script::parse(alloc, bytes) {
         Ok(script) => {
             let copy = script.copy().expect(rt, "memory");
-            assert_eq!(rt; copy.bytes(), bytes);
+            assert!(rt; copy.bytes() == bytes);
             true
         }
         Err(refusal) => {
@@ -34,89 +33,56 @@ fn reads_the_opcodes_of_the_table_alone(rt: HostRuntime) {
         let mut bytes = [0u8; 76];
         bytes[0] = byte;
         let known = byte <= 0x4b || (0x51..=0x60).contains(&byte) || OTHERS.contains(&byte);
-        assert_eq!(rt; is_script(&rt, rt.alloc(), &bytes), known, "{byte}");
+        assert!(rt; is_script(&rt, rt.alloc(), &bytes) == known, "{byte}");
     }
 }
 
-#[test]
-fn copies_every_length(rt: HostRuntime) {
-    let alloc = rt.alloc();
-    for len in 0usize..=600 {
-        let bytes = vec![in alloc; 9u8; len].expect(&rt, "memory");
-        let push = Op::Push(ByteString::from_vec(bytes));
-        assert_eq!(rt; push.copy().expect(&rt, "memory").payload_len(), len);
-    }
-    for len in (0usize..=10_000).step_by(613) {
-        let bytes = vec![in alloc; 0x51u8; len].expect(&rt, "memory");
-        assert!(rt; is_script(&rt, alloc, &bytes));
-    }
+const BYTES: [u8; 600] = [9; 600];
+
+const OPS: [u8; 10_000] = [0x51; 10_000];
+
+// Whether a push of these bytes has a copy.
+fn is_copied(rt: &impl Abort, alloc: Global, bytes: &[u8]) -> bool {
+    let push = Op::Push(ByteString::from_slice(alloc, bytes).expect(rt, "memory"));
+    push.copy().expect(rt, "memory").payload_len() == bytes.len()
 }
 
 // Numbers of every length in bytes, with and without a byte for the sign.
-#[test]
-fn writes_every_length(rt: HostRuntime) {
-    for n in [
-        0u64,
-        0x7f,
-        0xff,
-        0x7fff,
-        0xffff,
-        0x7f_ffff,
-        0xff_ffff,
-        0x7fff_ffff,
-        0xffff_ffff,
-        0x7f_ffff_ffff,
-        0xff_ffff_ffff,
-        0x7fff_ffff_ffff,
-        0xffff_ffff_ffff,
-        0x7f_ffff_ffff_ffff,
-        0xff_ffff_ffff_ffff,
-        0x7fff_ffff_ffff_ffff,
-        u64::MAX,
-    ] {
-        let item = num::write(rt.alloc(), n).expect(&rt, "memory");
-        assert_eq!(rt; item.is_empty(), n == 0);
-    }
-    let flag = truths::flag(rt.alloc(), true).expect(&rt, "memory");
-    assert_eq!(rt; flag.bytes(), [1].as_slice());
-}
+const NUMBERS: [u64; 17] = [
+    0,
+    0x7f,
+    0xff,
+    0x7fff,
+    0xffff,
+    0x7f_ffff,
+    0xff_ffff,
+    0x7fff_ffff,
+    0xffff_ffff,
+    0x7f_ffff_ffff,
+    0xff_ffff_ffff,
+    0x7fff_ffff_ffff,
+    0xffff_ffff_ffff,
+    0x7f_ffff_ffff_ffff,
+    0xff_ffff_ffff_ffff,
+    0x7fff_ffff_ffff_ffff,
+    u64::MAX,
+];
 
 #[test]
-fn prints_every_cause(rt: HostRuntime) {
-    for (cause, name) in [
-        (Cause::MissingOperand, "MissingOperand"),
-        (Cause::FailedCheck(Kind::Verify), "FailedCheck Verify"),
-        (Cause::FailedCheck(Kind::Number), "FailedCheck Number"),
-        (Cause::FailedCheck(Kind::KeyCount), "FailedCheck KeyCount"),
-        (Cause::FailedCheck(Kind::SigCount), "FailedCheck SigCount"),
-        (Cause::FailedCheck(Kind::TokenForm), "FailedCheck TokenForm"),
-        (Cause::FailedCheck(Kind::KeyForm), "FailedCheck KeyForm"),
-        (Cause::FailedCheck(Kind::Extra), "FailedCheck Extra"),
-        (Cause::FailedCheck(Kind::LockTime), "FailedCheck LockTime"),
-        (Cause::FailedCheck(Kind::Sequence), "FailedCheck Sequence"),
-        (Cause::OpenBranch, "OpenBranch"),
-        (Cause::TooManyOps, "TooManyOps"),
-        (Cause::StackTooTall, "StackTooTall"),
-        (Cause::ItemTooLong, "ItemTooLong"),
-        (Cause::NotOneValue, "NotOneValue"),
-        (Cause::FalseEnd, "FalseEnd"),
-    ] {
-        let text = format!(in rt.alloc(); "{cause}").expect(&rt, "memory");
-        assert_eq!(rt; text.as_str(), name);
+fn writes_and_copies_every_length(rt: HostRuntime) {
+    let alloc = rt.alloc();
+    for len in 0usize..=600 {
+        assert!(rt; is_copied(&rt, alloc, &BYTES[..len]));
     }
-}
-
-#[test]
-fn prints_every_refusal(rt: HostRuntime) {
-    for (refusal, name) in [
-        (ParseError::NoMemory, "NoMemory"),
-        (ParseError::BadOpcode(70), "BadOpcode 70"),
-        (ParseError::Truncated(9_999), "Truncated 9999"),
-        (ParseError::TooLong, "TooLong"),
-    ] {
-        let text = format!(in rt.alloc(); "{refusal}").expect(&rt, "memory");
-        assert_eq!(rt; text.as_str(), name);
+    for len in (0usize..=10_000).step_by(613) {
+        assert!(rt; is_script(&rt, alloc, &OPS[..len]));
     }
+    for n in &NUMBERS {
+        let item = num::write(alloc, *n).expect(&rt, "memory");
+        assert!(rt; item.is_empty() == (*n == 0));
+    }
+    let flag = truths::flag(alloc, true).expect(&rt, "memory");
+    assert!(rt; flag.bytes() == [1].as_slice());
 }
 
 // The example in the documentation of `script`.
@@ -132,18 +98,27 @@ fn reads_opcodes(rt: HostRuntime) -> Result<(), Fail> {
 
 const LONG: [u8; 10_001] = [0x50; 10_001];
 
+const FAULTS: [(&[u8], ParseError); 7] = [
+    (&[0x50], ParseError::BadOpcode(0)),
+    (&[0x51, 0xb3], ParseError::BadOpcode(1)),
+    (&[0x02, 0xff], ParseError::Truncated(0)),
+    (&[0x51, 0x4b], ParseError::Truncated(1)),
+    (&[0x4c, 0x01, 0xff], ParseError::BadOpcode(0)),
+    (&LONG, ParseError::TooLong),
+    (&[0x50; 10_000], ParseError::BadOpcode(0)),
+];
+
+// Whether the bytes are refused so.
+fn is_refused(alloc: Global, bytes: &[u8], wanted: &ParseError) -> bool {
+    match Script::parse(alloc, bytes) {
+        Ok(_) => false,
+        Err(refusal) => refusal == *wanted,
+    }
+}
+
 #[test]
 fn names_the_first_fault(rt: HostRuntime) {
-    for (bytes, wanted) in [
-        (&[0x50][..], ParseError::BadOpcode(0)),
-        (&[0x51, 0xb3], ParseError::BadOpcode(1)),
-        (&[0x02, 0xff], ParseError::Truncated(0)),
-        (&[0x51, 0x4b], ParseError::Truncated(1)),
-        (&[0x4c, 0x01, 0xff], ParseError::BadOpcode(0)),
-        (&LONG, ParseError::TooLong),
-        (&LONG[1..], ParseError::BadOpcode(0)),
-    ] {
-        let refusal = Script::parse(rt.alloc(), bytes).err();
-        assert_eq!(rt; refusal, Some(wanted));
+    for (bytes, wanted) in &FAULTS {
+        assert!(rt; is_refused(rt.alloc(), bytes, wanted));
     }
 }

@@ -62,6 +62,16 @@ fn first_in_first_out(rt: HostRuntime) {
     assert_eq!(rt; taker.take(&rt, &mut theirs), None);
 }
 
+// Whether these are 64 jobs, numbered from `first`.
+fn are_numbered(taken: &[u32], first: u32) -> bool {
+    for (job, next) in taken.iter().zip(first..first.saturating_add(64)) {
+        if *job != next {
+            return false;
+        }
+    }
+    taken.len() == 64
+}
+
 // Puts 64 jobs, each of which must be taken in, and then takes 64, which must be the same in order.
 fn fill_and_empty<R: Wait>(
     rt: &R,
@@ -71,21 +81,15 @@ fn fill_and_empty<R: Wait>(
     taker: &JobTaker<u32>,
     theirs: &mut Pass<u32>,
     first: u32,
-) -> Result<bool, AllocError>
+) -> bool
     requires { PutsWith sender.now mine.old × TakesWith taker.now theirs.old }
     ensures { PutsWith sender.now mine.new × TakesWith taker.now theirs.new }
 {
-    if put_many(rt, sender, mine, first, 64) != 64 {
-        return Ok(false);
+    let puts = put_many(rt, sender, mine, first, 64);
+    match take_many(rt, alloc, taker, theirs, puts) {
+        Ok(taken) => are_numbered(&taken, first),
+        Err(_) => false,
     }
-    let taken = take_many(rt, alloc, taker, theirs, 64)?;
-    Ok(
-        taken.len() == 64
-            && taken
-                .iter()
-                .zip(first..first.saturating_add(64))
-                .all(|(job, next)| *job == next),
-    )
 }
 
 // With both ends open, 64 puts of one thread succeed, and then 64 takes
@@ -95,14 +99,8 @@ fn sixty_four_jobs(rt: HostRuntime) {
     let alloc = rt.alloc();
     let (sender, taker, mut mine) = job_queue(alloc).expect(&rt, "memory");
     let mut theirs = sender.pass(&mut mine);
-    assert!(rt;
-        fill_and_empty(&rt, alloc, &sender, &mut mine, &taker, &mut theirs, 0).expect(&rt, "memory")
-    );
-    assert!(rt;
-        fill_and_empty(&rt, alloc, &sender, &mut mine, &taker, &mut theirs, 1000).expect(
-            &rt, "memory"
-        )
-    );
+    assert!(rt; fill_and_empty(&rt, alloc, &sender, &mut mine, &taker, &mut theirs, 0));
+    assert!(rt; fill_and_empty(&rt, alloc, &sender, &mut mine, &taker, &mut theirs, 1000));
 }
 
 // If all takers are dropped, a job comes back.
@@ -112,7 +110,7 @@ fn no_taker<R: Wait + Abort>(rt: &R, alloc: Global) {
     drop(taker);
     assert!(rt; sender.put(rt, &mut mine, 1).is_ok());
     drop(second);
-    assert_eq!(rt; sender.put(rt, &mut mine, 2), Err(2));
+    assert!(rt; sender.put(rt, &mut mine, 2) == Err(2));
 }
 
 // If all senders are dropped and the queue is empty, there is no job.
@@ -122,8 +120,8 @@ fn no_sender<R: Wait + Abort>(rt: &R, alloc: Global) {
     drop(sender);
     assert!(rt; second.put(rt, &mut mine, 3).is_ok());
     drop(second);
-    assert_eq!(rt; taker.take(rt, &mut mine), Some(3));
-    assert_eq!(rt; taker.take(rt, &mut mine), None);
+    assert!(rt; taker.take(rt, &mut mine) == Some(3));
+    assert!(rt; taker.take(rt, &mut mine).is_none());
 }
 
 #[test]
@@ -188,7 +186,7 @@ fn mark(seen: &mut Vec<bool>, taken: &[u32]) -> bool {
 
 // Asserts that a putter has put its 10,000 jobs.
 fn has_put<R: Threads + Abort>(rt: &R, putter: JoinHandle<u32>) {
-    assert_eq!(rt; putter.join(rt), 10_000);
+    assert!(rt; putter.join(rt) == 10_000);
 }
 
 // Asserts that each job of a taker is new, and marks it.
@@ -199,6 +197,16 @@ fn has_taken<R: Threads + Abort>(
 ) {
     let taken = taker.join(rt).expect(rt, "memory");
     assert!(rt; mark(seen, &taken));
+}
+
+// Whether every job was taken.
+fn are_all_taken(seen: &[bool]) -> bool {
+    for mark in seen {
+        if !*mark {
+            return false;
+        }
+    }
+    true
 }
 
 // Four putters and four takers of 10,000 jobs each: every job is taken once.
@@ -224,5 +232,5 @@ fn four_putters_and_four_takers(rt: HostRuntime) {
     has_taken(&rt, b, &mut seen);
     has_taken(&rt, c, &mut seen);
     has_taken(&rt, d, &mut seen);
-    assert!(rt; seen.iter().all(|mark| *mark));
+    assert!(rt; are_all_taken(&seen));
 }

@@ -1,15 +1,14 @@
 //! Terms that can and can't be agreed on, and the fields of commitments, against the values of BOLT 3.
 
-use crate::fixtures::{key, spending};
-use lists::List;
-use parties::{FUNDING, one_key, party_with, terms_of};
+use crate::fixtures::key;
+use parties::{FUNDING, htlc, one_key, party_with, terms_of, view};
 use std::alloc::Global;
 use std::process::Abort;
 use terms::{
-    Htlc, Obscured, Party, ProposedParty, ProposedTerms, Share, Side, Terms, TermsError, View,
-    mask, number_of, obscure,
+    Obscured, Party, ProposedParty, ProposedTerms, Side, Terms, TermsError, mask, number_of,
+    obscure,
 };
-use tx::Tx;
+use tx::{Inputs, Outputs, Tx, TxIn, Witness};
 
 /// The payment base keys of BOLT 3, appendix C: the opener's, and the accepter's.
 const PAYMENT_BASES: [&str; 2] = [
@@ -34,13 +33,6 @@ fn good_terms(rt: &impl Abort) -> Terms {
     terms_with(rt, 0, 100_000_000).expect(rt, "terms")
 }
 
-#[test]
-fn starts_sum_to_the_capacity(rt: HostRuntime) {
-    assert!(rt; terms_with(&rt, 80_000_000, 20_000_000).is_ok());
-    assert!(rt; terms_with(&rt, 80_000_000, 20_000_001).is_err());
-    assert_eq!(rt; TermsError::BadTerms.number(), 1);
-}
-
 // A side's part of proposed terms.
 fn proposed_party(start: u64) -> ProposedParty {
     ProposedParty {
@@ -62,13 +54,16 @@ fn proposed(a: u64, b: u64) -> ProposedTerms {
     }
 }
 
-// The terms that two sides agree on are the proposed ones.
+// The starting balances sum to the capacity. The terms that two sides agree on are the proposed ones.
 #[test]
 fn proposed_terms_become_terms(rt: HostRuntime) {
+    assert!(rt; terms_with(&rt, 80_000_000, 20_000_001).is_err());
+    assert!(rt; TermsError::BadTerms.number() == 1);
     let a = one_key(key(&rt, PAYMENT_BASES[0]));
     let b = one_key(key(&rt, PAYMENT_BASES[1]));
     let agreed = proposed(80_000_000, 20_000_000).agreed(FUNDING, a, b);
-    assert_eq!(rt; agreed, terms_with(&rt, 80_000_000, 20_000_000).ok());
+    let terms = terms_with(&rt, 80_000_000, 20_000_000).expect(&rt, "terms");
+    assert!(rt; agreed == Some(terms));
     assert!(rt; !proposed(80_000_000, 20_000_001).can_agree());
 }
 
@@ -76,19 +71,17 @@ fn proposed_terms_become_terms(rt: HostRuntime) {
 // count.
 #[test]
 fn numbers_hide_in_the_fields(rt: HostRuntime) {
-    assert_eq!(rt; mask(&good_terms(&rt)), 0x2bb0_3852_1914);
-    for (mask, n, lock_time, sequence) in [
-        (0x2bb0_3852_1914, 42, 0x2052_193e, 0x802b_b038),
-        (0, 0x1_0000_0000_0001, 0x2000_0001, 0x8000_0000),
-    ] {
-        assert_eq!(rt;
-            obscure(mask, n),
-            Obscured {
-                lock_time,
-                sequence
-            }
-        );
-    }
+    assert!(rt; mask(&good_terms(&rt)) == 0x2bb0_3852_1914);
+    let of_the_first = Obscured {
+        lock_time: 0x2052_193e,
+        sequence: 0x802b_b038,
+    };
+    assert!(rt; obscure(0x2bb0_3852_1914, 42) == of_the_first);
+    let of_a_greater = Obscured {
+        lock_time: 0x2000_0001,
+        sequence: 0x8000_0000,
+    };
+    assert!(rt; obscure(0, 0x1_0000_0000_0001) == of_a_greater);
 }
 
 // The example in the documentation of `terms`.
@@ -96,30 +89,27 @@ fn is_commitment(terms: &Terms, tx: &Tx, n: u64) -> bool {
     number_of(terms, tx) == Some(n)
 }
 
-#[test]
-fn commitments_have_numbers(rt: HostRuntime) {
-    let tx = spending(&rt, rt.alloc(), &[FUNDING], 0x802b_b038, 0x2052_193e);
-    assert!(rt; is_commitment(&good_terms(&rt), &tx, 42));
+// A transaction that spends the funding output, and has no output.
+fn spending(rt: &impl Abort, alloc: Global, sequence: u32, lock_time: u32) -> Tx {
+    let mut inputs = Inputs::new(alloc);
+    let input = TxIn {
+        outpoint: FUNDING,
+        sequence,
+        witness: Witness::new(alloc),
+    };
+    inputs.push(input).expect(rt, "an input");
+    Tx::new(2, inputs, Outputs::new(alloc), lock_time).expect(rt, "an input")
 }
 
-// A share with this number of HTLCs.
-fn share_of(rt: &impl Abort, alloc: Global, balance: u64, count: usize) -> Share {
-    let htlc = Htlc {
-        id: 3,
-        amount: 5_000_000,
-        hash: [9; 32],
-        expiry: 500,
-    };
-    let offered = List::from_vec(vec![in alloc; htlc; count].expect(rt, "memory"));
-    Share { balance, offered }
+#[test]
+fn commitments_have_numbers(rt: HostRuntime) {
+    let tx = spending(&rt, rt.alloc(), 0x802b_b038, 0x2052_193e);
+    assert!(rt; is_commitment(&good_terms(&rt), &tx, 42));
 }
 
 #[test]
 fn views_are_copied(rt: HostRuntime) {
-    let view = View {
-        a: share_of(&rt, rt.alloc(), 1, 2),
-        b: share_of(&rt, rt.alloc(), 2, 0),
-        feerate: 253,
-    };
+    let of_a = [htlc(3, 5_000_000, 9, 500), htlc(3, 5_000_000, 9, 500)];
+    let view = view(rt.alloc(), [1, 2], &of_a, &[]).expect(&rt, "memory");
     assert!(rt; view.copy().is_ok());
 }

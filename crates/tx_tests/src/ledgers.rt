@@ -1,7 +1,6 @@
-//! Updates between two sides, with a hash from an outside source; that no call is refused under ample memory; printed names. What
-//! needs no run is proved from the definitions.
+//! Updates between two sides, with a hash from an outside source; that no call is refused under ample memory. What needs no
+//! run is proved from the definitions.
 
-use crate::fixtures::assert_prints;
 use keys::point;
 use parties::{FUNDING, one_key, party_with, terms_of};
 use std::alloc::{AllocError, Global};
@@ -17,21 +16,14 @@ const HASH: [u8; 32] = [
     0x51, 0x83, 0x1c, 0x58, 0x9e, 0xf5, 0x81, 0xd4, 0x12, 0xf2, 0xeb, 0xa4, 0x48, 0x34, 0xe7, 0x7c,
 ];
 
-/// The two ledgers of a channel.
-#[derive(Drop)]
-struct Sides {
-    a: Ledger,
-    b: Ledger,
-}
-
-/// A channel of 100,000 satoshis, of which A has 80,000 and B 20,000.
-fn open(rt: &impl Abort, alloc: Global) -> Sides {
+/// The ledgers of A and of B in a channel of 100,000 satoshis, of which A has 80,000 and B 20,000.
+fn open(rt: &impl Abort, alloc: Global) -> (Ledger, Ledger) {
     let bases = one_key(point(&[1; 32]));
     let (a, b) = (party_with(bases, 80_000_000), party_with(bases, 20_000_000));
     let terms = terms_of(FUNDING, 100_000, a, b).expect(rt, "terms");
     let a = Ledger::new(alloc, terms, Side::A);
     let b = Ledger::new(alloc, terms, Side::B);
-    Sides { a, b }
+    (a, b)
 }
 
 /// The balances of A and B, the number of A's live HTLCs, and the feerate.
@@ -41,95 +33,69 @@ fn seen(rt: &impl Abort, answer: Result<View, AllocError>) -> (u64, u64, usize, 
     (view.a.balance, view.b.balance, htlcs, view.feerate)
 }
 
-impl Sides {
-    /// A offers an HTLC, and B receives it.
-    fn add(&mut self, rt: &impl Abort, amount: u64) {
-        let htlc = self.a.offer(amount, HASH, 500).expect(rt, "an offer");
-        let received = self.b.receive_update(&Update::Add(htlc));
-        received.expect(rt, "an offer");
-    }
+/// A offers an HTLC, and B receives it.
+fn add(rt: &impl Abort, a: &mut Ledger, b: &mut Ledger, amount: u64) {
+    let htlc = a.offer(amount, HASH, 500).expect(rt, "an offer");
+    assert!(rt; b.receive_update(&Update::Add(htlc)).is_ok());
+}
 
-    /// A changes the feerate, and B receives it.
-    fn set_fee(&mut self, rt: &impl Abort, rate: u32) {
-        self.a.set_fee(rate).expect(rt, "a feerate");
-        let received = self.b.receive_update(&Update::Fee { rate });
-        received.expect(rt, "a feerate");
-    }
+/// A changes the feerate, and B receives it.
+fn set_fee(rt: &impl Abort, a: &mut Ledger, b: &mut Ledger, rate: u32) {
+    assert!(rt; a.set_fee(rate).is_ok());
+    assert!(rt; b.receive_update(&Update::Fee { rate }).is_ok());
+}
 
-    /// B makes a removal, and A receives it.
-    fn remove(&mut self, rt: &impl Abort, made: Result<(), ChannelError>, update: &Update) {
-        made.expect(rt, "a removal");
-        self.a.receive_update(update).expect(rt, "a removal");
-    }
-
-    /// Both sign and revoke, A first.
-    fn settle_a(&mut self) {
-        self.a.sign();
-        self.b.receive_signature();
-        self.a.receive_revocation();
-        self.b.sign();
-        self.a.receive_signature();
-        self.b.receive_revocation();
-    }
-
-    /// Both sign and revoke, B first.
-    fn settle_b(&mut self) {
-        self.b.sign();
-        self.a.receive_signature();
-        self.b.receive_revocation();
-        self.a.sign();
-        self.b.receive_signature();
-        self.a.receive_revocation();
-    }
+/// Both sign and revoke, one after the other.
+fn settle(first: &mut Ledger, second: &mut Ledger) {
+    first.sign();
+    second.receive_signature();
+    first.receive_revocation();
+    second.sign();
+    first.receive_signature();
+    second.receive_revocation();
 }
 
 // An HTLC is fulfilled once it passed all stages, and then its amount is B's.
 #[test]
 fn amounts_change_sides(rt: HostRuntime) {
-    let mut s = open(&rt, rt.alloc());
-    s.add(&rt, 3_861_000);
-    assert_eq!(rt; s.b.fulfil(0, PREIMAGE), Err(ChannelError::UnknownHtlc));
-    s.settle_a();
-    assert_eq!(rt; s.b.fulfil(0, HASH), Err(ChannelError::WrongPreimage));
-    let made = s.b.fulfil(0, PREIMAGE);
+    let (mut a, mut b) = open(&rt, rt.alloc());
+    add(&rt, &mut a, &mut b, 3_861_000);
+    assert!(rt; b.fulfil(0, PREIMAGE) == Err(ChannelError::UnknownHtlc));
+    settle(&mut a, &mut b);
+    assert!(rt; b.fulfil(0, HASH) == Err(ChannelError::WrongPreimage));
+    assert!(rt; b.fulfil(0, PREIMAGE).is_ok());
     let preimage = PREIMAGE;
-    s.remove(&rt, made, &Update::Fulfil { id: 0, preimage });
-    assert_eq!(rt; s.b.fail(0), Err(ChannelError::UnknownHtlc));
+    let fulfilment = Update::Fulfil { id: 0, preimage };
+    assert!(rt; a.receive_update(&fulfilment).is_ok());
+    assert!(rt; b.fail(0) == Err(ChannelError::UnknownHtlc));
     let moved = (76_139_000, 23_861_000, 0, 1000);
-    assert_eq!(rt; seen(&rt, s.b.view_to_sign()), moved);
-    assert_eq!(rt; seen(&rt, s.a.view_to_receive()), moved);
+    assert!(rt; seen(&rt, b.view_to_sign()) == moved);
+    assert!(rt; seen(&rt, a.view_to_receive()) == moved);
     let pending = (76_139_000, 20_000_000, 1, 1000);
-    assert_eq!(rt; seen(&rt, s.a.view_of(Side::A)), pending);
-    s.settle_b();
-    assert_eq!(rt; seen(&rt, s.a.view_of(Side::A)), moved);
+    assert!(rt; seen(&rt, a.view_of(Side::A)) == pending);
+    settle(&mut b, &mut a);
+    assert!(rt; seen(&rt, a.view_of(Side::A)) == moved);
 }
 
-// Under ample memory no call is refused, however long the lists are.
+// Under ample memory no call is refused, however long the lists are; and then as many HTLCs as a commitment may hold.
 #[test]
 fn long_histories_are_accepted(rt: HostRuntime) {
-    let mut s = open(&rt, rt.alloc());
+    let (mut a, mut b) = open(&rt, rt.alloc());
     for id in 0..200u64 {
-        s.add(&rt, 1000);
-        s.set_fee(&rt, id as u32);
-        s.settle_a();
-        let made = s.b.fail(id);
-        s.remove(&rt, made, &Update::Fail { id });
-        s.settle_b();
-        let view = seen(&rt, s.b.view_of(Side::A));
-        assert_eq!(rt; view, (80_000_000, 20_000_000, 0, id as u32));
+        let rate = id as u32;
+        add(&rt, &mut a, &mut b, 1000);
+        set_fee(&rt, &mut a, &mut b, rate);
+        settle(&mut a, &mut b);
+        assert!(rt; b.fail(id).is_ok());
+        assert!(rt; a.receive_update(&Update::Fail { id }).is_ok());
+        settle(&mut b, &mut a);
+        assert!(rt; seen(&rt, b.view_of(Side::A)) == (80_000_000, 20_000_000, 0, rate));
     }
-}
-
-// As many HTLCs as a commitment may hold.
-#[test]
-fn full_commitments_are_accepted(rt: HostRuntime) {
-    let mut s = open(&rt, rt.alloc());
     for _htlc in 0..483 {
-        s.add(&rt, 1000);
+        add(&rt, &mut a, &mut b, 1000);
     }
-    s.settle_a();
-    let view = seen(&rt, s.b.view_of(Side::B));
-    assert_eq!(rt; view, (79_517_000, 20_000_000, 483, 1000));
+    settle(&mut a, &mut b);
+    assert!(rt; seen(&rt, b.view_of(Side::B)) == (79_517_000, 20_000_000, 483, 199));
 }
 
 /// The example in the documentation of `updates`.
@@ -145,30 +111,6 @@ fn offer_and_see(
 
 #[test]
 fn an_offer_lowers_the_balance(rt: HostRuntime) {
-    let mut s = open(&rt, rt.alloc());
-    let left = offer_and_see(&mut s.a, 1000, HASH, 500);
-    assert_eq!(rt; left.ok(), Some(79_999_000));
-}
-
-#[test]
-fn refusals_print_their_names(rt: HostRuntime) {
-    let table = [
-        (ChannelError::NoMemory, "NoMemory"),
-        (ChannelError::AmountZero, "AmountZero"),
-        (ChannelError::BelowMinimum, "BelowMinimum"),
-        (ChannelError::ExpiryTooLarge, "ExpiryTooLarge"),
-        (ChannelError::WrongId, "WrongId"),
-        (ChannelError::TooManyHtlcs, "TooManyHtlcs"),
-        (ChannelError::OverBalance, "OverBalance"),
-        (ChannelError::UnknownHtlc, "UnknownHtlc"),
-        (ChannelError::WrongPreimage, "WrongPreimage"),
-        (ChannelError::NoUpdates, "NoUpdates"),
-        (ChannelError::BadSignature, "BadSignature"),
-        (ChannelError::WrongSecret, "WrongSecret"),
-        (ChannelError::NotYourTurn, "NotYourTurn"),
-        (ChannelError::NotOpener, "NotOpener"),
-    ];
-    for (refusal, name) in table {
-        assert_prints(&rt, rt.alloc(), &refusal, name);
-    }
+    let (mut a, _) = open(&rt, rt.alloc());
+    assert!(rt; offer_and_see(&mut a, 1000, HASH, 500) == Ok(79_999_000));
 }

@@ -11,6 +11,8 @@ mod fixtures;
 #[cfg(test)]
 mod ledgers;
 #[cfg(test)]
+mod names;
+#[cfg(test)]
 mod signers;
 #[cfg(test)]
 mod tokens;

@@ -1,15 +1,10 @@
-//! The tokens of each input, signed as in the documentation of `sighash`, and its printed refusal. `vectors` has the digests from outside
+//! The tokens of each input, signed as in the documentation of `sighash`. `vectors` has the digests from outside
 //! sources.
 
-use crate::fixtures::{assert_prints, spending};
-use sighash::{DigestError, SighashCache, Token};
+use crate::transactions::{Sizes, transaction_of};
+use sighash::{SighashCache, Token};
 use std::alloc::{AllocError, Global};
-use tx::{OutPoint, Tx};
-
-#[test]
-fn prints_its_refusal(rt: HostRuntime) {
-    assert_prints(&rt, rt.alloc(), &DigestError::NoSuchInput, "NoSuchInput");
-}
+use tx::Tx;
 
 // The example in the documentation of `sighash`: a token for each input of a transaction whose inputs spend outputs of one value to one
 // script.
@@ -30,22 +25,19 @@ fn sign_all(
     Ok(tokens)
 }
 
-// Two different outputs.
-const OUTPOINTS: [OutPoint; 2] = [
-    OutPoint {
-        txid: [0; 32],
-        index: 0,
-    },
-    OutPoint {
-        txid: [1; 32],
-        index: 0,
-    },
-];
+const TWO_INPUTS: Sizes = Sizes {
+    inputs: 2,
+    outputs: 0,
+    items: 0,
+    item: 0,
+    script: 0,
+};
 
+// The inputs spend two different outputs.
 #[test]
 fn signs_each_input(rt: HostRuntime) {
-    let tx = spending(&rt, rt.alloc(), &OUTPOINTS, 5, 0);
+    let tx = transaction_of(&rt, rt.alloc(), &TWO_INPUTS);
     let tokens = sign_all(rt.alloc(), &tx, &[3; 33], &[0x51], 900).expect(&rt, "memory");
-    assert_eq!(rt; tokens.len(), 2);
+    assert!(rt; tokens.len() == 2);
     assert!(rt; tokens[0] != tokens[1]);
 }

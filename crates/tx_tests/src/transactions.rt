@@ -1,23 +1,21 @@
-//! What no clause says of transactions: that calls succeed under ample memory, the order of outpoints, and printed names. `vectors` reads known
-//! bytes.
+//! What no clause says of transactions: that calls succeed under ample memory, and the order of outpoints. `vectors` reads known bytes.
 
-use crate::fixtures::assert_prints;
 use lists::ByteString;
 use std::alloc::Global;
 use std::process::Abort;
 use tx::{
-    DecodeError, EncodeError, FieldError, Inputs, LimitError, OutPoint, Outputs, Tx, TxIn, TxOut,
-    Witness, decode, decode_stripped, encode, encode_stripped,
+    DecodeError, Inputs, OutPoint, Outputs, Tx, TxIn, TxOut, Witness, decode, decode_stripped,
+    encode, encode_stripped,
 };
 
 // The sizes of a transaction: the numbers of inputs, of outputs and of items of each input, and the bytes of each item and of each script.
-#[derive(Clone, Copy, Drop)]
-struct Sizes {
-    inputs: usize,
-    outputs: usize,
-    items: usize,
-    item: usize,
-    script: usize,
+#[derive(Clone, Copy)]
+pub(crate) struct Sizes {
+    pub inputs: usize,
+    pub outputs: usize,
+    pub items: usize,
+    pub item: usize,
+    pub script: usize,
 }
 
 // A string of one byte, repeated.
@@ -65,16 +63,17 @@ fn outputs_of(rt: &impl Abort, alloc: Global, count: usize, len: usize) -> Outpu
 }
 
 // A transaction of these sizes.
-fn transaction_of(rt: &impl Abort, alloc: Global, sizes: Sizes) -> Tx {
+pub(crate) fn transaction_of(rt: &impl Abort, alloc: Global, sizes: &Sizes) -> Tx {
     let witness = witness_of(rt, alloc, sizes.items, sizes.item);
     let inputs = inputs_of(rt, alloc, sizes.inputs, &witness);
     let outputs = outputs_of(rt, alloc, sizes.outputs, sizes.script);
     Tx::new(2, inputs, outputs, 500).expect(rt, "an input")
 }
 
-// A transaction that was encoded and decoded.
-fn decoded(rt: &impl Abort, alloc: Global, tx: &Tx) -> Tx {
-    let bytes = encode(alloc, tx).expect(rt, "memory");
+// A transaction that was copied, encoded and decoded.
+fn read_again(rt: &impl Abort, alloc: Global, tx: &Tx) -> Tx {
+    let copy = tx.copy().expect(rt, "memory");
+    let bytes = encode(alloc, &copy).expect(rt, "memory");
     decode(alloc, &bytes).expect(rt, "a transaction")
 }
 
@@ -84,17 +83,20 @@ fn stripped(rt: &impl Abort, alloc: Global, tx: &Tx) -> Tx {
     decode_stripped(alloc, &bytes).expect(rt, "a transaction")
 }
 
-// Whether a transaction of these sizes is encoded, decoded and copied, with and without witnesses.
-fn goes_round(rt: &impl Abort, alloc: Global, sizes: Sizes) -> bool {
-    let tx = transaction_of(rt, alloc, sizes);
-    let mut read = decoded(rt, alloc, &tx);
-    let copy = read.copy().expect(rt, "memory");
+// Whether a transaction is the same once it is read again, and then without its witnesses too.
+fn is_same_again(rt: &impl Abort, alloc: Global, tx: &Tx) -> bool {
+    let mut read = read_again(rt, alloc, tx);
+    let is_same = read.equals(tx);
     read.strip_witnesses();
-    let bare = stripped(rt, alloc, &copy);
-    copy.equals(&tx) && read.equals(&bare) && !bare.equals(&tx)
+    is_same && !read.equals(tx) && stripped(rt, alloc, tx).equals(&read)
 }
 
-const PLAIN: Sizes = Sizes {
+// Whether a transaction of these sizes is copied, encoded and decoded, with and without witnesses.
+fn goes_round(rt: &impl Abort, alloc: Global, sizes: &Sizes) -> bool {
+    is_same_again(rt, alloc, &transaction_of(rt, alloc, sizes))
+}
+
+pub(crate) const PLAIN: Sizes = Sizes {
     inputs: 1,
     outputs: 1,
     items: 1,
@@ -102,11 +104,36 @@ const PLAIN: Sizes = Sizes {
     script: 22,
 };
 
-// At lengths from small to large, in every part.
+// Sizes at each limit.
+const LIMITS: [Sizes; 3] = [
+    Sizes {
+        inputs: 4_000,
+        outputs: 4_000,
+        items: 1,
+        item: 1,
+        script: 22,
+    },
+    Sizes {
+        inputs: 1,
+        outputs: 1,
+        items: 1_001,
+        item: 0,
+        script: 22,
+    },
+    Sizes {
+        inputs: 1,
+        outputs: 1,
+        items: 1,
+        item: 10_000,
+        script: 10_000,
+    },
+];
+
+// At lengths from small to large, in every part, and at each limit.
 #[test]
 fn goes_round_in_every_shape(rt: HostRuntime) {
     for n in (1usize..=600).step_by(7) {
-        for sizes in [
+        let shapes = [
             Sizes { item: n, ..PLAIN },
             Sizes { script: n, ..PLAIN },
             Sizes { items: n, ..PLAIN },
@@ -115,32 +142,12 @@ fn goes_round_in_every_shape(rt: HostRuntime) {
                 outputs: n,
                 ..PLAIN
             },
-        ] {
+        ];
+        for sizes in &shapes {
             assert!(rt; goes_round(&rt, rt.alloc(), sizes), "{n}");
         }
     }
-}
-
-// At each limit.
-#[test]
-fn goes_round_at_the_limits(rt: HostRuntime) {
-    for sizes in [
-        Sizes {
-            inputs: 4_000,
-            outputs: 4_000,
-            ..PLAIN
-        },
-        Sizes {
-            items: 1_001,
-            item: 0,
-            ..PLAIN
-        },
-        Sizes {
-            item: 10_000,
-            script: 10_000,
-            ..PLAIN
-        },
-    ] {
+    for sizes in &LIMITS {
         assert!(rt; goes_round(&rt, rt.alloc(), sizes));
     }
 }
@@ -160,53 +167,24 @@ fn orders_outpoints(rt: HostRuntime) {
     assert!(rt; outpoint_of(0, 2, 256) < outpoint_of(1, 0, 0));
 }
 
-#[test]
-fn prints_every_fault(rt: HostRuntime) {
-    for (error, name) in [
-        (DecodeError::NoMemory, "NoMemory"),
-        (DecodeError::Truncated, "Truncated"),
-        (DecodeError::LongCount, "LongCount"),
-        (DecodeError::BadMarker, "BadMarker"),
-        (DecodeError::NoInputs, "NoInputs"),
-        (DecodeError::NoWitness, "NoWitness"),
-        (DecodeError::ValueTooLarge, "ValueTooLarge"),
-        (DecodeError::Trailing, "Trailing"),
-        (DecodeError::OverLimit, "OverLimit"),
-    ] {
-        assert_prints(&rt, rt.alloc(), &error, name);
-    }
-}
-
-#[test]
-fn prints_the_refusals_of_other_calls(rt: HostRuntime) {
-    let alloc = rt.alloc();
-    assert_prints(&rt, alloc, &EncodeError::NoMemory, "NoMemory");
-    assert_prints(&rt, alloc, &EncodeError::NoWitness, "NoWitness");
-    assert_prints(&rt, alloc, &LimitError::NoMemory, "NoMemory");
-    assert_prints(&rt, alloc, &LimitError::OverLimit, "OverLimit");
-    assert_prints(&rt, alloc, &FieldError::NoInputs, "NoInputs");
-    assert_prints(&rt, alloc, &FieldError::ValueTooLarge, "ValueTooLarge");
-    assert_prints(&rt, alloc, &FieldError::OverLimit, "OverLimit");
-}
-
 // The example in the documentation of `tx`.
 fn pays(alloc: Global, bytes: &[u8], value: u64) -> Result<bool, DecodeError> {
     let tx = decode(alloc, bytes)?;
     Ok(tx.outputs().iter().any(|output| output.value() == value))
 }
 
-// The bytes of a transaction whose outputs have the values 0 and 1.
-fn bytes_of_two_outputs(rt: &impl Abort, alloc: Global) -> Vec<u8> {
-    let sizes = Sizes {
-        outputs: 2,
-        ..PLAIN
-    };
-    encode(alloc, &transaction_of(rt, alloc, sizes)).expect(rt, "memory")
-}
+const TWO_OUTPUTS: Sizes = Sizes {
+    inputs: 1,
+    outputs: 2,
+    items: 1,
+    item: 1,
+    script: 22,
+};
 
+// The outputs have the values 0 and 1.
 #[test]
 fn finds_an_output_by_its_value(rt: HostRuntime) {
-    let bytes = bytes_of_two_outputs(&rt, rt.alloc());
-    let found = pays(rt.alloc(), &bytes, 1).expect(&rt, "a transaction");
-    assert!(rt; found);
+    let tx = transaction_of(&rt, rt.alloc(), &TWO_OUTPUTS);
+    let bytes = encode(rt.alloc(), &tx).expect(&rt, "memory");
+    assert!(rt; matches!(pays(rt.alloc(), &bytes, 1), Ok(true)));
 }

@@ -1,25 +1,35 @@
 // Worlds that begin.
 
-use crate::worlds::begin;
+use crate::worlds::{begin, begun};
 use chain::Coins;
+use std::alloc::Global;
+use std::process::Abort;
 use terms::Side;
+use world::World;
 use world::errors::WorldError;
+
+// Whether each side has so many channels, each with a grant of the chain that nobody spent.
+fn has_channels(rt: &impl Abort, world: &World, channels: u64) -> bool {
+    let unspent = world.chain().unspent().expect(rt, "memory");
+    world.book(Side::A).channel_count() == channels
+        && world.book(Side::B).channel_count() == channels
+        && world.chain().height() == 0
+        && unspent.count == channels
+        && unspent.value == 800_000
+}
 
 #[test]
 fn begins_with_8_channels_at_most(rt: HostRuntime) {
-    let world = begin(&rt, rt.alloc(), 8, 20_000_000).expect(&rt, "a world");
-    assert_eq!(rt; world.book(Side::A).channel_count(), 8);
-    assert_eq!(rt; world.book(Side::B).channel_count(), 8);
-    assert_eq!(rt; world.chain().height(), 0);
-    let unspent = world.chain().unspent().expect(&rt, "memory");
-    assert_eq!(rt; unspent.count, 8);
-    assert_eq!(rt; unspent.value, 800_000);
+    assert!(rt; has_channels(&rt, &begun(&rt, rt.alloc(), 8), 8));
+}
+
+// Why a world does not begin in which the sides cannot agree.
+fn refusal(rt: &impl Abort, alloc: Global, channels: usize) -> Option<WorldError> {
+    begin(rt, alloc, channels, 20_000_001).err()
 }
 
 #[test]
 fn begins_on_terms_that_can_be_agreed_on(rt: HostRuntime) {
-    let nine = begin(&rt, rt.alloc(), 9, 20_000_001);
-    assert!(rt; matches!(nine, Err(WorldError::OverLimit)));
-    let bad = begin(&rt, rt.alloc(), 2, 20_000_001);
-    assert!(rt; matches!(bad, Err(WorldError::BadTerms(0))));
+    assert!(rt; matches!(refusal(&rt, rt.alloc(), 9), Some(WorldError::OverLimit)));
+    assert!(rt; matches!(refusal(&rt, rt.alloc(), 2), Some(WorldError::BadTerms(0))));
 }

@@ -5,7 +5,7 @@ use claim::{Claim, Key, Place, Shell, Slot, accept};
 use filling::fill;
 use keys::{Base, Signer};
 use lists::ByteString;
-use paths::check;
+use paths::{Checked, check};
 use script::Script;
 use sighash::programs::script_hash_program;
 use std::alloc::Global;
@@ -14,10 +14,10 @@ use tx::{MAX_OUTPUTS, Tx, TxOut};
 use world::check_claimed;
 
 // A push of the key, and CHECKSIG.
-fn code_of(rt: &impl Abort, alloc: Global, key: &Key) -> Vec<u8> {
-    let mut code = Vec::from_slice(alloc, &[0x21]).expect(rt, "memory");
-    code.extend_from_slice(&key.bytes).expect(rt, "memory");
-    code.push(0xac).expect(rt, "memory");
+fn code_of(key: &Key) -> [u8; 35] {
+    let mut code = [0xac; 35];
+    code[0] = 0x21;
+    code[1..34].copy_from_slice(&key.bytes);
     code
 }
 
@@ -34,15 +34,27 @@ fn granted<C: Coins>(rt: &impl Abort, alloc: Global, chain: &mut C, code: &[u8])
     }
 }
 
-// The key's claim on that output.
+// The ways to spend by the script.
+fn checked(rt: &impl Abort, alloc: Global, code: &[u8]) -> Checked {
+    let script = Script::parse(alloc, code).expect(rt, "a script");
+    check(alloc, script).expect(rt, "paths")
+}
+
+// The key's claim on such an output.
 fn claim_on<C: Coins>(rt: &impl Abort, alloc: Global, chain: &mut C, key: &Key) -> Claim {
-    let code = code_of(rt, alloc, key);
-    let place = granted(rt, alloc, chain, &code);
-    let script = Script::parse(alloc, &code).expect(rt, "a script");
-    let checked = check(alloc, script).expect(rt, "paths");
+    let code = code_of(key);
     let mut slots = Vec::new(alloc);
     slots.push(Slot::Sig(*key)).expect(rt, "memory");
-    accept(alloc, checked, 0, slots, place, Shell::Open).expect(rt, "accepted")
+    let place = granted(rt, alloc, chain, &code);
+    let accepted = accept(
+        alloc,
+        checked(rt, alloc, &code),
+        0,
+        slots,
+        place,
+        Shell::Open,
+    );
+    accepted.expect(rt, "accepted")
 }
 
 // The transaction that spends it into one output.
@@ -55,37 +67,37 @@ fn filled(rt: &impl Abort, alloc: Global, claim: &Claim, signer: &Signer) -> Tx 
     filled.into_tx()
 }
 
-// The next block takes the transaction, and no later block does.
-fn connect<C: Coins>(rt: &impl Abort, alloc: Global, chain: &mut C, claim: &Claim, tx: &Tx) {
+// Whether the next block takes the transaction.
+fn connects<C: Coins>(rt: &impl Abort, alloc: Global, chain: &mut C, tx: &Tx) -> bool {
     let mut block = Vec::new(alloc);
-    block
-        .push(tx.copy().expect(rt, "memory"))
-        .expect(rt, "memory");
-    assert!(rt; chain.connect(block).is_ok());
-    assert_eq!(rt; check_claimed(chain, claim, tx, 0), Err(ChainError::Spent));
+    let copy = tx.copy().expect(rt, "memory");
+    block.push(copy).expect(rt, "memory");
+    chain.connect(block).is_ok()
 }
 
-// A claim's filling passes; an input index out of range does not.
-fn claims<C: Coins>(rt: &impl Abort, alloc: Global, chain: &mut C) {
+// A claim's filling passes; an input index out of range does not. The next block takes the filling, and no later block does.
+fn passes<C: Coins>(rt: &impl Abort, alloc: Global, chain: &mut C, claim: &Claim, tx: &Tx) -> bool {
+    check_claimed(chain, claim, tx, 0) == Ok(())
+        && check_claimed(chain, claim, tx, 1) == Err(ChainError::Unknown)
+        && connects(rt, alloc, chain, tx)
+        && check_claimed(chain, claim, tx, 0) == Err(ChainError::Spent)
+}
+
+fn passes_a_filling<C: Coins>(rt: &impl Abort, alloc: Global, chain: &mut C) -> bool {
     let signer = Signer::new(alloc, &[1; 32]);
     let claim = claim_on(rt, alloc, chain, &signer.base(Base::Payment));
     let tx = filled(rt, alloc, &claim, &signer);
-    assert_eq!(rt; check_claimed(chain, &claim, &tx, 0), Ok(()));
-    assert_eq!(rt;
-        check_claimed(chain, &claim, &tx, 1),
-        Err(ChainError::Unknown)
-    );
-    connect(rt, alloc, chain, &claim, &tx);
+    passes(rt, alloc, chain, &claim, &tx)
 }
 
 #[test]
 fn passes_a_filling_on_an_index(rt: HostRuntime) {
     let mut chain = Index::new(rt.alloc()).expect(&rt, "memory");
-    claims(&rt, rt.alloc(), &mut chain);
+    assert!(rt; passes_a_filling(&rt, rt.alloc(), &mut chain));
 }
 
 #[test]
 fn passes_a_filling_on_a_scan(rt: HostRuntime) {
     let mut chain = Scan::new(rt.alloc()).expect(&rt, "memory");
-    claims(&rt, rt.alloc(), &mut chain);
+    assert!(rt; passes_a_filling(&rt, rt.alloc(), &mut chain));
 }

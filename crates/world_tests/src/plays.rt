@@ -1,12 +1,11 @@
 // Events between two sides with one channel: an HTLC is offered, signed, fulfilled and signed again, with penalties kept in between.
 
-use crate::worlds::first_world;
-use book::errors::KeepError;
+use crate::worlds::begun;
 use scenario::Event;
+use std::alloc::Global;
 use std::process::Abort;
 use terms::Side;
 use updates::OwnUpdate;
-use world::errors::EventError;
 use world::{Outcome, World};
 
 // SHA-256 of 32 zero bytes (Python's hashlib).
@@ -35,25 +34,11 @@ const DELIVER_B: Event = Event::Deliver {
     channel: 0,
 };
 
-// From the offer until both sides have commitments with the HTLC, and revoked the ones before.
-const OFFERED: [Event; 8] = [
-    Event::Own {
-        side: Side::A,
-        channel: 0,
-        update: OwnUpdate::Offer {
-            amount: 10_000_000,
-            hash: HASH,
-            expiry: 5,
-        },
-    },
-    DELIVER_B,
-    SIGN_A,
-    DELIVER_B,
-    DELIVER_A,
-    SIGN_B,
-    DELIVER_A,
-    DELIVER_B,
-];
+const LOOK_A: Event = Event::Look { side: Side::A };
+
+const LOOK_B: Event = Event::Look { side: Side::B };
+
+const BLOCK: Event = Event::Blocks { count: 1 };
 
 const KEEP_A: Event = Event::Keep {
     side: Side::A,
@@ -88,158 +73,223 @@ const KEEP_B_EARLY: Event = Event::Keep {
     number: 2,
 };
 
+// Events that are played in one call, and how each outcome is printed; or the number of entries of both books then.
+#[derive(Clone, Copy)]
+enum Round {
+    Play(&'static [Event], &'static [&'static str]),
+    Entries(usize, usize),
+}
+
+// From the offer until both sides have commitments with the HTLC, and revoked the ones before.
+const OFFERED: Round = Round::Play(
+    &[
+        Event::Own {
+            side: Side::A,
+            channel: 0,
+            update: OwnUpdate::Offer {
+                amount: 10_000_000,
+                hash: HASH,
+                expiry: 5,
+            },
+        },
+        DELIVER_B,
+        SIGN_A,
+        DELIVER_B,
+        DELIVER_A,
+        SIGN_B,
+        DELIVER_A,
+        DELIVER_B,
+    ],
+    &["ok"; 8],
+);
+
 // The penalties of both revoked commitments are kept, and the HTLC is fulfilled.
-const FULFILLED: [Event; 8] = [
-    KEEP_A,
-    KEEP_B,
-    FULFIL,
-    DELIVER_A,
-    SIGN_B,
-    DELIVER_A,
-    DELIVER_B,
-    KEEP_B_NEXT,
-];
+const FULFILLED: Round = Round::Play(
+    &[
+        KEEP_A,
+        KEEP_B,
+        FULFIL,
+        DELIVER_A,
+        SIGN_B,
+        DELIVER_A,
+        DELIVER_B,
+        KEEP_B_NEXT,
+    ],
+    &["ok"; 8],
+);
 
 // A's commitment 1 is mined in the next block.
-const CLOSED: [Event; 2] = [
-    Event::Broadcast {
-        side: Side::A,
-        channel: 0,
-        number: 1,
-    },
-    Event::Blocks { count: 1 },
-];
+const CLOSED: Round = Round::Play(
+    &[
+        Event::Broadcast {
+            side: Side::A,
+            channel: 0,
+            number: 1,
+        },
+        BLOCK,
+    ],
+    &["ok", "ok height 1 txs 1"],
+);
 
-// B claims both outputs that it found.
-const RELEASED: [Event; 2] = [
-    Event::Take {
-        side: Side::B,
-        count: 2,
-    },
-    Event::Release {
-        side: Side::B,
-        count: 2,
-    },
-];
+fn is_printed(rt: &impl Abort, alloc: Global, outcome: &Outcome, text: &str) -> bool {
+    let printed = format!(in alloc; "{outcome}").expect(rt, "memory");
+    printed.as_str() == text
+}
 
-// Whether each of the events happens.
-fn happen(rt: &impl Abort, world: &mut World, events: &[Event]) -> bool {
-    for outcome in world.play(events).expect(rt, "memory") {
-        if matches!(outcome, Outcome::Refused(_)) {
+// Whether these are all the outcomes.
+fn are_printed(rt: &impl Abort, alloc: Global, outcomes: &[Outcome], texts: &[&str]) -> bool {
+    for (outcome, text) in outcomes.iter().zip(texts) {
+        if !is_printed(rt, alloc, outcome, text) {
             return false;
         }
     }
-    true
+    outcomes.len() == texts.len()
 }
 
-// The number of claims that become jobs of a side that looks.
-fn found(rt: &impl Abort, world: &mut World, side: Side) -> Option<u64> {
-    let outcomes = world.play(&[Event::Look { side }]).expect(rt, "memory");
-    match outcomes.first() {
-        Some(Outcome::Looked { claims }) => Some(*claims),
-        _ => None,
-    }
-}
-
-// The number of transactions in the new blocks.
-fn mined(rt: &impl Abort, world: &mut World, event: Event) -> Option<u64> {
-    let outcomes = world.play(&[event]).expect(rt, "memory");
-    match outcomes.first() {
-        Some(Outcome::Mined { txs, .. }) => Some(*txs),
-        _ => None,
-    }
-}
-
-// Why B keeps no penalties.
-fn keep_refusal(rt: &impl Abort, world: &mut World, event: Event) -> Option<KeepError> {
-    for outcome in world.play(&[event]).expect(rt, "memory") {
-        if let Outcome::Refused(EventError::Keep(error)) = outcome {
-            return Some(error);
+// Whether a round goes as it says.
+fn goes(rt: &impl Abort, alloc: Global, world: &mut World, round: &Round) -> bool {
+    match *round {
+        Round::Play(events, texts) => {
+            let outcomes = world.play(events).expect(rt, "memory");
+            are_printed(rt, alloc, &outcomes, texts)
+        }
+        Round::Entries(a, b) => {
+            world.book(Side::A).entries().len() == a && world.book(Side::B).entries().len() == b
         }
     }
-    None
 }
 
-#[test]
-fn plays_on_after_a_refusal(rt: HostRuntime) {
-    let events = [
+// Plays the rounds in a world of one channel.
+fn plays(rt: &impl Abort, alloc: Global, rounds: &[Round]) {
+    let mut world = begun(rt, alloc, 1);
+    for (index, round) in rounds.iter().enumerate() {
+        assert!(rt; goes(rt, alloc, &mut world, round), "round {index}");
+    }
+}
+
+const REFUSED: [Round; 1] = [Round::Play(
+    &[
         Event::Deliver {
             side: Side::A,
             channel: 1,
         },
-        Event::Deliver {
-            side: Side::A,
-            channel: 0,
-        },
+        DELIVER_A,
         Event::Blocks { count: 2 },
-        Event::Look { side: Side::B },
+        LOOK_B,
         Event::Reorg {
             depth: 2,
             forgotten: 0,
         },
-    ];
-    let mut world = first_world(&rt, rt.alloc());
-    let outcomes = world.play(&events).expect(&rt, "memory");
-    assert_eq!(rt; outcomes.len(), 5);
-    assert!(rt; matches!(outcomes[0], Outcome::Refused(EventError::NoSuchChannel)));
-    assert!(rt; matches!(outcomes[1], Outcome::Refused(EventError::NoMessage)));
-    assert!(rt; matches!(outcomes[2], Outcome::Mined { height: 2, txs: 0 }));
-    assert!(rt; matches!(outcomes[3], Outcome::Looked { claims: 0 }));
-    assert!(rt; matches!(outcomes[4], Outcome::Mined { height: 3, txs: 0 }));
+    ],
+    &[
+        "refused NoSuchChannel",
+        "refused NoMessage",
+        "ok height 2 txs 0",
+        "ok claims 0",
+        "ok height 3 txs 0",
+    ],
+)];
+
+#[test]
+fn plays_on_after_a_refusal(rt: HostRuntime) {
+    plays(&rt, rt.alloc(), &REFUSED);
 }
+
+const KEPT: [Round; 4] = [
+    OFFERED,
+    FULFILLED,
+    Round::Entries(8, 10),
+    Round::Play(
+        &[KEEP_B_NEXT, KEEP_B_EARLY],
+        &["refused AlreadyKept", "refused NotRevoked"],
+    ),
+];
 
 #[test]
 fn fulfils_an_htlc(rt: HostRuntime) {
-    let mut world = first_world(&rt, rt.alloc());
-    assert!(rt; happen(&rt, &mut world, &OFFERED));
-    assert!(rt; happen(&rt, &mut world, &FULFILLED));
-    assert_eq!(rt; world.book(Side::A).entries().len(), 8);
-    assert_eq!(rt; world.book(Side::B).entries().len(), 10);
-    let again = keep_refusal(&rt, &mut world, KEEP_B_NEXT);
-    assert!(rt; matches!(again, Some(KeepError::AlreadyKept)));
-    let early = keep_refusal(&rt, &mut world, KEEP_B_EARLY);
-    assert!(rt; matches!(early, Some(KeepError::NotRevoked)));
+    plays(&rt, rt.alloc(), &KEPT);
 }
 
 // A broadcasts a revoked commitment. Both sides' outputs, the HTLC, and the output of the HTLC's second stage are B's to claim. B finds them again after a reorganisation of that block.
+const CHEATED: [Round; 6] = [
+    OFFERED,
+    FULFILLED,
+    Round::Play(&[LOOK_B], &["ok claims 0"]),
+    CLOSED,
+    Round::Play(
+        &[LOOK_A, LOOK_B, LOOK_B, BLOCK, LOOK_B],
+        &[
+            "ok claims 0",
+            "ok claims 4",
+            "ok claims 0",
+            "ok height 2 txs 0",
+            "ok claims 0",
+        ],
+    ),
+    Round::Play(
+        &[
+            Event::Reorg {
+                depth: 1,
+                forgotten: 0,
+            },
+            LOOK_B,
+            Event::Reorg {
+                depth: 3,
+                forgotten: 0,
+            },
+            LOOK_B,
+        ],
+        &[
+            "ok height 3 txs 0",
+            "ok claims 0",
+            "ok height 4 txs 1",
+            "ok claims 4",
+        ],
+    ),
+];
+
 #[test]
 fn finds_a_penalty_set(rt: HostRuntime) {
-    let mut world = first_world(&rt, rt.alloc());
-    assert!(rt; happen(&rt, &mut world, &OFFERED));
-    assert!(rt; happen(&rt, &mut world, &FULFILLED));
-    assert_eq!(rt; found(&rt, &mut world, Side::B), Some(0));
-    assert!(rt; happen(&rt, &mut world, &CLOSED));
-    assert_eq!(rt; found(&rt, &mut world, Side::A), Some(0));
-    assert_eq!(rt; found(&rt, &mut world, Side::B), Some(4));
-    assert_eq!(rt; found(&rt, &mut world, Side::B), Some(0));
-    assert_eq!(rt; mined(&rt, &mut world, Event::Blocks { count: 1 }), Some(0));
-    assert_eq!(rt; found(&rt, &mut world, Side::B), Some(0));
-    let newest = Event::Reorg {
-        depth: 1,
-        forgotten: 0,
-    };
-    assert_eq!(rt; mined(&rt, &mut world, newest), Some(0));
-    assert_eq!(rt; found(&rt, &mut world, Side::B), Some(0));
-    let all = Event::Reorg {
-        depth: 3,
-        forgotten: 0,
-    };
-    assert_eq!(rt; mined(&rt, &mut world, all), Some(1));
-    assert_eq!(rt; found(&rt, &mut world, Side::B), Some(4));
+    plays(&rt, rt.alloc(), &CHEATED);
 }
 
 // A broadcasts its newest commitment, with an HTLC that B fulfils after it looked. With the preimage, B finds the HTLC's claim in the next block, and releases both claims.
+const CLAIMED: [Round; 3] = [
+    OFFERED,
+    CLOSED,
+    Round::Play(
+        &[
+            LOOK_A,
+            LOOK_B,
+            FULFIL,
+            LOOK_B,
+            BLOCK,
+            LOOK_B,
+            Event::Take {
+                side: Side::B,
+                count: 2,
+            },
+            Event::Release {
+                side: Side::B,
+                count: 2,
+            },
+            BLOCK,
+        ],
+        &[
+            "ok claims 3",
+            "ok claims 1",
+            "ok",
+            "ok claims 0",
+            "ok height 2 txs 0",
+            "ok claims 1",
+            "ok",
+            "ok",
+            "ok height 3 txs 1",
+        ],
+    ),
+];
+
 #[test]
 fn finds_a_claim_by_a_preimage(rt: HostRuntime) {
-    let mut world = first_world(&rt, rt.alloc());
-    assert!(rt; happen(&rt, &mut world, &OFFERED));
-    assert!(rt; happen(&rt, &mut world, &CLOSED));
-    assert_eq!(rt; found(&rt, &mut world, Side::A), Some(3));
-    assert_eq!(rt; found(&rt, &mut world, Side::B), Some(1));
-    assert!(rt; happen(&rt, &mut world, &[FULFIL]));
-    assert_eq!(rt; found(&rt, &mut world, Side::B), Some(0));
-    assert!(rt; happen(&rt, &mut world, &[Event::Blocks { count: 1 }]));
-    assert_eq!(rt; found(&rt, &mut world, Side::B), Some(1));
-    assert!(rt; happen(&rt, &mut world, &RELEASED));
-    assert_eq!(rt; mined(&rt, &mut world, Event::Blocks { count: 1 }), Some(1));
+    plays(&rt, rt.alloc(), &CLAIMED);
 }

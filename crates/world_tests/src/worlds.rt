@@ -7,7 +7,7 @@ use terms::{ProposedParty, ProposedTerms, Side};
 use world::World;
 use world::errors::WorldError;
 
-const SEEDS: Seeds = Seeds {
+pub(crate) const SEEDS: Seeds = Seeds {
     a: [0x0a; 32],
     b: [0x0b; 32],
 };
@@ -47,7 +47,7 @@ pub(crate) fn begin(
     World::new(alloc, &SEEDS, &all)
 }
 
-// A world of one channel.
-pub(crate) fn first_world(rt: &impl Abort, alloc: Global) -> World {
-    begin(rt, alloc, 1, 20_000_000).expect(rt, "a world")
+// A world whose sides can agree.
+pub(crate) fn begun(rt: &impl Abort, alloc: Global, channels: usize) -> World {
+    begin(rt, alloc, channels, 20_000_000).expect(rt, "a world")
 }
