@@ -1,7 +1,7 @@
 // The output that is claimed, the one thing that is wrong, and the
 // height of the block.
 
-use std::fmt;
+use page::Page;
 
 /// An output of a form, and the way in which it is claimed.
 #[derive(Clone, Copy)]
@@ -57,9 +57,10 @@ pub struct Case {
     pub height: u64,
 }
 
-impl fmt::Display for Claimed {
-    fn fmt<W: fmt::Write>(&self, f: &mut fmt::Formatter<W>) -> fmt::Result {
-        f.write_str(match self {
+impl Claimed {
+    /// The name of the output's claim.
+    fn name(self) -> &'static str {
+        match self {
             Claimed::Penalty => "penalty",
             Claimed::Delayed => "delayed",
             Claimed::OfferedPenalty => "penalty of an offered HTLC",
@@ -70,13 +71,14 @@ impl fmt::Display for Claimed {
             Claimed::HtlcTimeout => "HTLC-timeout",
             Claimed::HtlcSuccess => "HTLC-success",
             Claimed::Funding => "funding",
-        })
+        }
     }
 }
 
-impl fmt::Display for Slip {
-    fn fmt<W: fmt::Write>(&self, f: &mut fmt::Formatter<W>) -> fmt::Result {
-        f.write_str(match self {
+impl Slip {
+    /// What is wrong, as it follows the claim's name.
+    fn name(self) -> &'static str {
+        match self {
             Slip::None => "",
             Slip::OtherSigner => ", another signer",
             Slip::OtherPreimage => ", another preimage",
@@ -89,12 +91,16 @@ impl fmt::Display for Slip {
             Slip::OtherFlag => ", an empty item on top",
             Slip::TimeLock => ", a lock time of 500000000",
             Slip::GreaterOutputs => ", outputs of a satoshi more",
-        })
+        }
     }
 }
 
-impl fmt::Display for Case {
-    fn fmt<W: fmt::Write>(&self, f: &mut fmt::Formatter<W>) -> fmt::Result {
-        write!(f, "{}{} in block {}", self.claimed, self.slip, self.height)
+impl Case {
+    /// Writes what is tried.
+    pub fn write(&self, page: &mut Page) {
+        page.push(self.claimed.name());
+        page.push(self.slip.name());
+        page.count(" in block ", self.height);
+        page.push(": ");
     }
 }

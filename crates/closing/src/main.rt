@@ -8,9 +8,9 @@
 //! facts and refusals as `docs/` has them.
 #![tactic(auto)]
 
+mod attempts;
 mod cases;
 mod funded;
-mod outcomes;
 mod parties;
 mod playing;
 mod shapes;
@@ -18,17 +18,27 @@ mod slips;
 mod tables;
 mod together;
 
-use anyhow::Result;
+use page::Page;
 use parties::Parties;
+use std::process::ExitCode;
 
-/// Prints the results of all claims.
-fn show_all<R: Print + AllocGlobal>(rt: &R, parties: &Parties) -> Result<()> {
-    tables::show_all(rt, parties)?;
-    together::show_all(rt, parties)?;
-    shapes::show_all(rt, parties)
+/// Shows the results of all claims.
+fn show_all(page: &mut Page, parties: &Parties) {
+    tables::show_all(page, parties);
+    together::show_all(page, parties);
+    shapes::show_all(page, parties);
 }
 
-fn main(rt: HostRuntime) -> Result<()> {
-    let parties = Parties::new(rt.alloc())?;
-    show_all(&rt, &parties)
+/// Makes both sides, and shows the results of all claims.
+fn show_new(page: &mut Page) {
+    match Parties::new(page.alloc()) {
+        Some(parties) => show_all(page, &parties),
+        None => page.fail(),
+    }
+}
+
+fn main(rt: HostRuntime) -> ExitCode {
+    let mut page = Page::new(rt.alloc());
+    show_new(&mut page);
+    page.print(&rt)
 }

@@ -1,6 +1,5 @@
 // The two sides of a channel, and the keys of one commitment.
 
-use anyhow::Result;
 use forms::{HtlcKeys, Patterns, patterns};
 use keys::{Base, Key, Signer, derive, point, revocation};
 use std::alloc::Global;
@@ -18,29 +17,30 @@ pub struct Parties {
     pub patterns: Patterns,
 }
 
-/// The signer of the commitment's owner.
-fn owner(alloc: Global) -> Result<Signer> {
-    let mut owner = Signer::new(alloc, &[1; 32]);
-    owner.learn_point(&point(&SECRET))?;
-    Ok(owner)
+/// A signer that has learnt the commitment's point, if there was memory.
+fn informed(mut signer: Signer) -> Signer {
+    let _ = signer.learn_point(&point(&SECRET));
+    signer
 }
 
-/// The signer of the peer, which learnt the secret.
-fn peer(alloc: Global) -> Result<Signer> {
-    let mut peer = Signer::new(alloc, &[2; 32]);
-    peer.learn_point(&point(&SECRET))?;
-    peer.learn_secret(&SECRET)?;
-    Ok(peer)
+/// A signer that has learnt the commitment's point and its secret, if there was memory.
+fn informed_of_secret(mut signer: Signer) -> Signer {
+    let _ = signer.learn_point(&point(&SECRET));
+    let _ = signer.learn_secret(&SECRET);
+    signer
 }
 
 impl Parties {
     /// Both sides, with what they learnt.
-    pub fn new(alloc: Global) -> Result<Parties> {
-        Ok(Parties {
-            owner: owner(alloc)?,
-            peer: peer(alloc)?,
-            patterns: patterns(alloc)?,
-        })
+    pub fn new(alloc: Global) -> Option<Parties> {
+        match patterns(alloc) {
+            Ok(patterns) => Some(Parties {
+                owner: informed(Signer::new(alloc, &[1; 32])),
+                peer: informed_of_secret(Signer::new(alloc, &[2; 32])),
+                patterns,
+            }),
+            Err(_) => None,
+        }
     }
 
     /// The commitment's delayed key.

@@ -3,7 +3,7 @@
 use crate::cases::{Case, Claimed, Slip};
 use crate::parties::Parties;
 use crate::playing::play;
-use anyhow::Result;
+use page::Page;
 
 /// The outputs that are claimed, in order.
 const CLAIMED: [Claimed; 10] = [
@@ -87,24 +87,22 @@ fn tries_of(claimed: Claimed) -> &'static [(Slip, u64)] {
     }
 }
 
-/// Prints the result of each try of a claim.
-fn show<R: Print + AllocGlobal>(rt: &R, parties: &Parties, claimed: Claimed) -> Result<()> {
+/// Shows the result of each try of a claim.
+fn show(page: &mut Page, parties: &Parties, claimed: Claimed) {
     for (slip, height) in tries_of(claimed) {
         let case = Case {
             claimed,
             slip: *slip,
             height: *height,
         };
-        let outcome = play(rt.alloc(), parties, &case)?;
-        println!(rt; "{case}: {outcome}")?;
+        case.write(page);
+        play(page, parties, &case);
     }
-    Ok(())
 }
 
-/// Prints the results of all claims.
-pub fn show_all<R: Print + AllocGlobal>(rt: &R, parties: &Parties) -> Result<()> {
+/// Shows the results of all claims.
+pub fn show_all(page: &mut Page, parties: &Parties) {
     for claimed in &CLAIMED {
-        show(rt, parties, *claimed)?;
+        show(page, parties, *claimed);
     }
-    Ok(())
 }

@@ -7,49 +7,77 @@
 
 mod chains;
 
-use anyhow::Result;
 use enforce_words::run_words;
-use std::alloc::Global;
-use std::io::Write;
+use page::Page;
+use std::io;
+use std::process::ExitCode;
 
-/// What to print for a scenario.
-#[derive(Clone, Copy, PartialEq, Eq)]
-enum Shown {
-    Lines,
-    Chains,
-}
-
-/// Prints what `enforce run` prints.
-fn show_lines<W: Write>(alloc: Global, out: &mut W, line: &str) -> Result<()> {
-    let mut words = Vec::new(alloc);
-    words.push(String::from_str(alloc, "run")?)?;
-    let mut err: Vec<u8> = Vec::new(alloc);
-    let status = run_words(alloc, &words, &mut line.as_bytes(), out, &mut err);
-    writeln!(out, "status {status}")?;
-    Ok(())
-}
-
-/// Reads a line.
-fn read<W: Write>(alloc: Global, out: &mut W, shown: &mut Shown, line: &str) -> Result<()> {
-    if line.starts_with("== ") {
-        *shown = match line {
-            "== chains" => Shown::Chains,
-            _ => Shown::Lines,
-        };
-        writeln!(out, "{line}")?;
-        return Ok(());
-    }
-    match shown {
-        Shown::Lines => show_lines(alloc, out, line),
-        Shown::Chains => chains::show(alloc, out, line),
+/// Shows bytes that are text.
+fn show_bytes(page: &mut Page, bytes: &[u8]) {
+    match str::from_utf8(bytes) {
+        Ok(text) => page.push(text),
+        Err(_) => page.fail(),
     }
 }
 
-fn main(rt: HostRuntime) -> Result<()> {
-    let alloc = rt.alloc();
-    let mut shown = Shown::Lines;
-    for line in rt.lines(alloc) {
-        read(alloc, &mut rt.stdout(), &mut shown, line?.as_str())?;
+/// Shows what `enforce` prints for these words and this input.
+fn show_words(page: &mut Page, words: &[String], input: &str) {
+    let mut out: Vec<u8> = Vec::new(page.alloc());
+    let mut err: Vec<u8> = Vec::new(page.alloc());
+    let status = run_words(
+        page.alloc(),
+        words,
+        &mut input.as_bytes(),
+        &mut out,
+        &mut err,
+    );
+    show_bytes(page, out.as_slice());
+    page.count("status ", u64::from(status));
+    page.push("\n");
+}
+
+/// Shows what `enforce run` prints.
+fn show_run(page: &mut Page, line: &str) {
+    match String::from_str(page.alloc(), "run") {
+        Ok(run) => show_words(page, &[run], line),
+        Err(_) => page.fail(),
     }
-    Ok(())
+}
+
+/// Shows the lines of a part.
+fn show_lines(page: &mut Page, name: &str, lines: &str) {
+    for line in lines.lines() {
+        if name == "chains" {
+            chains::show(page, line);
+        } else {
+            show_run(page, line);
+        }
+    }
+}
+
+/// Shows a part, which begins with its name in a line.
+fn show_part(page: &mut Page, part: &str) {
+    let (name, lines) = part.split_once('\n').unwrap_or((part, ""));
+    page.push("== ");
+    page.push(name);
+    page.push("\n");
+    show_lines(page, name, lines);
+}
+
+/// Shows all parts.
+fn show_all(page: &mut Page, input: &str) {
+    for part in input.split("== ") {
+        if !part.is_empty() {
+            show_part(page, part);
+        }
+    }
+}
+
+fn main(rt: HostRuntime) -> ExitCode {
+    let mut page = Page::new(rt.alloc());
+    match io::read_to_string(rt.alloc(), rt.stdin()) {
+        Ok(input) => show_all(&mut page, input.as_str()),
+        Err(_) => page.fail(),
+    }
+    page.print(&rt)
 }

@@ -22,87 +22,65 @@ mod plays;
 mod publishing;
 mod transactions;
 
-use anyhow::{Result, bail};
-use paths::CheckedPattern;
-use plays::Peers;
+use page::Page;
+use std::io;
+use std::process::ExitCode;
 
-/// The kind of a part.
-#[derive(Clone, Copy, PartialEq, Eq)]
-enum Word {
-    Tx,
-    Patterns,
-    Penalties,
-    Commitments,
-    Channel,
-    Publishing,
-}
-
-/// The current part, and the state that its lines left.
-#[derive(Drop)]
-struct Reading {
-    word: Word,
-    /// The pattern that was read last.
-    pattern: Option<CheckedPattern>,
-    /// The two peers of the channel.
-    peers: Peers,
-}
-
-/// The kind that a header names.
-fn word_of(name: &str) -> Result<Word> {
-    match name {
-        "tx" => Ok(Word::Tx),
-        "patterns" => Ok(Word::Patterns),
-        "penalties" => Ok(Word::Penalties),
-        "commitments" => Ok(Word::Commitments),
-        "channel" => Ok(Word::Channel),
-        "publishing" => Ok(Word::Publishing),
-        _ => bail!("no such word"),
+/// The number that a word names, or 0.
+fn number(word: Option<&str>) -> u64 {
+    match word {
+        Some(word) => word.parse().unwrap_or(0),
+        None => 0,
     }
 }
 
-/// Begins a part, and prints the output of a part without lines.
-fn begin<R: Print + AllocGlobal>(rt: &R, word: &mut Word, name: &str) -> Result<()> {
-    println!(rt; "== {name}")?;
-    *word = word_of(name)?;
-    if *word == Word::Publishing {
-        publishing::show_all(rt)?;
-    }
-    Ok(())
+/// The same, of 32 bits.
+fn short_number(word: Option<&str>) -> u32 {
+    u32::try_from(number(word)).unwrap_or(0)
 }
 
-/// Handles a line of a part.
-fn answer<R: Print + AllocGlobal>(rt: &R, reading: &mut Reading, line: &str) -> Result<()> {
-    match reading.word {
-        Word::Tx => transactions::show(rt, line),
-        Word::Patterns => patterns::show(rt, &mut reading.pattern, line),
-        Word::Penalties => penalty_sets::show(rt, line),
-        Word::Commitments => commitments::show(rt, line),
-        Word::Channel => plays::follow(rt, rt.alloc(), &mut reading.peers, line),
-        Word::Publishing => bail!("the word has no lines"),
-    }
-}
-
-/// Reads a line.
-fn read<R: Print + AllocGlobal>(rt: &R, reading: &mut Reading, line: &str) -> Result<()> {
-    match line.strip_prefix("== ") {
-        Some(name) => begin(rt, &mut reading.word, name),
-        None => answer(rt, reading, line),
+/// Shows the lines of a part.
+fn show_lines(page: &mut Page, name: &str, lines: &str) {
+    if name == "tx" {
+        transactions::show_all(page, lines);
+    } else if name == "patterns" {
+        patterns::show_all(page, lines);
+    } else if name == "penalties" {
+        penalty_sets::show_all(page, lines);
+    } else if name == "commitments" {
+        commitments::show_all(page, lines);
+    } else if name == "channel" {
+        plays::show_all(page, lines);
+    } else if name == "publishing" {
+        publishing::show_all(page);
+    } else {
+        page.fail();
     }
 }
 
-/// Reads all lines.
-fn read_all<R: Input + Print + AllocGlobal>(rt: &R, reading: &mut Reading) -> Result<()> {
-    for line in rt.lines(rt.alloc()) {
-        read(rt, reading, line?.as_str())?;
-    }
-    Ok(())
+/// Shows a part, which begins with its name in a line.
+fn show_part(page: &mut Page, part: &str) {
+    let (name, lines) = part.split_once('\n').unwrap_or((part, ""));
+    page.push("== ");
+    page.push(name);
+    page.push("\n");
+    show_lines(page, name, lines);
 }
 
-fn main(rt: HostRuntime) -> Result<()> {
-    let mut reading = Reading {
-        word: Word::Tx,
-        pattern: None,
-        peers: plays::open(rt.alloc())?,
-    };
-    read_all(&rt, &mut reading)
+/// Shows all parts.
+fn show_all(page: &mut Page, input: &str) {
+    for part in input.split("== ") {
+        if !part.is_empty() {
+            show_part(page, part);
+        }
+    }
+}
+
+fn main(rt: HostRuntime) -> ExitCode {
+    let mut page = Page::new(rt.alloc());
+    match io::read_to_string(rt.alloc(), rt.stdin()) {
+        Ok(input) => show_all(&mut page, input.as_str()),
+        Err(_) => page.fail(),
+    }
+    page.print(&rt)
 }

@@ -4,62 +4,61 @@
 //! A line has the owner, the number, the feerate, both balances in millisatoshis, and an HTLC in each further word: who offered it, its amount, its expiry, and
 //! a byte that is repeated 32 times as its preimage. The expected output is from an independent script.
 
-mod errors;
 mod printing;
 mod reading;
 mod spending;
 
-use anyhow::Result;
-use errors::LineError;
-use penalty::{PenaltySet, RevokedState, penalties};
-use printing::write_claims;
-use reading::{learnt, state_of};
-use spending::write_spends;
-use std::alloc::{AllocError, Global};
+use page::Page;
+use penalty::{PenaltySet, RevokedState, StateError, Terms, penalties};
+use printing::show_claims;
+use reading::{Offers, signer_of, state_of, terms};
+use spending::{spent, spent_twice};
 
-// Writes the claims on a state, and the transactions that take them.
-fn write_set(
-    alloc: Global,
-    state: &RevokedState,
-    set: &PenaltySet,
-    text: &mut String,
-) -> Result<(), LineError> {
-    write_claims(alloc, set, text)?;
-    let signer = learnt(alloc, state)?;
-    write_spends(alloc, set, &signer, text)?;
-    Ok(())
+/// Shows the transactions that take claims on a state.
+fn show_spends(page: &mut Page, state: &RevokedState, set: &PenaltySet) {
+    let mut signer = signer_of(page.alloc(), state.owner.other());
+    if set.claims().is_empty() || signer.learn_secret(&state.secret).is_err() {
+        return;
+    }
+    printing::show_spend(page, spent(page.alloc(), set, 0, &signer));
+    printing::show_spend(page, spent(page.alloc(), set, 1, &signer));
+    printing::show_spend(page, spent_twice(page.alloc(), set, &signer));
 }
 
-// Writes what a state lets claim.
-fn write_state(alloc: Global, state: &RevokedState, text: &mut String) -> Result<(), LineError> {
-    let set = penalties(alloc, state)?;
-    write_set(alloc, state, &set, text)
-}
-
-// The text of what a state lets claim.
-fn state_text(alloc: Global, state: &RevokedState) -> Result<String, LineError> {
-    let mut text = String::new(alloc);
-    write_state(alloc, state, &mut text)?;
-    Ok(text)
-}
-
-// The text of what a line's state lets claim.
-fn set_of(alloc: Global, line: &str) -> Result<String, LineError> {
-    let state = state_of(alloc, line)?;
-    state_text(alloc, &state)
-}
-
-// The output for a line.
-fn answer(alloc: Global, line: &str) -> Result<String, AllocError> {
-    match set_of(alloc, line) {
-        Ok(text) => Ok(text),
-        Err(refusal) => format!(in alloc; "refused {refusal}\n"),
+/// Shows what a state lets claim.
+fn show_state(page: &mut Page, state: &RevokedState) {
+    match penalties(page.alloc(), state) {
+        Ok(set) => {
+            show_claims(page, &set);
+            show_spends(page, state, &set);
+        }
+        Err(_) => page.fail(),
     }
 }
 
-/// Prints the output for a line.
-pub fn show<R: Print + AllocGlobal>(rt: &R, line: &str) -> Result<()> {
-    let text = answer(rt.alloc(), line)?;
-    print!(rt; "{text}")?;
-    Ok(())
+/// Shows what a state lets claim, or why there is none.
+fn show_read(page: &mut Page, state: Result<RevokedState, StateError>) {
+    match state {
+        Ok(state) => show_state(page, &state),
+        Err(refusal) => page.refuse(&refusal),
+    }
+}
+
+/// Shows what the state of a line lets claim.
+fn show_line(page: &mut Page, terms: &Terms, line: &str) {
+    let mut offers = Offers::new(page.alloc());
+    match offers.read(line) {
+        Some(head) => show_read(page, state_of(terms, &head, offers)),
+        None => page.push("refused BadLine\n"),
+    }
+}
+
+/// Shows all lines.
+pub fn show_all(page: &mut Page, lines: &str) {
+    let Some(terms) = terms(page.alloc()) else {
+        return page.fail();
+    };
+    for line in lines.lines() {
+        show_line(page, &terms, line);
+    }
 }

@@ -9,110 +9,154 @@ mod often;
 mod random;
 mod steps;
 
-use anyhow::Result;
-use channel::{CommitmentState, Pair};
+use channel::{CommitmentState, Pair, PairStep};
 use channel_sides::open_sides;
 use commit::{CommitmentOutput, build};
 use often::play_often;
+pub use often::play_words;
+use page::Page;
 use random::play_at_random;
 use std::alloc::Global;
 use steps::step_of;
 use terms::{Side, Terms};
 
+/// The preimage of every HTLC.
+const PREIMAGE: [u8; 32] = [9; 32];
+
 /// Two peers of a channel.
 #[derive(Drop)]
 pub struct Peers {
     terms: Terms,
-    pair: Pair,
+    pub pair: Pair,
 }
 
 /// Opens a channel of this capacity in satoshis, of which A and B have these millisatoshis.
-fn open_with(alloc: Global, capacity: u64, starts: [u64; 2]) -> Result<Peers> {
-    let sides = open_sides(alloc, capacity, starts)?;
-    Ok(Peers {
-        terms: sides.terms,
-        pair: Pair::new(alloc, sides.a, sides.b),
-    })
+fn open_with(alloc: Global, capacity: u64, starts: [u64; 2]) -> Option<Peers> {
+    match open_sides(alloc, capacity, starts) {
+        Ok(sides) => Some(Peers {
+            terms: sides.terms,
+            pair: Pair::new(alloc, sides.a, sides.b),
+        }),
+        Err(_) => None,
+    }
 }
 
 /// Opens a channel of 100,000 satoshis, of which A has 80,000.
-pub fn open(alloc: Global) -> Result<Peers> {
+pub fn open(alloc: Global) -> Option<Peers> {
     open_with(alloc, 100_000, [80_000_000, 20_000_000])
 }
 
-/// Opens a channel of this capacity in satoshis, of which each side has half.
-fn open_shared(alloc: Global, capacity: u64) -> Result<Peers> {
-    open_with(alloc, capacity, [capacity.saturating_mul(500); 2])
-}
-
-/// Prints the values of outputs.
-fn print_values(rt: &impl Print, outputs: &[CommitmentOutput]) -> Result<()> {
+/// Writes the values of outputs.
+fn write_values(page: &mut Page, outputs: &[CommitmentOutput]) {
     for output in outputs {
-        print!(rt; " {}", output.value)?;
+        page.count(" ", output.value);
     }
-    println!(rt; "")?;
-    Ok(())
+    page.push("\n");
 }
 
-/// Prints a commitment: its number, its owner and the values of its outputs.
-fn print_commitment(
-    rt: &impl Print,
-    alloc: Global,
-    terms: &Terms,
-    next: &CommitmentState,
-) -> Result<()> {
-    print!(rt; "commitment {} of {:?}:", next.number, next.owner)?;
-    let built = build(
-        alloc,
+/// Shows a commitment: its number, its owner and the values of its outputs.
+fn show_commitment(page: &mut Page, terms: &Terms, next: &CommitmentState) {
+    page.count("commitment ", next.number);
+    page.push(" of ");
+    page.debug(&next.owner);
+    page.push(":");
+    match build(
+        page.alloc(),
         terms,
         &next.view,
         next.owner,
         next.number,
         &next.point,
-    )?;
-    print_values(rt, built.outputs())
-}
-
-/// Prints the commitment that a side would sign next, if it may sign.
-fn print_next(rt: &impl Print, alloc: Global, peers: &Peers, side: Side) -> Result<()> {
-    match peers.pair.channel(side).ready() {
-        Ok(next) => print_commitment(rt, alloc, &peers.terms, &next),
-        Err(_) => Ok(()),
+    ) {
+        Ok(built) => write_values(page, built.outputs()),
+        Err(_) => page.fail(),
     }
 }
 
-/// Plays the step of a line, and prints its outcome.
-fn play_line(rt: &impl Print, alloc: Global, peers: &mut Peers, line: &str) -> Result<()> {
-    let step = step_of(line)?;
-    if line.ends_with("sign") {
-        print_next(rt, alloc, peers, step.side)?;
+/// Shows the commitment that a side would sign next, if it may sign.
+fn show_next(page: &mut Page, peers: &Peers, side: Side) {
+    if let Ok(next) = peers.pair.channel(side).ready() {
+        show_commitment(page, &peers.terms, &next);
     }
-    for outcome in peers.pair.play(&[step])? {
-        println!(rt; "{line}: {outcome:?}")?;
-    }
-    Ok(())
 }
 
-/// Plays this number of steps at random, and prints what each side would sign next.
-fn play_many(rt: &impl Print, alloc: Global, peers: &mut Peers, steps: u64) -> Result<()> {
-    play_at_random(rt, alloc, &mut peers.pair, steps)?;
-    print_next(rt, alloc, peers, Side::A)?;
-    print_next(rt, alloc, peers, Side::B)
+/// Plays a step, and shows its outcome.
+fn play_step(page: &mut Page, pair: &mut Pair, step: PairStep, line: &str) {
+    match pair.play(&[step]) {
+        Ok(outcomes) => {
+            for outcome in outcomes.as_slice() {
+                page.push(line);
+                page.push(": ");
+                page.debug(outcome);
+                page.push("\n");
+            }
+        }
+        Err(_) => page.fail(),
+    }
+}
+
+/// Plays the step of a line, and shows its outcome.
+fn play_line(page: &mut Page, peers: &mut Peers, line: &str) {
+    match step_of(line, &PREIMAGE) {
+        Some(step) => {
+            if line.ends_with("sign") {
+                show_next(page, peers, step.side);
+            }
+            play_step(page, &mut peers.pair, step, line);
+        }
+        None => page.fail(),
+    }
+}
+
+/// Plays this number of steps at random, and shows what each side would sign next.
+fn play_many(page: &mut Page, peers: &mut Peers, steps: u64) {
+    play_at_random(page, &mut peers.pair, steps);
+    show_next(page, peers, Side::A);
+    show_next(page, peers, Side::B);
 }
 
 /// Handles a line.
-pub fn follow(rt: &impl Print, alloc: Global, peers: &mut Peers, line: &str) -> Result<()> {
-    match line.split_once(' ') {
-        None => {
-            *peers = open(alloc)?;
-            Ok(())
+fn follow(page: &mut Page, peers: &mut Peers, line: &str) {
+    if let Some(steps) = line.strip_prefix("random ") {
+        play_many(page, peers, steps.parse().unwrap_or(0));
+    } else if let Some(words) = line.strip_prefix("repeat ") {
+        play_often(page, &mut peers.pair, &PREIMAGE, words);
+    } else {
+        play_line(page, peers, line);
+    }
+}
+
+/// Plays the lines of a channel.
+fn follow_all(page: &mut Page, peers: &mut Peers, lines: &str) {
+    for line in lines.lines() {
+        follow(page, peers, line);
+    }
+}
+
+/// Plays a channel, where it can be opened.
+fn play_channel(page: &mut Page, opened: Option<Peers>, lines: &str) {
+    match opened {
+        Some(mut peers) => follow_all(page, &mut peers, lines),
+        None => page.fail(),
+    }
+}
+
+/// Plays the lines after `open`: the rest of that line has the capacity, if it has any.
+fn play_opened(page: &mut Page, rest: &str, lines: &str) {
+    let opened = match rest.trim().parse::<u64>() {
+        Ok(capacity) => open_with(page.alloc(), capacity, [capacity.saturating_mul(500); 2]),
+        Err(_) => open(page.alloc()),
+    };
+    play_channel(page, opened, lines);
+}
+
+/// Plays all lines. Those before the first `open` play in a channel of 100,000 satoshis too.
+pub fn show_all(page: &mut Page, lines: &str) {
+    let (before, others) = lines.split_once("open").unwrap_or((lines, ""));
+    play_opened(page, "", before);
+    for group in others.split("open") {
+        if let Some((rest, lines)) = group.split_once('\n') {
+            play_opened(page, rest, lines);
         }
-        Some(("open", capacity)) => {
-            *peers = open_shared(alloc, capacity.parse()?)?;
-            Ok(())
-        }
-        Some(("random", steps)) => play_many(rt, alloc, peers, steps.parse()?),
-        Some(("repeat", words)) => play_often(rt, alloc, &mut peers.pair, words),
-        Some(_) => play_line(rt, alloc, peers, line),
     }
 }

@@ -3,80 +3,88 @@
 //!
 //! The expected output is from an independent model of BOLT 3 and BIP 143.
 
-mod playing;
-
-use anyhow::Result;
+use crate::plays::{Peers, open, play_words};
 use channel::Channel;
-use channel_sides::Sides;
-use playing::{PREIMAGE, played};
+use page::Page;
 use publish::{signed_commitment, signed_htlc_tx};
+use terms::Side;
 use tx::{Tx, encode};
 
 /// The greatest commitment number shown, and the number of HTLCs shown for each: one more than there are.
 const SHOWN: u64 = 3;
 
-/// Prints the bytes of a transaction.
-fn show_bytes<R: Print + AllocGlobal>(rt: &R, tx: &Tx) -> Result<()> {
-    let bytes = encode(rt.alloc(), tx)?;
-    println!(rt; "{}", hex::encode(rt.alloc(), &bytes)?)?;
-    Ok(())
-}
+/// The preimage of every HTLC.
+const PREIMAGE: [u8; 32] = [0; 32];
 
-/// Prints the bytes of a transaction, or `none`.
-fn show_tx<R: Print + AllocGlobal>(rt: &R, tx: Option<Tx>) -> Result<()> {
-    match tx {
-        None => println!(rt; "none")?,
-        Some(tx) => show_bytes(rt, &tx)?,
+/// A offers an HTLC, and one that both sides' commitments trim; B offers one. Then A signs, B signs, and A signs again.
+const OFFERS: &str =
+    "A offer 10000000 5, B deliver, A offer 1000000 6, B deliver, B offer 9000000 7, A deliver";
+
+const SIGNATURES: &str =
+    "A sign, B deliver, A deliver, B sign, A deliver, B deliver, A sign, B deliver, A deliver";
+
+/// Shows the bytes of a transaction.
+fn show_bytes(page: &mut Page, tx: &Tx) {
+    match encode(page.alloc(), tx) {
+        Ok(bytes) => page.hex("", bytes.as_slice()),
+        Err(_) => page.fail(),
     }
-    Ok(())
 }
 
-/// Prints the HTLC transaction of an HTLC, with these known preimages.
-fn show_htlc<R: Print + AllocGlobal>(
-    rt: &R,
-    channel: &Channel,
-    number: u64,
-    k: u64,
-    preimages: &[[u8; 32]],
-) -> Result<()> {
-    print!(rt;
-        "{:?} {number} HTLC {k}, preimages {}: ",
-        channel.side(),
-        preimages.len()
-    )?;
-    show_tx(
-        rt,
-        signed_htlc_tx(rt.alloc(), channel, number, k as usize, preimages)?,
-    )
-}
-
-/// Prints a commitment of a number with its HTLC transactions.
-fn show_commitment<R: Print + AllocGlobal>(rt: &R, channel: &Channel, number: u64) -> Result<()> {
-    print!(rt; "{:?} {number}: ", channel.side())?;
-    show_tx(rt, signed_commitment(rt.alloc(), channel, number)?)?;
-    for k in 0..SHOWN {
-        show_htlc(rt, channel, number, k, &[])?;
-        show_htlc(rt, channel, number, k, &[[1; 32], PREIMAGE])?;
+/// Shows the HTLC transaction of an HTLC, with these known preimages.
+fn show_htlc(page: &mut Page, channel: &Channel, number: u64, k: u64, preimages: &[[u8; 32]]) {
+    page.debug(&channel.side());
+    page.count(" ", number);
+    page.count(" HTLC ", k);
+    page.count(", preimages ", preimages.len() as u64);
+    page.push(": ");
+    match signed_htlc_tx(page.alloc(), channel, number, k as usize, preimages) {
+        Ok(Some(tx)) => show_bytes(page, &tx),
+        Ok(None) => page.push("none"),
+        Err(_) => page.fail(),
     }
-    Ok(())
+    page.push("\n");
 }
 
-/// Prints what a side can broadcast.
-fn show_side<R: Print + AllocGlobal>(rt: &R, channel: &Channel) -> Result<()> {
+/// Shows a commitment of a number.
+fn show_commitment(page: &mut Page, channel: &Channel, number: u64) {
+    page.debug(&channel.side());
+    page.count(" ", number);
+    page.push(": ");
+    match signed_commitment(page.alloc(), channel, number) {
+        Ok(Some(tx)) => show_bytes(page, &tx),
+        Ok(None) => page.push("none"),
+        Err(_) => page.fail(),
+    }
+    page.push("\n");
+}
+
+/// Shows what a side can broadcast.
+fn show_side(page: &mut Page, channel: &Channel) {
     for number in 0..=SHOWN {
-        show_commitment(rt, channel, number)?;
+        show_commitment(page, channel, number);
+        for k in 0..SHOWN {
+            show_htlc(page, channel, number, k, &[]);
+            show_htlc(page, channel, number, k, &[[1; 32], PREIMAGE]);
+        }
     }
-    Ok(())
 }
 
-/// Prints what both sides of a channel can broadcast.
-fn show_both<R: Print + AllocGlobal>(rt: &R, sides: &Sides) -> Result<()> {
-    show_side(rt, &sides.a)?;
-    show_side(rt, &sides.b)
+/// Plays the channel, and shows what both sides can broadcast.
+fn show_played(page: &mut Page, peers: &mut Peers) {
+    if play_words(page.alloc(), &mut peers.pair, &PREIMAGE, OFFERS) != 6
+        || play_words(page.alloc(), &mut peers.pair, &PREIMAGE, SIGNATURES) != 9
+    {
+        page.fail();
+    }
+    show_side(page, peers.pair.channel(Side::A));
+    show_side(page, peers.pair.channel(Side::B));
 }
 
-/// Plays the channel, and prints what both sides can broadcast.
-pub fn show_all<R: Print + AllocGlobal>(rt: &R) -> Result<()> {
-    let sides = played(rt.alloc())?;
-    show_both(rt, &sides)
+/// Shows what both sides of that channel can broadcast.
+pub fn show_all(page: &mut Page) {
+    match open(page.alloc()) {
+        Some(mut peers) => show_played(page, &mut peers),
+        None => page.fail(),
+    }
 }

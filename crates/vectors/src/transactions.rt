@@ -5,12 +5,13 @@
 //! The lines have published transactions, the examples of BIP 143, and transactions from an independent script. The expected output is what was published of them, or
 //! what that script says.
 
-use anyhow::Result;
+use crate::number;
+use page::Page;
 use sighash::digest_of;
-use std::alloc::{AllocError, Global};
+use std::alloc::Global;
 use tx::{Tx, decode, decode_stripped, encode, encode_stripped, txid};
 
-// The number of witness items of all inputs.
+/// The number of witness items of all inputs.
 fn item_count(tx: &Tx) -> u64 {
     let mut count = 0u64;
     for input in tx.inputs() {
@@ -19,7 +20,7 @@ fn item_count(tx: &Tx) -> u64 {
     count
 }
 
-// Whether `tx` writes these bytes for the transaction.
+/// Whether `tx` writes these bytes for the transaction.
 fn is_written(alloc: Global, bytes: &[u8], tx: &Tx) -> bool {
     match encode(alloc, tx) {
         Ok(written) => written.as_slice() == bytes,
@@ -27,100 +28,103 @@ fn is_written(alloc: Global, bytes: &[u8], tx: &Tx) -> bool {
     }
 }
 
-// The transaction without witnesses.
-fn bare_of(tx: &Tx) -> Result<Tx, AllocError> {
-    let mut bare = tx.copy()?;
-    bare.strip_witnesses();
-    Ok(bare)
+/// Whether a transaction is another one without its witnesses, with its id.
+fn is_bare(bare: &Tx, tx: &Tx) -> bool {
+    match tx.copy() {
+        Ok(mut copy) => {
+            copy.strip_witnesses();
+            bare.equals(&copy) && txid(bare) == txid(tx)
+        }
+        Err(_) => false,
+    }
 }
 
-// Whether these bytes are read as the transaction without witnesses, with the transaction's id.
-fn reads_bare(alloc: Global, stripped: &[u8], tx: &Tx) -> Result<bool, AllocError> {
-    let bare = bare_of(tx)?;
+/// Whether these bytes are read as the transaction without its witnesses.
+fn reads_bare(alloc: Global, stripped: &[u8], tx: &Tx) -> bool {
     match decode_stripped(alloc, stripped) {
-        Ok(read) => Ok(read.equals(&bare) && txid(&bare) == txid(tx)),
-        Err(_) => Ok(false),
+        Ok(bare) => is_bare(&bare, tx),
+        Err(_) => false,
     }
 }
 
-// Whether the transaction is written as these bytes again, and its stripped form is read as the transaction without witnesses.
-fn comes_back(alloc: Global, bytes: &[u8], tx: &Tx) -> Result<bool, AllocError> {
-    let stripped = encode_stripped(alloc, tx)?;
-    let reads = reads_bare(alloc, &stripped, tx)?;
-    Ok(reads && is_written(alloc, bytes, tx))
+/// Whether the transaction's stripped form is read as the transaction without its witnesses.
+fn comes_back(alloc: Global, tx: &Tx) -> bool {
+    match encode_stripped(alloc, tx) {
+        Ok(stripped) => reads_bare(alloc, stripped.as_slice(), tx),
+        Err(_) => false,
+    }
 }
 
-// The digest that a signature of an input signs, or why there is none.
-fn digest_text(
-    alloc: Global,
-    tx: &Tx,
-    index: usize,
-    code: &[u8],
-    value: u64,
-) -> Result<String, AllocError> {
+/// Shows the transaction with these bytes.
+fn show_tx(page: &mut Page, bytes: &[u8], tx: &Tx) {
+    page.hex("", &txid(tx));
+    page.count(" inputs ", tx.inputs().len() as u64);
+    page.count(" items ", item_count(tx));
+    page.count(" outputs ", tx.outputs().len() as u64);
+    let is_same = comes_back(page.alloc(), tx) && is_written(page.alloc(), bytes, tx);
+    page.push(if is_same { " back\n" } else { " changed\n" });
+}
+
+/// Shows the transaction that is read from these bytes.
+fn show_bytes(page: &mut Page, bytes: &[u8]) {
+    match decode(page.alloc(), bytes) {
+        Ok(tx) => show_tx(page, bytes, &tx),
+        Err(refusal) => page.refuse(&refusal),
+    }
+}
+
+/// Shows the transaction of a line.
+fn show_transaction(page: &mut Page, text: &str) {
+    match hex::decode(page.alloc(), text) {
+        Ok(bytes) => show_bytes(page, bytes.as_slice()),
+        Err(_) => page.push("refused BadHex\n"),
+    }
+}
+
+/// Shows the digest of an input with this script code and this value.
+fn show_digest(page: &mut Page, tx: &Tx, index: usize, code: &[u8], value: u64) {
     match digest_of(tx, index, code, value) {
-        Ok(digest) => hex::encode(alloc, digest),
-        Err(refusal) => format!(in alloc; "refused {refusal}"),
+        Ok(digest) => {
+            page.hex("", &digest);
+            page.push("\n");
+        }
+        Err(refusal) => page.refuse(&refusal),
     }
 }
 
-// The digest that a line of four words asks for, or why there is none.
-fn digest_line(
-    alloc: Global,
-    stripped: &str,
-    index: &str,
-    code: &str,
-    value: &str,
-) -> Result<String, AllocError> {
-    let (Ok(bytes), Ok(code)) = (hex::decode(alloc, stripped), hex::decode(alloc, code)) else {
-        return format!(in alloc; "refused BadHex");
-    };
-    let (Ok(index), Ok(value)) = (index.parse::<usize>(), value.parse::<u64>()) else {
-        return format!(in alloc; "refused BadNumber");
-    };
-    match decode_stripped(alloc, &bytes) {
-        Ok(tx) => digest_text(alloc, &tx, index, &code, value),
-        Err(refusal) => format!(in alloc; "refused {refusal}"),
+/// Shows the digest of an input of the transaction with these bytes.
+fn show_stripped(page: &mut Page, stripped: &[u8], index: usize, code: &[u8], value: u64) {
+    match decode_stripped(page.alloc(), stripped) {
+        Ok(tx) => show_digest(page, &tx, index, code, value),
+        Err(refusal) => page.refuse(&refusal),
     }
 }
 
-// The line that describes the transaction with these bytes.
-fn transaction_text(alloc: Global, bytes: &[u8], tx: &Tx) -> Result<String, AllocError> {
-    let id = hex::encode(alloc, txid(tx))?;
-    let (inputs, outputs) = (tx.inputs().len(), tx.outputs().len());
-    let items = item_count(tx);
-    let back = if comes_back(alloc, bytes, tx)? {
-        "back"
-    } else {
-        "changed"
-    };
-    format!(in alloc; "{id} inputs {inputs} items {items} outputs {outputs} {back}")
-}
-
-// The line that describes the transaction in a line, or why it is refused.
-fn transaction_line(alloc: Global, text: &str) -> Result<String, AllocError> {
-    let Ok(bytes) = hex::decode(alloc, text) else {
-        return format!(in alloc; "refused BadHex");
-    };
-    match decode(alloc, &bytes) {
-        Ok(tx) => transaction_text(alloc, &bytes, &tx),
-        Err(refusal) => format!(in alloc; "refused {refusal}"),
+/// The same, where the script code is in hexadecimal.
+fn show_coded(page: &mut Page, stripped: &[u8], index: usize, code: &str, value: u64) {
+    match hex::decode(page.alloc(), code) {
+        Ok(code) => show_stripped(page, stripped, index, code.as_slice(), value),
+        Err(_) => page.push("refused BadHex\n"),
     }
 }
 
-// The output for a line.
-fn line_of(alloc: Global, text: &str) -> Result<String, AllocError> {
-    let mut words = text.split(' ');
-    let first = words.next().unwrap_or("");
-    match (words.next(), words.next(), words.next()) {
-        (Some(index), Some(code), Some(value)) => digest_line(alloc, first, index, code, value),
-        _ => transaction_line(alloc, first),
+/// Shows the digest that a stripped transaction and further words ask for.
+fn show_asked(page: &mut Page, stripped: &str, words: &str) {
+    let (index, rest) = words.split_once(' ').unwrap_or((words, ""));
+    let (code, value) = rest.split_once(' ').unwrap_or((rest, ""));
+    let index = number(Some(index)) as usize;
+    match hex::decode(page.alloc(), stripped) {
+        Ok(bytes) => show_coded(page, bytes.as_slice(), index, code, number(Some(value))),
+        Err(_) => page.push("refused BadHex\n"),
     }
 }
 
-/// Prints the output for a line.
-pub fn show<R: Print + AllocGlobal>(rt: &R, line: &str) -> Result<()> {
-    let text = line_of(rt.alloc(), line)?;
-    println!(rt; "{text}")?;
-    Ok(())
+/// Shows all lines.
+pub fn show_all(page: &mut Page, lines: &str) {
+    for line in lines.lines() {
+        match line.split_once(' ') {
+            Some((stripped, words)) => show_asked(page, stripped, words),
+            None => show_transaction(page, line),
+        }
+    }
 }

@@ -1,46 +1,55 @@
 //! Claims as text.
 
+use super::spending::Spend;
 use claim::{Claim, Slot};
+use filling::FillError;
+use page::Page;
 use penalty::PenaltySet;
-use std::alloc::{AllocError, Global};
 
-// Writes a word, and then
-// bytes in hexadecimal.
-fn write_hex(alloc: Global, word: &str, bytes: &[u8], text: &mut String) -> Result<(), AllocError> {
-    text.push_str(word)?;
-    text.push_str(hex::encode(alloc, bytes)?.as_str())?;
-    Ok(())
-}
-
-fn write_slot(alloc: Global, slot: &Slot, text: &mut String) -> Result<(), AllocError> {
+fn write_slot(page: &mut Page, slot: &Slot) {
     match slot {
-        Slot::Sig(key) => write_hex(alloc, " sig:", &key.bytes, text),
-        Slot::Preimage(hash) => write_hex(alloc, " preimage:", hash, text),
-        Slot::Exact(item) => write_hex(alloc, " exact:", item.item.bytes(), text),
+        Slot::Sig(key) => page.hex(" sig:", &key.bytes),
+        Slot::Preimage(hash) => page.hex(" preimage:", hash),
+        Slot::Exact(item) => page.hex(" exact:", item.item.bytes()),
     }
 }
 
-fn write_claim(alloc: Global, claim: &Claim, text: &mut String) -> Result<(), AllocError> {
+/// Shows a claim.
+fn show_claim(page: &mut Page, claim: &Claim) {
     let place = claim.place();
-    write_hex(alloc, "", &place.outpoint.txid, text)?;
-    let (index, value) = (place.outpoint.index, place.value);
-    text.push_str(format!(in alloc; ":{index} value {value}")?.as_str())?;
-    write_hex(alloc, " program ", place.program.bytes(), text)?;
-    let path = claim.index();
-    text.push_str(format!(in alloc; " path {path}")?.as_str())?;
+    page.hex("", &place.outpoint.txid);
+    page.count(":", u64::from(place.outpoint.index));
+    page.count(" value ", place.value);
+    page.hex(" program ", place.program.bytes());
+    page.count(" path ", claim.index() as u64);
     for slot in claim.slots() {
-        write_slot(alloc, slot, text)?;
+        write_slot(page, slot);
     }
-    text.push_str("\n")
+    page.push("\n");
 }
 
-/// Writes the claims of
-/// a set, a line each.
-pub fn write_claims(alloc: Global, set: &PenaltySet, text: &mut String) -> Result<(), AllocError> {
-    let count = set.claims().len();
-    text.push_str(format!(in alloc; "claims {count}\n")?.as_str())?;
+/// Shows the claims of a set, a line each.
+pub fn show_claims(page: &mut Page, set: &PenaltySet) {
+    page.count("claims ", set.claims().len() as u64);
+    page.push("\n");
     for claim in set.claims() {
-        write_claim(alloc, claim, text)?;
+        show_claim(page, claim);
     }
-    Ok(())
+}
+
+/// Shows the parts of a transaction.
+fn show_parts(page: &mut Page, spend: &Spend) {
+    page.hex("filled ", &spend.id);
+    page.count(" inputs ", spend.inputs);
+    page.count(" lock ", u64::from(spend.lock_time));
+    page.hex(" bytes ", &spend.hash);
+    page.push("\n");
+}
+
+/// Shows the transaction that takes claims, or why there is none.
+pub fn show_spend(page: &mut Page, spend: Result<Spend, FillError>) {
+    match spend {
+        Ok(spend) => show_parts(page, &spend),
+        Err(refusal) => page.refuse(&refusal),
+    }
 }

@@ -1,99 +1,105 @@
 //! Transactions that take the outputs of a commitment.
 
 use claim::Claim;
-use filling::{FillError, Filled, fill};
+use filling::{FillError, fill};
 use keys::Signer;
 use lists::ByteString;
 use penalty::PenaltySet;
-use std::alloc::{AllocError, Global};
+use std::alloc::Global;
 use tx::{MAX_INPUTS, MAX_OUTPUTS, Tx, TxOut, encode, txid};
 
-// One output of this value, with an empty script.
-fn outputs_of(alloc: Global, value: u64) -> Result<Vec<TxOut>, FillError> {
-    let Ok(output) = TxOut::new(value, ByteString::new(alloc)) else {
-        return Err(FillError::OutputsExceed);
-    };
-    let mut outputs = Vec::new(alloc);
-    outputs.push(output)?;
-    Ok(outputs)
+/// What is shown of a transaction: its id, the number of its inputs, its lock time and the hash of its bytes.
+#[derive(Clone, Copy, Drop)]
+pub struct Spend {
+    pub id: [u8; 32],
+    pub inputs: u64,
+    pub lock_time: u32,
+    pub hash: [u8; 32],
 }
 
-// The filling of claims, with one output of this value.
+/// One output of this value, with an empty script.
+fn outputs_of(alloc: Global, value: u64) -> Vec<TxOut> {
+    let mut outputs = Vec::new(alloc);
+    if let Ok(output) = TxOut::new(value, ByteString::new(alloc)) {
+        let _ = outputs.push(output);
+    }
+    outputs
+}
+
+/// What is shown of a transaction.
+fn spend_of(alloc: Global, tx: &Tx) -> Result<Spend, FillError> {
+    match encode(alloc, tx) {
+        Ok(bytes) => Ok(Spend {
+            id: txid(tx),
+            inputs: tx.inputs().len() as u64,
+            lock_time: tx.lock_time(),
+            hash: digest::sha256d(bytes.as_slice()),
+        }),
+        Err(_) => Err(FillError::NoMemory),
+    }
+}
+
+/// The transaction that takes claims into these outputs, or why there is none.
 fn filled(
     alloc: Global,
     claims: &[&Claim],
-    value: u64,
+    outputs: Vec<TxOut>,
     signer: &Signer,
-) -> Result<Filled, FillError> {
-    let outputs = outputs_of(alloc, value)?;
+) -> Result<Spend, FillError> {
     if claims.is_empty() || claims.len() > MAX_INPUTS || outputs.len() > MAX_OUTPUTS {
         return Err(FillError::NoMemory);
     }
-    fill(alloc, claims, outputs, signer, &[])
-}
-
-// Writes the hash of a transaction's bytes.
-fn write_hash(alloc: Global, tx: &Tx, text: &mut String) -> Result<(), AllocError> {
-    let Ok(bytes) = encode(alloc, tx) else {
-        return text.push_str("none\n");
-    };
-    text.push_str(hex::encode(alloc, &digest::sha256d(&bytes))?.as_str())?;
-    text.push_str("\n")
-}
-
-// Writes the parts of a transaction.
-fn write_tx(alloc: Global, tx: &Tx, text: &mut String) -> Result<(), AllocError> {
-    let id = hex::encode(alloc, txid(tx))?;
-    let (inputs, lock_time) = (tx.inputs().len(), tx.lock_time());
-    text.push_str(format!(in alloc;
-        "filled {id} inputs {inputs} lock {lock_time} bytes "
-    )?.as_str())
-}
-
-fn write_refusal(alloc: Global, refusal: &FillError, text: &mut String) -> Result<(), AllocError> {
-    text.push_str(format!(in alloc; "refused {refusal}\n")?.as_str())
-}
-
-// Writes the transaction of a filling.
-fn write_filled(alloc: Global, filled: &Filled, text: &mut String) -> Result<(), AllocError> {
-    write_tx(alloc, filled.tx(), text)?;
-    write_hash(alloc, filled.tx(), text)
-}
-
-// Writes the transaction that takes claims into this value, or why there is none.
-fn write_filling(
-    alloc: Global,
-    claims: &[&Claim],
-    value: u64,
-    signer: &Signer,
-    text: &mut String,
-) -> Result<(), AllocError> {
-    match filled(alloc, claims, value, signer) {
-        Ok(filled) => write_filled(alloc, &filled, text),
-        Err(refusal) => write_refusal(alloc, &refusal, text),
+    match fill(alloc, claims, outputs, signer, &[]) {
+        Ok(filled) => spend_of(alloc, filled.tx()),
+        Err(refusal) => Err(refusal),
     }
 }
 
-/// Writes the transaction that takes the commitment's own outputs together; the same with one satoshi too many; and the first claim twice.
-pub fn write_spends(
-    alloc: Global,
-    set: &PenaltySet,
-    signer: &Signer,
-    text: &mut String,
-) -> Result<(), AllocError> {
-    let mut own = Vec::new(alloc);
+/// Whether a claim is on an output of the commitment itself, which the first claim is on.
+fn is_own(set: &PenaltySet, claim: &Claim) -> bool {
+    match set.claims().first() {
+        Some(first) => claim.outpoint().txid == first.outpoint().txid,
+        None => false,
+    }
+}
+
+/// The value of the commitment's own outputs.
+fn total(set: &PenaltySet) -> u64 {
     let mut total = 0u64;
-    let Some(first) = set.claims().first() else {
-        return Ok(());
-    };
-    // The commitment's own outputs are those with the same id as the first one.
     for claim in set.claims() {
-        if claim.outpoint().txid == first.outpoint().txid {
-            own.push(claim)?;
+        if is_own(set, claim) {
             total = total.saturating_add(claim.place().value);
         }
     }
-    write_filling(alloc, own.as_slice(), total, signer, text)?;
-    write_filling(alloc, own.as_slice(), total.saturating_add(1), signer, text)?;
-    write_filling(alloc, &[first, first], total, signer, text)
+    total
+}
+
+/// The transaction that takes the commitment's own outputs together, and this number of satoshis more than they are worth.
+pub fn spent(
+    alloc: Global,
+    set: &PenaltySet,
+    more: u64,
+    signer: &Signer,
+) -> Result<Spend, FillError> {
+    let mut own = Vec::new(alloc);
+    for claim in set.claims() {
+        if is_own(set, claim) && own.push(claim).is_err() {
+            return Err(FillError::NoMemory);
+        }
+    }
+    let outputs = outputs_of(alloc, total(set).saturating_add(more));
+    filled(alloc, own.as_slice(), outputs, signer)
+}
+
+/// The transaction that takes the first claim twice, into the same value.
+pub fn spent_twice(alloc: Global, set: &PenaltySet, signer: &Signer) -> Result<Spend, FillError> {
+    match set.claims().first() {
+        Some(first) => filled(
+            alloc,
+            &[first, first],
+            outputs_of(alloc, total(set)),
+            signer,
+        ),
+        None => Err(FillError::NoMemory),
+    }
 }

@@ -1,17 +1,19 @@
-//! Steps that are repeated in turn.
+//! Steps that are played in turn.
 
 use super::steps::step_of;
-use anyhow::{Context, Result};
 use channel::{Outcome, Pair, PairStep};
+use page::Page;
 use std::alloc::Global;
 
-/// The steps that words name, separated by commas.
-fn steps_of(alloc: Global, words: &str) -> Result<Vec<PairStep>> {
-    let mut steps = Vec::new(alloc);
+/// Appends the steps that words name, separated by commas. Returns whether all name one.
+fn push_steps(steps: &mut Vec<PairStep>, words: &str, preimage: &[u8; 32]) -> bool {
     for step in words.split(", ") {
-        steps.push(step_of(step)?)?;
+        match step_of(step, preimage) {
+            Some(step) if steps.push(step).is_ok() => {}
+            _ => return false,
+        }
     }
-    Ok(steps)
+    true
 }
 
 /// The number of steps that were done.
@@ -25,21 +27,44 @@ fn count_done(outcomes: &[Outcome]) -> u64 {
     done
 }
 
-/// Plays steps in turn, this number of
-/// times, and counts those that were done.
-fn play_times(pair: &mut Pair, steps: &[PairStep], times: u64) -> Result<u64> {
-    let mut done: u64 = 0;
-    for _ in 0..times {
-        let outcomes = pair.play(steps)?;
-        done = done.saturating_add(count_done(&outcomes));
+/// Plays steps in turn, and counts those that were done.
+fn play_once(pair: &mut Pair, steps: &[PairStep]) -> u64 {
+    match pair.play(steps) {
+        Ok(outcomes) => count_done(outcomes.as_slice()),
+        Err(_) => 0,
     }
-    Ok(done)
 }
 
-/// Plays what the words name, and prints how many steps were done.
-pub fn play_often(rt: &impl Print, alloc: Global, pair: &mut Pair, words: &str) -> Result<()> {
-    let (times, steps) = words.split_once(' ').context("no steps")?;
-    let done = play_times(pair, &steps_of(alloc, steps)?, times.parse()?)?;
-    println!(rt; "{words}: {done} done")?;
-    Ok(())
+/// Plays steps in turn, this number of times, and counts those that were done.
+fn play_times(pair: &mut Pair, steps: &[PairStep], times: u64) -> u64 {
+    let mut done: u64 = 0;
+    for _ in 0..times {
+        done = done.saturating_add(play_once(pair, steps));
+    }
+    done
+}
+
+/// Plays the steps that words name, this number of times, and counts those that were done. It plays none if some words name no step.
+fn play_named(alloc: Global, pair: &mut Pair, preimage: &[u8; 32], words: &str, times: u64) -> u64 {
+    let mut steps = Vec::new(alloc);
+    if push_steps(&mut steps, words, preimage) {
+        play_times(pair, steps.as_slice(), times)
+    } else {
+        0
+    }
+}
+
+/// Plays the steps that words name, and counts those that were done.
+pub fn play_words(alloc: Global, pair: &mut Pair, preimage: &[u8; 32], words: &str) -> u64 {
+    play_named(alloc, pair, preimage, words, 1)
+}
+
+/// Plays what the words name, and shows how many steps were done.
+pub fn play_often(page: &mut Page, pair: &mut Pair, preimage: &[u8; 32], words: &str) {
+    let (times, steps) = words.split_once(' ').unwrap_or((words, ""));
+    let times = times.parse().unwrap_or(0);
+    let done = play_named(page.alloc(), pair, preimage, steps, times);
+    page.push(words);
+    page.count(": ", done);
+    page.push(" done\n");
 }

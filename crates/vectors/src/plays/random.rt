@@ -1,9 +1,9 @@
 //! Random steps.
 
-use super::steps::PREIMAGE;
-use anyhow::Result;
+use super::PREIMAGE;
 use channel::{Action, Outcome, Pair, PairStep};
 use digest::sha256;
+use page::Page;
 use std::alloc::Global;
 use terms::Side;
 use updates::OwnUpdate;
@@ -31,10 +31,10 @@ impl Offers {
         }
     }
 
-    fn add(&mut self) -> Result<()> {
-        self.standing.push(self.made)?;
-        self.made = self.made.saturating_add(1);
-        Ok(())
+    /// Adds an HTLC, whose id is forgotten if there is no memory for it.
+    fn add(&mut self) {
+        let _ = self.standing.push(self.made);
+        count(&mut self.made);
     }
 
     fn remove(&mut self, id: u64) {
@@ -43,7 +43,7 @@ impl Offers {
 }
 
 /// The number of steps that were done, of each kind.
-#[derive(Clone, Copy, Debug, Default, Drop)]
+#[derive(Clone, Copy, Drop)]
 struct Counts {
     offers: u64,
     fulfilments: u64,
@@ -54,6 +54,17 @@ struct Counts {
     refused_deliveries: u64,
 }
 
+/// No steps.
+const NONE: Counts = Counts {
+    offers: 0,
+    fulfilments: 0,
+    failures: 0,
+    fees: 0,
+    signatures: 0,
+    deliveries: 0,
+    refused_deliveries: 0,
+};
+
 /// What was played so far.
 #[derive(Drop)]
 struct Game {
@@ -62,17 +73,43 @@ struct Game {
     counts: Counts,
 }
 
+/// Adds one.
+fn count(number: &mut u64) {
+    *number = number.saturating_add(1);
+}
+
+/// What a side does, chosen by a number, where `id` is of an HTLC of its peer. Mostly it
+/// receives; else it offers, removes, changes the feerate or signs.
+fn action_of(number: u64, rest: u64, id: u64) -> Action {
+    match number % 16 {
+        0 | 1 => Action::Own(OwnUpdate::Offer {
+            amount: rest,
+            hash: sha256(&PREIMAGE),
+            expiry: 500,
+        }),
+        2 => Action::Own(OwnUpdate::Fail { id }),
+        3 => Action::Own(OwnUpdate::Fulfil {
+            id,
+            preimage: PREIMAGE,
+        }),
+        4 => Action::Own(OwnUpdate::SetFee {
+            rate: 1000 + (rest % 1000) as u32,
+        }),
+        5 | 6 => Action::Sign,
+        _ => Action::Deliver,
+    }
+}
+
 impl Game {
-    fn new(alloc: Global) -> Game {
-        Game {
-            of_a: Offers::new(alloc),
-            of_b: Offers::new(alloc),
-            counts: Counts::default(),
+    /// The HTLCs of a side.
+    fn offers(&mut self, side: Side) -> &mut Offers {
+        match side {
+            Side::A => &mut self.of_a,
+            Side::B => &mut self.of_b,
         }
     }
 
-    /// The next step, chosen by a number. Mostly a side receives;
-    /// else it offers, removes, changes the feerate or signs.
+    /// The next step, chosen by a number.
     fn next_step(&self, number: u64) -> PairStep {
         let (side, theirs) = if number % 2 == 0 {
             (Side::A, &self.of_b)
@@ -80,77 +117,51 @@ impl Game {
             (Side::B, &self.of_a)
         };
         let rest = number >> 9;
-        let id = theirs.choose(rest);
-        let action = match (number >> 1) % 16 {
-            0 | 1 => Action::Own(OwnUpdate::Offer {
-                amount: rest,
-                hash: sha256(&PREIMAGE),
-                expiry: 500,
-            }),
-            2 => Action::Own(OwnUpdate::Fail { id }),
-            3 => Action::Own(OwnUpdate::Fulfil {
-                id,
-                preimage: PREIMAGE,
-            }),
-            4 => Action::Own(OwnUpdate::SetFee {
-                rate: 1000 + (rest % 1000) as u32,
-            }),
-            5 | 6 => Action::Sign,
-            _ => Action::Deliver,
-        };
-        PairStep { side, action }
-    }
-
-    /// Notes that an HTLC of the peer was removed.
-    fn remove(&mut self, side: Side, id: u64) {
-        match side {
-            Side::A => self.of_b.remove(id),
-            Side::B => self.of_a.remove(id),
+        PairStep {
+            side,
+            action: action_of(number >> 1, rest, theirs.choose(rest)),
         }
     }
 
     /// Notes an update of a side.
-    fn note_update(&mut self, side: Side, update: &OwnUpdate) -> Result<()> {
-        match *update {
+    fn note_update(&mut self, side: Side, update: OwnUpdate) {
+        match update {
             OwnUpdate::Offer { .. } => {
-                self.counts.offers = self.counts.offers.saturating_add(1);
-                match side {
-                    Side::A => self.of_a.add()?,
-                    Side::B => self.of_b.add()?,
-                }
+                count(&mut self.counts.offers);
+                self.offers(side).add();
             }
             OwnUpdate::Fulfil { id, .. } => {
-                self.counts.fulfilments = self.counts.fulfilments.saturating_add(1);
-                self.remove(side, id);
+                count(&mut self.counts.fulfilments);
+                self.offers(side.other()).remove(id);
             }
             OwnUpdate::Fail { id } => {
-                self.counts.failures = self.counts.failures.saturating_add(1);
-                self.remove(side, id);
+                count(&mut self.counts.failures);
+                self.offers(side.other()).remove(id);
             }
-            OwnUpdate::SetFee { .. } => self.counts.fees = self.counts.fees.saturating_add(1),
+            OwnUpdate::SetFee { .. } => count(&mut self.counts.fees),
         }
-        Ok(())
     }
 
     /// Notes a step that was done.
-    fn note(&mut self, step: &PairStep) -> Result<()> {
-        match &step.action {
-            Action::Own(update) => self.note_update(step.side, update)?,
-            Action::Sign => self.counts.signatures = self.counts.signatures.saturating_add(1),
-            Action::Deliver => self.counts.deliveries = self.counts.deliveries.saturating_add(1),
+    fn note_done(&mut self, step: PairStep) {
+        match step.action {
+            Action::Own(update) => self.note_update(step.side, update),
+            Action::Sign => count(&mut self.counts.signatures),
+            Action::Deliver => count(&mut self.counts.deliveries),
         }
-        Ok(())
     }
 
-    fn note_outcome(&mut self, step: &PairStep, outcome: &Outcome) -> Result<()> {
+    /// Notes the outcome of a step.
+    fn note(&mut self, step: PairStep, outcome: Outcome) {
         match outcome {
-            Outcome::Done => self.note(step)?,
-            Outcome::Refused(_) if matches!(&step.action, Action::Deliver) => {
-                self.counts.refused_deliveries = self.counts.refused_deliveries.saturating_add(1);
+            Outcome::Done => self.note_done(step),
+            Outcome::Refused(_) => {
+                if let Action::Deliver = step.action {
+                    count(&mut self.counts.refused_deliveries);
+                }
             }
-            _ => {}
+            Outcome::NoMessage => {}
         }
-        Ok(())
     }
 }
 
@@ -163,21 +174,42 @@ fn next_number(state: &mut u64) -> u64 {
 }
 
 /// Plays a step of a game, and notes its outcome.
-fn play_step(pair: &mut Pair, game: &mut Game, step: PairStep) -> Result<()> {
-    for outcome in pair.play(&[step])? {
-        game.note_outcome(&step, &outcome)?;
+fn play_step(pair: &mut Pair, game: &mut Game, step: PairStep) {
+    if let Ok(outcomes) = pair.play(&[step]) {
+        for outcome in outcomes.as_slice() {
+            game.note(step, *outcome);
+        }
     }
-    Ok(())
 }
 
-/// Plays this number of steps, and prints how many of each kind were done.
-pub fn play_at_random(rt: &impl Print, alloc: Global, pair: &mut Pair, steps: u64) -> Result<()> {
-    let mut game = Game::new(alloc);
+/// Plays this number of steps.
+fn play_steps(pair: &mut Pair, game: &mut Game, steps: u64) {
     let mut state = 1;
     for _ in 0..steps {
         let step = game.next_step(next_number(&mut state));
-        play_step(pair, &mut game, step)?;
+        play_step(pair, game, step);
     }
-    println!(rt; "{:?}", game.counts)?;
-    Ok(())
+}
+
+/// Shows how many steps of each kind were done.
+fn show_counts(page: &mut Page, counts: &Counts) {
+    page.count("Counts { offers: ", counts.offers);
+    page.count(", fulfilments: ", counts.fulfilments);
+    page.count(", failures: ", counts.failures);
+    page.count(", fees: ", counts.fees);
+    page.count(", signatures: ", counts.signatures);
+    page.count(", deliveries: ", counts.deliveries);
+    page.count(", refused_deliveries: ", counts.refused_deliveries);
+    page.push(" }\n");
+}
+
+/// Plays this number of steps, and shows how many of each kind were done.
+pub fn play_at_random(page: &mut Page, pair: &mut Pair, steps: u64) {
+    let mut game = Game {
+        of_a: Offers::new(page.alloc()),
+        of_b: Offers::new(page.alloc()),
+        counts: NONE,
+    };
+    play_steps(pair, &mut game, steps);
+    show_counts(page, &game.counts);
 }

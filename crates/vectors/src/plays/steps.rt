@@ -1,57 +1,70 @@
 //! Steps, as words name them.
 
-use anyhow::{Result, bail};
+use crate::{number, short_number};
 use channel::{Action, PairStep};
 use digest::sha256;
 use terms::Side;
 use updates::OwnUpdate;
 
-/// The preimage of every HTLC.
-pub const PREIMAGE: [u8; 32] = [9; 32];
+/// An offer of an amount in millisatoshis, up to an expiry.
+fn offer_of(words: &str, preimage: &[u8; 32]) -> OwnUpdate {
+    let (amount, expiry) = words.split_once(' ').unwrap_or((words, ""));
+    OwnUpdate::Offer {
+        amount: number(Some(amount)),
+        hash: sha256(preimage),
+        expiry: short_number(Some(expiry)),
+    }
+}
 
-/// The update that a step's words name:
-/// its name, and the words after it.
-fn update_of(name: &str, first: Option<&str>, second: Option<&str>) -> Result<OwnUpdate> {
-    let update = match (name, first, second) {
-        ("offer", Some(amount), Some(expiry)) => OwnUpdate::Offer {
-            amount: amount.parse()?,
-            hash: sha256(&PREIMAGE),
-            expiry: expiry.parse()?,
-        },
-        ("fulfil", Some(id), None) => OwnUpdate::Fulfil {
-            id: id.parse()?,
-            preimage: PREIMAGE,
-        },
-        ("fail", Some(id), None) => OwnUpdate::Fail { id: id.parse()? },
-        ("fee", Some(rate), None) => OwnUpdate::SetFee {
-            rate: rate.parse()?,
-        },
-        _ => bail!("no such action"),
-    };
-    Ok(update)
+/// The update of a name and the words after it. Its HTLCs have this preimage.
+fn update_of(name: &str, words: &str, preimage: &[u8; 32]) -> Option<OwnUpdate> {
+    if name == "offer" {
+        Some(offer_of(words, preimage))
+    } else if name == "fulfil" {
+        Some(OwnUpdate::Fulfil {
+            id: number(Some(words)),
+            preimage: *preimage,
+        })
+    } else if name == "fail" {
+        Some(OwnUpdate::Fail {
+            id: number(Some(words)),
+        })
+    } else if name == "fee" {
+        Some(OwnUpdate::SetFee {
+            rate: short_number(Some(words)),
+        })
+    } else {
+        None
+    }
 }
 
 /// What the words after a step's side name.
-fn action_of(words: &str) -> Result<Action> {
-    let mut words = words.split(' ');
-    let action = match (words.next(), words.next(), words.next()) {
-        (Some("sign"), None, None) => Action::Sign,
-        (Some("deliver"), None, None) => Action::Deliver,
-        (Some(name), first, second) => Action::Own(update_of(name, first, second)?),
-        _ => bail!("no such action"),
-    };
-    Ok(action)
+fn action_of(words: &str, preimage: &[u8; 32]) -> Option<Action> {
+    if words == "sign" {
+        return Some(Action::Sign);
+    }
+    if words == "deliver" {
+        return Some(Action::Deliver);
+    }
+    let (name, rest) = words.split_once(' ')?;
+    Some(Action::Own(update_of(name, rest, preimage)?))
 }
 
-/// The step that a line names.
-pub fn step_of(line: &str) -> Result<PairStep> {
-    let (side, words) = match line.split_once(' ') {
-        Some(("A", words)) => (Side::A, words),
-        Some(("B", words)) => (Side::B, words),
-        _ => bail!("no such side"),
-    };
-    Ok(PairStep {
-        side,
-        action: action_of(words)?,
-    })
+/// The step that words name.
+pub fn step_of(words: &str, preimage: &[u8; 32]) -> Option<PairStep> {
+    let (name, rest) = words.split_once(' ')?;
+    let action = action_of(rest, preimage)?;
+    if name == "A" {
+        Some(PairStep {
+            side: Side::A,
+            action,
+        })
+    } else if name == "B" {
+        Some(PairStep {
+            side: Side::B,
+            action,
+        })
+    } else {
+        None
+    }
 }
