@@ -1,8 +1,8 @@
 //! The program `trace` explains scripts, and who can spend an output to one, what becomes of the inputs of a transaction,
-//! and what each event of a scenario changes, for programs and for people.
+//! what each event of a scenario changes, and what a book has, for programs and for people.
 //!
-//! `trace_words`, `trace_witness` and `trace_scenario` do what the words say, and return a status of at most 2. This file
-//! has only the streams and the arguments.
+//! `trace_words`, `trace_witness`, `trace_scenario` and `trace_dump` do what the words say, and return a status of at most
+//! 2. This file has only the streams and the arguments.
 #![tactic(auto)]
 
 use std::alloc::Global;
@@ -17,15 +17,16 @@ fn words<R: Env + Alloc>(rt: &R) -> io::Result<Vec<String<R::A>, R::A>> {
 }
 
 /// Does what the words say. The first word names the library that does it.
-fn run<R: Read, W: Write, E: Write>(
+fn run(
     alloc: Global,
     words: &[String],
-    input: &mut R,
-    out: &mut W,
-    err: &mut E,
+    input: &mut dyn Read,
+    out: &mut dyn Write,
+    err: &mut dyn Write,
 ) -> u8 {
     match words {
         [word] if word.as_str() == "scenario" => trace_scenario::run(alloc, input, out),
+        [word] if word.as_str() == "dump" => trace_dump::run(alloc, input, out),
         [word, rest @ ..] if word.as_str() == "witness" => {
             trace_witness::run_words(alloc, rest, input, out, err)
         }

@@ -1,12 +1,15 @@
 //! Commitments that close a channel, when a block takes them.
 
 use crate::coins::{Coin, Coins, Kind};
-use crate::outputs::{outpoint_of, tell_kind, tell_output};
-use crate::writer::Line;
+use crate::names::side_name;
+use crate::outputs::{outpoint_of, tell_output};
 use chain::Confirmed;
-use commit::{Commitment, CommitmentOutput, Direction, OutputKind, build};
+use channel::CommitmentState;
+use commit::{CommitmentOutput, Direction, OutputKind, build};
 use std::alloc::Global;
-use terms::{Htlc, Side, Terms, number_of};
+use terms::{Side, Terms, number_of};
+use trace_words::Piece::{Count, Text};
+use trace_words::{Line, Piece};
 use world::World;
 
 /// A commitment in a block.
@@ -14,6 +17,7 @@ use world::World;
 struct Closing {
     channel: u64,
     holder: Side,
+    number: u64,
     is_revoked: bool,
     /// The height of the block.
     height: u64,
@@ -21,53 +25,39 @@ struct Closing {
     delay: u64,
 }
 
-// An HTLC's output.
-fn htlc_coin(closing: &Closing, value: u64, direction: Direction, htlc: &Htlc) -> Coin {
-    let owner = match direction {
-        Direction::Offered => closing.holder,
-        Direction::Received => closing.holder.other(),
-    };
-    let due = u64::from(htlc.expiry).saturating_add(1).max(closing.height);
-    coin_of(closing, value, Kind::Htlc, owner, due)
-}
-
-// An output of a commitment.
-fn coin_of(closing: &Closing, value: u64, kind: Kind, owner: Side, due: u64) -> Coin {
-    Coin {
-        channel: closing.channel,
-        value,
-        kind,
-        owner,
-        holder: closing.holder,
-        is_revoked: closing.is_revoked,
-        height: closing.height,
-        due,
-    }
-}
-
 // The coin of an output of a commitment.
 fn output_coin(closing: &Closing, output: &CommitmentOutput) -> Coin {
-    let (value, height) = (output.value, closing.height);
-    let holder = closing.holder;
+    let (holder, height) = (closing.holder, closing.height);
+    let mut coin = Coin {
+        channel: closing.channel,
+        value: output.value,
+        kind: Kind::ToLocal,
+        owner: holder,
+        holder,
+        is_revoked: closing.is_revoked,
+        height,
+        due: height.saturating_add(closing.delay),
+    };
     match &output.kind {
-        OutputKind::ToLocal => {
-            let due = height.saturating_add(closing.delay);
-            coin_of(closing, value, Kind::ToLocal, holder, due)
+        OutputKind::ToLocal => {}
+        OutputKind::ToRemote => {
+            coin.kind = Kind::ToRemote;
+            coin.owner = holder.other();
+            coin.due = height;
         }
-        OutputKind::ToRemote => coin_of(closing, value, Kind::ToRemote, holder.other(), height),
-        OutputKind::ToHtlc(direction, htlc) => htlc_coin(closing, value, *direction, htlc),
+        OutputKind::ToHtlc(direction, htlc) => {
+            coin.kind = Kind::Htlc;
+            if *direction == Direction::Received {
+                coin.owner = holder.other();
+            }
+            coin.due = u64::from(htlc.expiry).saturating_add(1).max(height);
+        }
     }
+    coin
 }
 
-// Writes what only an HTLC's output has; it is the `k`-th of the HTLCs.
-fn tell_htlc_output(line: &mut Line, htlc: &Htlc, k: u64) {
-    line.count("id", htlc.id);
-    line.count("expiry", u64::from(htlc.expiry));
-    line.count("index", k);
-}
-
-// Writes the outputs of a commitment.
-fn tell_outputs(
+// Writes a commitment with its outputs. The `k`-th HTLC with an output has the index `k`.
+fn tell_closing(
     coins: &mut Coins,
     line: &mut Line,
     closing: &Closing,
@@ -75,42 +65,39 @@ fn tell_outputs(
     confirmed: &Confirmed,
 ) {
     let mut k = 0u64;
-    line.name("outputs");
-    line.open("[");
+    line.write(
+        r#","kind":"commitment","channel":%,"owner":"%","number":%,"revoked":%,"outputs":["#,
+        &[
+            Count(closing.channel),
+            side_name(closing.holder),
+            Count(closing.number),
+            Piece::flag(closing.is_revoked),
+        ],
+    );
     for (index, output) in outputs.iter().enumerate() {
         let coin = output_coin(closing, output);
         tell_output(line, coins, &outpoint_of(confirmed, index), coin);
         if let OutputKind::ToHtlc(_, htlc) = &output.kind {
-            tell_htlc_output(line, htlc, k);
+            line.write(
+                r#","id":%,"expiry":%,"index":%"#,
+                &[Count(htlc.id), Count(u64::from(htlc.expiry)), Count(k)],
+            );
             k = k.saturating_add(1);
         }
-        line.close("}");
+        line.push("}");
     }
-    line.close("]");
+    line.push("]");
 }
 
-// Writes a commitment of a number.
-fn tell_closing(
-    world: &World,
-    coins: &mut Coins,
-    line: &mut Line,
-    closing: Closing,
-    number: u64,
-    commitment: &Commitment,
-    confirmed: &Confirmed,
-) {
-    let mut closing = closing;
-    if let Some(peer) = world.book(closing.holder.other()).channel(closing.channel) {
-        closing.is_revoked = number < peer.peer_number();
+// Whether a holder revoked its commitment of a number, as its peer's book has it.
+fn is_revoked(world: &World, channel: u64, holder: Side, number: u64) -> bool {
+    match world.book(holder.other()).channel(channel) {
+        Some(peer) => number < peer.peer_number(),
+        None => false,
     }
-    tell_kind(line, "commitment", closing.channel, closing.holder);
-    line.count("number", number);
-    line.name("revoked");
-    line.json(if closing.is_revoked { "true" } else { "false" });
-    tell_outputs(coins, line, &closing, commitment.outputs(), confirmed);
 }
 
-// Writes a transaction as a side's commitment, if it is one.
+// Writes a transaction as a side's commitment, if it is one, and returns whether it is.
 fn tell_if_of(
     alloc: Global,
     world: &World,
@@ -120,34 +107,61 @@ fn tell_if_of(
     channel: u64,
     holder: Side,
     confirmed: &Confirmed,
-) {
+) -> bool {
     let Some(own) = world.book(holder).channel(channel) else {
-        return;
+        return false;
     };
     let terms = own.terms();
     let number = number_of(terms, confirmed.tx()).unwrap_or(u64::MAX);
     let Some(state) = own.own_commitment(number) else {
-        return;
+        return false;
     };
     let closing = Closing {
         channel,
         holder,
-        is_revoked: false,
+        number: state.number,
+        is_revoked: is_revoked(world, channel, holder, state.number),
         height,
         delay: u64::from(terms.party(holder).delay),
     };
-    match build(alloc, terms, &state.view, holder, number, &state.point) {
+    tell_if_built(alloc, coins, line, &closing, terms, state, confirmed)
+}
+
+// Writes a transaction as the commitment of this state, if it is that one, and returns whether it is.
+fn tell_if_built(
+    alloc: Global,
+    coins: &mut Coins,
+    line: &mut Line,
+    closing: &Closing,
+    terms: &Terms,
+    state: &CommitmentState,
+    confirmed: &Confirmed,
+) -> bool {
+    match build(
+        alloc,
+        terms,
+        &state.view,
+        closing.holder,
+        state.number,
+        &state.point,
+    ) {
         Ok(commitment) => {
-            if commitment.id() == confirmed.id() {
-                tell_closing(world, coins, line, closing, number, &commitment, confirmed);
+            let is_same = commitment.id() == confirmed.id();
+            if is_same {
+                tell_closing(coins, line, closing, commitment.outputs(), confirmed);
             }
+            is_same
         }
-        Err(_) => line.fail(),
+        Err(_) => {
+            line.fail();
+            false
+        }
     }
 }
 
 /// Writes a transaction that spends the funding output of
 /// a channel: whose commitment it is, and its outputs.
+/// Without outputs both sides' commitments are one transaction, which is written as A's.
 pub fn tell_commitment(
     alloc: Global,
     world: &World,
@@ -158,6 +172,8 @@ pub fn tell_commitment(
     confirmed: &Confirmed,
 ) {
     for side in [Side::A, Side::B] {
-        tell_if_of(alloc, world, coins, line, height, channel, side, confirmed);
+        if tell_if_of(alloc, world, coins, line, height, channel, side, confirmed) {
+            break;
+        }
     }
 }

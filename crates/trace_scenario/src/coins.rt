@@ -1,13 +1,15 @@
 //! The outputs on the chain, and how to undo their changes when a block is disconnected.
 
-use crate::writer::Line;
+use crate::names::tell_both;
 use std::alloc::Global;
 use std::collections::BTreeMap;
 use terms::Side;
+use trace_words::Line;
+use trace_words::Piece::{Hash, Text};
 use tx::{OutPoint, Tx};
 
 /// The kind of an output.
-#[derive(Clone, Copy, PartialEq, Eq, Drop)]
+#[derive(Clone, Copy, Drop)]
 pub enum Kind {
     /// The funding output of a channel.
     Funding,
@@ -61,17 +63,10 @@ pub struct Coins {
 }
 
 /// The satoshis on the chain that only one side can ever spend, and at once.
-#[derive(Clone, Copy, PartialEq, Eq, Drop)]
+#[derive(Clone, Copy, Drop)]
 pub struct Alone {
     pub a: u64,
     pub b: u64,
-}
-
-impl Coin {
-    // Whether only its owner can ever spend it.
-    fn is_alone(&self) -> bool {
-        self.kind == Kind::Wallet || self.kind == Kind::ToRemote
-    }
 }
 
 impl Coins {
@@ -90,23 +85,23 @@ impl Coins {
         self.coins.get(outpoint).copied()
     }
 
-    // Adds an output to its owner's value.
-    fn count_in(&mut self, coin: &Coin) {
-        if coin.is_alone() {
-            match coin.owner {
-                Side::A => self.alone.a = self.alone.a.saturating_add(coin.value),
-                Side::B => self.alone.b = self.alone.b.saturating_add(coin.value),
-            }
+    // Adds an output that only its owner can ever spend to its owner's value, or subtracts it.
+    fn count(&mut self, coin: &Coin, comes: bool) {
+        if !matches!(coin.kind, Kind::Wallet | Kind::ToRemote) {
+            return;
         }
-    }
-
-    // Subtracts an output from its owner's value.
-    fn count_out(&mut self, coin: &Coin) {
-        if coin.is_alone() {
-            match coin.owner {
-                Side::A => self.alone.a = self.alone.a.saturating_sub(coin.value),
-                Side::B => self.alone.b = self.alone.b.saturating_sub(coin.value),
-            }
+        let before = match coin.owner {
+            Side::A => self.alone.a,
+            Side::B => self.alone.b,
+        };
+        let after = if comes {
+            before.saturating_add(coin.value)
+        } else {
+            before.saturating_sub(coin.value)
+        };
+        match coin.owner {
+            Side::A => self.alone.a = after,
+            Side::B => self.alone.b = after,
         }
     }
 
@@ -126,7 +121,7 @@ impl Coins {
 
     /// Adds an output.
     pub fn come(&mut self, line: &mut Line, outpoint: &OutPoint, coin: Coin) {
-        self.count_in(&coin);
+        self.count(&coin, true);
         self.begin(line, outpoint, coin);
         self.note(line, Change::Came(*outpoint));
     }
@@ -134,7 +129,7 @@ impl Coins {
     /// Spends an output.
     pub fn go(&mut self, line: &mut Line, outpoint: &OutPoint) {
         if let Some(coin) = self.get(outpoint) {
-            self.count_out(&coin);
+            self.count(&coin, false);
         }
         self.note(line, Change::Went(*outpoint));
     }
@@ -153,25 +148,19 @@ impl Coins {
     // Undoes a change.
     fn undo(&mut self, line: &mut Line, change: &Change) {
         match change {
-            Change::Mined { txid, .. } => line.bytes(txid),
+            Change::Mined { txid, .. } => {
+                line.element(r#""%""#, &[Hash(*txid)]);
+            }
             Change::Came(outpoint) => {
                 if let Some(coin) = self.coins.remove(outpoint) {
-                    self.count_out(&coin);
+                    self.count(&coin, false);
                 }
             }
             Change::Went(outpoint) => {
                 if let Some(coin) = self.get(outpoint) {
-                    self.count_in(&coin);
+                    self.count(&coin, true);
                 }
             }
-        }
-    }
-
-    // Whether the last change is in a block of at most this height.
-    fn is_within(&self, height: u64) -> bool {
-        match self.changes.last() {
-            Some(Change::Mined { height: at, .. }) => *at <= height,
-            _ => false,
         }
     }
 
@@ -179,8 +168,10 @@ impl Coins {
     /// the ids of their transactions, the last first.
     pub fn back_to(&mut self, line: &mut Line, height: u64) {
         for _ in 0..self.changes.len() {
-            if self.is_within(height) {
-                return;
+            if let Some(Change::Mined { height: at, .. }) = self.changes.last() {
+                if *at <= height {
+                    return;
+                }
             }
             if let Some(change) = self.changes.pop() {
                 self.undo(line, &change);
@@ -190,9 +181,10 @@ impl Coins {
 
     /// Writes the value that is each side's alone, if it changed since it was written last.
     pub fn tell_alone(&mut self, line: &mut Line) {
-        if self.alone != self.told {
-            line.of_both("onchain", self.alone.a, self.alone.b);
-            self.told = self.alone;
+        let (now, told) = (self.alone, self.told);
+        if now.a != told.a || now.b != told.b {
+            tell_both(line, r#","onchain":{"A":%,"B":%}"#, now.a, now.b);
+            self.told = now;
         }
     }
 

@@ -1,73 +1,58 @@
 //! What changes with a side's newest commitment.
 
-use crate::writer::Line;
+use crate::names::side_name;
 use channel::CommitmentState;
-use terms::{Htlc, Side, View};
+use terms::{Htlc, Side};
+use trace_words::Line;
+use trace_words::Piece::{Count, Text};
 use world::World;
 
-// Writes an HTLC's name: its offerer and its id.
-fn tell_htlc_name(line: &mut Line, offerer: Side, htlc: &Htlc) {
-    line.open("{");
-    line.side("offerer", offerer);
-    line.count("id", htlc.id);
-    line.close("}");
-}
-
-// How many of the HTLCs from before still stand. New
-// ones are appended, so these are the first ones now.
-fn kept(before: &[Htlc], now: &[Htlc]) -> usize {
-    let mut kept = 0usize;
-    for htlc in before {
-        if now.get(kept).is_some_and(|next| next.id == htlc.id) {
-            kept = kept.saturating_add(1);
+// Whether one of a side's HTLCs has this number.
+fn has(htlcs: &[Htlc], id: u64) -> bool {
+    for htlc in htlcs {
+        if htlc.id == id {
+            return true;
         }
     }
-    kept
+    false
 }
 
-// Writes the HTLCs that stand now and did not before.
-fn tell_in(line: &mut Line, offerer: Side, before: &View, now: &View) {
-    let (before, now) = (before.share(offerer), now.share(offerer));
-    let kept = kept(before.offered.values(), now.offered.values());
-    for htlc in now.offered.values().iter().skip(kept) {
-        tell_htlc_name(line, offerer, htlc);
-    }
-}
-
-// Writes the HTLCs that stood before and do not now.
-fn tell_out(line: &mut Line, offerer: Side, before: &View, now: &View) {
-    let mut kept = now.share(offerer).offered.values().iter();
-    let mut next = kept.next();
-    for htlc in before.share(offerer).offered.values() {
-        if next.is_some_and(|n| n.id == htlc.id) {
-            next = kept.next();
-        } else {
-            tell_htlc_name(line, offerer, htlc);
+// Writes those of a side's HTLCs that are not among others of it.
+fn tell_without(line: &mut Line, offerer: Side, htlcs: &[Htlc], others: &[Htlc]) {
+    for htlc in htlcs {
+        if !has(others, htlc.id) {
+            line.element(
+                r#"{"offerer":"%","id":%}"#,
+                &[side_name(offerer), Count(htlc.id)],
+            );
         }
     }
 }
 
 // Writes that a commitment is its owner's newest one, and what changed from the one before.
 fn tell_newest(line: &mut Line, channel: u64, before: &CommitmentState, now: &CommitmentState) {
-    let view = &now.view;
-    line.name("held");
-    line.open("{");
-    line.count("channel", channel);
-    line.side("owner", now.owner);
-    line.count("number", now.number);
-    line.count("feerate", u64::from(view.feerate));
-    line.of_both("balance", view.a.balance, view.b.balance);
-    line.name("in");
-    line.open("[");
-    tell_in(line, Side::A, &before.view, view);
-    tell_in(line, Side::B, &before.view, view);
-    line.close("]");
-    line.name("out");
-    line.open("[");
-    tell_out(line, Side::A, &before.view, view);
-    tell_out(line, Side::B, &before.view, view);
-    line.close("]");
-    line.close("}");
+    let (a, b) = (&now.view.a, &now.view.b);
+    let (old_a, old_b) = (
+        before.view.a.offered.values(),
+        before.view.b.offered.values(),
+    );
+    line.write(
+        r#","held":{"channel":%,"owner":"%","number":%,"feerate":%,"balance":{"A":%,"B":%},"in":["#,
+        &[
+            Count(channel),
+            side_name(now.owner),
+            Count(now.number),
+            Count(u64::from(now.view.feerate)),
+            Count(a.balance),
+            Count(b.balance),
+        ],
+    );
+    tell_without(line, Side::A, a.offered.values(), old_a);
+    tell_without(line, Side::B, b.offered.values(), old_b);
+    line.push(r#"],"out":["#);
+    tell_without(line, Side::A, old_a, a.offered.values());
+    tell_without(line, Side::B, old_b, b.offered.values());
+    line.push("]}");
 }
 
 /// Writes a side's new newest commitment in a channel.

@@ -11,153 +11,177 @@
 //! let status = run(alloc, &mut input, &mut out);
 //! ```
 //!
-//! The tests `tells_a_scenario` and `refuses_input` of `trace_tests` call it.
+//! The tests `prints_texts` and `refuses_input` of `trace_tests` call it.
 #![tactic(auto)]
 
-ghost use Rattle.std.specs.Prelude.{◌≡◌, ◌≤◌, ◌⊎◌};
+ghost use Rattle.std.specs.Prelude.{◌≤◌};
 
 mod claims;
 mod closing;
 mod coins;
 mod commitments;
 mod endings;
-mod errors;
 mod messages;
 mod mining;
+mod names;
 mod openings;
 mod outputs;
 mod playing;
 mod pool;
-mod reading;
-mod writer;
 
 use crate::endings::tell_end;
-use crate::errors::TraceError;
 use crate::openings::tell_opening;
 use crate::playing::{Told, played, tell_answer};
-use crate::reading::{read_all, scenario_in, value_in, words_in};
-use crate::writer::Line;
 use chain::Coins as _;
-use scenario::{Event, Scenario};
+use scenario::{Event, Scenario, ScenarioError};
 use serde_json::Value;
 use std::alloc::Global;
+use std::fmt::Display;
 use std::io::{Read, Write};
+use trace_words::{InputError, Line, read_all, refuse_memory, write_told};
 use world::World;
+use world::errors::WorldError;
 
-// Writes a line at once, and clears it.
-fn write_line<W: Write>(out: &mut W, line: &mut Line) -> Result<(), TraceError> {
-    let Some(text) = line.text() else {
-        return Err(TraceError::NoMemory);
-    };
-    if out.write_all(text.as_bytes()).is_err() || out.flush().is_err() {
-        return Err(TraceError::WriteFailed);
-    }
+// Writes a line at once, clears it, and returns the status.
+fn write_line(out: &mut dyn Write, line: &mut Line) -> u8
+    ensures { result ≤ 1 }
+{
+    let status = write_told(out, line, 0);
     line.clear();
-    Ok(())
+    status
 }
 
-// Plays an event, and writes its line.
-fn trace_event<W: Write>(
+// Plays an event, writes its line, and returns the status.
+fn tell_event(
     alloc: Global,
-    out: &mut W,
+    out: &mut dyn Write,
     line: &mut Line,
     world: &mut World,
     told: &mut Told,
     index: usize,
     event: &Event,
     words: &Value,
-) -> Result<(), TraceError> {
+) -> u8
+    ensures { result ≤ 1 }
+{
     let before = world.chain().height();
-    let outcomes = played(world, event)?;
-    for outcome in &outcomes {
-        tell_answer(alloc, line, index, words, outcome);
-        told.tell_event(alloc, line, world, before, event, outcome);
+    match played(world, event) {
+        Ok(outcomes) => {
+            for outcome in &outcomes {
+                tell_answer(line, index, words, outcome);
+                told.tell_event(alloc, line, world, before, event, outcome);
+            }
+        }
+        Err(_) => line.fail(),
     }
     write_line(out, line)
 }
 
-// Writes the lines of a world and its events.
-fn trace_world<W: Write>(
+// Writes the lines of a world and its events, by a line and a state that are new, and returns the status.
+fn tell_events(
     alloc: Global,
-    out: &mut W,
+    out: &mut dyn Write,
+    line: &mut Line,
     world: &mut World,
+    told: &mut Told,
     events: &[Event],
     words: &[Value],
-) -> Result<(), TraceError> {
-    let mut line = Line::new(alloc);
-    let mut told = Told::new(alloc);
-    tell_opening(&mut line, &mut told.coins, world, events.len());
-    write_line(out, &mut line)?;
+) -> u8
+    ensures { result ≤ 1 }
+{
+    tell_opening(line, &mut told.coins, world, events.len());
+    if write_line(out, line) == 1 {
+        return 1;
+    }
     for (index, event) in events.iter().enumerate() {
         if let Some(words) = words.get(index) {
-            trace_event(alloc, out, &mut line, world, &mut told, index, event, words)?;
-        }
-    }
-    tell_end(&mut line, &told.coins, world);
-    write_line(out, &mut line)
-}
-
-// Writes the lines of a scenario.
-fn trace_scenario<W: Write>(
-    alloc: Global,
-    out: &mut W,
-    scenario: &Scenario,
-    value: &Value,
-) -> Result<(), TraceError> {
-    match World::new(alloc, &scenario.seeds, scenario.channels.values()) {
-        Ok(mut world) => trace_world(
-            alloc,
-            out,
-            &mut world,
-            scenario.events.values(),
-            words_in(value),
-        ),
-        Err(error) => Err(TraceError::World(error)),
-    }
-}
-
-// Writes the lines of the scenario in the input.
-fn trace_input<R: Read, W: Write>(
-    alloc: Global,
-    input: &mut R,
-    out: &mut W,
-) -> Result<(), TraceError> {
-    let bytes = read_all(alloc, input)?;
-    let scenario = scenario_in(alloc, bytes.as_slice())?;
-    let value = value_in(alloc, bytes.as_slice())?;
-    trace_scenario(alloc, out, &scenario, &value)
-}
-
-// Writes that the input is refused, or that memory ran out.
-fn refuse<W: Write>(alloc: Global, out: &mut W, error: &TraceError) {
-    match error {
-        TraceError::WriteFailed => {}
-        TraceError::NoMemory => {
-            let _ = out.write_all(b"refused NoMemory\n");
-        }
-        _ => {
-            let mut line = Line::new(alloc);
-            if let Ok(text) = error.to_string(alloc) {
-                line.open("{");
-                line.name("refused");
-                line.word(text.as_str());
-                line.end();
-                let _ = write_line(out, &mut line);
+            if tell_event(alloc, out, line, world, told, index, event, words) == 1 {
+                return 1;
             }
         }
     }
+    tell_end(line, &told.coins, world);
+    write_line(out, line)
+}
+
+// Writes the lines of a world and its events, and returns the status.
+fn tell_world(
+    alloc: Global,
+    out: &mut dyn Write,
+    world: &mut World,
+    events: &[Event],
+    words: &[Value],
+) -> u8
+    ensures { result ≤ 1 }
+{
+    let mut line = Line::new(alloc);
+    let mut told = Told::new(alloc);
+    tell_events(alloc, out, &mut line, world, &mut told, events, words)
+}
+
+// The events of a scenario as JSON values.
+fn words_in(value: &Value) -> &[Value] {
+    match value.get("events") {
+        Some(events) => match events.as_array() {
+            Some(events) => events.as_slice(),
+            None => &[],
+        },
+        None => &[],
+    }
+}
+
+// Writes the lines of a scenario, of which `value` is the JSON, and returns the status.
+fn tell_scenario(alloc: Global, out: &mut dyn Write, scenario: &Scenario, value: &Value) -> u8
+    ensures { result ≤ 1 }
+{
+    let words = words_in(value);
+    match World::new(alloc, &scenario.seeds, scenario.channels.values()) {
+        Ok(mut world) => tell_world(alloc, out, &mut world, scenario.events.values(), words),
+        Err(WorldError::NoMemory) => refuse_memory(out),
+        Err(error) => refuse(alloc, out, error),
+    }
+}
+
+// Writes the lines of a scenario that was read from these bytes, and returns the status.
+fn tell_read(alloc: Global, out: &mut dyn Write, scenario: &Scenario, bytes: &[u8]) -> u8
+    ensures { result ≤ 1 }
+{
+    match Value::from_slice(alloc, bytes) {
+        Ok(value) => tell_scenario(alloc, out, scenario, &value),
+        Err(_) => refuse_memory(out),
+    }
+}
+
+// Writes the lines of the scenario in the bytes, and returns the status.
+fn tell_bytes(alloc: Global, out: &mut dyn Write, bytes: &[u8]) -> u8
+    ensures { result ≤ 1 }
+{
+    match Scenario::read(alloc, bytes) {
+        Ok(scenario) => tell_read(alloc, out, &scenario, bytes),
+        Err(ScenarioError::NoMemory) => refuse_memory(out),
+        Err(error) => refuse(alloc, out, error),
+    }
+}
+
+// Writes that the input is refused, and returns the status.
+fn refuse<D: Display + Drop>(alloc: Global, out: &mut dyn Write, refusal: D) -> u8
+    ensures { result ≤ 1 }
+{
+    let mut line = Line::new(alloc);
+    line.push(r#"{"refused":""#);
+    line.push_shown(refusal);
+    line.push("\"}\n");
+    write_told(out, &line, 1)
 }
 
 /// Plays the scenario in the input, and returns the status: 0 when all lines
 /// are written, 1 for refused input, a failed write, or if memory ran out.
-pub fn run<R: Read, W: Write>(alloc: Global, input: &mut R, out: &mut W) -> u8
+pub fn run(alloc: Global, input: &mut dyn Read, out: &mut dyn Write) -> u8
     ensures { result ≤ 1 }
 {
-    match trace_input(alloc, input, out) {
-        Ok(()) => 0,
-        Err(error) => {
-            refuse(alloc, out, &error);
-            1
-        }
+    match read_all(alloc, input) {
+        Ok(bytes) => tell_bytes(alloc, out, bytes.as_slice()),
+        Err(InputError::NoMemory) => refuse_memory(out),
+        Err(error) => refuse(alloc, out, error.text()),
     }
 }

@@ -2,14 +2,16 @@
 
 use crate::closing::tell_commitment;
 use crate::coins::{Coin, Coins, Kind};
-use crate::outputs::{outpoint_of, tell_kind, tell_output};
+use crate::names::side_name;
+use crate::outputs::{outpoint_of, tell_output};
 use crate::pool::tell_spends;
-use crate::writer::Line;
 use chain::{Block, Coins as _, Confirmed};
 use sighash::programs::{is_script_hash_program, key_hash_program};
 use std::alloc::Global;
 use terms::Side;
-use tx::{Tx, TxOut, total_value};
+use trace_words::Line;
+use trace_words::Piece::{Count, Hash, Text};
+use tx::{TxOut, total_value};
 use world::World;
 
 // The side whose payment key a claim in a channel pays.
@@ -28,14 +30,6 @@ fn payee(alloc: Global, world: &World, line: &mut Line, channel: u64, output: &T
     Side::B
 }
 
-// The delay of a side's to_local outputs in a channel, in blocks.
-fn delay(world: &World, channel: u64, side: Side) -> u64 {
-    match world.book(side).channel(channel) {
-        Some(own) => u64::from(own.terms().party(side).delay),
-        None => 0,
-    }
-}
-
 // The coin of an output whose transaction, in
 // a block of this height, spends this coin.
 fn output_coin(
@@ -52,13 +46,29 @@ fn output_coin(
     if is_script_hash_program(output.script().bytes()) {
         coin.kind = Kind::SecondStage;
         coin.owner = spent.holder;
-        coin.due = height.saturating_add(delay(world, spent.channel, spent.holder));
+        coin.due = height;
+        if let Some(own) = world.book(spent.holder).channel(spent.channel) {
+            let delay = own.terms().party(spent.holder).delay;
+            coin.due = height.saturating_add(u64::from(delay));
+        }
     } else {
         coin.kind = Kind::Wallet;
         coin.owner = payee(alloc, world, line, spent.channel, output);
         coin.due = height;
     }
     coin
+}
+
+// Writes the side that made a transaction, and its kind, by the coin of its first output.
+fn tell_kind(line: &mut Line, first: &Coin) {
+    let kind = match first.kind {
+        Kind::SecondStage => "htlc",
+        _ => "claim",
+    };
+    line.write(
+        r#","kind":"%","channel":%,"owner":"%""#,
+        &[Text(kind), Count(first.channel), side_name(first.owner)],
+    );
 }
 
 // Writes an HTLC transaction or a claim: the side that made it, and its outputs.
@@ -71,34 +81,32 @@ fn tell_follower(
     spent: &Coin,
     confirmed: &Confirmed,
 ) {
-    for (index, output) in confirmed.tx().outputs().iter().enumerate() {
-        let coin = output_coin(alloc, world, line, height, spent, output);
-        if index == 0 {
-            let kind = match coin.kind {
-                Kind::SecondStage => "htlc",
-                _ => "claim",
-            };
-            tell_kind(line, kind, coin.channel, coin.owner);
-            line.name("outputs");
-            line.open("[");
-        }
-        tell_output(line, coins, &outpoint_of(confirmed, index), coin);
-        line.close("}");
+    let outputs = confirmed.tx().outputs();
+    if let Some(first) = outputs.first() {
+        let coin = output_coin(alloc, world, line, height, spent, first);
+        tell_kind(line, &coin);
     }
-    line.close("]");
+    line.push(r#","outputs":["#);
+    for (index, output) in outputs.iter().enumerate() {
+        let coin = output_coin(alloc, world, line, height, spent, output);
+        tell_output(line, coins, &outpoint_of(confirmed, index), coin);
+        line.push("}");
+    }
+    line.push("]");
 }
 
-// Removes the outputs that a transaction spends.
-fn spend(coins: &mut Coins, line: &mut Line, tx: &Tx) {
+// Writes a transaction in a block of this height with its fee, and leaves its object open. What it spends goes.
+fn tell_mined_tx(coins: &mut Coins, line: &mut Line, height: u64, confirmed: &Confirmed) {
+    let tx = confirmed.tx();
+    let txid = *confirmed.id();
+    line.element(r#"{"height":%,"txid":"%""#, &[Count(height), Hash(txid)]);
+    tell_spends(line, tx);
+    let paid = u64::try_from(total_value(tx.outputs())).unwrap_or(u64::MAX);
+    let fee = coins.worth(tx).saturating_sub(paid);
+    line.write(r#","fee":%"#, &[Count(fee)]);
     for input in tx.inputs() {
         coins.go(line, &input.outpoint);
     }
-}
-
-// The fee of a transaction, in satoshis.
-fn fee(coins: &Coins, tx: &Tx) -> u64 {
-    let paid = u64::try_from(total_value(tx.outputs())).unwrap_or(u64::MAX);
-    coins.worth(tx).saturating_sub(paid)
 }
 
 // Writes a transaction in a block of this
@@ -112,13 +120,7 @@ fn tell_tx(
     spent: &Coin,
     confirmed: &Confirmed,
 ) {
-    line.open("{");
-    line.count("height", height);
-    line.name("txid");
-    line.bytes(confirmed.id());
-    tell_spends(line, confirmed.tx());
-    line.count("fee", fee(coins, confirmed.tx()));
-    spend(coins, line, confirmed.tx());
+    tell_mined_tx(coins, line, height, confirmed);
     match spent.kind {
         Kind::Funding => tell_commitment(
             alloc,
@@ -131,7 +133,7 @@ fn tell_tx(
         ),
         _ => tell_follower(alloc, world, coins, line, height, spent, confirmed),
     }
-    line.close("}");
+    line.push("}");
     coins.mined(line, height, confirmed.id());
 }
 
@@ -155,8 +157,7 @@ fn tell_block(
 
 /// Writes the transactions of the blocks above a height.
 pub fn tell_mined(alloc: Global, world: &World, coins: &mut Coins, line: &mut Line, above: u64) {
-    line.name("mined");
-    line.open("[");
+    line.push(r#","mined":["#);
     for (height, block) in world
         .chain()
         .blocks()
@@ -166,6 +167,6 @@ pub fn tell_mined(alloc: Global, world: &World, coins: &mut Coins, line: &mut Li
     {
         tell_block(alloc, world, coins, line, height as u64, block);
     }
-    line.close("]");
+    line.push("]");
     coins.tell_alone(line);
 }

@@ -1,39 +1,40 @@
 //! The line that opens a trace.
 
 use crate::coins::{Coin, Coins, Kind};
-use crate::writer::{Line, side_name};
+use crate::names::{side_name, tell_both, tell_outpoint};
 use terms::{Side, Terms};
+use trace_words::Line;
+use trace_words::Piece::Count;
 use world::World;
-
-// Writes a member whose value is an array of two numbers, of A and of B.
-fn tell_pair(line: &mut Line, name: &str, a: u64, b: u64) {
-    line.name(name);
-    line.open("[");
-    line.number(u128::from(a));
-    line.number(u128::from(b));
-    line.close("]");
-}
 
 // Writes the terms of a new channel.
 fn tell_terms(line: &mut Line, terms: &Terms) {
-    line.open("{");
-    line.name("funding");
-    line.outpoint(&terms.funding);
-    line.count("capacity", terms.capacity);
-    line.name("opener");
-    line.word(side_name(terms.opener));
-    line.count("feerate", u64::from(terms.feerate));
     let (a, b) = (&terms.a, &terms.b);
-    tell_pair(line, "dust", a.dust, b.dust);
-    tell_pair(line, "delay", u64::from(a.delay), u64::from(b.delay));
-    tell_pair(line, "minimum", a.minimum, b.minimum);
-    tell_pair(line, "start", a.start, b.start);
-    line.close("}");
+    line.element(r#"{"funding":""#, &[]);
+    tell_outpoint(line, &terms.funding);
+    line.write(
+        r#"","capacity":%,"opener":"%","feerate":%"#,
+        &[
+            Count(terms.capacity),
+            side_name(terms.opener),
+            Count(u64::from(terms.feerate)),
+        ],
+    );
+    tell_both(line, r#","dust":[%,%]"#, a.dust, b.dust);
+    tell_both(
+        line,
+        r#","delay":[%,%]"#,
+        u64::from(a.delay),
+        u64::from(b.delay),
+    );
+    tell_both(line, r#","minimum":[%,%]"#, a.minimum, b.minimum);
+    tell_both(line, r#","start":[%,%]"#, a.start, b.start);
+    line.push("}");
 }
 
-// The coin of a channel's funding output.
-fn funding_coin(channel: u64, terms: &Terms) -> Coin {
-    Coin {
+// Writes a new channel, whose funding output is on the chain.
+fn tell_channel(line: &mut Line, coins: &mut Coins, channel: u64, terms: &Terms) {
+    let coin = Coin {
         channel,
         value: terms.capacity,
         kind: Kind::Funding,
@@ -42,27 +43,23 @@ fn funding_coin(channel: u64, terms: &Terms) -> Coin {
         is_revoked: false,
         height: 0,
         due: 0,
-    }
+    };
+    tell_terms(line, terms);
+    coins.begin(line, &terms.funding, coin);
 }
 
 /// Writes the opening: the terms of each channel,
 /// whose funding outputs are on the chain.
 pub fn tell_opening(line: &mut Line, coins: &mut Coins, world: &World, events: usize) {
     let book = world.book(Side::A);
-    line.open("{");
-    line.name("opening");
-    line.open("{");
-    line.count("events", events as u64);
-    line.name("channels");
-    line.open("[");
+    line.write(
+        r#"{"opening":{"events":%,"channels":["#,
+        &[Count(events as u64)],
+    );
     for index in 0..book.channel_count() {
         if let Some(channel) = book.channel(index) {
-            let terms = channel.terms();
-            tell_terms(line, terms);
-            coins.begin(line, &terms.funding, funding_coin(index, terms));
+            tell_channel(line, coins, index, channel.terms());
         }
     }
-    line.close("]");
-    line.close("}");
-    line.end();
+    line.push("]}}\n");
 }

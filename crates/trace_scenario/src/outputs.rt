@@ -1,9 +1,11 @@
 //! New outputs, and who can spend them when.
 
 use crate::coins::{Coin, Coins, Kind};
-use crate::writer::Line;
+use crate::names::{side_name, tell_outpoint};
 use chain::Confirmed;
 use terms::Side;
+use trace_words::Line;
+use trace_words::Piece::{Count, Text};
 use tx::OutPoint;
 
 /// The outpoint of an output of a transaction.
@@ -12,14 +14,6 @@ pub fn outpoint_of(confirmed: &Confirmed, index: usize) -> OutPoint {
         txid: *confirmed.id(),
         index: u32::try_from(index).unwrap_or(u32::MAX),
     }
-}
-
-/// Writes the kind of a transaction, and whose it is.
-pub fn tell_kind(line: &mut Line, kind: &str, channel: u64, owner: Side) {
-    line.name("kind");
-    line.word(kind);
-    line.count("channel", channel);
-    line.side("owner", owner);
 }
 
 // The name of a kind of output.
@@ -36,13 +30,11 @@ fn kind_name(kind: Kind) -> &'static str {
 
 // Writes that a side can spend an output
 // from a block of this height on.
-fn tell_way(line: &mut Line, side: Side, by: &str, due: u64) {
-    line.open("{");
-    line.side("side", side);
-    line.name("by");
-    line.word(by);
-    line.count("due", due);
-    line.close("}");
+fn tell_way(line: &mut Line, side: Side, by: &'static str, due: u64) {
+    line.element(
+        r#"{"side":"%","by":"%","due":%}"#,
+        &[side_name(side), Text(by), Count(due)],
+    );
 }
 
 // Writes who can spend an output, and when.
@@ -64,16 +56,17 @@ fn tell_ways(line: &mut Line, coin: &Coin) {
 
 /// Writes a new output, and leaves its object open.
 pub fn tell_output(line: &mut Line, coins: &mut Coins, outpoint: &OutPoint, coin: Coin) {
-    line.open("{");
-    line.name("outpoint");
-    line.outpoint(outpoint);
-    line.count("value", coin.value);
-    line.name("kind");
-    line.word(kind_name(coin.kind));
-    line.side("owner", coin.owner);
-    line.name("ways");
-    line.open("[");
+    line.element(r#"{"outpoint":""#, &[]);
+    tell_outpoint(line, outpoint);
+    line.write(
+        r#"","value":%,"kind":"%","owner":"%","ways":["#,
+        &[
+            Count(coin.value),
+            Text(kind_name(coin.kind)),
+            side_name(coin.owner),
+        ],
+    );
     tell_ways(line, &coin);
-    line.close("]");
+    line.push("]");
     coins.come(line, outpoint, coin);
 }

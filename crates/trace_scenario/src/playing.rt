@@ -8,13 +8,14 @@ use crate::coins::Coins;
 use crate::messages::{tell_delivered, tell_kept, tell_own, tell_signed};
 use crate::mining::tell_mined;
 use crate::pool::Pool;
-use crate::writer::Line;
 use chain::Coins as _;
 use scenario::Event;
 use serde_json::Value;
 use std::alloc::{AllocError, Global};
 use std::slice;
 use terms::Side;
+use trace_words::Line;
+use trace_words::Piece::{Count, Text};
 use world::{Outcome, World};
 
 /// What was written so far, as far as later lines depend on it.
@@ -41,12 +42,11 @@ impl Told {
 
     // Writes a reorganisation of the blocks above a height.
     fn tell_reorganised(&mut self, alloc: Global, line: &mut Line, world: &World, above: u64) {
-        self.pool.tell_all_left(line);
+        self.pool.tell_left(line, &[]);
         self.pool.tell_joined(line, world.pool());
-        line.name("undone");
-        line.open("[");
+        line.push(r#","undone":["#);
         self.coins.back_to(line, above);
-        line.close("]");
+        line.push("]");
         tell_mined(alloc, world, &mut self.coins, line, above);
     }
 
@@ -106,11 +106,11 @@ impl Told {
         event: &Event,
         outcome: &Outcome,
     ) {
-        line.count("height", world.chain().height());
+        line.write(r#","height":%"#, &[Count(world.chain().height())]);
         if !matches!(outcome, Outcome::Refused(_)) {
             self.tell_changes(alloc, line, world, before, event, outcome);
         }
-        line.end();
+        line.push("}\n");
     }
 }
 
@@ -124,17 +124,10 @@ pub fn played(world: &mut World, event: &Event) -> Result<Vec<Outcome>, AllocErr
 }
 
 /// Writes the number of an event, its JSON and its outcome.
-pub fn tell_answer(alloc: Global, line: &mut Line, index: usize, words: &Value, outcome: &Outcome) {
-    line.open("{");
-    line.count("event", index as u64);
-    line.name("words");
-    match words.to_string(alloc) {
-        Ok(words) => line.json(words.as_str()),
-        Err(_) => line.fail(),
-    }
-    line.name("answer");
-    match outcome.to_string(alloc) {
-        Ok(answer) => line.word(answer.as_str()),
-        Err(_) => line.fail(),
-    }
+pub fn tell_answer(line: &mut Line, index: usize, words: &Value, outcome: &Outcome) {
+    line.write(r#"{"event":%,"words":"#, &[Count(index as u64)]);
+    line.push_shown(words);
+    line.push(r#","answer":""#);
+    line.push_shown(outcome);
+    line.push(r#"""#);
 }

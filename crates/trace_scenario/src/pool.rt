@@ -1,18 +1,21 @@
 //! The transactions that wait for a block.
 
-use crate::writer::Line;
+use crate::names::tell_outpoint;
 use std::alloc::Global;
 use std::mem;
+use trace_words::Line;
+use trace_words::Piece::{Hash, Text};
 use tx::{Tx, txid};
 
 /// Writes the outputs that a transaction spends.
 pub fn tell_spends(line: &mut Line, tx: &Tx) {
-    line.name("spends");
-    line.open("[");
+    line.push(r#","spends":["#);
     for input in tx.inputs() {
-        line.outpoint(&input.outpoint);
+        line.element(r#"""#, &[]);
+        tell_outpoint(line, &input.outpoint);
+        line.push(r#"""#);
     }
-    line.close("]");
+    line.push("]");
 }
 
 /// The ids of the transactions that wait, in order.
@@ -24,9 +27,12 @@ pub struct Pool {
 // Keeps a transaction that still waits, which is then the next of the pool after those kept; else
 // writes that it left.
 fn keep_or_tell(line: &mut Line, pool: &[Tx], kept: &mut Vec<[u8; 32]>, id: &[u8; 32]) {
-    let is_next = pool.get(kept.len()).is_some_and(|tx| txid(tx) == *id);
+    let is_next = match pool.get(kept.len()) {
+        Some(tx) => txid(tx) == *id,
+        None => false,
+    };
     if !is_next {
-        line.bytes(id);
+        line.element(r#""%""#, &[Hash(*id)]);
     } else if kept.push(*id).is_err() {
         line.fail();
     }
@@ -43,11 +49,9 @@ impl Pool {
     // Adds a transaction that waits, and writes it.
     fn tell_one(&mut self, line: &mut Line, tx: &Tx) {
         let id = txid(tx);
-        line.open("{");
-        line.name("txid");
-        line.bytes(&id);
+        line.element(r#"{"txid":"%""#, &[Hash(id)]);
         tell_spends(line, tx);
-        line.close("}");
+        line.push("}");
         if self.ids.push(id).is_err() {
             line.fail();
         }
@@ -58,12 +62,11 @@ impl Pool {
         if self.ids.len() >= pool.len() {
             return;
         }
-        line.name("joined");
-        line.open("[");
+        line.push(r#","joined":["#);
         for tx in pool.iter().skip(self.ids.len()) {
             self.tell_one(line, tx);
         }
-        line.close("]");
+        line.push("]");
     }
 
     /// Removes the transactions that left the pool, and writes them; `pool` has the others, in order.
@@ -72,17 +75,11 @@ impl Pool {
             return;
         }
         let mut kept = Vec::new(*self.ids.allocator());
-        line.name("left");
-        line.open("[");
+        line.push(r#","left":["#);
         for id in &self.ids {
             keep_or_tell(line, pool, &mut kept, id);
         }
-        line.close("]");
+        line.push("]");
         drop(mem::replace(&mut self.ids, kept));
-    }
-
-    /// Removes all transactions, and writes them.
-    pub fn tell_all_left(&mut self, line: &mut Line) {
-        self.tell_left(line, &[]);
     }
 }

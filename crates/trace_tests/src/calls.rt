@@ -1,6 +1,7 @@
-//! The output for people, wrong words, input that is refused, and readers and writers that fail.
+//! What the words print, wrong words, input that is refused, and readers and writers that fail.
 
-use crate::fixtures::{Broken, Endless, prints, status_of};
+use crate::fixtures::Source::{Endless, Failing, NotText, Text};
+use crate::fixtures::{Row, plays};
 use trace_words::USAGE;
 
 // An IF with a lock of 144 blocks in its first branch,
@@ -22,100 +23,128 @@ no path: no witness opens this script
 refused BadHex
 ";
 
-#[test]
-fn prints_pages(rt: HostRuntime) {
-    let mut scripts: &[u8] = b"63029000b2670068\r\n0181ff\n00\nno\n";
-    let call = ["script", "--text"];
-    prints(&rt, rt.alloc(), &call, &mut scripts, PAGES, 1);
-}
+// A scenario without channels.
+const EMPTY: &str =
+    "{\"seeds\":[\"0a0a0a0a0a0a0a0a0a0a0a0a0a0a0a0a0a0a0a0a0a0a0a0a0a0a0a0a0a0a0a0a\",\"0b0b0b0b0b0b0b0b0b0b0b0b0b0b0b0b0b0b0b0b0b0b0b0b0b0b0b0b0b0b0b0b\"],\"channels\":[],\"events\":[[\"blocks\",2],[\"take\",\"A\",1]]}";
 
-// Calls without input, and what they print.
-const CALLS: [(&[&str], &str, u8); 7] = [
+const LINES: &str = "{\"opening\":{\"events\":2,\"channels\":[]}}
+{\"event\":0,\"words\":[\"blocks\",2],\"answer\":\"ok height 2 txs 0\",\"height\":2,\"mined\":[]}
+{\"event\":1,\"words\":[\"take\",\"A\",1],\"answer\":\"refused NoJob\",\"height\":2}
+{\"end\":{\"height\":2,\"unspent\":0,\"value\":0,\"fees\":0,\"kept\":{\"A\":[],\"B\":[]},\"history\":{\"A\":0,\"B\":0},\"onchain\":{\"A\":0,\"B\":0}}}
+";
+
+// Calls on texts.
+const TEXTS: [Row; 9] = [
     (
-        &["script", "--text", "020aff7500"],
-        "    0  PUSH 0aff (number -32522)\n    3  DROP\n    4  PUSH - (the empty item, number 0)\nno path: no witness opens this script\n",
-        0,
-    ),
-    (&["script"], "", 0),
-    (&["scenario"], "{\"refused\":\"NotJson\"}\n", 1),
-    (&["witness"], "{\"refused\":\"Truncated\"}\n", 1),
-    (&["scripts"], USAGE, 2),
-    (&["script", "51", "51"], USAGE, 2),
-    (&["witness", "51"], USAGE, 2),
-];
-
-#[test]
-fn prints_answers(rt: HostRuntime) {
-    for (call, wanted, status) in &CALLS {
-        let mut none: &[u8] = b"";
-        prints(&rt, rt.alloc(), call, &mut none, wanted, *status);
-    }
-}
-
-// Calls, their output for an input that is too long, and for one that can't be read. Wrong words are detected before any of it is read.
-const INPUTS: [(&[&str], &str, &str, u8); 5] = [
-    (
-        &["script"],
-        "{\"bytes\":null,\"opcodes\":[],\"refused\":\"TooLong\",\"byte\":null}\n",
-        "{\"bytes\":null,\"opcodes\":[],\"refused\":\"ReadFailed\",\"byte\":null}\n",
+        &["script", "--text"],
+        Text("63029000b2670068\r\n", "0181ff\n00\nno\n"),
+        PAGES,
         1,
     ),
     (
-        &["witness", "--text"],
-        "refused TooLong\n",
-        "refused ReadFailed\n",
+        &["script", "--text", "020aff7500"],
+        Text("", ""),
+        "    0  PUSH 0aff (number -32522)\n    3  DROP\n    4  PUSH - (the empty item, number 0)\nno path: no witness opens this script\n",
+        0,
+    ),
+    (&["script"], Text("", ""), "", 0),
+    (&["scenario"], Text(EMPTY, ""), LINES, 0),
+    (
+        &["scenario"],
+        Text("{}", ""),
+        "{\"refused\":\"BadShape\"}\n",
         1,
     ),
     (
         &["scenario"],
-        "{\"refused\":\"TooLong\"}\n",
-        "{\"refused\":\"ReadFailed\"}\n",
+        Text("", ""),
+        "{\"refused\":\"NotJson\"}\n",
         1,
     ),
-    (&["witness", "--text", "51"], USAGE, USAGE, 2),
-    (&[], USAGE, USAGE, 2),
+    (
+        &["dump"],
+        Text("{\"history\":[],", "\"version\":2}"),
+        "{\"entries\":0,\"channels\":0}\n",
+        0,
+    ),
+    (
+        &["dump"],
+        Text("", ""),
+        "{\"refused\":\"NotJson\",\"number\":1}\n",
+        1,
+    ),
+    (
+        &["witness"],
+        Text("", ""),
+        "{\"refused\":\"Truncated\"}\n",
+        1,
+    ),
 ];
+
+// Wrong words, which are detected before any input is read.
+const WORDS: [Row; 8] = [
+    (&["scripts"], Text("", ""), USAGE, 2),
+    (&["script", "51", "51"], Text("", ""), USAGE, 2),
+    (&["witness", "51"], Text("", ""), USAGE, 2),
+    (&["dump", "--text"], Text("", ""), USAGE, 2),
+    (&["witness", "--text", "51"], Endless, USAGE, 2),
+    (&["witness", "--text", "51"], Failing, USAGE, 2),
+    (&[], Endless, USAGE, 2),
+    (&[], Failing, USAGE, 2),
+];
+
+// Input that is too long, that can't be read, or that is not text.
+const INPUTS: [Row; 12] = [
+    (
+        &["script"],
+        Endless,
+        "{\"bytes\":null,\"opcodes\":[],\"refused\":\"TooLong\",\"byte\":null}\n",
+        1,
+    ),
+    (
+        &["script"],
+        Failing,
+        "{\"bytes\":null,\"opcodes\":[],\"refused\":\"ReadFailed\",\"byte\":null}\n",
+        1,
+    ),
+    (&["script", "--text"], NotText, "refused BadHex\n", 1),
+    (&["witness", "--text"], Endless, "refused TooLong\n", 1),
+    (&["witness", "--text"], Failing, "refused ReadFailed\n", 1),
+    (&["witness"], NotText, "{\"refused\":\"BadHex\"}\n", 1),
+    (&["scenario"], Endless, "{\"refused\":\"TooLong\"}\n", 1),
+    (&["scenario"], Failing, "{\"refused\":\"ReadFailed\"}\n", 1),
+    (&["scenario"], NotText, "{\"refused\":\"NotJson\"}\n", 1),
+    (
+        &["dump"],
+        Endless,
+        "{\"refused\":\"TooLong\",\"number\":6}\n",
+        1,
+    ),
+    (
+        &["dump"],
+        Failing,
+        "{\"refused\":\"ReadFailed\",\"number\":5}\n",
+        1,
+    ),
+    (
+        &["dump"],
+        NotText,
+        "{\"refused\":\"NotJson\",\"number\":1}\n",
+        1,
+    ),
+];
+
+#[test]
+fn prints_texts(rt: HostRuntime) {
+    plays(&rt, rt.alloc(), &TEXTS);
+}
+
+#[test]
+fn refuses_words(rt: HostRuntime) {
+    plays(&rt, rt.alloc(), &WORDS);
+}
 
 #[test]
 fn refuses_input(rt: HostRuntime) {
-    for (call, long, failed, status) in &INPUTS {
-        let mut endless = Endless { fails: false };
-        prints(&rt, rt.alloc(), call, &mut endless, long, *status);
-        endless.fails = true;
-        prints(&rt, rt.alloc(), call, &mut endless, failed, *status);
-    }
-}
-
-// Calls on a line that is not text.
-const OTHERS: [(&[&str], &str); 3] = [
-    (&["script", "--text"], "refused BadHex\n"),
-    (&["witness"], "{\"refused\":\"BadHex\"}\n"),
-    (&["scenario"], "{\"refused\":\"NotJson\"}\n"),
-];
-
-#[test]
-fn refuses_what_is_not_text(rt: HostRuntime) {
-    for (call, wanted) in &OTHERS {
-        let mut bytes: &[u8] = &[0x35, 0x31, 0x0a, 0xff];
-        prints(&rt, rt.alloc(), call, &mut bytes, wanted, 1);
-    }
-}
-
-// Calls whose answer can't be written.
-const ANSWERS: [&[&str]; 5] = [
-    &["script"],
-    &["script", "51"],
-    &["witness"],
-    &["scenario"],
-    &[],
-];
-
-#[test]
-fn tells_a_failed_write(rt: HostRuntime) {
-    let alloc = rt.alloc();
-    for call in &ANSWERS {
-        let mut input: &[u8] = b"51\n";
-        let status = status_of(&rt, alloc, call, &mut input, &mut Broken, &mut Broken);
-        assert_eq!(rt; status, 1);
-    }
+    plays(&rt, rt.alloc(), &INPUTS);
 }

@@ -2,9 +2,9 @@
 
 use facts::{Fact, KeySource, Stated};
 use lists::{ByteString, List};
-use std::alloc::{AllocError, Global};
+use std::alloc::Global;
 use std::process::Abort;
-use trace_words::Sentence;
+use trace_words::{Line, Sentence};
 
 // The number of kinds of facts.
 const KINDS: usize = 10;
@@ -45,34 +45,40 @@ const SENTENCES: [(&str, &str); KINDS] = [
 ];
 
 // The bytes 0aff.
-fn bytes(alloc: Global) -> Result<ByteString, AllocError> {
-    ByteString::from_slice(alloc, &[0x0a, 0xff])
+fn bytes(rt: &impl Abort, alloc: Global) -> ByteString {
+    ByteString::from_slice(alloc, &[0x0a, 0xff]).expect(rt, "memory")
 }
 
 // A fact that two slots are signatures.
-fn assigned(alloc: Global) -> Result<Fact, AllocError> {
+fn assigned(rt: &impl Abort, alloc: Global) -> Fact {
     let mut slots = List::new(alloc);
-    slots.push(2)?;
-    slots.push(1)?;
+    assert!(rt; slots.push(2).is_ok());
+    assert!(rt; slots.push(1).is_ok());
     let mut keys = List::new(alloc);
-    keys.push(KeySource::Const(bytes(alloc)?))?;
-    keys.push(KeySource::Slot(3))?;
-    Ok(Fact::Assigned(slots, keys))
+    assert!(rt; keys.push(KeySource::Const(bytes(rt, alloc))).is_ok());
+    assert!(rt; keys.push(KeySource::Slot(3)).is_ok());
+    Fact::Assigned(slots, keys)
 }
 
-// A fact of the kind with this number.
-fn fact_of(alloc: Global, kind: usize) -> Result<Fact, AllocError> {
-    match kind {
-        0 => Ok(Fact::Hash(7, bytes(alloc)?)),
-        1 => Ok(Fact::Size(7, 32)),
-        2 => Ok(Fact::Truth(7)),
-        3 => Ok(Fact::Is(7, bytes(alloc)?)),
-        4 => Ok(Fact::KeyForm(7)),
-        5 => Ok(Fact::Form(7)),
-        6 => Ok(Fact::Token(7, KeySource::Const(bytes(alloc)?))),
-        7 => assigned(alloc),
-        8 => Ok(Fact::Lock(500)),
-        _ => Ok(Fact::Age(144)),
+// A fact of the kind with this number, and after the kinds other forms of facts.
+fn fact_of(rt: &impl Abort, alloc: Global, number: usize) -> Fact {
+    match number {
+        0 => Fact::Hash(7, bytes(rt, alloc)),
+        1 => Fact::Size(7, 32),
+        2 => Fact::Truth(7),
+        3 => Fact::Is(7, bytes(rt, alloc)),
+        4 => Fact::KeyForm(7),
+        5 => Fact::Form(7),
+        6 => Fact::Token(7, KeySource::Const(bytes(rt, alloc))),
+        7 => assigned(rt, alloc),
+        8 => Fact::Lock(500),
+        9 => Fact::Age(144),
+        10 => Fact::Lock(499_999_999),
+        11 => Fact::Lock(500_000_000),
+        12 => Fact::Age(0xffff),
+        13 => Fact::Age(0x40_0003),
+        14 => Fact::Is(3, ByteString::new(alloc)),
+        _ => Fact::Token(1, KeySource::Slot(0)),
     }
 }
 
@@ -92,61 +98,35 @@ fn kind_of(fact: &Fact) -> usize {
     }
 }
 
-// Asserts the kind of a fact, and its sentence.
-fn says(
-    rt: &impl Abort,
-    alloc: Global,
-    fact: Result<Fact, AllocError>,
-    kind: usize,
-    holds: bool,
-    wanted: &str,
-) {
-    let fact = fact.expect(rt, "memory");
-    assert_eq!(rt; kind_of(&fact), kind);
+// Asserts the sentence of the fact with a number, and returns its kind.
+fn says(rt: &impl Abort, alloc: Global, number: usize, holds: bool, wanted: &str) -> usize {
+    let fact = fact_of(rt, alloc, number);
+    let kind = kind_of(&fact);
     let stated = Stated { fact, holds };
-    let text = Sentence(&stated).to_string(alloc).expect(rt, "memory");
-    assert_eq!(rt; text.as_str(), wanted);
+    let mut line = Line::new(alloc);
+    line.push_shown(Sentence(&stated));
+    assert!(rt; line.text() == Some(wanted));
+    kind
 }
+
+// Locks that this profile never reaches, and the bounds of those that it does; an empty item, and a key that the witness brings.
+const OTHERS: [&str; 6] = [
+    "in block 500000000 at the earliest",
+    "at the time 500000000 in seconds since 1970, which this profile never reaches",
+    "after 65535 blocks",
+    "after 3 units of 512 seconds, which this profile never reaches",
+    "slot 3 is the empty item",
+    "slot 1 is a signature by the key in slot 0",
+];
 
 #[test]
 fn says_each_kind_of_fact(rt: HostRuntime) {
     let alloc = rt.alloc();
     for (kind, (holding, failing)) in SENTENCES.iter().enumerate() {
-        says(&rt, alloc, fact_of(alloc, kind), kind, true, holding);
-        says(&rt, alloc, fact_of(alloc, kind), kind, false, failing);
+        assert_eq!(rt; says(&rt, alloc, kind, true, holding), kind);
+        assert_eq!(rt; says(&rt, alloc, kind, false, failing), kind);
     }
-}
-
-// Locks that this profile never reaches, and the bounds of those that it does.
-const LOCKS: [(u64, &str); 2] = [
-    (499_999_999, "in block 500000000 at the earliest"),
-    (
-        500_000_000,
-        "at the time 500000000 in seconds since 1970, which this profile never reaches",
-    ),
-];
-
-const AGES: [(u32, &str); 2] = [
-    (0xffff, "after 65535 blocks"),
-    (
-        0x40_0003,
-        "after 3 units of 512 seconds, which this profile never reaches",
-    ),
-];
-
-// The same, an empty item, and a key that the witness brings.
-#[test]
-fn says_other_forms(rt: HostRuntime) {
-    let alloc = rt.alloc();
-    for (lock, wanted) in &LOCKS {
-        says(&rt, alloc, Ok(Fact::Lock(*lock)), 8, true, wanted);
+    for (index, wanted) in OTHERS.iter().enumerate() {
+        says(&rt, alloc, KINDS + index, true, wanted);
     }
-    for (age, wanted) in &AGES {
-        says(&rt, alloc, Ok(Fact::Age(*age)), 9, true, wanted);
-    }
-    let empty = Fact::Is(3, ByteString::new(alloc));
-    says(&rt, alloc, Ok(empty), 3, true, "slot 3 is the empty item");
-    let brought = Fact::Token(1, KeySource::Slot(0));
-    let wanted = "slot 1 is a signature by the key in slot 0";
-    says(&rt, alloc, Ok(brought), 6, true, wanted);
 }

@@ -3,7 +3,8 @@
 use lists::ByteString;
 use sighash::SighashCache;
 use std::alloc::{AllocError, Global};
-use std::test::Fail;
+use std::process::Abort;
+use std::slice;
 use tx::{Tx, TxOut, decode};
 use verdict::{Verdict, judge};
 
@@ -28,15 +29,29 @@ fn is_clean(alloc: Global, tx: &Tx, outputs: &[TxOut]) -> Result<bool, AllocErro
     Ok(true)
 }
 
+// The transaction.
+fn one(rt: &impl Abort, alloc: Global) -> Tx {
+    let bytes = hex::decode(alloc, ONE).expect(rt, "memory");
+    decode(alloc, bytes.as_slice()).expect(rt, "a transaction")
+}
+
+// The output that it spends.
+fn spent(rt: &impl Abort, alloc: Global) -> TxOut {
+    let program = hex::decode(alloc, PROGRAM).expect(rt, "memory");
+    TxOut::new(5, ByteString::from_vec(program)).expect(rt, "an output")
+}
+
+// Asserts whether the transaction's input runs clean, where these are the outputs that it spends.
+fn judges(rt: &impl Abort, alloc: Global, outputs: &[TxOut], wanted: bool) {
+    let tx = one(rt, alloc);
+    let clean = is_clean(alloc, &tx, outputs).expect(rt, "memory");
+    assert_eq!(rt; clean, wanted);
+}
+
 #[test]
-fn finds_each_input_clean(rt: HostRuntime) -> Result<(), Fail> {
+fn finds_each_input_clean(rt: HostRuntime) {
     let alloc = rt.alloc();
-    let bytes = hex::decode(alloc, ONE)?;
-    let tx = decode(alloc, bytes.as_slice())?;
-    let program = ByteString::from_vec(hex::decode(alloc, PROGRAM)?);
-    let mut outputs = Vec::new(alloc);
-    assert!(rt; !is_clean(alloc, &tx, outputs.as_slice())?);
-    outputs.push(TxOut::new(5, program)?)?;
-    assert!(rt; is_clean(alloc, &tx, outputs.as_slice())?);
-    Ok(())
+    let output = spent(&rt, alloc);
+    judges(&rt, alloc, &[], false);
+    judges(&rt, alloc, slice::from_ref(&output), true);
 }

@@ -1,8 +1,7 @@
 //! What is told of the inputs of a transaction: the first three constants are made by `bench/witnesses.py`.
 
-use crate::fixtures::prints;
-use std::alloc::Global;
-use std::process::Abort;
+use crate::fixtures::Source::Text;
+use crate::fixtures::{Row, plays};
 
 // A transaction, and the outputs that it spends.
 const GIVEN: &str =
@@ -31,65 +30,91 @@ input 2 stops at opcode 1 (end), byte 1: NotOneValue: the run ends with another 
 input 3 is refused: OtherProgram: the program is not of version 0 with the hash of a key or of a script
 ";
 
-#[test]
-fn tells_each_input(rt: HostRuntime) {
-    let alloc = rt.alloc();
-    prints(&rt, alloc, &["witness"], &mut GIVEN.as_bytes(), OBJECTS, 1);
-    prints(
-        &rt,
-        alloc,
-        &["witness", "--text"],
-        &mut GIVEN.as_bytes(),
-        PAGES,
-        1,
-    );
-}
-
 // A transaction with one input, whose script is the number 1.
 const ONE: &str =
     "020000000001010101010101010101010101010101010101010101010101010101010101010101000000000000000000010000000000000000015101015100000000\n";
 
-// The lines after it, and what they get; the last is the output that it spends, with another end of lines.
-const LINES: [(&str, &str, u8); 8] = [
-    ("", "refused BadCount\n", 1),
-    ("5 00\n6 00\n", "refused BadCount\n", 1),
-    ("5\n", "refused BadLine 2\n", 1),
-    ("-5 00\n", "refused BadLine 2\n", 1),
-    ("5 0g\n", "refused BadLine 2\n", 1),
-    ("2100000000000001 00\n", "refused BadLine 2\n", 1),
+// What is told of both, for people and for programs. The last line after the second transaction is the output that it spends, with another end of lines.
+const ROWS: [Row; 10] = [
+    (&["witness"], Text(GIVEN, ""), OBJECTS, 1),
+    (&["witness", "--text"], Text(GIVEN, ""), PAGES, 1),
     (
-        "5 0014\n",
+        &["witness", "--text"],
+        Text(ONE, ""),
+        "refused BadCount\n",
+        1,
+    ),
+    (
+        &["witness", "--text"],
+        Text(ONE, "5 00\n6 00\n"),
+        "refused BadCount\n",
+        1,
+    ),
+    (
+        &["witness", "--text"],
+        Text(ONE, "5\n"),
+        "refused BadLine 2\n",
+        1,
+    ),
+    (
+        &["witness", "--text"],
+        Text(ONE, "-5 00\n"),
+        "refused BadLine 2\n",
+        1,
+    ),
+    (
+        &["witness", "--text"],
+        Text(ONE, "5 0g\n"),
+        "refused BadLine 2\n",
+        1,
+    ),
+    (
+        &["witness", "--text"],
+        Text(ONE, "2100000000000001 00\n"),
+        "refused BadLine 2\n",
+        1,
+    ),
+    (
+        &["witness", "--text"],
+        Text(ONE, "5 0014\n"),
         "input 0 is refused: OtherProgram: the program is not of version 0 with the hash of a key or of a script\n",
         1,
     ),
     (
-        "5 00204ae81572f06e1b88fd5ced7a1a000945432e83e1551e6f721ee9c00b8cc33260\r\n",
+        &["witness", "--text"],
+        Text(
+            ONE,
+            "5 00204ae81572f06e1b88fd5ced7a1a000945432e83e1551e6f721ee9c00b8cc33260\r\n",
+        ),
         "input 0 runs clean on path 0: 0 opcodes counted, 1 elements at most\n",
         0,
     ),
 ];
 
 // Texts with no transaction on their first line, in the order in which it is looked for.
-const OTHERS: [(&str, &str, u8); 3] = [
-    ("0g\n", "refused BadHex\n", 1),
-    ("020000000001fd0100\n5\n", "refused LongCount\n", 1),
-    ("0200000001\n", "refused BadMarker\n", 1),
+const OTHERS: [Row; 3] = [
+    (
+        &["witness", "--text"],
+        Text("0g\n", ""),
+        "refused BadHex\n",
+        1,
+    ),
+    (
+        &["witness", "--text"],
+        Text("020000000001fd0100\n5\n", ""),
+        "refused LongCount\n",
+        1,
+    ),
+    (
+        &["witness", "--text"],
+        Text("0200000001\n", ""),
+        "refused BadMarker\n",
+        1,
+    ),
 ];
 
-// Asserts what is told of a text that begins so.
-fn tells(rt: &impl Abort, alloc: Global, first: &str, rest: &str, wanted: &str, status: u8) {
-    let mut text = String::from_str(alloc, first).expect(rt, "memory");
-    assert!(rt; text.push_str(rest).is_ok());
-    let call = ["witness", "--text"];
-    prints(rt, alloc, &call, &mut text.as_bytes(), wanted, status);
-}
-
 #[test]
-fn reads_the_spent_outputs(rt: HostRuntime) {
-    for (lines, wanted, status) in &LINES {
-        tells(&rt, rt.alloc(), ONE, lines, wanted, *status);
-    }
-    for (text, wanted, status) in &OTHERS {
-        tells(&rt, rt.alloc(), "", text, wanted, *status);
-    }
+fn tells_each_input(rt: HostRuntime) {
+    plays(&rt, rt.alloc(), &ROWS);
+    plays(&rt, rt.alloc(), &OTHERS);
 }

@@ -3,24 +3,19 @@
 ghost use Rattle.std.specs.Prelude.{◌≡◌};
 ghost use Rattle.trace_witness.specs.Refusals.{refusal_number};
 
-use thiserror::Error;
 use trace_words::InputError;
 use tx::DecodeError;
 
 /// Why a text is not a transaction with the outputs that it spends. Checked in the order of the numbers; the first line at fault is named.
-#[derive(Debug, Drop, Error)]
+#[derive(Drop)]
 pub enum SpentError {
     /// Memory ran out, the input can't be read or is too long, it is not text, or its first line is not hexadecimal.
-    #[error("{0}")]
     Input(InputError),
     /// The first line is not a transaction.
-    #[error("{0}")]
     Decode(DecodeError),
     /// The number of lines after the first is not the number of inputs.
-    #[error("BadCount")]
     BadCount,
     /// A line is not a value in satoshis and a program in hexadecimal, or above the limits of an output: its number, from 1.
-    #[error("BadLine {0}")]
     BadLine(usize),
 }
 

@@ -2,7 +2,8 @@
 
 use crate::causes::{cause_sentence, fault_sentence};
 use lists::{ByteString, Stack};
-use script::{Cause, Op};
+use script::Op;
+use trace_words::Piece::{Count, Hash, Text};
 use trace_words::{Form, Line, byte_of, opcode_name};
 use verdict::{Clean, Fault, Stopped, Verdict};
 
@@ -14,66 +15,72 @@ fn stack_values(stack: &Option<Stack<ByteString>>) -> &[ByteString] {
     }
 }
 
-// Writes a clean run as members of an object.
+// The name of the opcode at which a run stops, or another text if it stops at the end.
+fn op_or(ops: &[Op], index: usize, end: &'static str) -> &'static str {
+    match ops.get(index) {
+        Some(op) => opcode_name(op),
+        None => end,
+    }
+}
+
+// Writes a clean run as the last members of an object.
 fn clean_json(line: &mut Line, clean: &Clean) {
-    line.count_or_null("path", clean.path.map(|path| path as u64));
-    line.count("counted", clean.run.counted as u64);
-    line.count("height", clean.run.height as u64);
-    line.hex("digest", &clean.digest);
+    let digest = clean.digest;
+    let path = match clean.path {
+        Some(path) => Count(path as u64),
+        None => Text("null"),
+    };
+    line.write(
+        ",\"path\":%,\"counted\":%,\"height\":%,\"digest\":\"%\"}\n",
+        &[
+            path,
+            Count(clean.run.counted as u64),
+            Count(clean.run.height as u64),
+            Hash(digest),
+        ],
+    );
 }
 
 // Writes a clean run for people.
 fn clean_page(line: &mut Line, clean: &Clean) {
-    line.push(" runs clean");
     match clean.path {
-        Some(path) => {
-            line.push(" on path ");
-            line.push_shown(path);
-        }
-        None => line.push(", its paths are not listed"),
+        Some(path) => line.write(" runs clean on path %", &[Count(path as u64)]),
+        None => line.push(" runs clean, its paths are not listed"),
     }
-    line.push(": ");
-    line.push_shown(clean.run.counted);
-    line.push(" opcodes counted, ");
-    line.push_shown(clean.run.height);
-    line.push(" elements at most\n");
+    line.write(
+        ": % opcodes counted, % elements at most\n",
+        &[
+            Count(clean.run.counted as u64),
+            Count(clean.run.height as u64),
+        ],
+    );
 }
 
-// Writes the opcode at which a run stops; `null` at the end.
-fn op_json(line: &mut Line, ops: &[Op], index: usize) {
-    line.count("opcode", index as u64);
-    line.name("op");
-    match ops.get(index) {
-        Some(op) => line.word(opcode_name(op)),
-        None => line.json("null"),
-    }
-    line.count("byte", byte_of(ops, index));
-}
-
-// Writes a run that stops as members of an object.
+// Writes where a run stops, why, and the stack there, as the last members of an object.
 fn stopped_json(line: &mut Line, stopped: &Stopped) {
-    line.shown("stopped", stopped.cause);
-    op_json(line, stopped.script.ops(), stopped.index);
-    line.member("says", cause_sentence(stopped.cause));
-    line.begin("stack", "[");
+    let digest = stopped.digest;
+    let ops = stopped.script.ops();
+    let index = stopped.index;
+    let quote = if index < ops.len() { "\"" } else { "" };
+    line.push(r#","stopped":""#);
+    line.push_shown(stopped.cause);
+    line.write(
+        r#"","opcode":%,"op":%%%,"byte":%,"says":"%","stack":["#,
+        &[
+            Count(index as u64),
+            Text(quote),
+            Text(op_or(ops, index, "null")),
+            Text(quote),
+            Count(byte_of(ops, index)),
+            Text(cause_sentence(stopped.cause)),
+        ],
+    );
     for item in stack_values(&stopped.stack).iter().rev() {
-        line.bytes(item.bytes());
+        line.element(r#"""#, &[]);
+        line.push_hex(item.bytes());
+        line.push(r#"""#);
     }
-    line.close("]");
-    line.hex("digest", &stopped.digest);
-}
-
-// Writes the opcode at which a run stops, for people.
-fn op_page(line: &mut Line, ops: &[Op], index: usize) {
-    line.push(" stops at opcode ");
-    line.push_shown(index);
-    line.push(" (");
-    match ops.get(index) {
-        Some(op) => line.push(opcode_name(op)),
-        None => line.push("end"),
-    }
-    line.push("), byte ");
-    line.push_shown(byte_of(ops, index));
+    line.write("],\"digest\":\"%\"}\n", &[Hash(digest)]);
 }
 
 // Writes an element of a stack on a line. The empty element is `-`.
@@ -86,65 +93,53 @@ fn element_page(line: &mut Line, item: &[u8]) {
     line.push("\n");
 }
 
-// Writes why a run stops, for people.
-fn cause_page(line: &mut Line, cause: Cause) {
-    line.push(": ");
-    line.push_shown(cause);
-    line.push(": ");
-    line.push(cause_sentence(cause));
-    line.push("\n");
-}
-
-// Writes the stack at which a run stops, and the digest, for people.
-fn stack_page(line: &mut Line, stopped: &Stopped) {
+// Writes where a run stops, why, and the stack there, for people.
+fn stopped_page(line: &mut Line, stopped: &Stopped) {
+    let digest = stopped.digest;
+    let ops = stopped.script.ops();
+    let index = stopped.index;
+    line.write(
+        " stops at opcode % (%), byte %: ",
+        &[
+            Count(index as u64),
+            Text(op_or(ops, index, "end")),
+            Count(byte_of(ops, index)),
+        ],
+    );
+    line.push_shown(stopped.cause);
+    line.write(": %\n", &[Text(cause_sentence(stopped.cause))]);
     for item in stack_values(&stopped.stack).iter().rev() {
         element_page(line, item.bytes());
     }
-    line.push("  digest  ");
-    line.push_hex(&stopped.digest);
-    line.push("\n");
+    line.write("  digest  %\n", &[Hash(digest)]);
 }
 
-// Writes a run that stops, for people.
-fn stopped_page(line: &mut Line, stopped: &Stopped) {
-    op_page(line, stopped.script.ops(), stopped.index);
-    cause_page(line, stopped.cause);
-    stack_page(line, stopped);
-}
-
-// Writes why no script runs as members of an object.
-fn refused_json(line: &mut Line, fault: &Fault) {
-    line.shown("refused", fault);
-    line.member("says", fault_sentence(fault));
-}
-
-// Writes why no script runs, for people.
-fn refused_page(line: &mut Line, fault: &Fault) {
-    line.push(" is refused: ");
+// Writes why no script runs, between texts of the form.
+fn tell_fault(line: &mut Line, fault: &Fault, before: &str, between: &str, after: &str) {
+    line.push(before);
     line.push_shown(fault);
-    line.push(": ");
+    line.push(between);
     line.push(fault_sentence(fault));
-    line.push("\n");
+    line.push(after);
 }
 
 // Writes the verdict as an object on a line.
 fn verdict_json(line: &mut Line, input: usize, verdict: &Verdict) {
-    line.open("{");
-    line.count("input", input as u64);
+    line.write(r#"{"input":%"#, &[Count(input as u64)]);
     match verdict {
-        Verdict::Refused(fault) => refused_json(line, fault),
+        Verdict::Refused(fault) => {
+            tell_fault(line, fault, r#","refused":""#, r#"","says":""#, "\"}\n")
+        }
         Verdict::Stopped(stopped) => stopped_json(line, stopped),
         Verdict::Clean(clean) => clean_json(line, clean),
     }
-    line.end();
 }
 
 // Writes the verdict for people.
 fn verdict_page(line: &mut Line, input: usize, verdict: &Verdict) {
-    line.push("input ");
-    line.push_shown(input);
+    line.write("input %", &[Count(input as u64)]);
     match verdict {
-        Verdict::Refused(fault) => refused_page(line, fault),
+        Verdict::Refused(fault) => tell_fault(line, fault, " is refused: ", ": ", "\n"),
         Verdict::Stopped(stopped) => stopped_page(line, stopped),
         Verdict::Clean(clean) => clean_page(line, clean),
     }

@@ -8,18 +8,19 @@ use crate::texts::tell_verdict;
 use sighash::SighashCache;
 use std::alloc::Global;
 use std::io::{Read, Write};
+use trace_words::Piece::{Count, Text};
 use trace_words::{Form, InputError, Line, read_all, refuse_memory, refuse_words, write_told};
 use tx::{Tx, TxIn, TxOut};
 use verdict::{Verdict, judge};
 
 /// Runs the word `witness` on the words after it and returns its status: 0 when each input runs clean, 1 for an input that does not, refused text or a failed
 /// write, 2 for wrong words, which are detected before any input is read. The verdict on an input is written before the next input is judged.
-pub fn run_words<R: Read, W: Write, E: Write>(
+pub fn run_words(
     alloc: Global,
     words: &[String],
-    input: &mut R,
-    out: &mut W,
-    err: &mut E,
+    input: &mut dyn Read,
+    out: &mut dyn Write,
+    err: &mut dyn Write,
 ) -> u8
     ensures { result ≤ 2 }
 {
@@ -32,7 +33,7 @@ pub fn run_words<R: Read, W: Write, E: Write>(
 }
 
 // Judges the inputs of the transaction in the input, and returns the status.
-fn tell<R: Read, W: Write>(alloc: Global, form: Form, input: &mut R, out: &mut W) -> u8
+fn tell(alloc: Global, form: Form, input: &mut dyn Read, out: &mut dyn Write) -> u8
     ensures { result ≤ 1 }
 {
     match read_all(alloc, input) {
@@ -42,7 +43,7 @@ fn tell<R: Read, W: Write>(alloc: Global, form: Form, input: &mut R, out: &mut W
 }
 
 // The same of a text's bytes.
-fn tell_bytes<W: Write>(alloc: Global, form: Form, bytes: &[u8], out: &mut W) -> u8
+fn tell_bytes(alloc: Global, form: Form, bytes: &[u8], out: &mut dyn Write) -> u8
     ensures { result ≤ 1 }
 {
     match str::from_utf8(bytes) {
@@ -52,7 +53,7 @@ fn tell_bytes<W: Write>(alloc: Global, form: Form, bytes: &[u8], out: &mut W) ->
 }
 
 // The same of a text.
-fn tell_text<W: Write>(alloc: Global, form: Form, text: &str, out: &mut W) -> u8
+fn tell_text(alloc: Global, form: Form, text: &str, out: &mut dyn Write) -> u8
     ensures { result ≤ 1 }
 {
     match read_tx(alloc, text) {
@@ -62,7 +63,7 @@ fn tell_text<W: Write>(alloc: Global, form: Form, text: &str, out: &mut W) -> u8
 }
 
 // The same, where the first line of the text is this transaction.
-fn tell_tx<W: Write>(alloc: Global, form: Form, text: &str, tx: &Tx, out: &mut W) -> u8
+fn tell_tx(alloc: Global, form: Form, text: &str, tx: &Tx, out: &mut dyn Write) -> u8
     ensures { result ≤ 1 }
 {
     match read_outputs(alloc, text, tx.inputs().len()) {
@@ -72,35 +73,32 @@ fn tell_tx<W: Write>(alloc: Global, form: Form, text: &str, tx: &Tx, out: &mut W
 }
 
 // Reports that a text is refused.
-fn refuse<W: Write>(alloc: Global, form: Form, error: &SpentError, out: &mut W) -> u8
+fn refuse(alloc: Global, form: Form, error: &SpentError, out: &mut dyn Write) -> u8
     ensures { result ≤ 1 }
 {
     let mut line = Line::new(alloc);
-    match error {
-        SpentError::Input(InputError::NoMemory) => line.fail(),
-        _ => tell_refusal(&mut line, form, error),
+    match form {
+        Form::Json => tell_refusal(&mut line, error, r#"{"refused":""#, "\"}\n"),
+        Form::Text => tell_refusal(&mut line, error, "refused ", "\n"),
     }
     write_told(out, &line, 1)
 }
 
-// Writes the line of a refusal.
-fn tell_refusal(line: &mut Line, form: Form, error: &SpentError) {
-    match form {
-        Form::Json => {
-            line.open("{");
-            line.shown("refused", error);
-            line.end();
-        }
-        Form::Text => {
-            line.push("refused ");
-            line.push_shown(error);
-            line.push("\n");
-        }
+// Writes a refusal between texts of the form.
+fn tell_refusal(line: &mut Line, error: &SpentError, before: &str, after: &str) {
+    line.push(before);
+    match error {
+        SpentError::Input(InputError::NoMemory) => line.fail(),
+        SpentError::Input(error) => line.push(error.text()),
+        SpentError::Decode(error) => line.push_shown(error),
+        SpentError::BadCount => line.push("BadCount"),
+        SpentError::BadLine(number) => line.write("BadLine %", &[Count(*number as u64)]),
     }
+    line.push(after);
 }
 
 // Judges each input, writes each verdict at once, and returns the greatest status.
-fn tell_inputs<W: Write>(alloc: Global, form: Form, tx: &Tx, outputs: &[TxOut], out: &mut W) -> u8
+fn tell_inputs(alloc: Global, form: Form, tx: &Tx, outputs: &[TxOut], out: &mut dyn Write) -> u8
     ensures { result ≤ 1 }
 {
     let cache = SighashCache::new(tx);
@@ -117,7 +115,7 @@ fn tell_inputs<W: Write>(alloc: Global, form: Form, tx: &Tx, outputs: &[TxOut], 
 }
 
 // Judges an input, and returns 0 if it runs clean.
-fn tell_input<W: Write>(
+fn tell_input(
     alloc: Global,
     form: Form,
     tx: &Tx,
@@ -125,7 +123,7 @@ fn tell_input<W: Write>(
     index: usize,
     input: &TxIn,
     output: &TxOut,
-    out: &mut W,
+    out: &mut dyn Write,
 ) -> u8
     requires cached { cache.now ≡ tx.now }
     requires indexed { slice_get tx.now.inputs index ≡ Some input.now }
@@ -138,26 +136,20 @@ fn tell_input<W: Write>(
 }
 
 // Writes the verdict on an input, and returns 0 if it runs clean.
-fn write_verdict<W: Write>(
+fn write_verdict(
     alloc: Global,
     form: Form,
     input: usize,
     verdict: &Verdict,
-    out: &mut W,
+    out: &mut dyn Write,
 ) -> u8
     ensures { result ≤ 1 }
 {
     let mut line = Line::new(alloc);
     tell_verdict(&mut line, form, input, verdict);
-    write_told(out, &line, status_of(verdict))
-}
-
-// 0 if an input runs clean, else 1.
-fn status_of(verdict: &Verdict) -> u8
-    ensures { result ≤ 1 }
-{
-    match verdict {
+    let status = match verdict {
         Verdict::Clean(_) => 0,
         _ => 1,
-    }
+    };
+    write_told(out, &line, status)
 }

@@ -1,5 +1,5 @@
 -- The numbers of the refusals.
-use Rattle.std.specs.Prelude.{ℕ}
+use Rattle.std.specs.Prelude.{ℕ, List, codes}
 use Rattle.trace_words.specs.declared.input.InputError.{InputError}
 use Rattle.trace_words.specs.declared.input.InputError.TheVariants.{NoMemory, ReadFailed, TooLong, BadHex}
 
@@ -9,3 +9,10 @@ input_number NoMemory = 0
 input_number ReadFailed = 1
 input_number TooLong = 2
 input_number BadHex = 3
+
+-- its name
+abbrev pub input_text : InputError → List ℕ
+input_text NoMemory = codes "NoMemory"
+input_text ReadFailed = codes "ReadFailed"
+input_text TooLong = codes "TooLong"
+input_text BadHex = codes "BadHex"

@@ -4,31 +4,26 @@ ghost use Rattle.std.specs.Prelude.{◌≤◌, IfOk, vec_len};
 
 use std::alloc::Global;
 use std::io::{ErrorKind, Read};
-use thiserror::Error;
 
 /// The greatest number of bytes of an input.
 pub const MAX_INPUT: usize = 4_194_304;
 
 /// Why an input is refused before its content is looked at.
-#[derive(Clone, Copy, Debug, Error)]
+#[derive(Clone, Copy)]
 pub enum InputError {
     /// Memory ran out.
-    #[error("NoMemory")]
     NoMemory,
     /// The input can't be read.
-    #[error("ReadFailed")]
     ReadFailed,
     /// The input has more than 4,194,304 bytes.
-    #[error("TooLong")]
     TooLong,
     /// The input is not text, or a text is not hexadecimal.
-    #[error("BadHex")]
     BadHex,
 }
 
 impl InputError {
     ghost use Rattle.std.specs.Prelude.{◌≡◌};
-    ghost use Rattle.trace_words.specs.Refusals.{input_number};
+    ghost use Rattle.trace_words.specs.Refusals.{input_number, input_text};
 
     /// The number of the refusal; 0 is out of memory.
     pub fn number(&self) -> u8
@@ -41,10 +36,22 @@ impl InputError {
             InputError::BadHex => 3,
         }
     }
+
+    /// The name of the refusal, as it is printed.
+    pub fn text(&self) -> &'static str
+        ensures { result.now ≡ input_text self.now }
+    {
+        match self {
+            InputError::NoMemory => "NoMemory",
+            InputError::ReadFailed => "ReadFailed",
+            InputError::TooLong => "TooLong",
+            InputError::BadHex => "BadHex",
+        }
+    }
 }
 
 /// Reads the whole input, but at most one byte above the limit.
-pub fn read_all<R: Read>(alloc: Global, input: &mut R) -> Result<Vec<u8>, InputError>
+pub fn read_all(alloc: Global, input: &mut dyn Read) -> Result<Vec<u8>, InputError>
     ensures { IfOk result (λ bytes. vec_len bytes ≤ MAX_INPUT) }
 {
     let mut bytes = Vec::new(alloc);

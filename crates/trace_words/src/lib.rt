@@ -5,8 +5,8 @@
 //! reader and writers, and returns a status of at most 2. The names of opcodes, what a push looks like, each fact's sentence ([`Sentence`]) and each
 //! witness's weight ([`witness_weight`]) are proved. Their layout is tested, not proved.
 //!
-//! `paths` lists the ways, and `facts` has what they ask for. The program `trace` passes it the words. `trace_witness` writes by its [`Line`], and reads
-//! its input by its [`read_all`].
+//! `paths` lists the ways, and `facts` has what they ask for. The program `trace` passes it the words. The other words of `trace` write by its [`Line`],
+//! and read their input by its [`read_all`].
 //!
 //! ```rust
 //! let status = run_words(alloc, words, &mut input, &mut out, &mut err);
@@ -23,6 +23,7 @@ mod lines;
 mod looks;
 mod names;
 mod pages;
+mod pieces;
 mod places;
 mod reading;
 mod sentences;
@@ -34,6 +35,7 @@ pub use input::{InputError, MAX_INPUT, read_all};
 pub use lines::write_told;
 pub use looks::Look;
 pub use names::opcode_name;
+pub use pieces::Piece;
 pub use places::byte_of;
 pub use reading::Form;
 pub use sentences::{Role, Sentence};
@@ -43,16 +45,16 @@ pub use weights::{SIGNATURE_SIZE, TOKEN_SIZE, witness_weight};
 pub use writer::Line;
 
 /// The line that is printed for wrong words.
-pub const USAGE: &str = "usage: trace scenario | script [--text] [HEX] | witness [--text]\n";
+pub const USAGE: &str = "usage: trace scenario | dump | script [--text] [HEX] | witness [--text]\n";
 
 /// Runs the program on its words (without its name) and returns its status: 0 when all scripts are listed, 1 for a refused script, refused input or a failed
 /// write, 2 for wrong words, which are detected before any input is read. All text about a script is made before its first byte is written.
-pub fn run_words<R: Read, W: Write, E: Write>(
+pub fn run_words(
     alloc: Global,
     words: &[String],
-    input: &mut R,
-    out: &mut W,
-    err: &mut E,
+    input: &mut dyn Read,
+    out: &mut dyn Write,
+    err: &mut dyn Write,
 ) -> u8
     ensures { result ≤ 2 }
 {
@@ -65,12 +67,12 @@ pub fn run_words<R: Read, W: Write, E: Write>(
 }
 
 // Explains the scripts that the words after `script` ask for, and returns the status.
-fn tell_scripts<R: Read, W: Write, E: Write>(
+fn tell_scripts(
     alloc: Global,
     words: &[String],
-    input: &mut R,
-    out: &mut W,
-    err: &mut E,
+    input: &mut dyn Read,
+    out: &mut dyn Write,
+    err: &mut dyn Write,
 ) -> u8
     ensures { result ≤ 2 }
 {
@@ -83,21 +85,21 @@ fn tell_scripts<R: Read, W: Write, E: Write>(
 }
 
 /// Handles wrong words.
-pub fn refuse_words<E: Write>(err: &mut E) -> u8
+pub fn refuse_words(err: &mut dyn Write) -> u8
     ensures { result ≤ 2 }
 {
     written(err, USAGE, 2)
 }
 
 /// Reports that memory ran out.
-pub fn refuse_memory<W: Write>(out: &mut W) -> u8
+pub fn refuse_memory(out: &mut dyn Write) -> u8
     ensures { result ≡ 1 }
 {
     written(out, "refused NoMemory\n", 1)
 }
 
 /// Writes a text, and returns the status, or 1 if the write fails.
-pub fn written<W: Write>(out: &mut W, text: &str, status: u8) -> u8
+pub fn written(out: &mut dyn Write, text: &str, status: u8) -> u8
     ensures { (result ≡ status) ⊎ (result ≡ 1) }
 {
     match out.write_all(text.as_bytes()) {

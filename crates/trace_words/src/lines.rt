@@ -10,7 +10,7 @@ use std::alloc::Global;
 use std::io::{Read, Write};
 
 /// Writes what was explained, and returns the status. Returns 1 if the write fails, or if memory ran out before, which it then reports instead.
-pub fn write_told<W: Write>(out: &mut W, line: &Line, status: u8) -> u8
+pub fn write_told(out: &mut dyn Write, line: &Line, status: u8) -> u8
     ensures { (result ≡ status) ⊎ (result ≡ 1) }
 {
     match line.text() {
@@ -20,7 +20,7 @@ pub fn write_told<W: Write>(out: &mut W, line: &Line, status: u8) -> u8
 }
 
 /// Explains a script, and returns the status.
-pub fn told<W: Write>(alloc: Global, text: &str, form: Form, out: &mut W) -> u8
+pub fn told(alloc: Global, text: &str, form: Form, out: &mut dyn Write) -> u8
     ensures { result ≤ 1 }
 {
     let mut line = Line::new(alloc);
@@ -33,7 +33,7 @@ pub fn told<W: Write>(alloc: Global, text: &str, form: Form, out: &mut W) -> u8
 }
 
 /// Explains each script of the input, one a line and each at once, and returns the greatest status.
-pub fn tell_input<R: Read, W: Write>(alloc: Global, form: Form, input: &mut R, out: &mut W) -> u8
+pub fn tell_input(alloc: Global, form: Form, input: &mut dyn Read, out: &mut dyn Write) -> u8
     ensures { result ≤ 1 }
 {
     match read_all(alloc, input) {
@@ -43,7 +43,7 @@ pub fn tell_input<R: Read, W: Write>(alloc: Global, form: Form, input: &mut R, o
 }
 
 // Explains each script of the bytes of a text.
-fn tell_text<W: Write>(alloc: Global, bytes: &[u8], form: Form, out: &mut W) -> u8
+fn tell_text(alloc: Global, bytes: &[u8], form: Form, out: &mut dyn Write) -> u8
     ensures { result ≤ 1 }
 {
     match str::from_utf8(bytes) {
@@ -53,7 +53,7 @@ fn tell_text<W: Write>(alloc: Global, bytes: &[u8], form: Form, out: &mut W) -> 
 }
 
 // Explains each script of a text.
-fn tell_lines<W: Write>(alloc: Global, text: &str, form: Form, out: &mut W) -> u8
+fn tell_lines(alloc: Global, text: &str, form: Form, out: &mut dyn Write) -> u8
     ensures { result ≤ 1 }
 {
     let mut status = 0;
@@ -66,13 +66,13 @@ fn tell_lines<W: Write>(alloc: Global, text: &str, form: Form, out: &mut W) -> u
 }
 
 // Reports that the input is refused.
-fn refuse_input<W: Write>(alloc: Global, form: Form, refusal: InputError, out: &mut W) -> u8
+fn refuse_input(alloc: Global, form: Form, refusal: InputError, out: &mut dyn Write) -> u8
     ensures { result ≤ 1 }
 {
     let mut line = Line::new(alloc);
     match refusal {
         InputError::NoMemory => line.fail(),
-        _ => refuse(&mut line, form, None, &[], refusal, None),
+        _ => refuse(&mut line, form, None, &[], refusal.text(), None),
     }
     write_told(out, &line, 1)
 }

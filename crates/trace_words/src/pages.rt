@@ -1,13 +1,16 @@
 // Opcodes and paths as text for people.
 
+use crate::json::sign;
 use crate::looks::Look;
 use crate::names::opcode_name;
+use crate::pieces::Piece::{Count, Sum, Text};
 use crate::sentences::{Role, Sentence};
 use crate::weights::{SIGNATURE_SIZE, TOKEN_SIZE, witness_weight};
 use crate::writer::Line;
 use facts::Stated;
 use paths::Path;
 use script::Op;
+use std::slice;
 
 // Writes the bytes of a push, and what they look like.
 fn tell_push(line: &mut Line, item: &[u8]) {
@@ -21,45 +24,34 @@ fn tell_push(line: &mut Line, item: &[u8]) {
         Look::Key => line.push(" (key)"),
         Look::Hash => line.push(" (hash)"),
         Look::Bytes => {}
-        Look::Number(number) => {
-            line.push(" (number ");
-            line.push_signed(&number);
-            line.push(")");
-        }
+        Look::Number(number) => line.write(
+            " (number %%)",
+            &[Text(sign(number.negative)), Count(number.magnitude)],
+        ),
     }
 }
 
 /// Writes an opcode on a line: the byte at which it begins, and its name, indented by branch.
 pub fn tell_op(line: &mut Line, op: &Op, byte: usize, depth: usize) {
-    line.push_shown(format_args!("{byte:>5}"));
-    line.push("  ");
+    line.push_shown(format_args!("{byte:>5}  "));
     for _ in 0..depth {
         line.push("  ");
     }
     line.push(opcode_name(op));
     match op {
         Op::Push(item) => tell_push(line, item.bytes()),
-        Op::Number(n) => tell_push(line, &[*n]),
+        Op::Number(n) => tell_push(line, slice::from_ref(n)),
         _ => {}
     }
     line.push("\n");
 }
 
-// The text before a sentence.
-fn label(role: Role) -> &'static str {
-    match role {
-        Role::Who => "  who   ",
-        Role::With => "  with  ",
-        Role::When => "  when  ",
-    }
-}
-
-// Writes the sentences of one role, a line each, or another line if there are none.
-fn tell_role(line: &mut Line, facts: &[Stated], role: Role, otherwise: &str) {
+// Writes the sentences of one role after a label, a line each, or another line if there are none.
+fn tell_role(line: &mut Line, facts: &[Stated], role: Role, label: &str, otherwise: &str) {
     let mut is_told = false;
     for stated in facts {
         if Role::of(stated) == role {
-            line.push(label(role));
+            line.push(label);
             line.push_shown(Sentence(stated));
             line.push("\n");
             is_told = true;
@@ -70,31 +62,21 @@ fn tell_role(line: &mut Line, facts: &[Stated], role: Role, otherwise: &str) {
     }
 }
 
-// Writes what the witness of a path weighs.
-fn tell_weights(line: &mut Line, path: &Path, size: usize) {
-    let facts = path.facts.values();
-    line.push_shown(witness_weight(facts, path.arity, size, SIGNATURE_SIZE));
-    line.push(" weight units (");
-    line.push_shown(witness_weight(facts, path.arity, size, TOKEN_SIZE));
-    line.push(" with tokens)\n");
-}
-
-// Writes the facts of a path by their roles.
-fn tell_roles(line: &mut Line, facts: &[Stated]) {
-    tell_role(line, facts, Role::Who, "  who   anyone\n");
-    tell_role(line, facts, Role::With, "");
-    tell_role(line, facts, Role::When, "  when  at once\n");
-}
-
 // Writes a path through a script of this number of bytes, with its number.
 fn tell_path(line: &mut Line, path: &Path, number: usize, size: usize) {
-    line.push("path ");
-    line.push_shown(number);
-    line.push(": ");
-    line.push_shown(path.arity);
-    line.push(" items, ");
-    tell_weights(line, path, size);
-    tell_roles(line, path.facts.values());
+    let facts = path.facts.values();
+    line.write(
+        "path %: % items, % weight units (% with tokens)\n",
+        &[
+            Count(number as u64),
+            Count(path.arity as u64),
+            Sum(witness_weight(facts, path.arity, size, SIGNATURE_SIZE)),
+            Sum(witness_weight(facts, path.arity, size, TOKEN_SIZE)),
+        ],
+    );
+    tell_role(line, facts, Role::Who, "  who   ", "  who   anyone\n");
+    tell_role(line, facts, Role::With, "  with  ", "");
+    tell_role(line, facts, Role::When, "  when  ", "  when  at once\n");
 }
 
 /// Writes the paths through a script of this number of bytes.

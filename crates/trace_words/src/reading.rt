@@ -2,6 +2,8 @@
 
 use crate::input::InputError;
 use crate::names::{depth, depth_after};
+use crate::pieces::Piece;
+use crate::pieces::Piece::{Count, Text};
 use crate::places::place;
 use crate::writer::Line;
 use crate::{json, pages};
@@ -40,7 +42,7 @@ pub fn tell(alloc: Global, line: &mut Line, form: Form, text: &str) -> bool {
             false
         }
         Err(_) => {
-            refuse(line, form, None, &[], InputError::BadHex, None);
+            refuse(line, form, None, &[], InputError::BadHex.text(), None);
             false
         }
     }
@@ -123,11 +125,9 @@ fn tell_unlisted(alloc: Global, line: &mut Line, form: Form, script: &Script, er
 fn begin(line: &mut Line, form: Form, bytes: Option<u64>, ops: &[Op]) {
     match form {
         Form::Json => {
-            line.open("{");
-            line.count_or_null("bytes", bytes);
-            line.begin("opcodes", "[");
+            line.write(r#"{"bytes":%,"opcodes":["#, &[Piece::or_null(bytes)]);
             tell_ops(line, form, ops);
-            line.close("]");
+            line.push("]");
         }
         Form::Text => tell_ops(line, form, ops),
     }
@@ -159,16 +159,15 @@ pub fn refuse<D: Display + Drop>(
     begin(line, form, bytes, ops);
     match form {
         Form::Json => {
-            line.shown("refused", refusal);
-            line.count_or_null("byte", byte);
-            line.end();
+            line.push(r#","refused":""#);
+            line.push_shown(refusal);
+            line.write("\",\"byte\":%}\n", &[Piece::or_null(byte)]);
         }
         Form::Text => {
             line.push("refused ");
             line.push_shown(refusal);
             if let Some(byte) = byte {
-                line.push(" at byte ");
-                line.push_shown(byte);
+                line.write(" at byte %", &[Count(byte)]);
             }
             line.push("\n");
         }

@@ -104,18 +104,6 @@ impl fmt::Display for Item<'_> {
     }
 }
 
-// Keys whose signatures are needed in this order.
-#[derive(Drop)]
-struct KeysInOrder<'a>(&'a [KeySource]);
-
-impl fmt::Display for KeysInOrder<'_> {
-    ghost output = { λ k. Some (codes " signatures by keys of " ++ (comma_separated key_text k.0.now ++ codes " in their order")) };
-
-    fn fmt<W: fmt::Write>(&self, f: &mut fmt::Formatter<W>) -> fmt::Result {
-        write!(f, " signatures by keys of {} in their order", Keys(self.0))
-    }
-}
-
 // Writes what a slot is or is not.
 fn write_slot<W: fmt::Write>(
     f: &mut fmt::Formatter<W>,
@@ -156,7 +144,12 @@ fn write_assigned<W: fmt::Write>(
     ensures { WritesOnOk W.write_str_gives f.old result
         (assigned_words slots.now verb.now keys.now) f.new }
 {
-    write!(f, "slots {} {verb}{}", Slots(slots), KeysInOrder(keys))
+    write!(
+        f,
+        "slots {} {verb} signatures by keys of {} in their order",
+        Slots(slots),
+        Keys(keys)
+    )
 }
 
 // Writes that a slot has a size, or has not.

@@ -1,0 +1,250 @@
+#!/usr/bin/env python3
+"""What `trace dump` prints of books, made anew from the calls of their dumps.
+
+  bench/dumps.py          compares what ./trace dump prints of each dump of bench/dumps.txt, one a line, and of texts that are no dumps, with it; status 1 where they differ
+  bench/dumps.py --tell   prints what is told of the dump on standard input
+  bench/dumps.py FILE     compares it of the dumps of a file
+
+bench/dumps.txt has books of the examples as they stand at the end: of each kind of claim and of HTLC the shortest dump, and one dump with a claim that no script has.
+Commitments, balances, HTLCs and amounts are found here by rules of this file's own, from BOLT 2, 3 and 5 and docs/TRACE.md: a commitment is how many updates of each side it has.
+"""
+import hashlib
+import json
+import os
+import subprocess
+import sys
+
+TOP = os.path.dirname(os.path.dirname(os.path.abspath(__file__)))
+# lines that are refused, and as what
+REFUSED = {
+    "": ("NotJson", 1),
+    "{": ("NotJson", 1),
+    "[]": ("BadShape", 2),
+    '{"history":[],"version":3}': ("BadShape", 2),
+    '{"history":[{"call":["sign",0],"seat":0}],"version":2}': ("BadHistory 0", 4),
+}
+
+
+class Channel:
+    """A channel by its updates: each side's list, and of each commitment how many of each it has, this side's first."""
+
+    def __init__(self, terms, funding, side):
+        self.terms, self.funding, self.side = terms, funding, side
+        self.updates = ([], [])
+        self.ours, self.theirs, self.next = [(0, 0)], [(0, 0)], None
+        self.preimages, self.kept = [], set()
+
+    def add(self, whose, update):
+        self.updates[whose].append(update)
+        if update[0] == "fulfil":
+            self.preimages.append(bytes.fromhex(update[2]))
+
+    def sign(self):
+        """The peer's next commitment has all updates of this side, and those of the peer that this side's newest has."""
+        self.next = (len(self.updates[0]), self.ours[-1][1])
+
+    def signed(self):
+        """This side's next has all of the peer's, and those of this side that the peer's newest has."""
+        self.ours.append((self.theirs[-1][0], len(self.updates[1])))
+
+    def revoke(self):
+        self.theirs.append(self.next)
+        self.next = None
+
+    def index(self, whose):
+        """The place of a side's values in the terms: this side is 0, the peer 1."""
+        return (self.side == "B") ^ (whose == 1)
+
+    def view(self, commitment):
+        """What a commitment pays: balances, HTLCs and the feerate. A removal of an HTLC may be in a commitment that its offer is in."""
+        balances = [self.terms["start"][self.index(whose)] for whose in (0, 1)]
+        standing, feerate = ({}, {}), self.terms["feerate"]
+        parts = [self.updates[whose][: commitment[whose]] for whose in (0, 1)]
+        for whose in (0, 1):
+            for update in parts[whose]:
+                if update[0] == "add":
+                    standing[whose][update[1]] = update
+                    balances[whose] -= update[2]
+                elif update[0] == "fee":
+                    feerate = update[1]
+        for whose in (0, 1):
+            for update in parts[whose]:
+                if update[0] in ("fulfil", "fail"):
+                    htlc = standing[1 - whose].pop(update[1])
+                    balances[whose if update[0] == "fulfil" else 1 - whose] += htlc[2]
+        return balances, standing, feerate
+
+    def amounts(self, commitment):
+        """The outputs of a commitment of the peer (BOLT 3): to_local, to_remote, and its HTLCs that are not trimmed, the peer's first."""
+        balances, standing, feerate = self.view(commitment)
+        dust = self.terms["dust"][self.index(1)]
+        kept = []
+        for whose, weight in ((1, 663), (0, 703)):
+            least = dust + weight * feerate // 1000
+            kept.append([it for _, it in sorted(standing[whose].items()) if it[2] // 1000 >= least])
+        fee = (724 + 172 * (len(kept[0]) + len(kept[1]))) * feerate // 1000
+        shares = [balance // 1000 for balance in balances]
+        payer = 0 if self.terms["opener"] == self.side else 1
+        shares[payer] = max(shares[payer] - fee, 0)
+        local, remote = (value if value >= dust else None for value in (shares[1], shares[0]))
+        return local, remote, kept[0], kept[1]
+
+    def claims(self, commitment, is_revoked):
+        hashes = [hashlib.sha256(it).hexdigest() for it in self.preimages]
+        local, remote, received, offered = self.amounts(commitment)
+        found = []
+
+        def claim(output, number, value, by, lock, alone, limit):
+            found.append({"output": output, "id": number, "value": value, "by": by, "lock": lock, "alone": alone, "limit": limit})
+
+        if is_revoked and local is not None:
+            claim("to_local", None, local, "penalty", None, "blocks", self.terms["delay"][self.index(1)])
+        if remote is not None:
+            claim("to_remote", None, remote, "payment", None, "always", None)
+        for _, number, amount, payment_hash, expiry in received:
+            if is_revoked or payment_hash in hashes:
+                claim("received", number, amount // 1000, "penalty" if is_revoked else "preimage", None, "until", expiry)
+        for _, number, amount, _, expiry in offered:
+            claim("offered", number, amount // 1000, "penalty" if is_revoked else "timeout", None if is_revoked else expiry, "no_preimage", None)
+        return found
+
+    def commitment(self, number, counts):
+        balances, _, feerate = self.view(counts)
+        return {"number": number, "balance": balances[0], "peer_balance": balances[1], "feerate": feerate}
+
+    def htlcs(self):
+        places = {"ours": self.ours[-1], "theirs": self.theirs[-1], "next": self.next}
+        views = {name: counts and self.view(counts)[1] for name, counts in places.items()}
+        found = []
+        for whose, direction in ((0, "offered"), (1, "received")):
+            seen = {}
+            for view in views.values():
+                for number, htlc in sorted(view[whose].items()) if view else ():
+                    seen.setdefault(number, htlc)
+            for number, (_, _, amount, payment_hash, expiry) in seen.items():
+                one = {"direction": direction, "id": number, "amount": amount, "hash": payment_hash, "expiry": expiry}
+                one.update({name: None if view is None else number in view[whose] for name, view in views.items()})
+                found.append(one)
+        return found
+
+    def closes(self):
+        number = len(self.theirs) - 1
+        found = [("theirs", number, None, self.theirs[-1])]
+        if self.next:
+            found.append(("next", number + 1, None, self.next))
+        found += [("revoked", n, n in self.kept, counts) for n, counts in enumerate(self.theirs[:-1])]
+        return [{"commitment": name, "number": n, "kept": kept, "claims": self.claims(counts, name == "revoked")} for name, n, kept, counts in found]
+
+    def told(self, index):
+        return {
+            "channel": index, "funding": self.funding, "side": self.side, "opener": self.terms["opener"], "capacity": self.terms["capacity"],
+            "peer_delay": self.terms["delay"][self.index(1)],
+            "ours": self.commitment(len(self.ours) - 1, self.ours[-1]),
+            "theirs": self.commitment(len(self.theirs) - 1, self.theirs[-1]),
+            "next": self.next and self.commitment(len(self.theirs), self.next),
+            "htlcs": self.htlcs(), "closes": self.closes(),
+        }
+
+
+def received(channel, message):
+    if message[0] == "signed":
+        channel.signed()
+    else:
+        channel.add(1, message)
+
+
+def step(channel, call):
+    """A step of a channel: an update of its own, of which an offer has no id yet, or a message."""
+    if call[2] == "receive":
+        received(channel, call[3])
+    elif call[2] == "offer":
+        count = sum(it[0] == "add" for it in channel.updates[0])
+        channel.add(0, ["add", count, *call[3:]])
+    else:
+        channel.add(0, call[2:])
+
+
+def told(dump):
+    """The objects that tell of a dump: its channels, and the book."""
+    channels = []
+    for entry in dump["history"]:
+        call = entry["call"]
+        if call[0] == "open":
+            channels.append(Channel(call[1], call[2], call[3]))
+        elif call[0] == "step":
+            step(channels[call[1]], call)
+        elif call[0] == "sign":
+            channels[call[1]].sign()
+        elif call[0] == "revoke":
+            channels[call[1]].revoke()
+        elif call[0] == "keep":
+            channels[call[1]].kept.add(call[2])
+    found = [channel.told(index) for index, channel in enumerate(channels)]
+    return [*found, {"entries": len(dump["history"]), "channels": len(channels)}]
+
+
+def compact(value):
+    return json.dumps(value, separators=(",", ":")) + "\n"
+
+
+def claims_in(call):
+    """The claims of a call, as its dump has them."""
+    return {"keep": call[3:4], "release": call[2:3]}.get(call[0], [[]])[0]
+
+
+def refusal_of(line):
+    """Why a line is refused, with the number, if it is: a claim by path 9 is one that no script of a channel has."""
+    if line in REFUSED:
+        return REFUSED[line]
+    for index, entry in enumerate(json.loads(line)["history"]):
+        if any(claim["path"] == 9 for claim in claims_in(entry["call"])):
+            return f"BadClaim {index}", 3
+    return None
+
+
+def kept_otherwise(dump, objects):
+    """The kept penalty sets whose claims on the commitment's own outputs have other values than what is told: the commitment's are those of the first claim's transaction."""
+    found = []
+    for call in (entry["call"] for entry in dump["history"] if entry["call"][0] == "keep"):
+        values = [it["value"] for it in call[3] if it["outpoint"][:64] == call[3][0]["outpoint"][:64]]
+        wanted = [it["value"] for close in objects[call[1]]["closes"] if close["commitment"] == "revoked" and close["number"] == call[2] for it in close["claims"]]
+        if sorted(values) != sorted(wanted):
+            found.append(call)
+    return found
+
+
+def printed(line):
+    """What the program prints of a line."""
+    refusal = refusal_of(line)
+    if refusal:
+        return compact(dict(zip(("refused", "number"), refusal)))
+    dump = json.loads(line)
+    objects = told(dump)
+    if kept_otherwise(dump, objects):
+        raise SystemExit(f"dumps: other penalties are kept than told: {line[:80]}")
+    return "".join(map(compact, objects))
+
+
+def is_told(line):
+    """Whether ./trace tells a dump so."""
+    done = subprocess.run([f"{TOP}/trace", "dump"], input=line, stdout=subprocess.PIPE, stderr=subprocess.DEVNULL, text=True)
+    wanted = printed(line)
+    if done.stdout == wanted and done.returncode == bool(refusal_of(line)):
+        return True
+    print(f"otherwise: {line[:60]}\n{done.stdout}wanted:\n{wanted}")
+    return False
+
+
+def main(words):
+    if words == ["--tell"]:
+        print(printed(sys.stdin.read().strip()), end="")
+        return 0
+    with open(words[0] if words else f"{TOP}/bench/dumps.txt", encoding="utf-8") as file:
+        lines = [*file.read().splitlines(), *REFUSED]
+    wrong = sum(not is_told(line) for line in lines)
+    print(f"dumps: {len(lines)} texts, {sum(refusal_of(line) is not None for line in lines)} of them refused: {wrong} differ")
+    return 1 if wrong else 0
+
+
+if __name__ == "__main__":
+    sys.exit(main(sys.argv[1:]))

@@ -1,0 +1,3 @@
+pub mod Loading
+pub mod Standing
+pub mod Claims

@@ -1,0 +1,77 @@
+//! The word `dump` of the program `trace`: it loads a book's dump, and writes what the book has as JSON, channel by channel.
+//!
+//! [`run`] loads the dump in the input, the JSON text that `Book::dump` writes. It writes one JSON object a line. Each channel has its commitments and
+//! the HTLCs in them, and what this side can claim if the peer closes now, or broadcasts a revoked commitment. The last line is the book's. [`run`]
+//! returns a status of at most 1. What is loaded, which commitments stand and what can be claimed is exact: [`load_dump`], [`commitment`], [`claims_of`].
+//! The layout of the lines is tested, not proved.
+//!
+//! `book` loads the dump, `channel` has the commitments, and `commit` the amounts of their outputs. The program `trace` passes its streams.
+//!
+//! ```rust
+//! let status = run(alloc, &mut input, &mut out);
+//! ```
+//!
+//! The tests `prints_texts` and `refuses_input` of `trace_tests` call it. `bench/dumps.py` finds anew what it has to write.
+#![tactic(auto)]
+
+ghost use Rattle.std.specs.Prelude.{◌≤◌};
+
+mod claims;
+mod loading;
+mod standing;
+mod telling;
+
+use crate::telling::tell_book;
+use book::Book;
+use book::errors::LoadError;
+pub use claims::{Alone, Claimable, Close, OutputName, Way, claims_of, hashes_of};
+pub use loading::load_dump;
+pub use standing::{Source, commitment};
+use std::alloc::Global;
+use std::fmt::Display;
+use std::io::{Read, Write};
+use trace_words::Piece::{Count, Text};
+use trace_words::{InputError, Line, read_all, refuse_memory, write_told};
+
+/// Writes the lines of the dump in the input, and returns the status: 0 when all are written, 1 for a refused dump, a failed write, or if memory ran out. All lines
+/// are made before the first byte is written. A refusal is written with its number: that of the book's, or for input that can't be read one after them.
+pub fn run(alloc: Global, input: &mut dyn Read, out: &mut dyn Write) -> u8
+    ensures { result ≤ 1 }
+{
+    match read_all(alloc, input) {
+        Ok(bytes) => tell_dump(alloc, bytes.as_slice(), out),
+        Err(InputError::NoMemory) => refuse_memory(out),
+        Err(error) => refuse(alloc, error.text(), u64::from(error.number()) + 4, out),
+    }
+}
+
+// Writes the lines of the dump in the bytes, and returns the status.
+fn tell_dump(alloc: Global, bytes: &[u8], out: &mut dyn Write) -> u8
+    ensures { result ≤ 1 }
+{
+    match load_dump(alloc, bytes) {
+        Ok(book) => tell_loaded(alloc, &book, out),
+        Err(LoadError::NoMemory) => refuse_memory(out),
+        Err(error) => refuse(alloc, error, u64::from(error.number()), out),
+    }
+}
+
+// Writes the lines of a book, and returns the status.
+fn tell_loaded(alloc: Global, book: &Book, out: &mut dyn Write) -> u8
+    ensures { result ≤ 1 }
+{
+    let mut line = Line::new(alloc);
+    tell_book(alloc, &mut line, book);
+    write_told(out, &line, 0)
+}
+
+// Writes that the dump is refused, with the number of the refusal, and returns the status.
+fn refuse<D: Display + Drop>(alloc: Global, refusal: D, number: u64, out: &mut dyn Write) -> u8
+    ensures { result ≤ 1 }
+{
+    let mut line = Line::new(alloc);
+    line.push(r#"{"refused":""#);
+    line.push_shown(refusal);
+    line.write("\",\"number\":%}\n", &[Count(number)]);
+    write_told(out, &line, 1)
+}

@@ -1,0 +1,271 @@
+// Writes what a book has.
+
+use crate::claims::{Alone, Claimable, Close, OutputName, Way, claims_of, hashes_of};
+use crate::standing::{Source, commitment, htlcs, is_new, stands};
+use book::Book;
+use channel::{Channel, CommitmentState};
+use commit::{Amounts, commitment_amounts};
+use std::alloc::Global;
+use terms::{Htlc, Side, Terms};
+use trace_words::Piece::{Count, Hash, Text};
+use trace_words::{Line, Piece};
+
+// The name of a side.
+fn side_name(side: Side) -> Piece {
+    match side {
+        Side::A => Text("A"),
+        Side::B => Text("B"),
+    }
+}
+
+// Writes what the sides of a channel agreed on. Its object begins.
+fn tell_terms(line: &mut Line, index: u64, terms: &Terms, side: Side) {
+    let txid = terms.funding.txid;
+    line.write(
+        r#"{"channel":%,"funding":"%:%","side":"%","opener":"%","capacity":%,"peer_delay":%"#,
+        &[
+            Count(index),
+            Hash(txid),
+            Count(u64::from(terms.funding.index)),
+            side_name(side),
+            side_name(terms.opener),
+            Count(terms.capacity),
+            Count(u64::from(terms.party(side.other()).delay)),
+        ],
+    );
+}
+
+// Writes a commitment of a channel as its side sees it, if there is one. The text begins the member.
+fn tell_source(line: &mut Line, channel: &Channel, before: &'static str, source: Source) {
+    let side = channel.side();
+    line.push(before);
+    match commitment(channel, source) {
+        Some(state) => line.write(
+            r#"{"number":%,"balance":%,"peer_balance":%,"feerate":%}"#,
+            &[
+                Count(state.number),
+                Count(state.view.share(side).balance),
+                Count(state.view.share(side.other()).balance),
+                Count(u64::from(state.view.feerate)),
+            ],
+        ),
+        None => line.push("null"),
+    }
+}
+
+// Writes an HTLC, and in which commitments it stands.
+fn tell_htlc(
+    line: &mut Line,
+    channel: &Channel,
+    direction: &'static str,
+    offerer: Side,
+    htlc: &Htlc,
+) {
+    let hash = htlc.hash;
+    let in_next = match commitment(channel, Source::Next) {
+        Some(_) => Piece::flag(stands(channel, Source::Next, offerer, htlc.id)),
+        None => Text("null"),
+    };
+    line.element(
+        r#"{"direction":"%","id":%,"amount":%,"hash":"%","expiry":%,"ours":%,"theirs":%,"next":%}"#,
+        &[
+            Text(direction),
+            Count(htlc.id),
+            Count(htlc.amount),
+            Hash(hash),
+            Count(u64::from(htlc.expiry)),
+            Piece::flag(stands(channel, Source::Ours, offerer, htlc.id)),
+            Piece::flag(stands(channel, Source::Theirs, offerer, htlc.id)),
+            in_next,
+        ],
+    );
+}
+
+// Writes the HTLCs of a commitment that a side offered, and that no commitment before it has.
+fn tell_htlcs(
+    line: &mut Line,
+    channel: &Channel,
+    direction: &'static str,
+    offerer: Side,
+    source: Source,
+) {
+    for htlc in htlcs(channel, source, offerer) {
+        if is_new(channel, source, offerer, htlc.id) {
+            tell_htlc(line, channel, direction, offerer, htlc);
+        }
+    }
+}
+
+// Writes the HTLCs that a side offered, each once.
+fn tell_offered(line: &mut Line, channel: &Channel, direction: &'static str, offerer: Side) {
+    tell_htlcs(line, channel, direction, offerer, Source::Ours);
+    tell_htlcs(line, channel, direction, offerer, Source::Theirs);
+    tell_htlcs(line, channel, direction, offerer, Source::Next);
+}
+
+// Writes the commitments of a channel that may be broadcast without a penalty, and the HTLCs in them.
+fn tell_standing(line: &mut Line, channel: &Channel) {
+    let side = channel.side();
+    tell_source(line, channel, r#","ours":"#, Source::Ours);
+    tell_source(line, channel, r#","theirs":"#, Source::Theirs);
+    tell_source(line, channel, r#","next":"#, Source::Next);
+    line.push(r#","htlcs":["#);
+    tell_offered(line, channel, "offered", side);
+    tell_offered(line, channel, "received", side.other());
+    line.push("]");
+}
+
+// The name of an output, and the id of its HTLC.
+fn output_of(output: OutputName) -> (&'static str, Piece) {
+    match output {
+        OutputName::ToLocal => ("to_local", Text("null")),
+        OutputName::ToRemote => ("to_remote", Text("null")),
+        OutputName::Offered(id) => ("offered", Count(id)),
+        OutputName::Received(id) => ("received", Count(id)),
+    }
+}
+
+// The name of a way to claim, and its lock time.
+fn way_of(way: Way) -> (&'static str, Piece) {
+    match way {
+        Way::Payment => ("payment", Text("null")),
+        Way::Preimage => ("preimage", Text("null")),
+        Way::Timeout(lock) => ("timeout", Count(u64::from(lock))),
+        Way::Penalty => ("penalty", Text("null")),
+    }
+}
+
+// How long nobody else can take an output.
+fn alone_of(alone: Alone) -> (&'static str, Piece) {
+    match alone {
+        Alone::Always => ("always", Text("null")),
+        Alone::Blocks(blocks) => ("blocks", Count(u64::from(blocks))),
+        Alone::Until(height) => ("until", Count(u64::from(height))),
+        Alone::NoPreimage => ("no_preimage", Text("null")),
+    }
+}
+
+// Writes what can be claimed.
+fn tell_claim(line: &mut Line, claim: &Claimable) {
+    let (output, id) = output_of(claim.output);
+    let (way, lock) = way_of(claim.way);
+    let (alone, limit) = alone_of(claim.alone);
+    line.element(
+        r#"{"output":"%","id":%,"value":%,"by":"%","lock":%,"alone":"%","limit":%}"#,
+        &[
+            Text(output),
+            id,
+            Count(claim.value),
+            Text(way),
+            lock,
+            Text(alone),
+            limit,
+        ],
+    );
+}
+
+// Writes what this side can claim of these amounts.
+fn tell_amounts(
+    alloc: Global,
+    line: &mut Line,
+    close: Close,
+    hashes: &[[u8; 32]],
+    amounts: &Amounts,
+) {
+    match claims_of(alloc, close, hashes, amounts) {
+        Ok(claims) => {
+            for claim in &claims {
+                tell_claim(line, claim);
+            }
+        }
+        Err(_) => line.fail(),
+    }
+}
+
+// Writes a commitment of the peer that may close the channel, and what this side can claim of it.
+fn tell_closing(
+    alloc: Global,
+    line: &mut Line,
+    close: Close,
+    hashes: &[[u8; 32]],
+    terms: &Terms,
+    state: &CommitmentState,
+    name: &'static str,
+    kept: Piece,
+) {
+    line.element(
+        r#"{"commitment":"%","number":%,"kept":%,"claims":["#,
+        &[Text(name), Count(state.number), kept],
+    );
+    match commitment_amounts(alloc, terms, &state.view, state.owner) {
+        Ok(amounts) => tell_amounts(alloc, line, close, hashes, &amounts),
+        Err(_) => line.fail(),
+    }
+    line.push("]}");
+}
+
+// Writes a commitment of the peer that is not revoked, if there is one. Preimages of these hashes are known.
+fn tell_newest(
+    alloc: Global,
+    line: &mut Line,
+    channel: &Channel,
+    name: &'static str,
+    source: Source,
+    hashes: &[[u8; 32]],
+) {
+    let none = Text("null");
+    if let Some(state) = commitment(channel, source) {
+        let terms = channel.terms();
+        tell_closing(alloc, line, Close::Newest, hashes, terms, state, name, none);
+    }
+}
+
+// Writes the commitments of the peer that are not revoked.
+fn tell_unrevoked(alloc: Global, line: &mut Line, channel: &Channel, preimages: &[[u8; 32]]) {
+    match hashes_of(alloc, preimages) {
+        Ok(hashes) => {
+            let hashes = hashes.as_slice();
+            tell_newest(alloc, line, channel, "theirs", Source::Theirs, hashes);
+            tell_newest(alloc, line, channel, "next", Source::Next, hashes);
+        }
+        Err(_) => line.fail(),
+    }
+}
+
+// Writes the revoked commitments of the peer, and whether their penalties are kept.
+fn tell_revoked(alloc: Global, line: &mut Line, book: &Book, index: u64, channel: &Channel) {
+    let terms = channel.terms();
+    let close = Close::Revoked(terms.party(channel.side().other()).delay);
+    let revoked = channel.peer_number() as usize;
+    for state in channel.peers_commitments().iter().take(revoked) {
+        let kept = match book.keeps(index, state.number) {
+            Some(kept) => Piece::flag(kept),
+            None => Text("null"),
+        };
+        tell_closing(alloc, line, close, &[], terms, state, "revoked", kept);
+    }
+}
+
+// Writes the line of a channel.
+fn tell_channel(alloc: Global, line: &mut Line, book: &Book, index: u64, channel: &Channel) {
+    tell_terms(line, index, channel.terms(), channel.side());
+    tell_standing(line, channel);
+    line.push(r#","closes":["#);
+    tell_unrevoked(alloc, line, channel, book.preimages(index));
+    tell_revoked(alloc, line, book, index, channel);
+    line.push("]}\n");
+}
+
+/// Writes the lines of a book: one for each of its channels, and one for the book.
+pub fn tell_book(alloc: Global, line: &mut Line, book: &Book) {
+    let channels = book.channel_count();
+    for index in 0..channels {
+        if let Some(channel) = book.channel(index) {
+            tell_channel(alloc, line, book, index, channel);
+        }
+    }
+    line.write(
+        "{\"entries\":%,\"channels\":%}\n",
+        &[Count(book.entries().len() as u64), Count(channels)],
+    );
+}
