@@ -39,3 +39,11 @@ void *realloc(void *block, size_t size) {
 __attribute__((destructor)) static void tell(void) {
     if (refused == 0) fprintf(stderr, "%ld\n", atomic_load(&count));
 }
+
+/* A proved program ends by this call, which runs no destructor. */
+__attribute__((noreturn)) void _exit(int status) {
+    void (*next)(int) = dlsym(RTLD_NEXT, "_exit");
+    tell();
+    next(status);
+    __builtin_unreachable();
+}

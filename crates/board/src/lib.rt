@@ -6,7 +6,7 @@
 //! numbers below the count, each once. The top is the greatest mark that any seat raised, or (0, 0) before the first
 //! (`IsDrawnOnce` of `specs/Rule.antt`). The seats of a board are those that [`Board::new`] returned, and no others.
 //!
-//! It stands on the library `atomic_table`, and is used only by `thread_tests`. It is for a node's threads: the top
+//! It stands on the library `atomic_table`, and `running` raises it. It is for a node's threads: the top
 //! tells them the newest round and height of the chain.
 //!
 //! ```text

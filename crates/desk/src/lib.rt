@@ -24,7 +24,7 @@
 //! let book = desk.close(&rt, &mut seat);
 //! ```
 //!
-//! No proved crate makes these calls yet.
+//! The threads of `running` and the workers of `node` make these calls.
 #![tactic(auto)]
 
 mod desk;

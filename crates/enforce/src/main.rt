@@ -1,13 +1,15 @@
 //! The program of a node operator: `enforce ripemd HEX` hashes a message, `enforce paths HEX` lists the ways through
-//! a script, and `enforce run` plays the scenario on standard input.
+//! a script, `enforce run` plays the scenario on standard input, and `enforce node N` plays it in threads.
 //!
-//! `enforce_words::run_words` does what the words say, and returns a status of at most 2. This file has only the
+//! `enforce_words::run_words` does what the words say, and returns a status of at most 2. `node_words::run_word` does so
+//! for `node`, the one word that starts threads and may wait. This file has only the
 //! streams and the arguments. After that, `enforce_notes` writes notes on standard error, about refusals and about
 //! rules that are stricter than consensus. They change no status.
 #![tactic(auto)]
 
 use enforce_notes::{Kept, notes_of};
 use enforce_words::{refuse_memory, refuse_words, run_words};
+use node_words::{run_word, workers_in};
 use std::io::Write;
 use std::process::ExitCode;
 use std::{env, io};
@@ -35,13 +37,16 @@ fn main(rt: HostRuntime) -> ExitCode {
         }
     }
     let mut input = Kept::new(rt.alloc(), rt.stdin());
-    let status = run_words(
-        rt.alloc(),
-        words.as_slice(),
-        &mut input,
-        &mut rt.stdout(),
-        &mut rt.stderr(),
-    );
+    let status = match workers_in(words.as_slice()) {
+        Some(workers) => run_word(&rt, rt.alloc(), workers, &mut input, &mut rt.stdout()),
+        None => run_words(
+            rt.alloc(),
+            words.as_slice(),
+            &mut input,
+            &mut rt.stdout(),
+            &mut rt.stderr(),
+        ),
+    };
     write_notes(&rt, words.as_slice(), status, input.all_bytes());
     ExitCode::from(status)
 }

@@ -39,10 +39,16 @@ pub fn notes_of(
 ) -> Result<String, AllocError> {
     match words {
         [name, text] if name.as_str() == "paths" => scripts::notes(alloc, text.as_str()),
-        [name] if name.as_str() == "run" && status == 1 => match input {
-            Some(input) => scenarios::notes(alloc, input),
-            None => Ok(String::new(alloc)),
-        },
+        [name] if name.as_str() == "run" && status == 1 => scenario_notes(alloc, input),
+        [name, _] if name.as_str() == "node" && status == 1 => scenario_notes(alloc, input),
         _ => Ok(String::new(alloc)),
+    }
+}
+
+// The notes on a refused scenario; none if it could not be read.
+fn scenario_notes(alloc: Global, input: Option<&[u8]>) -> Result<String, AllocError> {
+    match input {
+        Some(input) => scenarios::notes(alloc, input),
+        None => Ok(String::new(alloc)),
     }
 }

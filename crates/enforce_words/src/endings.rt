@@ -40,8 +40,8 @@ fn push_chain(text: &mut String, chain: &Index) -> Result<(), AllocError> {
     Ok(())
 }
 
-// Appends the revoked commitments whose penalties a book keeps, by channel and number.
-fn push_all_kept(text: &mut String, side: &str, book: &Book) -> Result<(), AllocError> {
+/// Appends the revoked commitments whose penalties a book keeps, by channel and number.
+pub fn push_all_kept(text: &mut String, side: &str, book: &Book) -> Result<(), AllocError> {
     for channel in 0..book.channel_count() {
         push_kept(text, side, book, channel)?;
     }

@@ -4,7 +4,8 @@
 //! on standard input. [`run_words`] does what the words say, over any reader and writers, and returns a status of at most 2. What it
 //! prints is tested, not proved.
 //!
-//! `digest` hashes, `paths` lists, and `world` plays what `scenario` reads. The programs `enforce` and `runs` pass it the words.
+//! `digest` hashes, `paths` lists, and `world` plays what `scenario` reads. The programs `enforce` and `runs` pass it the words. The
+//! word `node` starts threads; it stands in `node_words`, so that these words need no leave to wait.
 //!
 //! ```rust
 //! let status = run_words(alloc, words, &mut input, &mut out, &mut err);
@@ -22,6 +23,9 @@ mod listings;
 mod playing;
 
 use crate::answers::{Command, answer};
+pub use endings::push_all_kept;
+pub use errors::CommandError;
+pub use playing::scenario_in;
 use std::alloc::Global;
 use std::io::{Read, Write};
 
@@ -42,7 +46,14 @@ pub fn run_words<R: Read, W: Write, E: Write>(
     let Some(command) = Command::read(words) else {
         return refuse_words(err);
     };
-    match answer(alloc, &command, input) {
+    finish(alloc, out, answer(alloc, &command, input))
+}
+
+/// Writes the text of a word, or why its input is refused, and returns the status: 0 when done, 1 for refused input or a failed write.
+pub fn finish<W: Write>(alloc: Global, out: &mut W, text: Result<String, CommandError>) -> u8
+    ensures { result ≤ 2 }
+{
+    match text {
         Ok(text) => written(out, text.as_str(), 0),
         Err(refusal) => match refusal.line(alloc) {
             Ok(text) => written(out, text.as_str(), 1),

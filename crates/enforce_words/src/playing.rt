@@ -14,11 +14,17 @@ const MAX_INPUT: usize = 4_194_304;
 /// Plays the scenario in the input, and returns the lines of its events and of the world after them. Its refusals come in this order: input that can't be read
 /// (`ReadFailed`), input that is too long (`TooLong`), and what [`Scenario::read`] refuses.
 pub fn play<R: Read>(alloc: Global, input: &mut R) -> Result<String, CommandError> {
-    let text = read_all(alloc, input)?;
-    let scenario = Scenario::read(alloc, text.as_slice()).map_err(CommandError::Scenario)?;
+    let scenario = scenario_in(alloc, input)?;
     let world = World::new(alloc, &scenario.seeds, scenario.channels.values());
     let mut world = world.map_err(CommandError::World)?;
     Ok(lines_of(alloc, &mut world, &scenario)?)
+}
+
+/// The scenario in the input. Its refusals come in this order: input that can't be read (`ReadFailed`), input that is too long (`TooLong`), and what
+/// [`Scenario::read`] refuses.
+pub fn scenario_in<R: Read>(alloc: Global, input: &mut R) -> Result<Scenario, CommandError> {
+    let text = read_all(alloc, input)?;
+    Scenario::read(alloc, text.as_slice()).map_err(CommandError::Scenario)
 }
 
 // Reads the whole input, but at most one byte above the limit.

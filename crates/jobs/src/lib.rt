@@ -8,8 +8,8 @@
 //! those that [`JobSender::pass`] returned, and no others. Termination of a call is not proved: `put` and `take` may
 //! wait for another thread.
 //!
-//! It stands on the libraries `crossbeam_channel` and `atomic_table`, and is used only by `thread_tests`. It is for a
-//! node's threads: one finds the work, others take it.
+//! It stands on the libraries `crossbeam_channel` and `atomic_table`. It is for a node's threads: those of `running` put
+//! the work, and the workers of `node` take it.
 //!
 //! ```text
 //! let (sender, taker, mut mine) = job_queue(alloc)?;

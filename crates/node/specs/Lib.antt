@@ -1,3 +1,4 @@
+pub mod Forks
 pub mod Tasks
 pub mod Entering
 pub mod Ready

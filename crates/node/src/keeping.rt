@@ -55,7 +55,7 @@ fn try_to_keep<R: Wait>(
     }
 }
 
-/// Keeps the penalties of the peer's revoked commitment of this number, unless the book refuses. Retries if memory ran out.
+/// Keeps the penalties of the peer's revoked commitment of this number, unless the book refuses. Retries until memory suffices.
 pub(crate) fn keep<R: Wait>(
     rt: &R,
     alloc: Global,

@@ -12,7 +12,10 @@
 //! release for a claim. So no worker signs. That a job is done, that a call returns and that workers run at once is
 //! not proved.
 //!
-//! It stands on `desk`, `board`, `jobs` and `side`, and no crate stands on it yet.
+//! Where memory is refused a worker tries its job again, without a bound. So it does not return while memory stays
+//! refused.
+//!
+//! It stands on `desk`, `board`, `jobs` and `side`. `running` starts its workers.
 //!
 //! ```text
 //! let shared = Shared { desk: &desk, board: &board, payments: &payments, pool: &pool };
@@ -21,8 +24,6 @@
 //! let done = worker(&rt, alloc, &shared, &taker, &mut hands, &gate);
 //! assert_eq!(rt; done.jobs, 1);
 //! ```
-//!
-//! No proved crate makes these calls yet.
 #![tactic(auto)]
 
 mod gates;

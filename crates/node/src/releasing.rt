@@ -22,7 +22,7 @@ use std::sync::{Mutex, Wait};
 use std::thread;
 use tx::Tx;
 
-// Adds a released filling to the pool. Retries if memory ran out, since its claim is not to be released twice.
+// Adds a released filling to the pool. Retries until memory suffices, since its claim is not to be released twice.
 fn give<R: Wait>(rt: &R, pool: &Mutex<Pool>, filling: Tx) {
     for _ in rt.forever() {
         if pool.lock(rt).release(&filling).is_ok() {
@@ -91,7 +91,7 @@ fn worth(due: &DueClaim) -> Option<u64>
     }
 }
 
-// Releases a claim of this value to a payment key, unless the book refuses. Retries if memory ran out.
+// Releases a claim of this value to a payment key, unless the book refuses. Retries until memory suffices.
 fn release_to<R: Wait>(
     rt: &R,
     alloc: Global,

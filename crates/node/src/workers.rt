@@ -80,8 +80,10 @@ fn take_turn<R: Wait, G: Gate>(
 
 /// Takes jobs and does them, until the queue is closed and empty, the gate stops it, or its seat at the board has drawn 2^32 tickets.
 ///
-/// If it is stopped or gets no ticket, it drops the job that it took last, and does not call the desk for it. It retries if memory ran out. Blocks while
+/// If it is stopped or gets no ticket, it drops the job that it took last, and does not call the desk for it. Blocks while
 /// there is no job, and while another thread has the book or the pool.
+///
+/// Where memory is refused it tries the job again, without a bound: while memory stays refused, it does not return.
 pub fn worker<R: Wait, G: Gate>(
     rt: &R,
     alloc: Global,

@@ -1,0 +1,65 @@
+//! A desk over a book of A's whose peer has revoked a commitment in each channel.
+
+ghost use Rattle.std.specs.Prelude.{◌<◌, All};
+ghost use Rattle.desk.specs.Seats.{IsSeatOf};
+
+use book::Book;
+use book_peers::{Act, Node, Peers, offer};
+use desk::{Desk, Seat};
+use std::alloc::Global;
+use std::process::Abort;
+use std::sync::Wait;
+use terms::Side;
+
+// A offers an HTLC and signs, B revokes its commitment 0, and A offers another one, which it has not signed.
+fn revoke_first(rt: &impl Abort, peers: &mut Peers, channel: usize) {
+    for (side, act) in [
+        (Side::A, Act::Update(offer(1_000_000, 500))),
+        (Side::B, Act::Deliver),
+        (Side::A, Act::Sign),
+        (Side::B, Act::Deliver),
+        (Side::A, Act::Deliver),
+        (Side::A, Act::Update(offer(1_000_000, 501))),
+    ] {
+        assert!(rt; peers.act(side, channel, act).is_ok());
+    }
+}
+
+// A's book, all of whose calls are of seat 0. In each of so many channels B has revoked its commitment 0, and A has an offer to sign.
+fn book_of_a(rt: &impl Abort, alloc: Global, channels: u32) -> Book {
+    let mut peers = Peers::new(alloc);
+    assert!(rt; peers.open(alloc, channels).is_ok());
+    for channel in 0..channels {
+        revoke_first(rt, &mut peers, channel as usize);
+    }
+    let Peers { a, .. } = peers;
+    let Node { book, .. } = a;
+    book
+}
+
+/// A desk over it, and so many seats.
+pub(crate) fn desk_over<R: Wait + Abort>(
+    rt: &R,
+    alloc: Global,
+    channels: u32,
+    seats: u16,
+) -> (Desk, Vec<Seat>)
+    requires { 0 < seats }
+    ensures { All (IsSeatOf result.0) result.1.items }
+{
+    let book = book_of_a(rt, alloc, channels);
+    let Ok(made) = Desk::new(rt, alloc, book, seats) else {
+        panic!(rt; "no desk");
+    };
+    made
+}
+
+/// The seat at the end of a list of seats that are all one desk's.
+pub(crate) fn next_seat(rt: &impl Abort, desk: &Desk, seats: &mut Vec<Seat>) -> Seat
+    requires { All (IsSeatOf desk.now) seats.old.items }
+    ensures all { All (IsSeatOf desk.now) seats.new.items }
+    ensures seat { IsSeatOf desk.now result }
+{
+    let _desk = desk;
+    seats.pop().expect(rt, "a seat")
+}

@@ -1,0 +1,88 @@
+//! The word `node` of the program `enforce`: it plays a scenario in threads and prints how things stand at the end.
+//!
+//! `enforce node N` runs N workers a side, from 1 to 16. [`workers_in`] tells the word, and [`run_word`] does what it says,
+//! over any reader and writer. It reads and refuses input as `enforce run` does. Its text is tested, not proved. It stands
+//! apart from the other words, since it alone starts threads and may wait.
+//!
+//! `enforce_words` reads the scenario and writes the text, and `running` plays it. The program `enforce` calls it.
+//!
+//! ```text
+//! let status = match workers_in(words) {
+//!     Some(workers) => run_word(&rt, alloc, workers, &mut input, &mut out),
+//!     None => run_words(alloc, words, &mut input, &mut out, &mut err),
+//! };
+//! ```
+#![tactic(auto)]
+
+ghost use Rattle.std.specs.Prelude.{◌<◌, ◌≤◌, IfSome};
+
+mod gates;
+mod lines;
+
+use crate::gates::Open;
+use crate::lines::text_of;
+use enforce_words::{CommandError, finish, scenario_in};
+use running::run_node;
+use std::alloc::Global;
+use std::io::{Read, Write};
+use std::sync::Wait;
+use std::thread::Threads;
+
+/// The numbers of workers that a side may have.
+const COUNTS: [&str; 16] = [
+    "1", "2", "3", "4", "5", "6", "7", "8", "9", "10", "11", "12", "13", "14", "15", "16",
+];
+
+// The number that a text spells, from 1 to 16, without a sign or a leading 0.
+fn count_in(text: &str) -> Option<u16>
+    ensures { IfSome result (λ n. (0 < n) × (n ≤ 16)) }
+{
+    for index in 0..16u16 {
+        if COUNTS[usize::from(index)] == text {
+            return Some(index + 1);
+        }
+    }
+    None
+}
+
+/// The number of workers a side, if the words are `node N`.
+pub fn workers_in(words: &[String]) -> Option<u16>
+    ensures { IfSome result (λ n. (0 < n) × (n ≤ 16)) }
+{
+    match words {
+        [name, count] if name.as_str() == "node" => count_in(count.as_str()),
+        _ => None,
+    }
+}
+
+// The text that is printed. Blocks until all threads of the node have ended.
+fn answer<R: Threads + Wait + Sync, I: Read>(
+    rt: &R,
+    alloc: Global,
+    workers: u16,
+    input: &mut I,
+) -> Result<String, CommandError>
+    requires some { 0 < workers }
+    requires few { workers ≤ 16 }
+{
+    let scenario = scenario_in(alloc, input)?;
+    let report = run_node(rt, alloc, &scenario, workers, &Open)?;
+    Ok(text_of(alloc, &report)?)
+}
+
+/// Plays the scenario in the input with this number of workers a side, and returns the status: 0 when played, 1 where the input is refused, memory ran out, a thread can't be started,
+/// or a write fails.
+pub fn run_word<R: Threads + Wait + Sync, I: Read, W: Write>(
+    rt: &R,
+    alloc: Global,
+    workers: u16,
+    input: &mut I,
+    out: &mut W,
+) -> u8
+    requires some { 0 < workers }
+    requires few { workers ≤ 16 }
+    ensures { result ≤ 2 }
+{
+    let text = answer(rt, alloc, workers, input);
+    finish(alloc, out, text)
+}

@@ -1,0 +1,26 @@
+// The lines that are printed.
+
+use enforce_words::push_all_kept;
+use running::Report;
+use std::alloc::{AllocError, Global};
+use std::fmt::Write;
+
+/// The height of the chain, how many events of each channel were played and refused, and the penalties that each side keeps.
+pub(crate) fn text_of(alloc: Global, report: &Report) -> Result<String, AllocError> {
+    let mut text = String::new(alloc);
+    let height = report.height;
+    writeln!(text, "height {height}")?;
+    push_channels(&mut text, report)?;
+    push_all_kept(&mut text, "A", &report.a)?;
+    push_all_kept(&mut text, "B", &report.b)?;
+    Ok(text)
+}
+
+// Appends how many events of each channel were played and refused.
+fn push_channels(text: &mut String, report: &Report) -> Result<(), AllocError> {
+    for (channel, counts) in report.channels.iter().enumerate() {
+        let (played, refused) = (counts.played, counts.refused);
+        writeln!(text, "channel {channel} played {played} refused {refused}")?;
+    }
+    Ok(())
+}

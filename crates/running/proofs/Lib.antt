@@ -1,0 +1,12 @@
+pub mod Openings
+pub mod Reported
+pub mod Lengths
+pub mod Same
+pub mod Counting
+pub mod Queues
+pub mod Replying
+pub mod Asking
+pub mod Finding
+pub mod Payments
+pub mod Seating
+pub mod Broadcasting

@@ -1,0 +1,30 @@
+use Rattle.std.proofs.Common.{ℕ, List, subst}
+use Rattle.std.proofs.lemmas.Result.{IfOk-weaker}
+use Rattle.desk.specs.Seats.{last_in}
+use Rattle.running.specs.declared.watching.Sight.{Sight}
+use Rattle.running.specs.declared.watching.Sight.TheVariants.{Asks, Back}
+use Rattle.running.specs.Following.{FindsSome, HasAsked, GoesBack, GoesOnReading}
+use Rattle.running.proofs.watching.go_on.Goals as goal
+
+pub returns-in-Ok-Asks-clause-reads : goal.returns-in-Ok-Asks-clause-reads
+returns-in-Ok-Asks-clause-reads g c =
+    let f = c.args.follower in
+    let same = c.in-Ok-Asks.follower in
+    let asked = c.in-Ok-Asks.channels in
+    let before = last_in c.args.watcher.now.seat in
+    let after = last_in c.answered.new.seat in
+    let found : FindsSome f (Asks same asked) = subst (λ (s : Sight). FindsSome f s) c.in-Ok-Asks.field-0-is c.in-Ok-Asks.ensures.found in
+    IfOk-weaker c.answered.result (HasAsked before after c.deref.result.now same) (GoesOnReading c.args.office.now.fundings.items before after f)
+    (λ next has. record { sight = Asks same asked; found = found; follows = subst (λ (cs : List ℕ). HasAsked before after cs same next) c.deref.ensures.value has }) c.answered.ensures.asked
+
+pub returns-in-Ok-Back-clause-reads : goal.returns-in-Ok-Back-clause-reads
+returns-in-Ok-Back-clause-reads g c =
+    let f = c.args.follower in
+    let same = c.in-Ok-Back.follower in
+    let fork = c.in-Ok-Back.fork in
+    let round = c.in-Ok-Back.round in
+    let before = last_in c.args.watcher.now.seat in
+    let after = last_in c.went_back.new.watcher.seat in
+    let found : FindsSome f (Back same fork round) = subst (λ (s : Sight). FindsSome f s) c.in-Ok-Back.field-0-is c.in-Ok-Back.ensures.found in
+    IfOk-weaker c.went_back.result (GoesBack c.args.office.now.fundings.items fork round same) (GoesOnReading c.args.office.now.fundings.items before after f)
+    (λ next has. record { sight = Back same fork round; found = found; follows = has }) c.went_back.ensures.back

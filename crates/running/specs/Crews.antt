@@ -1,0 +1,81 @@
+-- What each thread has of its own fits what it shares.
+use Rattle.std.specs.Prelude.{◌≡◌, ℕ, ◌+◌, List, length, All}
+use Rattle.book.specs.declared.calls.Entry.{Entry}
+use Rattle.board.specs.declared.board.Board.{Board}
+use Rattle.board.specs.Seats as board_seats
+use Rattle.desk.specs.Seats.{IsSeatOf, HasSameCalls}
+use Rattle.node.specs.Work.{IsWork}
+use Rattle.jobs.specs.Ends.{PutsWith, TakesWith, IsOneQueue}
+use Rattle.running.specs.declared.houses.Office.{Office}
+use Rattle.running.specs.declared.houses.House.{House}
+use Rattle.running.specs.declared.ends.End.{End}
+use Rattle.running.specs.declared.lines.Line.{Line}
+use Rattle.running.specs.declared.working.Worker.{Worker}
+use Rattle.running.specs.declared.watching.Watcher.{Watcher}
+use Rattle.running.specs.declared.players.Player.{Player}
+use Rattle.running.specs.declared.staff.Member.{Member}
+use Rattle.running.specs.declared.staff.Member.TheVariants as members
+use Rattle.running.specs.declared.staff.Served.{Served}
+use Rattle.running.specs.declared.staff.Served.TheVariants as served
+use Rattle.running.specs.declared.crews.Stock.{Stock}
+use Rattle.running.specs.declared.crews.Crew.{Crew}
+
+-- a worker's seats are at its side's desk and at the board, and its pass is one to its queue
+pub record IsWorker (office : Office) (board : Board) (w : Worker) : Type 0 where
+  pub seat : IsSeatOf office.desk w.hands.seat
+  pub place : board_seats.IsSeatOf board w.hands.place
+  pub pass : TakesWith w.taker w.hands.pass
+
+pub record IsWatcher (office : Office) (board : Board) (w : Watcher) : Type 0 where
+  pub seat : IsSeatOf office.desk w.seat
+  pub place : board_seats.IsSeatOf board w.place
+  pub pass : PutsWith w.sender w.pass
+
+-- a worker or a watcher
+abbrev pub IsMember : Office → Board → Member → Type 0
+IsMember office board (members.Works w) = IsWorker office board w
+IsMember office board (members.Watches w) = IsWatcher office board w
+
+-- a worker did what it took jobs for, and a watcher made no call
+abbrev pub HasServed : Office → Member → Served → Type 0
+HasServed office (members.Works w) (served.Worked done hands) = IsWork office.payments.items w.hands hands done
+HasServed office (members.Watches w) (served.Watched seat) = HasSameCalls office.desk w.seat seat
+HasServed office member result = ⊥
+
+-- a watcher makes no call
+pub record GoesOnWatching (office : Office) (board : Board) (before after : Watcher) : Type 0 where
+  pub seat : HasSameCalls office.desk before.seat after.seat
+  pub place : board_seats.IsSeatOf board after.place
+  pub pass : PutsWith after.sender after.pass
+
+pub record IsEnd (office : Office) (e : End) : Type 0 where
+  pub seat : IsSeatOf office.desk e.seat
+  pub pass : PutsWith e.sender e.pass
+
+pub record IsLine (house : House) (l : Line) : Type 0 where
+  pub a : IsEnd house.a l.a
+  pub b : IsEnd house.b l.b
+
+pub record IsPlayer (house : House) (p : Player) : Type 0 where
+  pub a : IsSeatOf house.a.desk p.a
+  pub b : IsSeatOf house.b.desk p.b
+  pub place : board_seats.IsSeatOf house.board p.place
+
+-- the thread that plays the events of the chain makes no call
+pub record GoesOnPlaying (house : House) (before after : Player) : Type 0 where
+  pub a : HasSameCalls house.a.desk before.a after.a
+  pub b : HasSameCalls house.b.desk before.b after.b
+  pub place : board_seats.IsSeatOf house.board after.place
+
+-- from what a side's threads are equipped: seats at its desk, and its queue of jobs
+pub record IsStock (office : Office) (s : Stock) : Type 0 where
+  pub seats : All (IsSeatOf office.desk) s.seats.items
+  pub queue : IsOneQueue s.sender s.taker
+  pub pass : PutsWith s.sender s.pass
+
+-- all threads
+pub record IsCrew (house : House) (c : Crew) : Type 0 where
+  pub staff_a : All (IsMember house.a house.board) c.staff_a.items
+  pub staff_b : All (IsMember house.b house.board) c.staff_b.items
+  pub lines : All (IsLine house) c.lines.items
+  pub player : IsPlayer house c.player

@@ -1,0 +1,7 @@
+pub mod Events
+pub mod Following
+pub mod Crews
+pub mod Acting
+pub mod Broadcasts
+pub mod Beginning
+pub mod Reports

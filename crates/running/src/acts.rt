@@ -1,0 +1,262 @@
+//! What a channel's thread does for one side.
+
+ghost use Rattle.std.specs.Prelude.{◌≡◌, ◌++◌, true, false, IfOk, OnOk, option_map, slice_get};
+ghost use Rattle.book.specs.Replies.{is_accepted};
+ghost use Rattle.book.specs.Dispatch.{reply_form};
+ghost use Rattle.book.specs.declared.calls.Call.TheVariants.{Sign as Signing};
+ghost use Rattle.desk.specs.Seats.{IsSeatOf, IsSameSeat};
+ghost use Rattle.jobs.specs.Ends.{PutsWith, hand_of};
+ghost use Rattle.node.specs.declared.work.Job.TheVariants.{Keep};
+ghost use Rattle.side.specs.Acts.{call_of, messages_in};
+ghost use Rattle.running.specs.Crews.{IsEnd};
+ghost use Rattle.running.specs.Acting.{IsReply, IsSent, IsTaken, IsDelivered, IsActed, PutsIf, revoked_in};
+
+use crate::ends::{End, put};
+use crate::houses::Office;
+use book::errors::SignError;
+use book::{Call, Reply, Step};
+use channel::Message;
+use desk::Seat;
+use jobs::{JobSender, Pass};
+use node::Job;
+use side::{call_of, message_of};
+use std::alloc::{AllocError, Global};
+use std::collections::VecDeque;
+use std::sync::Wait;
+use updates::OwnUpdate;
+
+/// What a side does in a channel.
+#[derive(Clone, Copy, Debug, Drop, PartialEq, Eq)]
+pub(crate) enum Act {
+    /// It makes an update.
+    Update(OwnUpdate),
+    /// It signs its peer's next commitment.
+    Sign,
+    /// It receives its oldest message.
+    Deliver,
+}
+
+// Whether a refused reply says that memory ran out.
+fn wants_memory(refused: &Reply) -> bool {
+    match refused {
+        Reply::Opened(Err(error)) => error.number() == 0,
+        Reply::Stepped(Err(error)) => error.number() == 0,
+        Reply::Signed(Err(error)) => error.number() == 0,
+        Reply::Revoked(Err(error)) => error.number() == 0,
+        Reply::Kept(Err(error)) => error.number() == 0,
+        Reply::Released(Err(error)) => error.number() == 0,
+        _ => false,
+    }
+}
+
+// Sends the message of an accepted reply. Returns whether the reply is accepted; the only error is that memory ran out.
+#[tactic(auto, using(crate::proofs::Replying::silent))]
+fn settle(reply: Reply, inbox: &mut VecDeque<Message>) -> Result<bool, AllocError>
+    ensures done { IfOk result (λ done. done ≡ is_accepted (reply_form reply)) }
+    ensures sent { OnOk result (inbox.new.items
+        ≡ inbox.old.items ++ messages_in (reply_form reply)) }
+{
+    match message_of(reply) {
+        Ok(Some(message)) => match inbox.push_back(message) {
+            Ok(()) => Ok(true),
+            Err(_) => Err(AllocError),
+        },
+        Ok(None) => Ok(true),
+        Err(refused) => {
+            if wants_memory(&refused) {
+                Err(AllocError)
+            } else {
+                Ok(false)
+            }
+        }
+    }
+}
+
+// Whether a signature is refused since penalties are missing.
+fn misses_penalties(reply: &Reply) -> bool
+    ensures { result ≡ true → is_accepted (reply_form reply.now) ≡ false }
+{
+    match reply {
+        Reply::Signed(Err(SignError::PenaltiesMissing(_))) => true,
+        _ => false,
+    }
+}
+
+// The number of the commitment that was revoked.
+fn revoked_by(reply: &Reply) -> Option<u64>
+    ensures { result ≡ revoked_in (reply_form reply.now) }
+{
+    match reply {
+        Reply::Revoked(Ok(number)) => Some(*number),
+        Reply::Opened(_) | Reply::Stepped(Ok(_)) | Reply::Stepped(Err(_)) | Reply::Signed(_) =>
+            None,
+        Reply::Revoked(Err(_)) | Reply::Kept(_) | Reply::Released(_) => None,
+    }
+}
+
+// Makes a call. Its message goes to the peer.
+fn send<R: Wait>(
+    rt: &R,
+    office: &Office,
+    seat: &mut Seat,
+    inbox: &mut VecDeque<Message>,
+    call: Call,
+) -> Result<bool, AllocError>
+    requires { IsSeatOf office.now.desk seat.old }
+    ensures seat { IsSameSeat office.now.desk seat.old seat.new }
+    ensures sent { IfOk result (IsSent call seat.old seat.new inbox.old.items inbox.new.items) }
+{
+    let reply = office.desk.call(rt, seat, call);
+    settle(reply, inbox)
+}
+
+// Asks for a signature. If penalties are missing, it waits for the next job, as long as one is left that may keep them, and asks again.
+#[tactic(auto, using(crate::proofs::Replying::replied_since, crate::proofs::Replying::refused, crate::proofs::Same::same_calls))]
+fn signed<R: Wait>(rt: &R, office: &Office, seat: &mut Seat, channel: u64) -> Reply
+    requires { IsSeatOf office.now.desk seat.old }
+    ensures seat { IsSameSeat office.now.desk seat.old seat.new }
+    ensures reply { IsReply (Signing channel) seat.old seat.new (reply_form result) }
+{
+    let mut done = office.progress.done(rt);
+    for _ in rt.forever() {
+        let reply = office.desk.call(rt, seat, Call::Sign { channel });
+        if !misses_penalties(&reply) {
+            return reply;
+        }
+        match office.progress.more_than(rt, done) {
+            Some(more) => done = more,
+            None => return reply,
+        }
+    }
+    unreachable!()
+}
+
+// Signs the peer's next commitment. The message goes to the peer.
+fn sign<R: Wait>(
+    rt: &R,
+    office: &Office,
+    seat: &mut Seat,
+    inbox: &mut VecDeque<Message>,
+    channel: u64,
+) -> Result<bool, AllocError>
+    requires { IsSeatOf office.now.desk seat.old }
+    ensures seat { IsSameSeat office.now.desk seat.old seat.new }
+    ensures sent { IfOk result (IsSent (Signing channel) seat.old seat.new inbox.old.items
+        inbox.new.items) }
+{
+    let reply = signed(rt, office, seat, channel);
+    settle(reply, inbox)
+}
+
+// The call by which a side takes its oldest message, if there is one. The only error is that memory ran out.
+fn oldest(
+    alloc: Global,
+    channel: u64,
+    inbox: &VecDeque<Message>,
+) -> Result<Option<Call>, AllocError>
+    ensures { IfOk result (λ call. call
+        ≡ option_map (call_of channel) (slice_get inbox.now.items 0)) }
+{
+    match inbox.front() {
+        Some(message) => match call_of(alloc, channel, message) {
+            Ok(call) => Ok(Some(call)),
+            Err(error) => Err(error),
+        },
+        None => Ok(None),
+    }
+}
+
+// Puts the job to keep the penalties of the peer's commitment that was revoked, if there is one.
+fn put_keep<R: Wait>(
+    rt: &R,
+    office: &Office,
+    sender: &JobSender<Job>,
+    pass: &mut Pass<Job>,
+    channel: u64,
+    revoked: Option<u64>,
+)
+    requires { PutsWith sender.now pass.old }
+    ensures pass { PutsWith sender.now pass.new }
+    ensures job { PutsIf (option_map (Keep channel) revoked) (hand_of pass.old)
+        (hand_of pass.new) }
+{
+    if let Some(number) = revoked {
+        let job = Job::Keep { channel, number };
+        put(rt, &office.progress, sender, pass, job);
+    }
+}
+
+// Makes the call of the oldest message. Its answer goes to the peer. A refusal leaves the message where it is.
+#[tactic(auto, using(crate::proofs::Replying::unrevoked))]
+fn take<R: Wait>(
+    rt: &R,
+    office: &Office,
+    me: &mut End,
+    inbox: &mut VecDeque<Message>,
+    channel: u64,
+    call: Call,
+) -> Result<bool, AllocError>
+    requires { IsEnd office.now me.old }
+    ensures end { IsEnd office.now me.new }
+    ensures taken { IfOk result (IsTaken channel call me.old me.new inbox.old.items inbox.new.items) }
+{
+    let reply = office.desk.call(rt, &mut me.seat, call);
+    let revoked = revoked_by(&reply);
+    match settle(reply, inbox) {
+        Ok(true) => {
+            let _taken = me.inbox.pop_front();
+            put_keep(rt, office, &me.sender, &mut me.pass, channel, revoked);
+            Ok(true)
+        }
+        Ok(false) => Ok(false),
+        Err(error) => Err(error),
+    }
+}
+
+// Receives the oldest message, if there is one.
+fn deliver<R: Wait>(
+    rt: &R,
+    alloc: Global,
+    office: &Office,
+    me: &mut End,
+    inbox: &mut VecDeque<Message>,
+    channel: u64,
+) -> Result<bool, AllocError>
+    requires { IsEnd office.now me.old }
+    ensures end { IsEnd office.now me.new }
+    ensures delivered { IfOk result (IsDelivered channel (slice_get me.old.inbox.items 0) me.old
+        me.new inbox.old.items inbox.new.items) }
+{
+    match oldest(alloc, channel, &me.inbox) {
+        Ok(Some(call)) => take(rt, office, me, inbox, channel, call),
+        Ok(None) => Ok(false),
+        Err(error) => Err(error),
+    }
+}
+
+/// Does what a side does in a channel; what it sends goes into its peer's inbox. Returns whether it was done and not refused. The only error
+/// is that memory ran out.
+pub(crate) fn act_for<R: Wait>(
+    rt: &R,
+    alloc: Global,
+    office: &Office,
+    me: &mut End,
+    inbox: &mut VecDeque<Message>,
+    channel: u64,
+    act: &Act,
+) -> Result<bool, AllocError>
+    requires { IsEnd office.now me.old }
+    ensures end { IsEnd office.now me.new }
+    ensures acted { IfOk result (IsActed channel act.now me.old me.new inbox.old.items
+        inbox.new.items) }
+{
+    match act {
+        Act::Update(update) => {
+            let step = Step::Own(*update);
+            let call = Call::Step { channel, step };
+            send(rt, office, &mut me.seat, inbox, call)
+        }
+        Act::Sign => sign(rt, office, &mut me.seat, inbox, channel),
+        Act::Deliver => deliver(rt, alloc, office, me, inbox, channel),
+    }
+}

@@ -1,0 +1,121 @@
+//! What a node begins with: the books of the scenario's two sides behind their desks, and the chain.
+
+ghost use Rattle.std.specs.Prelude.{◌≡◌, ◌+◌, ◌<◌, ◌≤◌, IfOk, length, map};
+ghost use Rattle.book.specs.Books.{replay, fundings_of};
+ghost use Rattle.desk.specs.Histories.{first_seat};
+ghost use Rattle.desk.specs.Seats.{AreSeats};
+ghost use Rattle.running.specs.Beginning.{IsBegun, IsOpened, payments_in};
+
+use crate::crews::Stock;
+use crate::houses::Office;
+use crate::progress::Progress;
+use book::Book;
+use desk::{Desk, DeskError, Seat};
+use jobs::job_queue;
+use keys::{Base, Key};
+use scenario::Scenario;
+use std::alloc::{AllocError, Global};
+use std::sync::{Mutex, Wait};
+use world::errors::WorldError;
+use world::{BooksAndChain, World};
+
+/// A side that is about to start its threads.
+#[derive(Drop)]
+pub(crate) struct Opened {
+    pub(crate) office: Office,
+    /// The seat that closes the desk once all threads have ended.
+    pub(crate) closer: Seat,
+    pub(crate) stock: Stock,
+}
+
+/// The books and the chain of a scenario before its first event. The only error is that memory ran out.
+pub(crate) fn begin(alloc: Global, scenario: &Scenario) -> Result<BooksAndChain, AllocError>
+    ensures { IfOk result (IsBegun scenario.now) }
+{
+    match World::new(alloc, &scenario.seeds, scenario.channels.values()) {
+        Ok(world) => Ok(world.into_parts()),
+        Err(error) => match error {
+            WorldError::NoMemory => Err(AllocError),
+            _ => unreachable!(),
+        },
+    }
+}
+
+// The side's payment key in each channel. The only error is that memory ran out.
+fn payments_of(alloc: Global, book: &Book) -> Result<Vec<Key>, AllocError>
+    ensures { IfOk result (λ v. map (λ k. k.bytes) v.items ≡ payments_in (replay book.now)) }
+{
+    let mut payments = Vec::new(alloc);
+    for channel in 0..book.channel_count() {
+        let Some(state) = book.channel(channel) else {
+            unreachable!()
+        };
+        payments.push(state.signer().base(Base::Payment))?;
+    }
+    Ok(payments)
+}
+
+// A desk over a book, with this number of seats. The only error is that memory ran out.
+fn desk_over<R: Wait>(
+    rt: &R,
+    alloc: Global,
+    book: Book,
+    seats: u16,
+) -> Result<(Desk, Vec<Seat>), AllocError>
+    requires some { 0 < seats }
+    requires numbers { first_seat book ≤ 1 }
+    ensures { IfOk result (λ r. AreSeats r.0 book (first_seat book) seats r.1.items) }
+{
+    match Desk::new(rt, alloc, book, seats) {
+        Ok(made) => Ok(made),
+        Err((error, book)) => {
+            drop(book);
+            match error {
+                DeskError::NoMemory => Err(AllocError),
+                DeskError::SeatsExhausted => unreachable!(),
+            }
+        }
+    }
+}
+
+/// A side with this number of seats at its desk. The only error is that memory ran out.
+pub(crate) fn open_side<R: Wait>(
+    rt: &R,
+    alloc: Global,
+    book: Book,
+    seats: u16,
+    workers: u16,
+) -> Result<Opened, AllocError>
+    requires some { 0 < seats }
+    requires numbers { first_seat book ≤ 1 }
+    ensures opened { IfOk result (IsOpened book seats) }
+    ensures fundings { IfOk result (λ o. o.office.fundings.items ≡ fundings_of (replay book)) }
+    ensures payments { IfOk result (λ o. map (λ k. k.bytes) o.office.payments.items
+        ≡ payments_in (replay book)) }
+{
+    let (sender, taker, pass) = job_queue(alloc)?;
+    let fundings = book.fundings(alloc)?;
+    let payments = payments_of(alloc, &book)?;
+    let (desk, mut seats) = desk_over(rt, alloc, book, seats)?;
+    let Some(closer) = seats.pop() else {
+        unreachable!()
+    };
+    let office = Office {
+        desk,
+        fundings,
+        payments,
+        learnt: Mutex::new(Vec::new(alloc)),
+        progress: Progress::new(workers),
+    };
+    let stock = Stock {
+        seats,
+        sender,
+        taker,
+        pass,
+    };
+    Ok(Opened {
+        office,
+        closer,
+        stock,
+    })
+}

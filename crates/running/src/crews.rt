@@ -1,0 +1,292 @@
+//! What all threads have of their own, made before the first of them starts.
+
+ghost use Rattle.std.specs.Prelude.{◌≡◌, ◌+◌, ◌*◌, ◌<◌, ◌≤◌, All, IfOk, OnOk, length, map};
+ghost use Rattle.std.specs.List.{range_with_len};
+ghost use Rattle.board.specs.Seats as board_seats;
+ghost use Rattle.desk.specs.Seats.{IsSeatOf};
+ghost use Rattle.running.specs.Crews.{IsStock, IsWorker, IsWatcher, IsMember, IsEnd, IsLine, IsPlayer, IsCrew};
+
+use crate::ends::End;
+use crate::houses::{House, Office};
+use crate::lines::Line;
+use crate::players::Player;
+use crate::staff::Member;
+use crate::watching::Watcher;
+use crate::working::Worker;
+use board::Board;
+use desk::{Desk, Seat};
+use jobs::{JobSender, JobTaker, Pass};
+use node::{Hands, Job};
+use std::alloc::{AllocError, Global};
+use std::collections::VecDeque;
+
+/// From what the threads of a side are equipped.
+#[derive(Drop)]
+pub(crate) struct Stock {
+    pub(crate) seats: Vec<Seat>,
+    pub(crate) sender: JobSender<Job>,
+    pub(crate) taker: JobTaker<Job>,
+    pub(crate) pass: Pass<Job>,
+}
+
+/// What all threads have of their own.
+#[derive(Drop)]
+pub(crate) struct Crew {
+    /// A's workers and watcher.
+    pub(crate) staff_a: Vec<Member>,
+    /// B's workers and watcher.
+    pub(crate) staff_b: Vec<Member>,
+    pub(crate) lines: Vec<Line>,
+    pub(crate) player: Player,
+}
+
+// The seat at the end of a list of seats of a desk.
+fn next_seat(desk: &Desk, seats: &mut Vec<Seat>) -> Seat
+    requires { All (IsSeatOf desk.now) seats.old.items × (0 < length seats.old.items) }
+    ensures seat { IsSeatOf desk.now result }
+    ensures rest { All (IsSeatOf desk.now) seats.new.items
+        × (length seats.new.items + 1 ≡ length seats.old.items) }
+{
+    let _desk = desk;
+    let Some(seat) = seats.pop() else {
+        unreachable!()
+    };
+    seat
+}
+
+// The seat at the end of a list of seats of a board.
+fn next_place(board: &Board, places: &mut Vec<board::Seat>) -> board::Seat
+    requires { All (board_seats.IsSeatOf board.now) places.old.items
+        × (0 < length places.old.items) }
+    ensures place { board_seats.IsSeatOf board.now result }
+    ensures rest { All (board_seats.IsSeatOf board.now) places.new.items
+        × (length places.new.items + 1 ≡ length places.old.items) }
+{
+    let _board = board;
+    let Some(place) = places.pop() else {
+        unreachable!()
+    };
+    place
+}
+
+// A worker with a seat at the board. The only error is that memory ran out.
+#[tactic(auto, using(crate::proofs::Queues::takes_with))]
+fn one_worker(
+    office: &Office,
+    board: &Board,
+    stock: &mut Stock,
+    place: board::Seat,
+) -> Result<Worker, AllocError>
+    requires stock { IsStock office.now stock.old × (0 < length stock.old.seats.items) }
+    requires place { board_seats.IsSeatOf board.now place }
+    ensures worker { IfOk result (IsWorker office.now board.now) }
+    ensures stock { IsStock office.now stock.new }
+    ensures left { OnOk result (length stock.new.seats.items + 1
+        ≡ length stock.old.seats.items) }
+{
+    let _board = board;
+    let taker = stock.taker.copy()?;
+    let pass = stock.sender.pass(&mut stock.pass);
+    let seat = next_seat(&office.desk, &mut stock.seats);
+    let hands = Hands { seat, place, pass };
+    Ok(Worker { taker, hands })
+}
+
+// What `count` workers of a side have of their own. The only error is that memory ran out.
+fn workers_of(
+    alloc: Global,
+    office: &Office,
+    board: &Board,
+    stock: &mut Stock,
+    places: &mut Vec<board::Seat>,
+    count: u16,
+) -> Result<Vec<Member>, AllocError>
+    requires stock { IsStock office.now stock.old × (count ≤ length stock.old.seats.items) }
+    requires places { All (board_seats.IsSeatOf board.now) places.old.items
+        × (count ≤ length places.old.items) }
+    ensures staff { IfOk result (λ v. All (IsMember office.now board.now) v.items) }
+    ensures stock { IsStock office.now stock.new }
+    ensures seats_left { OnOk result (length stock.new.seats.items + count
+        ≡ length stock.old.seats.items) }
+    ensures places { All (board_seats.IsSeatOf board.now) places.new.items }
+    ensures places_left { OnOk result (length places.new.items + count
+        ≡ length places.old.items) }
+{
+    let mut staff = Vec::new(alloc);
+    for _worker in 0..count {
+        let place = next_place(board, places);
+        let worker = one_worker(office, board, stock, place)?;
+        staff.push(Member::Works(worker))?;
+    }
+    Ok(staff)
+}
+
+// The watcher of a side, with a seat at the board. The only error is that memory ran out.
+#[tactic(auto, using(crate::proofs::Queues::puts_with))]
+fn watcher_of(
+    office: &Office,
+    board: &Board,
+    stock: &mut Stock,
+    place: board::Seat,
+) -> Result<Watcher, AllocError>
+    requires stock { IsStock office.now stock.old × (0 < length stock.old.seats.items) }
+    requires place { board_seats.IsSeatOf board.now place }
+    ensures watcher { IfOk result (IsWatcher office.now board.now) }
+    ensures stock { IsStock office.now stock.new }
+    ensures left { OnOk result (length stock.new.seats.items + 1
+        ≡ length stock.old.seats.items) }
+{
+    let _board = board;
+    let sender = stock.sender.copy()?;
+    let pass = stock.sender.pass(&mut stock.pass);
+    let seat = next_seat(&office.desk, &mut stock.seats);
+    Ok(Watcher {
+        seat,
+        place,
+        sender,
+        pass,
+    })
+}
+
+// What `workers` workers and the watcher of a side have of their own. The only error is that memory ran out.
+fn staff_of(
+    alloc: Global,
+    office: &Office,
+    board: &Board,
+    stock: &mut Stock,
+    places: &mut Vec<board::Seat>,
+    workers: u16,
+) -> Result<Vec<Member>, AllocError>
+    requires stock { IsStock office.now stock.old
+        × (workers + 1 ≤ length stock.old.seats.items) }
+    requires places { All (board_seats.IsSeatOf board.now) places.old.items
+        × (workers + 1 ≤ length places.old.items) }
+    ensures staff { IfOk result (λ v. All (IsMember office.now board.now) v.items) }
+    ensures stock { IsStock office.now stock.new }
+    ensures seats_left { OnOk result (length stock.new.seats.items + workers + 1
+        ≡ length stock.old.seats.items) }
+    ensures places { All (board_seats.IsSeatOf board.now) places.new.items }
+    ensures places_left { OnOk result (length places.new.items + workers + 1
+        ≡ length places.old.items) }
+{
+    let mut staff = workers_of(alloc, office, board, stock, places, workers)?;
+    let place = next_place(board, places);
+    let watcher = watcher_of(office, board, stock, place)?;
+    staff.push(Member::Watches(watcher))?;
+    Ok(staff)
+}
+
+// A side's end of a channel. The only error is that memory ran out.
+#[tactic(auto, using(crate::proofs::Queues::puts_with))]
+fn end_of(alloc: Global, office: &Office, stock: &mut Stock) -> Result<End, AllocError>
+    requires { IsStock office.now stock.old × (0 < length stock.old.seats.items) }
+    ensures end { IfOk result (IsEnd office.now) }
+    ensures stock { IsStock office.now stock.new }
+    ensures left { OnOk result (length stock.new.seats.items + 1
+        ≡ length stock.old.seats.items) }
+{
+    let sender = stock.sender.copy()?;
+    let pass = stock.sender.pass(&mut stock.pass);
+    let seat = next_seat(&office.desk, &mut stock.seats);
+    Ok(End {
+        seat,
+        sender,
+        pass,
+        inbox: VecDeque::new(alloc),
+    })
+}
+
+// What the thread of a channel has of its own. The only error is that memory ran out.
+fn line_of(
+    alloc: Global,
+    house: &House,
+    a: &mut Stock,
+    b: &mut Stock,
+    channel: u64,
+) -> Result<Line, AllocError>
+    requires a { IsStock house.now.a a.old × (0 < length a.old.seats.items) }
+    requires b { IsStock house.now.b b.old × (0 < length b.old.seats.items) }
+    ensures line { IfOk result (λ l. IsLine house.now l × (l.channel ≡ channel)) }
+    ensures a { IsStock house.now.a a.new }
+    ensures b { IsStock house.now.b b.new }
+    ensures a_left { OnOk result (length a.new.seats.items + 1 ≡ length a.old.seats.items) }
+    ensures b_left { OnOk result (length b.new.seats.items + 1 ≡ length b.old.seats.items) }
+{
+    let a = end_of(alloc, &house.a, a)?;
+    let b = end_of(alloc, &house.b, b)?;
+    Ok(Line { channel, a, b })
+}
+
+// What the threads of `count` channels have of their own. The only error is that memory ran out.
+fn lines_of(
+    alloc: Global,
+    house: &House,
+    a: &mut Stock,
+    b: &mut Stock,
+    count: u16,
+) -> Result<Vec<Line>, AllocError>
+    requires a { IsStock house.now.a a.old × (count ≤ length a.old.seats.items) }
+    requires b { IsStock house.now.b b.old × (count ≤ length b.old.seats.items) }
+    ensures lines { IfOk result (λ v. All (IsLine house.now) v.items) }
+    ensures channels { IfOk result (λ v. map (λ l. l.channel) v.items
+        ≡ range_with_len 0 count) }
+    ensures a { IsStock house.now.a a.new }
+    ensures b { IsStock house.now.b b.new }
+    ensures a_left { OnOk result (length a.new.seats.items + count ≡ length a.old.seats.items) }
+    ensures b_left { OnOk result (length b.new.seats.items + count ≡ length b.old.seats.items) }
+{
+    let mut lines = Vec::new(alloc);
+    for channel in 0..count {
+        lines.push(line_of(alloc, house, a, b, u64::from(channel))?)?;
+    }
+    Ok(lines)
+}
+
+// What the thread has that plays the events of the chain.
+fn player_of(house: &House, a: &mut Stock, b: &mut Stock, place: board::Seat) -> Player
+    requires a { IsStock house.now.a a.old × (0 < length a.old.seats.items) }
+    requires b { IsStock house.now.b b.old × (0 < length b.old.seats.items) }
+    requires place { board_seats.IsSeatOf house.now.board place }
+    ensures { IsPlayer house.now result }
+{
+    Player {
+        a: next_seat(&house.a.desk, &mut a.seats),
+        b: next_seat(&house.b.desk, &mut b.seats),
+        place,
+    }
+}
+
+/// What the threads have of their own: a watcher and `workers` workers a side, and a thread for each channel. The only error is that memory ran out.
+pub(crate) fn crew_of(
+    alloc: Global,
+    house: &House,
+    a: Stock,
+    b: Stock,
+    places: Vec<board::Seat>,
+    channels: u16,
+    workers: u16,
+) -> Result<Crew, AllocError>
+    requires a { IsStock house.now.a a × (channels + workers + 2 ≤ length a.seats.items) }
+    requires b { IsStock house.now.b b × (channels + workers + 2 ≤ length b.seats.items) }
+    requires places { All (board_seats.IsSeatOf house.now.board) places.items
+        × (2 * workers + 3 ≤ length places.items) }
+    ensures crew { IfOk result (IsCrew house.now) }
+    ensures channels { IfOk result (λ c. map (λ l. l.channel) c.lines.items
+        ≡ range_with_len 0 channels) }
+{
+    let mut a = a;
+    let mut b = b;
+    let mut places = places;
+    let board = &house.board;
+    let staff_a = staff_of(alloc, &house.a, board, &mut a, &mut places, workers)?;
+    let staff_b = staff_of(alloc, &house.b, board, &mut b, &mut places, workers)?;
+    let lines = lines_of(alloc, house, &mut a, &mut b, channels)?;
+    let place = next_place(board, &mut places);
+    let player = player_of(house, &mut a, &mut b, place);
+    Ok(Crew {
+        staff_a,
+        staff_b,
+        lines,
+        player,
+    })
+}

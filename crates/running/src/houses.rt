@@ -1,0 +1,32 @@
+//! What the threads of a node share.
+
+use crate::progress::Progress;
+use crate::stages::Stage;
+use board::Board;
+use desk::Desk;
+use keys::Key;
+use std::sync::Mutex;
+use tx::OutPoint;
+
+/// What the threads of one side share.
+#[derive(Drop)]
+pub(crate) struct Office {
+    /// The side's book, behind its lock.
+    pub(crate) desk: Desk,
+    /// The funding output of each channel.
+    pub(crate) fundings: Vec<OutPoint>,
+    /// The side's payment key in each channel.
+    pub(crate) payments: Vec<Key>,
+    /// The preimages that blocks showed to the side's watcher.
+    pub(crate) learnt: Mutex<Vec<[u8; 32]>>,
+    pub(crate) progress: Progress,
+}
+
+/// What all threads share.
+#[derive(Drop)]
+pub(crate) struct House {
+    pub(crate) a: Office,
+    pub(crate) b: Office,
+    pub(crate) board: Board,
+    pub(crate) stage: Stage,
+}

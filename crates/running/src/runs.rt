@@ -1,0 +1,315 @@
+//! A whole run of a node.
+
+ghost use Rattle.std.specs.Prelude.{◌≡◌, ◌+◌, ◌<◌, ◌≤◌, IfOk, All, length, map};
+ghost use Rattle.std.specs.List.{AllByRecursion, range_with_len};
+ghost use Rattle.claim.specs.Claims.{IsWhole};
+ghost use Rattle.desk.specs.Seats.{IsSeatOf, last_in};
+ghost use Rattle.running.specs.Beginning.{AreReady};
+ghost use Rattle.running.specs.Crews.{IsMember, IsLine, IsPlayer, IsCrew};
+ghost use Rattle.running.specs.Events.{turns_in, all_turns};
+ghost use Rattle.running.specs.Reports.{HasWholeClaims, IsLeft, IsReport, total_of};
+ghost use Rattle.world.specs.Worlds.{claims_by};
+
+use crate::beginning::{Opened, begin, open_side};
+use crate::counts::Counts;
+use crate::crews::{Crew, crew_of};
+use crate::houses::{House, Office};
+use crate::lines::{Line, play_line};
+use crate::players::{Player, play_chain};
+use crate::staff::{Member, beside};
+use crate::stages::Stage;
+use board::Board;
+use book::{Book, Call, Entry};
+use chain::{Coins, Index};
+use claim::Claim;
+use desk::Seat;
+use node::Gate;
+use scenario::{Event, Scenario};
+use std::alloc::{AllocError, Global};
+use std::sync::Wait;
+use std::thread;
+use std::thread::Threads;
+use world::BooksAndChain;
+
+/// What a node leaves once all its threads have ended.
+#[derive(Drop)]
+pub struct Report {
+    /// A's book.
+    pub a: Book,
+    /// B's book.
+    pub b: Book,
+    /// The height of the chain.
+    pub height: u64,
+    /// How many of the updates, signatures and deliveries of each channel were played.
+    pub channels: Vec<Counts>,
+}
+
+// ---- the end
+
+// Tells the proof that claims were accepted.
+fn hold_whole(claims: &[Claim])
+    ensures { AllByRecursion IsWhole claims.now }
+{
+    for claim in claims {
+        let _ = claim.path();
+    }
+}
+
+// The same for the claims of a call.
+fn hold_whole_call(call: &Call)
+    ensures { AllByRecursion IsWhole (claims_by call.now) }
+{
+    match call {
+        Call::Keep { claims, .. } => hold_whole(claims.values()),
+        Call::Release { batch, .. } => hold_whole(batch.claims.values()),
+        _ => {}
+    }
+}
+
+// The same for a history.
+fn hold_whole_history(entries: &[Entry])
+    ensures { AllByRecursion HasWholeClaims entries.now }
+{
+    for entry in entries {
+        hold_whole_call(&entry.call);
+    }
+}
+
+// The book of a side whose threads have ended.
+fn closed<R: Wait>(rt: &R, office: Office, closer: Seat) -> Book
+    requires { IsSeatOf office.desk closer }
+    ensures { IsLeft (last_in closer) result }
+{
+    let mut closer = closer;
+    let Office { desk, .. } = office;
+    let book = desk.close(rt, &mut closer);
+    hold_whole_history(book.entries());
+    book
+}
+
+// ---- the threads
+
+// The counts of all channels, unless memory ran out in one.
+fn counts_in(
+    alloc: Global,
+    played: Vec<Result<Counts, AllocError>>,
+) -> Result<Vec<Counts>, AllocError>
+    ensures { IfOk result (λ v. map Ok v.items ≡ played.items) }
+{
+    let mut counts = Vec::new(alloc);
+    for one in played {
+        counts.push(one?)?;
+    }
+    Ok(counts)
+}
+
+// Plays the events of all channels, each in a thread of its own if one can be made. The only error is that memory ran out.
+fn play_lines<R: Threads + Wait + Sync>(
+    rt: &R,
+    alloc: Global,
+    house: &House,
+    events: &[Event],
+    lines: Vec<Line>,
+) -> Result<Vec<Counts>, AllocError>
+    requires { All (IsLine house.now) lines.items }
+    ensures { IfOk result (λ v. map total_of v.items
+        ≡ map (λ l. turns_in l.channel events.now) lines.items) }
+{
+    let played = thread::map_vec(
+        rt,
+        lines,
+        &|line: Line| -> Result<Counts, AllocError>
+            requires { IsLine house.now line }
+            ensures { IfOk result (λ c. total_of c ≡ turns_in line.channel events.entry.now) }
+        { play_line(rt, alloc, house, events, line) },
+    )?;
+    counts_in(alloc, played)
+}
+
+// Plays all events: first those of the channels, then those of the chain. The only error is that memory ran out.
+fn play_events<R: Threads + Wait + Sync>(
+    rt: &R,
+    alloc: Global,
+    house: &House,
+    events: &[Event],
+    lines: Vec<Line>,
+    player: Player,
+) -> Result<Vec<Counts>, AllocError>
+    requires lines { All (IsLine house.now) lines.items }
+    requires player { IsPlayer house.now player }
+    ensures { IfOk result (λ v. map total_of v.items
+        ≡ map (λ l. turns_in l.channel events.now) lines.items) }
+{
+    let mut player = player;
+    let counts = play_lines(rt, alloc, house, events, lines)?;
+    play_chain(rt, alloc, house, events, &mut player)?;
+    Ok(counts)
+}
+
+// The same, beside the workers and the watcher of B. The error is that memory ran out, or that a thread could not be started.
+fn play_beside_b<R: Threads + Wait + Sync, G: Gate + Sync>(
+    rt: &R,
+    alloc: Global,
+    house: &House,
+    events: &[Event],
+    gate: &G,
+    staff: Vec<Member>,
+    lines: Vec<Line>,
+    player: Player,
+) -> Result<Vec<Counts>, AllocError>
+    requires staff { All (IsMember house.now.b house.now.board) staff.items }
+    requires lines { All (IsLine house.now) lines.items }
+    requires player { IsPlayer house.now player }
+    ensures { IfOk result (λ v. map total_of v.items
+        ≡ map (λ l. turns_in l.channel events.now) lines.items) }
+{
+    beside(
+        rt,
+        alloc,
+        house,
+        &house.b,
+        gate,
+        staff,
+        move || -> Result<Vec<Counts>, AllocError>
+            requires { All (IsLine house.now) lines.items × IsPlayer house.now player }
+            ensures { IfOk result (λ v. map total_of v.items
+                ≡ map (λ l. turns_in l.channel events.entry.now) lines.items) }
+        { play_events(rt, alloc, house, events, lines, player) },
+    )?
+}
+
+// Runs all threads until each has ended. The error is that memory ran out, or that a thread could not be started.
+fn run_crew<R: Threads + Wait + Sync, G: Gate + Sync>(
+    rt: &R,
+    alloc: Global,
+    house: &House,
+    events: &[Event],
+    gate: &G,
+    crew: Crew,
+) -> Result<Vec<Counts>, AllocError>
+    requires { IsCrew house.now crew }
+    ensures { IfOk result (λ v. map total_of v.items
+        ≡ map (λ l. turns_in l.channel events.now) crew.lines.items) }
+{
+    let Crew {
+        staff_a,
+        staff_b,
+        lines,
+        player,
+    } = crew;
+    beside(
+        rt,
+        alloc,
+        house,
+        &house.a,
+        gate,
+        staff_a,
+        move || -> Result<Vec<Counts>, AllocError>
+            requires { All (IsMember house.now.b house.now.board) staff_b.items
+                × All (IsLine house.now) lines.items × IsPlayer house.now player }
+            ensures { IfOk result (λ v. map total_of v.items
+                ≡ map (λ l. turns_in l.channel events.entry.now) lines.items) }
+        { play_beside_b(rt, alloc, house, events, gate, staff_b, lines, player) },
+    )?
+}
+
+// ---- the whole
+
+// What the sides leave whose threads have ended. The only error is that a watcher gave up, since memory ran out.
+fn report_of<R: Wait>(
+    rt: &R,
+    house: House,
+    closer_a: Seat,
+    closer_b: Seat,
+    channels: Vec<Counts>,
+) -> Result<Report, AllocError>
+    requires a { IsSeatOf house.a.desk closer_a }
+    requires b { IsSeatOf house.b.desk closer_b }
+    ensures a { IfOk result (λ r. IsLeft (last_in closer_a) r.a) }
+    ensures b { IfOk result (λ r. IsLeft (last_in closer_b) r.b) }
+    ensures channels { IfOk result (λ r. r.channels.items ≡ channels.items) }
+{
+    if house.stage.has_failed() {
+        return Err(AllocError);
+    }
+    let House { a, b, stage, .. } = house;
+    let pool = stage.into_pool();
+    let height = pool.chain.height();
+    Ok(Report {
+        a: closed(rt, a, closer_a),
+        b: closed(rt, b, closer_b),
+        height,
+        channels,
+    })
+}
+
+// Runs a node whose sides are opened. The error is that memory ran out, or that a thread could not be started.
+fn run_sides<R: Threads + Wait + Sync, G: Gate + Sync>(
+    rt: &R,
+    alloc: Global,
+    events: &[Event],
+    channels: u16,
+    workers: u16,
+    gate: &G,
+    a: Opened,
+    b: Opened,
+    chain: Index,
+) -> Result<Report, AllocError>
+    requires few { (channels ≤ 8) × (workers ≤ 16) }
+    requires a { AreReady a × (channels + workers + 2 ≤ length a.stock.seats.items) }
+    requires b { AreReady b × (channels + workers + 2 ≤ length b.stock.seats.items) }
+    ensures a { IfOk result (λ r. IsLeft (last_in a.closer) r.a) }
+    ensures b { IfOk result (λ r. IsLeft (last_in b.closer) r.b) }
+    ensures counted { IfOk result (λ r. map total_of r.channels.items
+        ≡ all_turns channels events.now) }
+{
+    let (board, places) = Board::new(alloc, 2 * workers + 3)?;
+    let Opened {
+        office: office_a,
+        closer: closer_a,
+        stock: stock_a,
+    } = a;
+    let Opened {
+        office: office_b,
+        closer: closer_b,
+        stock: stock_b,
+    } = b;
+    let house = House {
+        a: office_a,
+        b: office_b,
+        board,
+        stage: Stage::new(alloc, chain),
+    };
+    let crew = crew_of(alloc, &house, stock_a, stock_b, places, channels, workers)?;
+    let counts = run_crew(rt, alloc, &house, events, gate, crew)?;
+    report_of(rt, house, closer_a, closer_b, counts)
+}
+
+/// Plays a scenario in threads: one for each channel, a watcher and `workers` workers for each side, and one for the events of the chain.
+///
+/// The channels play side by side, each its own updates, signatures and deliveries in the order of the scenario. A signature that finds penalties missing waits for the workers, until
+/// no job is left that may keep them. Then broadcasts, blocks and reorganisations are played, beside the watchers and the workers. Events that keep, look, take and release are skipped: threads
+/// do that by themselves. The gate comes before and after each job of each worker.
+///
+/// The error is that memory ran out, or that a thread could not be started. All threads have ended when it returns. A worker that is refused memory tries its job again, and a
+/// thread that puts a job puts it again, without a bound: while memory stays refused there, the call does not return.
+#[tactic(auto, using(crate::proofs::Reported::reported))]
+pub fn run_node<R: Threads + Wait + Sync, G: Gate + Sync>(
+    rt: &R,
+    alloc: Global,
+    scenario: &Scenario,
+    workers: u16,
+    gate: &G,
+) -> Result<Report, AllocError>
+    requires some { 0 < workers }
+    requires few { workers ≤ 16 }
+    ensures { IfOk result (IsReport scenario.now) }
+{
+    let channels = scenario.channels.len() as u16;
+    let seats = channels + workers + 3;
+    let BooksAndChain { a, b, chain } = begin(alloc, scenario)?;
+    let a = open_side(rt, alloc, a, seats, workers)?;
+    let b = open_side(rt, alloc, b, seats, workers)?;
+    let events = scenario.events.values();
+    run_sides(rt, alloc, events, channels, workers, gate, a, b, chain)
+}

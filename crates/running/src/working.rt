@@ -1,0 +1,82 @@
+//! The threads of workers.
+
+ghost use Rattle.desk.specs.Seats.{IsSeatOf, HasSameCalls};
+ghost use Rattle.node.specs.Work.{IsWork};
+ghost use Rattle.running.specs.Crews.{IsWorker};
+
+use crate::houses::{House, Office};
+use crate::progress::Progress;
+use desk::{Desk, Seat};
+use jobs::JobTaker;
+use node::{Done, Gate, Hands, Job, Shared};
+use std::alloc::Global;
+use std::sync::Wait;
+use std::sync::atomic::{AtomicU64, Ordering};
+
+/// What a worker's thread has of its own.
+#[derive(Drop)]
+pub(crate) struct Worker {
+    pub(crate) taker: JobTaker<Job>,
+    pub(crate) hands: Hands,
+}
+
+/// The caller's gate, which counts the jobs that a worker did.
+struct Counted<'a, G> {
+    gate: &'a G,
+    progress: &'a Progress,
+    jobs: AtomicU64,
+}
+
+impl<G: Gate> Gate for Counted<'_, G> {
+    fn before<R: Wait>(&self, rt: &R, ticket: u64, desk: &Desk, seat: &mut Seat) {
+        self.gate.before(rt, ticket, desk, seat);
+    }
+
+    fn after<R: Wait>(&self, rt: &R, ticket: u64, desk: &Desk, seat: &mut Seat) {
+        self.gate.after(rt, ticket, desk, seat);
+        self.jobs.fetch_add(1, Ordering::SeqCst);
+        self.progress.finish(rt);
+    }
+
+    fn go_on(&self, ticket: u64) -> bool {
+        self.gate.go_on(ticket)
+    }
+}
+
+/// Works for a side until its queue is closed and empty, or the gate stops it.
+pub(crate) fn work<R: Wait, G: Gate>(
+    rt: &R,
+    alloc: Global,
+    house: &House,
+    office: &Office,
+    gate: &G,
+    mine: Worker,
+) -> (Done, Hands)
+    requires { IsWorker office.now house.now.board mine }
+    ensures { IsWork office.now.payments.items mine.hands result.1 result.0 }
+{
+    let Worker { taker, mut hands } = mine;
+    let shared = Shared {
+        desk: &office.desk,
+        board: &house.board,
+        payments: office.payments.as_slice(),
+        pool: &house.stage.pool,
+    };
+    let counted = Counted {
+        gate,
+        progress: &office.progress,
+        jobs: AtomicU64::new(0),
+    };
+    let done = node::worker(rt, alloc, &shared, &taker, &mut hands, &counted);
+    // A job that it took and did not do is dropped.
+    if counted.jobs.load(Ordering::SeqCst) != done.jobs {
+        office.progress.finish(rt);
+    }
+    office.progress.leave(rt);
+    let Counted {
+        gate: _,
+        progress: _,
+        jobs: _,
+    } = counted;
+    (done, hands)
+}

@@ -1,0 +1,115 @@
+//! Runs of a node, and what their reports say.
+
+use crate::gates::{Manner, TestGate};
+use crate::scenarios::text_with;
+use book::{Book, Call, Entry};
+use running::{Counts, Report, run_node};
+use scenario::Scenario;
+use std::alloc::Global;
+use std::process::Abort;
+use std::sync::Wait;
+use std::thread::Threads;
+
+/// A run of a node.
+#[derive(Clone, Copy)]
+pub(crate) struct Run {
+    /// Whether there are two channels; else there is one.
+    pub(crate) has_two: bool,
+    pub(crate) workers: u16,
+    pub(crate) manner: Manner,
+}
+
+/// What happens in each channel of a run.
+#[derive(Clone, Copy)]
+pub(crate) struct Wanted {
+    pub(crate) height: u64,
+    pub(crate) counts: Counts,
+    /// How many calls A's book has.
+    pub(crate) calls_of_a: usize,
+    /// How many calls B's book has.
+    pub(crate) calls_of_b: usize,
+    /// How many claims B releases.
+    pub(crate) releases: usize,
+    /// Whether each side keeps the penalties of its peer's commitment 0, and B those of A's commitment 1 too.
+    pub(crate) is_kept: bool,
+}
+
+/// The report of a run with these events of the chain, all of whose gate's waiting ended well.
+pub(crate) fn report_of<R: Threads + Wait + Abort + Sync>(
+    rt: &R,
+    alloc: Global,
+    run: &Run,
+    chain: &str,
+) -> Report {
+    let workers = run.workers;
+    assert!(rt; 0 < workers && workers <= 16);
+    let gate = TestGate::new(run.manner);
+    let text = text_with(rt, alloc, run.has_two, chain);
+    let scenario = Scenario::read(alloc, text.as_bytes()).expect(rt, "a scenario");
+    let report = run_node(rt, alloc, &scenario, workers, &gate).expect(rt, "memory, and threads");
+    assert!(rt; gate.has_come());
+    report
+}
+
+// Whether a call is what workers do: it keeps penalties or releases claims.
+fn is_work(call: &Call) -> bool {
+    match call {
+        Call::Keep { .. } | Call::Release { .. } => true,
+        _ => false,
+    }
+}
+
+// Whether a call releases claims of a channel.
+fn is_release(call: &Call, of: u64) -> bool {
+    match call {
+        Call::Release { channel, .. } => *channel == of,
+        _ => false,
+    }
+}
+
+// How many releases a book has in a channel.
+fn releases_in(book: &Book, channel: u64) -> usize {
+    book.entries()
+        .iter()
+        .filter(|entry| is_release(&entry.call, channel))
+        .count()
+}
+
+// Whether an entry is of a worker's seat exactly where it is what workers do. The seats before theirs are the player's, those of the channels and the watcher's.
+fn is_by_its_seat(entry: &Entry, before: u32, workers: u16) -> bool {
+    let last = before.saturating_add(u32::from(workers));
+    is_work(&entry.call) == (entry.seat > before && entry.seat <= last)
+}
+
+// Whether a book has this number of calls in each channel, each by a seat whose call it is.
+fn is_side(book: &Book, run: &Run, calls: usize) -> bool {
+    let (channels, before) = if run.has_two { (2, 4) } else { (1, 3) };
+    book.entries().len() == calls.saturating_mul(channels)
+        && book
+            .entries()
+            .iter()
+            .all(|entry| is_by_its_seat(entry, before, run.workers))
+}
+
+// Whether that happened in a channel.
+fn is_channel(report: &Report, channel: u64, wanted: &Wanted) -> bool {
+    let last = if wanted.is_kept { Some(true) } else { None };
+    report.channels.get(channel as usize) == Some(&wanted.counts)
+        && releases_in(&report.a, channel) == 0
+        && releases_in(&report.b, channel) == wanted.releases
+        && report.a.keeps(channel, 0) == Some(wanted.is_kept)
+        && report.a.keeps(channel, 1).is_none()
+        && report.b.keeps(channel, 0) == Some(wanted.is_kept)
+        && report.b.keeps(channel, 1) == last
+}
+
+/// Whether that happened in each channel of a run.
+pub(crate) fn is_as(report: &Report, run: &Run, wanted: &Wanted) -> bool {
+    let channels = if run.has_two { 2 } else { 1 };
+    report.height == wanted.height
+        && report.channels.len() == channels
+        && is_side(&report.a, run, wanted.calls_of_a)
+        && is_side(&report.b, run, wanted.calls_of_b)
+        && is_channel(report, 0, wanted)
+        && (!run.has_two || is_channel(report, 1, wanted))
+}
