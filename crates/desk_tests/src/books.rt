@@ -2,7 +2,7 @@
 
 use book::{Book, Step};
 use book_peers::{offer, open_side};
-use channel::Message;
+use channel::{Channel, Message};
 use keys::Key;
 use std::alloc::Global;
 use std::process::Abort;
@@ -23,11 +23,17 @@ pub(crate) fn offer_until(expiry: u32) -> Step {
     Step::Own(offer(1_000_000, expiry))
 }
 
-/// The book offers an HTLC.
-pub(crate) fn offered(rt: &impl Abort, book: &mut Book, expiry: u32) -> Message {
-    book.step(0, 0, offer_until(expiry))
-        .expect(rt, "an offer")
-        .expect(rt, "a message")
+// The book offers an HTLC.
+fn offered(rt: &impl Abort, book: &mut Book, expiry: u32) -> Message {
+    let sent = book.step(0, 0, offer_until(expiry)).expect(rt, "an offer");
+    sent.expect(rt, "a message")
+}
+
+/// A book in which an HTLC is offered.
+pub(crate) fn offering(rt: &impl Abort, alloc: Global) -> Book {
+    let mut book = opened(rt, alloc, 0);
+    drop(offered(rt, &mut book, 500));
+    book
 }
 
 /// What a revocation brings.
@@ -37,22 +43,26 @@ pub(crate) struct Revocation {
     pub(crate) next_point: Key,
 }
 
-fn revocation_in(message: Message) -> Option<Revocation> {
+fn revocation_in(message: Option<Message>) -> Option<Revocation> {
     match message {
-        Message::RevokeAndAck { secret, next_point } => Some(Revocation { secret, next_point }),
+        Some(Message::RevokeAndAck { secret, next_point }) => Some(Revocation {
+            secret,
+            next_point,
+        }),
         _ => None,
     }
+}
+
+// What a channel answers to a message.
+fn answer(rt: &impl Abort, channel: &mut Channel, message: &Message) -> Option<Message> {
+    channel.receive(message).expect(rt, "received")
 }
 
 // B takes an offer and a signature of A's. What its answer brings.
 fn answered(rt: &impl Abort, alloc: Global, offer: &Message, signature: &Message) -> Revocation {
     let mut b = open_side(alloc, 0, Side::B).expect(rt, "a channel").channel;
-    assert!(rt; b.receive(offer).expect(rt, "received").is_none());
-    let answer = b
-        .receive(signature)
-        .expect(rt, "received")
-        .expect(rt, "an answer");
-    revocation_in(answer).expect(rt, "a revocation")
+    assert!(rt; answer(rt, &mut b, offer).is_none());
+    revocation_in(answer(rt, &mut b, signature)).expect(rt, "a revocation")
 }
 
 /// The book offers an HTLC, signs it, and offers another one. The revocation for which it waits then.

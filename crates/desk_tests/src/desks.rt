@@ -3,7 +3,8 @@
 ghost use Rattle.std.specs.Prelude.{◌<◌, All};
 ghost use Rattle.desk.specs.Seats.{IsSeatOf};
 
-use crate::books::{offered, opened};
+use crate::books::{Revocation, offer_until, offering};
+use book::errors::SignError;
 use book::{Book, Call, Reply};
 use desk::{Desk, DeskError, Seat};
 use std::alloc::Global;
@@ -23,23 +24,74 @@ fn sign_at_desk<R: Wait>(
     Ok((reply, book))
 }
 
-// Whether a signature was made.
-fn is_signed(rt: &impl Abort, reply: Reply) -> bool {
-    match reply {
-        Reply::Signed(answer) => answer.err().is_none(),
-        _ => panic!(rt; "another reply"),
+/// A call in the first channel, with its reply.
+#[derive(Clone, Copy)]
+pub(crate) enum Row {
+    /// An offer up to this height is taken.
+    Offer(u32),
+    /// A signature is made.
+    Sign,
+    /// No signature is made before the penalties of the peer's commitment 0 are kept.
+    Refuse,
+    /// The revocation of that commitment is taken.
+    Revoke(Revocation),
+}
+
+// The call that hands in a revocation.
+fn revocation_of(came: Revocation) -> Call {
+    let Revocation { secret, next_point } = came;
+    Call::Revoke {
+        channel: 0,
+        secret,
+        next_point,
     }
+}
+
+fn call_of(row: Row) -> Call {
+    match row {
+        Row::Offer(expiry) => Call::Step {
+            channel: 0,
+            step: offer_until(expiry),
+        },
+        Row::Revoke(came) => revocation_of(came),
+        _ => Call::Sign { channel: 0 },
+    }
+}
+
+// Whether a row has this reply.
+fn has(row: Row, reply: &Reply) -> bool {
+    match reply {
+        Reply::Stepped(answer) => matches!(row, Row::Offer(_)) && answer.is_ok(),
+        Reply::Revoked(answer) => matches!(row, Row::Revoke(_)) && *answer == Ok(0),
+        Reply::Signed(Ok(_)) => matches!(row, Row::Sign),
+        Reply::Signed(Err(error)) => {
+            matches!(row, Row::Refuse) && *error == SignError::PenaltiesMissing(0)
+        }
+        _ => false,
+    }
+}
+
+/// Whether a seat's call has the reply of its row.
+pub(crate) fn calls<R: Wait>(rt: &R, desk: &Desk, seat: &mut Seat, row: Row) -> bool
+    requires { IsSeatOf desk.now seat.old }
+    ensures { IsSeatOf desk.now seat.new }
+{
+    let reply = desk.call(rt, seat, call_of(row));
+    has(row, &reply)
+}
+
+// Whether a desk over the book signs, and gives the book back with three entries.
+fn signs<R: Wait + Abort>(rt: &R, alloc: Global, book: Book) -> bool {
+    let Ok((reply, book)) = sign_at_desk(rt, alloc, book) else {
+        panic!(rt; "no desk");
+    };
+    has(Row::Sign, &reply) && book.entries().len() == 3
 }
 
 #[test]
 fn signs_at_a_desk(rt: HostRuntime) {
-    let mut book = opened(&rt, rt.alloc(), 0);
-    drop(offered(&rt, &mut book, 500));
-    let Ok((reply, book)) = sign_at_desk(&rt, rt.alloc(), book) else {
-        panic!(rt; "no desk");
-    };
-    assert!(rt; is_signed(&rt, reply));
-    assert_eq!(rt; book.entries().len(), 3);
+    let book = offering(&rt, rt.alloc());
+    assert!(rt; signs(&rt, rt.alloc(), book));
 }
 
 /// A desk over a book, and so many seats.

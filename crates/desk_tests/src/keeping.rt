@@ -3,56 +3,49 @@
 ghost use Rattle.desk.specs.Seats.{IsSeatOf};
 
 use crate::books::{Revocation, awaited, opened};
-use crate::desks::{desk_over, next_seat};
-use book::errors::{SignError, StepError};
-use book::{Call, Reply};
+use crate::desks::{Row, calls, desk_over, next_seat};
 use desk::{Desk, Seat};
 use penalty::penalties;
 use std::alloc::Global;
 use std::process::Abort;
 use std::sync::Wait;
 
-// Hands in a revocation in the first channel: the number of the revoked commitment.
-fn revoke<R: Wait + Abort>(
-    rt: &R,
-    desk: &Desk,
-    seat: &mut Seat,
-    came: Revocation,
-) -> Result<u64, StepError>
-    requires { IsSeatOf desk.now seat.old }
-    ensures { IsSeatOf desk.now seat.new }
-{
-    let Revocation { secret, next_point } = came;
-    let call = Call::Revoke {
-        channel: 0,
-        secret,
-        next_point,
-    };
-    match desk.call(rt, seat, call) {
-        Reply::Revoked(answer) => answer,
-        _ => panic!(rt; "another reply"),
-    }
-}
-
-// Why the first channel is not signed.
-fn refusal<R: Wait + Abort>(rt: &R, desk: &Desk, seat: &mut Seat) -> Option<SignError>
-    requires { IsSeatOf desk.now seat.old }
-    ensures { IsSeatOf desk.now seat.new }
-{
-    match desk.call(rt, seat, Call::Sign { channel: 0 }) {
-        Reply::Signed(answer) => answer.err(),
-        _ => panic!(rt; "another reply"),
-    }
-}
-
 // Builds and keeps the penalties of the first revoked commitment.
-fn keep<R: Wait + Abort>(rt: &R, alloc: Global, desk: &Desk, seat: &mut Seat)
+fn keeps<R: Wait + Abort>(rt: &R, alloc: Global, desk: &Desk, seat: &mut Seat) -> bool
     requires { IsSeatOf desk.now seat.old }
     ensures { IsSeatOf desk.now seat.new }
 {
     let state = desk.revoked(rt, seat, 0, 0).expect(rt, "a revoked state");
     let set = penalties(alloc, &state).expect(rt, "memory");
-    assert!(rt; desk.keep_set(rt, seat, 0, 0, set).is_ok());
+    desk.keep_set(rt, seat, 0, 0, set).is_ok()
+}
+
+// Whether the desk tells what is known of the first channel.
+fn knows<R: Wait>(rt: &R, desk: &Desk, seat: &mut Seat) -> bool
+    requires { IsSeatOf desk.now seat.old }
+{
+    desk.known(rt, seat, 0).err().is_none()
+}
+
+// Whether the seat signs once the worker kept the penalties, and not before.
+fn guards<R: Wait + Abort>(
+    rt: &R,
+    alloc: Global,
+    desk: &Desk,
+    seat: &mut Seat,
+    worker: &mut Seat,
+    came: Revocation,
+) -> bool
+    requires seat { IsSeatOf desk.now seat.old }
+    requires worker { IsSeatOf desk.now worker.old }
+    ensures { IsSeatOf desk.now seat.new }
+{
+    let is_revoked = calls(rt, desk, seat, Row::Revoke(came));
+    let is_refused = calls(rt, desk, seat, Row::Refuse);
+    let is_kept = keeps(rt, alloc, desk, worker);
+    let is_known = knows(rt, desk, worker);
+    let is_signed = calls(rt, desk, seat, Row::Sign);
+    is_revoked && is_refused && is_kept && is_known && is_signed
 }
 
 // The example of the page of `desk`. The gate holds for calls of the desk as for those of the book.
@@ -64,11 +57,7 @@ fn keeps_penalties_by_another_seat(rt: HostRuntime) {
     let (desk, mut seats) = desk_over(&rt, alloc, book, 2);
     let mut worker = next_seat(&rt, &desk, &mut seats);
     let mut seat = next_seat(&rt, &desk, &mut seats);
-    assert!(rt; revoke(&rt, &desk, &mut seat, came) == Ok(0));
-    assert!(rt; refusal(&rt, &desk, &mut seat) == Some(SignError::PenaltiesMissing(0)));
-    keep(&rt, alloc, &desk, &mut worker);
-    assert!(rt; desk.known(&rt, &mut worker, 0).err().is_none());
-    assert!(rt; refusal(&rt, &desk, &mut seat).is_none());
+    assert!(rt; guards(&rt, alloc, &desk, &mut seat, &mut worker, came));
     let book = desk.close(&rt, &mut seat);
-    assert_eq!(rt; book.entries().len(), 7);
+    assert!(rt; book.entries().len() == 7);
 }

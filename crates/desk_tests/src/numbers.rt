@@ -28,5 +28,5 @@ fn numbers_end(rt: HostRuntime) {
     let book = refused(&rt, alloc, opened(&rt, alloc, u32::MAX - 1), 2);
     let (desk, mut seats) = desk_over(&rt, alloc, book, 1);
     let seat = next_seat(&rt, &desk, &mut seats);
-    assert_eq!(rt; seat.number(), u32::MAX);
+    assert!(rt; seat.number() == u32::MAX);
 }

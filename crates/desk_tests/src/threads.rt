@@ -2,28 +2,12 @@
 
 ghost use Rattle.desk.specs.Seats.{IsSeatOf};
 
-use crate::books::{offer_until, opened};
-use crate::desks::{desk_over, next_seat};
-use book::{Call, Reply};
+use crate::books::opened;
+use crate::desks::{Row, calls, desk_over, next_seat};
 use desk::{Desk, Seat};
 use std::process::Abort;
 use std::sync::Wait;
 use std::thread;
-
-// Whether an offer of an HTLC in the first channel is taken.
-fn offers<R: Wait + Abort>(rt: &R, desk: &Desk, seat: &mut Seat, expiry: u32) -> bool
-    requires { IsSeatOf desk.now seat.old }
-    ensures { IsSeatOf desk.now seat.new }
-{
-    let call = Call::Step {
-        channel: 0,
-        step: offer_until(expiry),
-    };
-    match desk.call(rt, seat, call) {
-        Reply::Stepped(answer) => answer.err().is_none(),
-        _ => panic!(rt; "another reply"),
-    }
-}
 
 // Offers 20 HTLCs.
 fn offer_many<R: Wait + Abort>(rt: &R, desk: &Desk, seat: &mut Seat)
@@ -31,7 +15,7 @@ fn offer_many<R: Wait + Abort>(rt: &R, desk: &Desk, seat: &mut Seat)
     ensures { IsSeatOf desk.now seat.new }
 {
     for k in 0..20 {
-        assert!(rt; offers(rt, desk, seat, 500 + k));
+        assert!(rt; calls(rt, desk, seat, Row::Offer(500 + k)));
     }
 }
 
@@ -49,5 +33,5 @@ fn two_threads_call(rt: HostRuntime) {
         || offer_many(&rt, &desk, &mut second),
     );
     let book = desk.close(&rt, &mut last);
-    assert_eq!(rt; book.entries().len(), 41);
+    assert!(rt; book.entries().len() == 41);
 }
