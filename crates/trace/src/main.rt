@@ -30,22 +30,35 @@ fn run(
         [word, rest @ ..] if word.as_str() == "witness" => {
             trace_witness::run_words(alloc, rest, input, out, err)
         }
-        _ => trace_words::run_words(alloc, words, input, out, err),
+        [word, rest @ ..] if word.as_str() == "script" => {
+            trace_words::run_words(alloc, rest, input, out, err)
+        }
+        _ => refuse_words(err),
     }
 }
 
 /// Runs the words that the program was called with. Arguments that are not UTF-8 are wrong words.
 fn main(rt: HostRuntime) -> ExitCode {
     let status = match words(&rt) {
-        Ok(words) => run(
-            rt.alloc(),
-            words.as_slice(),
-            &mut rt.stdin(),
-            &mut rt.stdout(),
-            &mut rt.stderr(),
-        ),
-        Err(error) if error.kind() == io::ErrorKind::OutOfMemory => refuse_memory(&mut rt.stdout()),
-        Err(_) => refuse_words(&mut rt.stderr()),
+        Ok(words) => {
+            let status = run(
+                rt.alloc(),
+                words.as_slice(),
+                &mut rt.stdin(),
+                &mut rt.stdout(),
+                &mut rt.stderr(),
+            );
+            drop(words);
+            status
+        }
+        Err(error) => {
+            let kind = error.kind();
+            drop(error);
+            match kind {
+                io::ErrorKind::OutOfMemory => refuse_memory(&mut rt.stdout()),
+                _ => refuse_words(&mut rt.stderr()),
+            }
+        }
     };
     ExitCode::from(status)
 }

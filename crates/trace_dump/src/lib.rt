@@ -11,7 +11,7 @@
 //! let status = run(alloc, &mut input, &mut out);
 //! ```
 //!
-//! The tests `prints_texts` and `refuses_input` of `trace_tests` call it. `bench/dumps.py` finds anew what it has to write.
+//! Tested by `bench/dumps.py`, which finds anew what it has to write, and by the calls of `bench/answers.py`.
 #![tactic(auto)]
 
 ghost use Rattle.std.specs.Prelude.{◌≤◌};
@@ -28,10 +28,8 @@ pub use claims::{Alone, Claimable, Close, OutputName, Way, claims_of, hashes_of}
 pub use loading::load_dump;
 pub use standing::{Source, commitment};
 use std::alloc::Global;
-use std::fmt::Display;
 use std::io::{Read, Write};
-use trace_words::Piece::{Count, Text};
-use trace_words::{InputError, Line, read_all, refuse_memory, write_told};
+use trace_words::{InputError, Line, read_all, refuse_memory, write_refusal, write_told};
 
 /// Writes the lines of the dump in the input, and returns the status: 0 when all are written, 1 for a refused dump, a failed write, or if memory ran out. All lines
 /// are made before the first byte is written. A refusal is written with its number: that of the book's, or for input that can't be read one after them.
@@ -39,9 +37,16 @@ pub fn run(alloc: Global, input: &mut dyn Read, out: &mut dyn Write) -> u8
     ensures { result ≤ 1 }
 {
     match read_all(alloc, input) {
-        Ok(bytes) => tell_dump(alloc, bytes.as_slice(), out),
+        Ok(bytes) => {
+            let status = tell_dump(alloc, bytes.as_slice(), out);
+            drop(bytes);
+            status
+        }
         Err(InputError::NoMemory) => refuse_memory(out),
-        Err(error) => refuse(alloc, error.text(), u64::from(error.number()) + 4, out),
+        Err(error) => {
+            let number = u64::from(error.number()) + 4;
+            write_refusal(alloc, out, error.text(), Some(number))
+        }
     }
 }
 
@@ -50,9 +55,18 @@ fn tell_dump(alloc: Global, bytes: &[u8], out: &mut dyn Write) -> u8
     ensures { result ≤ 1 }
 {
     match load_dump(alloc, bytes) {
-        Ok(book) => tell_loaded(alloc, &book, out),
-        Err(LoadError::NoMemory) => refuse_memory(out),
-        Err(error) => refuse(alloc, error, u64::from(error.number()), out),
+        Ok(book) => {
+            let status = tell_loaded(alloc, &book, out);
+            drop(book);
+            status
+        }
+        Err(error) => match error {
+            LoadError::NoMemory => refuse_memory(out),
+            _ => {
+                let number = u64::from(error.number());
+                write_refusal(alloc, out, error, Some(number))
+            }
+        },
     }
 }
 
@@ -62,16 +76,7 @@ fn tell_loaded(alloc: Global, book: &Book, out: &mut dyn Write) -> u8
 {
     let mut line = Line::new(alloc);
     tell_book(alloc, &mut line, book);
-    write_told(out, &line, 0)
-}
-
-// Writes that the dump is refused, with the number of the refusal, and returns the status.
-fn refuse<D: Display + Drop>(alloc: Global, refusal: D, number: u64, out: &mut dyn Write) -> u8
-    ensures { result ≤ 1 }
-{
-    let mut line = Line::new(alloc);
-    line.push(r#"{"refused":""#);
-    line.push_shown(refusal);
-    line.write("\",\"number\":%}\n", &[Count(number)]);
-    write_told(out, &line, 1)
+    let status = write_told(out, &mut line, 0);
+    drop(line);
+    status
 }

@@ -18,23 +18,6 @@ fn side_name(side: Side) -> Piece {
     }
 }
 
-// Writes what the sides of a channel agreed on. Its object begins.
-fn tell_terms(line: &mut Line, index: u64, terms: &Terms, side: Side) {
-    let txid = terms.funding.txid;
-    line.write(
-        r#"{"channel":%,"funding":"%:%","side":"%","opener":"%","capacity":%,"peer_delay":%"#,
-        &[
-            Count(index),
-            Hash(txid),
-            Count(u64::from(terms.funding.index)),
-            side_name(side),
-            side_name(terms.opener),
-            Count(terms.capacity),
-            Count(u64::from(terms.party(side.other()).delay)),
-        ],
-    );
-}
-
 // Writes a commitment of a channel as its side sees it, if there is one. The text begins the member.
 fn tell_source(line: &mut Line, channel: &Channel, before: &'static str, source: Source) {
     let side = channel.side();
@@ -103,53 +86,30 @@ fn tell_offered(line: &mut Line, channel: &Channel, direction: &'static str, off
     tell_htlcs(line, channel, direction, offerer, Source::Next);
 }
 
-// Writes the commitments of a channel that may be broadcast without a penalty, and the HTLCs in them.
-fn tell_standing(line: &mut Line, channel: &Channel) {
-    let side = channel.side();
-    tell_source(line, channel, r#","ours":"#, Source::Ours);
-    tell_source(line, channel, r#","theirs":"#, Source::Theirs);
-    tell_source(line, channel, r#","next":"#, Source::Next);
-    line.push(r#","htlcs":["#);
-    tell_offered(line, channel, "offered", side);
-    tell_offered(line, channel, "received", side.other());
-    line.push("]");
-}
-
-// The name of an output, and the id of its HTLC.
-fn output_of(output: OutputName) -> (&'static str, Piece) {
-    match output {
-        OutputName::ToLocal => ("to_local", Text("null")),
-        OutputName::ToRemote => ("to_remote", Text("null")),
-        OutputName::Offered(id) => ("offered", Count(id)),
-        OutputName::Received(id) => ("received", Count(id)),
-    }
-}
-
-// The name of a way to claim, and its lock time.
-fn way_of(way: Way) -> (&'static str, Piece) {
-    match way {
-        Way::Payment => ("payment", Text("null")),
-        Way::Preimage => ("preimage", Text("null")),
-        Way::Timeout(lock) => ("timeout", Count(u64::from(lock))),
-        Way::Penalty => ("penalty", Text("null")),
-    }
-}
-
-// How long nobody else can take an output.
-fn alone_of(alone: Alone) -> (&'static str, Piece) {
-    match alone {
-        Alone::Always => ("always", Text("null")),
-        Alone::Blocks(blocks) => ("blocks", Count(u64::from(blocks))),
-        Alone::Until(height) => ("until", Count(u64::from(height))),
-        Alone::NoPreimage => ("no_preimage", Text("null")),
-    }
-}
-
 // Writes what can be claimed.
 fn tell_claim(line: &mut Line, claim: &Claimable) {
-    let (output, id) = output_of(claim.output);
-    let (way, lock) = way_of(claim.way);
-    let (alone, limit) = alone_of(claim.alone);
+    let none = Text("null");
+    // its name, and the id of its HTLC
+    let (output, id) = match claim.output {
+        OutputName::ToLocal => ("to_local", none),
+        OutputName::ToRemote => ("to_remote", none),
+        OutputName::Offered(id) => ("offered", Count(id)),
+        OutputName::Received(id) => ("received", Count(id)),
+    };
+    // its name, and the lock time
+    let (way, lock) = match claim.way {
+        Way::Payment => ("payment", none),
+        Way::Preimage => ("preimage", none),
+        Way::Timeout(lock) => ("timeout", Count(u64::from(lock))),
+        Way::Penalty => ("penalty", none),
+    };
+    // how long nobody else can take the output
+    let (alone, limit) = match claim.alone {
+        Alone::Always => ("always", none),
+        Alone::Blocks(blocks) => ("blocks", Count(u64::from(blocks))),
+        Alone::Until(height) => ("until", Count(u64::from(height))),
+        Alone::NoPreimage => ("no_preimage", none),
+    };
     line.element(
         r#"{"output":"%","id":%,"value":%,"by":"%","lock":%,"alone":"%","limit":%}"#,
         &[
@@ -177,6 +137,7 @@ fn tell_amounts(
             for claim in &claims {
                 tell_claim(line, claim);
             }
+            drop(claims);
         }
         Err(_) => line.fail(),
     }
@@ -198,7 +159,10 @@ fn tell_closing(
         &[Text(name), Count(state.number), kept],
     );
     match commitment_amounts(alloc, terms, &state.view, state.owner) {
-        Ok(amounts) => tell_amounts(alloc, line, close, hashes, &amounts),
+        Ok(amounts) => {
+            tell_amounts(alloc, line, close, hashes, &amounts);
+            drop(amounts);
+        }
         Err(_) => line.fail(),
     }
     line.push("]}");
@@ -246,11 +210,29 @@ fn tell_revoked(alloc: Global, line: &mut Line, book: &Book, index: u64, channel
     }
 }
 
-// Writes the line of a channel.
+// Writes the line of a channel: what its sides agreed on, the commitments that may be broadcast without a penalty, the HTLCs in them, and the closings.
 fn tell_channel(alloc: Global, line: &mut Line, book: &Book, index: u64, channel: &Channel) {
-    tell_terms(line, index, channel.terms(), channel.side());
-    tell_standing(line, channel);
-    line.push(r#","closes":["#);
+    let (terms, side) = (channel.terms(), channel.side());
+    let txid = terms.funding.txid;
+    line.write(
+        r#"{"channel":%,"funding":"%:%","side":"%","opener":"%","capacity":%,"peer_delay":%"#,
+        &[
+            Count(index),
+            Hash(txid),
+            Count(u64::from(terms.funding.index)),
+            side_name(side),
+            side_name(terms.opener),
+            Count(terms.capacity),
+            Count(u64::from(terms.party(side.other()).delay)),
+        ],
+    );
+    tell_source(line, channel, r#","ours":"#, Source::Ours);
+    tell_source(line, channel, r#","theirs":"#, Source::Theirs);
+    tell_source(line, channel, r#","next":"#, Source::Next);
+    line.push(r#","htlcs":["#);
+    tell_offered(line, channel, "offered", side);
+    tell_offered(line, channel, "received", side.other());
+    line.push(r#"],"closes":["#);
     tell_unrevoked(alloc, line, channel, book.preimages(index));
     tell_revoked(alloc, line, book, index, channel);
     line.push("]}\n");

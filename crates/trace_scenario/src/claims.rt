@@ -1,13 +1,13 @@
 //! The claims of a side.
 
-use crate::coins::Coins;
-use crate::names::{side_name, tell_outpoint};
-use claim::{Claim, Shell};
+use crate::coins::Told;
+use crate::names::side_name;
+use claim::Shell;
 use side::DueClaim;
 use sighash::programs::is_key_hash_program;
 use terms::Side;
-use trace_words::Piece::{Count, Text};
-use trace_words::{Line, Piece};
+use trace_words::Line;
+use trace_words::Piece::{Count, Hash, Text};
 use world::World;
 
 // The name of the way in which a claim spends its output.
@@ -29,44 +29,41 @@ fn way(due: &DueClaim) -> &'static str {
     "revocation"
 }
 
-// The height of the first block that can take a claim, if the claimed output is on the chain.
-fn due_in(coins: &Coins, claim: &Claim) -> Piece {
-    let Some(coin) = coins.get(&claim.place().outpoint) else {
-        return Text("null");
-    };
-    let lock = claim.needs_height();
-    let aged = coin.height.saturating_add(u64::from(claim.needs_age()));
-    if lock == 0 {
-        return Count(aged);
-    }
-    Count(aged.max(lock.saturating_add(1)))
-}
-
-// Writes a claim of a side.
-fn tell_claim(line: &mut Line, coins: &Coins, side: Side, due: &DueClaim) {
+// Writes a claim of a side. It is due in the first block that can take it, if the claimed output is on the chain.
+fn tell_claim(line: &mut Line, told: &Told, side: Side, due: &DueClaim) {
     let place = due.claim.place();
+    let txid = place.outpoint.txid;
+    let height = match told.coin(&place.outpoint) {
+        Some(coin) => {
+            let aged = coin.height.saturating_add(u64::from(due.claim.needs_age()));
+            match due.claim.needs_height() {
+                0 => Count(aged),
+                lock => Count(aged.max(lock.saturating_add(1))),
+            }
+        }
+        None => Text("null"),
+    };
     line.element(
-        r#"{"side":"%","channel":%,"outpoint":""#,
-        &[side_name(side), Count(due.channel)],
-    );
-    tell_outpoint(line, &place.outpoint);
-    line.write(
-        r#"","value":%,"by":"%","due":%}"#,
+        r#"{"side":"%","channel":%,"outpoint":"%:%","value":%,"by":"%","due":%}"#,
         &[
+            side_name(side),
+            Count(due.channel),
+            Hash(txid),
+            Count(u64::from(place.outpoint.index)),
             Count(place.value),
             Text(way(due)),
-            due_in(coins, &due.claim),
+            height,
         ],
     );
 }
 
 /// Writes the claims that a look gave.
-pub fn tell_claims(line: &mut Line, coins: &Coins, world: &World, side: Side, count: u64) {
+pub fn tell_claims(line: &mut Line, told: &Told, world: &World, side: Side, count: u64) {
     let jobs = world.jobs(side);
     let before = (jobs.len() as u64).saturating_sub(count);
     line.push(r#","claims":["#);
     for due in jobs.iter().skip(before as usize) {
-        tell_claim(line, coins, side, due);
+        tell_claim(line, told, side, due);
     }
     line.push("]");
 }

@@ -1,6 +1,6 @@
 //! Commitments that close a channel, when a block takes them.
 
-use crate::coins::{Coin, Coins, Kind};
+use crate::coins::{Coin, Kind, Told};
 use crate::names::side_name;
 use crate::outputs::{outpoint_of, tell_output};
 use chain::Confirmed;
@@ -8,59 +8,40 @@ use channel::CommitmentState;
 use commit::{CommitmentOutput, Direction, OutputKind, build};
 use std::alloc::Global;
 use terms::{Side, Terms, number_of};
-use trace_words::Piece::{Count, Text};
+use trace_words::Piece::Count;
 use trace_words::{Line, Piece};
 use world::World;
 
-/// A commitment in a block.
-#[derive(Clone, Copy, Drop)]
-struct Closing {
-    channel: u64,
-    holder: Side,
-    number: u64,
-    is_revoked: bool,
-    /// The height of the block.
-    height: u64,
-    /// The delay of the holder's to_local output, in blocks.
-    delay: u64,
-}
-
-// The coin of an output of a commitment.
-fn output_coin(closing: &Closing, output: &CommitmentOutput) -> Coin {
-    let (holder, height) = (closing.holder, closing.height);
-    let mut coin = Coin {
-        channel: closing.channel,
-        value: output.value,
-        kind: Kind::ToLocal,
-        owner: holder,
-        holder,
-        is_revoked: closing.is_revoked,
-        height,
-        due: height.saturating_add(closing.delay),
-    };
+// The coin of an output of a commitment, by that of its holder's own balance.
+fn output_coin(to_local: &Coin, output: &CommitmentOutput) -> Coin {
+    let mut coin = *to_local;
+    coin.value = output.value;
     match &output.kind {
         OutputKind::ToLocal => {}
         OutputKind::ToRemote => {
             coin.kind = Kind::ToRemote;
-            coin.owner = holder.other();
-            coin.due = height;
+            coin.owner = to_local.holder.other();
+            coin.due = to_local.height;
         }
         OutputKind::ToHtlc(direction, htlc) => {
             coin.kind = Kind::Htlc;
             if *direction == Direction::Received {
-                coin.owner = holder.other();
+                coin.owner = to_local.holder.other();
             }
-            coin.due = u64::from(htlc.expiry).saturating_add(1).max(height);
+            coin.due = u64::from(htlc.expiry)
+                .saturating_add(1)
+                .max(to_local.height);
         }
     }
     coin
 }
 
-// Writes a commitment with its outputs. The `k`-th HTLC with an output has the index `k`.
+// Writes a commitment of this number with its outputs. The `k`-th HTLC with an output has the index `k`.
 fn tell_closing(
-    coins: &mut Coins,
+    told: &mut Told,
     line: &mut Line,
-    closing: &Closing,
+    number: u64,
+    to_local: &Coin,
     outputs: &[CommitmentOutput],
     confirmed: &Confirmed,
 ) {
@@ -68,15 +49,15 @@ fn tell_closing(
     line.write(
         r#","kind":"commitment","channel":%,"owner":"%","number":%,"revoked":%,"outputs":["#,
         &[
-            Count(closing.channel),
-            side_name(closing.holder),
-            Count(closing.number),
-            Piece::flag(closing.is_revoked),
+            Count(to_local.channel),
+            side_name(to_local.holder),
+            Count(number),
+            Piece::flag(to_local.is_revoked),
         ],
     );
     for (index, output) in outputs.iter().enumerate() {
-        let coin = output_coin(closing, output);
-        tell_output(line, coins, &outpoint_of(confirmed, index), coin);
+        let coin = output_coin(to_local, output);
+        tell_output(line, told, &outpoint_of(confirmed, index), coin);
         if let OutputKind::ToHtlc(_, htlc) = &output.kind {
             line.write(
                 r#","id":%,"expiry":%,"index":%"#,
@@ -89,19 +70,11 @@ fn tell_closing(
     line.push("]");
 }
 
-// Whether a holder revoked its commitment of a number, as its peer's book has it.
-fn is_revoked(world: &World, channel: u64, holder: Side, number: u64) -> bool {
-    match world.book(holder.other()).channel(channel) {
-        Some(peer) => number < peer.peer_number(),
-        None => false,
-    }
-}
-
 // Writes a transaction as a side's commitment, if it is one, and returns whether it is.
 fn tell_if_of(
     alloc: Global,
     world: &World,
-    coins: &mut Coins,
+    told: &mut Told,
     line: &mut Line,
     height: u64,
     channel: u64,
@@ -116,40 +89,50 @@ fn tell_if_of(
     let Some(state) = own.own_commitment(number) else {
         return false;
     };
-    let closing = Closing {
-        channel,
-        holder,
-        number: state.number,
-        is_revoked: is_revoked(world, channel, holder, state.number),
-        height,
-        delay: u64::from(terms.party(holder).delay),
+    // as its peer's book has it
+    let is_revoked = match world.book(holder.other()).channel(channel) {
+        Some(peer) => state.number < peer.peer_number(),
+        None => false,
     };
-    tell_if_built(alloc, coins, line, &closing, terms, state, confirmed)
+    let to_local = Coin {
+        channel,
+        value: 0,
+        kind: Kind::ToLocal,
+        owner: holder,
+        holder,
+        is_revoked,
+        height,
+        due: height.saturating_add(u64::from(terms.party(holder).delay)),
+    };
+    tell_if_built(alloc, told, line, &to_local, terms, state, confirmed)
 }
 
 // Writes a transaction as the commitment of this state, if it is that one, and returns whether it is.
 fn tell_if_built(
     alloc: Global,
-    coins: &mut Coins,
+    told: &mut Told,
     line: &mut Line,
-    closing: &Closing,
+    to_local: &Coin,
     terms: &Terms,
     state: &CommitmentState,
     confirmed: &Confirmed,
 ) -> bool {
+    let holder = to_local.holder;
     match build(
         alloc,
         terms,
         &state.view,
-        closing.holder,
+        holder,
         state.number,
         &state.point,
     ) {
         Ok(commitment) => {
             let is_same = commitment.id() == confirmed.id();
             if is_same {
-                tell_closing(coins, line, closing, commitment.outputs(), confirmed);
+                let outputs = commitment.outputs();
+                tell_closing(told, line, state.number, to_local, outputs, confirmed);
             }
+            drop(commitment);
             is_same
         }
         Err(_) => {
@@ -165,14 +148,14 @@ fn tell_if_built(
 pub fn tell_commitment(
     alloc: Global,
     world: &World,
-    coins: &mut Coins,
+    told: &mut Told,
     line: &mut Line,
     height: u64,
     channel: u64,
     confirmed: &Confirmed,
 ) {
     for side in [Side::A, Side::B] {
-        if tell_if_of(alloc, world, coins, line, height, channel, side, confirmed) {
+        if tell_if_of(alloc, world, told, line, height, channel, side, confirmed) {
             break;
         }
     }

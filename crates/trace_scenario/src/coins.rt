@@ -1,12 +1,12 @@
-//! The outputs on the chain, and how to undo their changes when a block is disconnected.
+//! What was written so far, as far as later lines depend on it: the outputs on the chain and the pool, and how to undo the changes of a block that is
+//! disconnected.
 
-use crate::names::tell_both;
 use std::alloc::Global;
 use std::collections::BTreeMap;
 use terms::Side;
 use trace_words::Line;
-use trace_words::Piece::{Hash, Text};
-use tx::{OutPoint, Tx};
+use trace_words::Piece::{Count, Hash};
+use tx::OutPoint;
 
 /// The kind of an output.
 #[derive(Clone, Copy, Drop)]
@@ -51,37 +51,37 @@ enum Change {
     Mined { height: u64, txid: [u8; 32] },
 }
 
-/// All outputs that were ever on the chain, and their changes in order.
+/// The outputs that were ever on the chain, their changes in order, and the ids of the transactions that wait for a block, in order.
 #[derive(Drop)]
-pub struct Coins {
+pub struct Told {
     coins: BTreeMap<OutPoint, Coin>,
     changes: Vec<Change>,
-    /// The value that is each side's alone.
-    pub alone: Alone,
-    // as it was written last
-    told: Alone,
+    pub waiting: Vec<[u8; 32]>,
+    /// The satoshis on the chain that only A can ever spend, and at once.
+    pub of_a: u64,
+    /// The same of B.
+    pub of_b: u64,
+    // both as they were written last
+    told_a: u64,
+    told_b: u64,
 }
 
-/// The satoshis on the chain that only one side can ever spend, and at once.
-#[derive(Clone, Copy, Drop)]
-pub struct Alone {
-    pub a: u64,
-    pub b: u64,
-}
-
-impl Coins {
-    /// No outputs. Does not allocate.
-    pub fn new(alloc: Global) -> Coins {
-        Coins {
+impl Told {
+    /// Nothing yet. Does not allocate.
+    pub fn new(alloc: Global) -> Told {
+        Told {
             coins: BTreeMap::new(alloc),
             changes: Vec::new(alloc),
-            alone: Alone { a: 0, b: 0 },
-            told: Alone { a: 0, b: 0 },
+            waiting: Vec::new(alloc),
+            of_a: 0,
+            of_b: 0,
+            told_a: 0,
+            told_b: 0,
         }
     }
 
     /// The output that was at an outpoint.
-    pub fn get(&self, outpoint: &OutPoint) -> Option<Coin> {
+    pub fn coin(&self, outpoint: &OutPoint) -> Option<Coin> {
         self.coins.get(outpoint).copied()
     }
 
@@ -91,8 +91,8 @@ impl Coins {
             return;
         }
         let before = match coin.owner {
-            Side::A => self.alone.a,
-            Side::B => self.alone.b,
+            Side::A => self.of_a,
+            Side::B => self.of_b,
         };
         let after = if comes {
             before.saturating_add(coin.value)
@@ -100,8 +100,8 @@ impl Coins {
             before.saturating_sub(coin.value)
         };
         match coin.owner {
-            Side::A => self.alone.a = after,
-            Side::B => self.alone.b = after,
+            Side::A => self.of_a = after,
+            Side::B => self.of_b = after,
         }
     }
 
@@ -126,38 +126,35 @@ impl Coins {
         self.note(line, Change::Came(*outpoint));
     }
 
-    /// Spends an output.
-    pub fn go(&mut self, line: &mut Line, outpoint: &OutPoint) {
-        if let Some(coin) = self.get(outpoint) {
-            self.count(&coin, false);
-        }
+    /// Spends an output, and returns its value in satoshis.
+    pub fn go(&mut self, line: &mut Line, outpoint: &OutPoint) -> u64 {
         self.note(line, Change::Went(*outpoint));
+        match self.coin(outpoint) {
+            Some(coin) => {
+                self.count(&coin, false);
+                coin.value
+            }
+            None => 0,
+        }
     }
 
     /// Assigns the changes since the last transaction to this one.
     pub fn mined(&mut self, line: &mut Line, height: u64, txid: &[u8; 32]) {
-        self.note(
-            line,
-            Change::Mined {
-                height,
-                txid: *txid,
-            },
-        );
+        let txid = *txid;
+        self.note(line, Change::Mined { height, txid });
     }
 
     // Undoes a change.
     fn undo(&mut self, line: &mut Line, change: &Change) {
         match change {
-            Change::Mined { txid, .. } => {
-                line.element(r#""%""#, &[Hash(*txid)]);
-            }
+            Change::Mined { txid, .. } => line.element(r#""%""#, &[Hash(*txid)]),
             Change::Came(outpoint) => {
                 if let Some(coin) = self.coins.remove(outpoint) {
                     self.count(&coin, false);
                 }
             }
             Change::Went(outpoint) => {
-                if let Some(coin) = self.get(outpoint) {
+                if let Some(coin) = self.coin(outpoint) {
                     self.count(&coin, true);
                 }
             }
@@ -181,21 +178,11 @@ impl Coins {
 
     /// Writes the value that is each side's alone, if it changed since it was written last.
     pub fn tell_alone(&mut self, line: &mut Line) {
-        let (now, told) = (self.alone, self.told);
-        if now.a != told.a || now.b != told.b {
-            tell_both(line, r#","onchain":{"A":%,"B":%}"#, now.a, now.b);
-            self.told = now;
+        let (a, b) = (self.of_a, self.of_b);
+        if a != self.told_a || b != self.told_b {
+            line.write(r#","onchain":{"A":%,"B":%}"#, &[Count(a), Count(b)]);
+            self.told_a = a;
+            self.told_b = b;
         }
-    }
-
-    /// The total value of the outputs that a transaction spends, in satoshis.
-    pub fn worth(&self, tx: &Tx) -> u64 {
-        let mut worth = 0u64;
-        for input in tx.inputs() {
-            if let Some(coin) = self.get(&input.outpoint) {
-                worth = worth.saturating_add(coin.value);
-            }
-        }
-        worth
     }
 }

@@ -1,10 +1,9 @@
 //! What changes with a side's newest commitment.
 
 use crate::names::side_name;
-use channel::CommitmentState;
 use terms::{Htlc, Side};
 use trace_words::Line;
-use trace_words::Piece::{Count, Text};
+use trace_words::Piece::Count;
 use world::World;
 
 // Whether one of a side's HTLCs has this number.
@@ -29,9 +28,16 @@ fn tell_without(line: &mut Line, offerer: Side, htlcs: &[Htlc], others: &[Htlc])
     }
 }
 
-// Writes that a commitment is its owner's newest one, and what changed from the one before.
-fn tell_newest(line: &mut Line, channel: u64, before: &CommitmentState, now: &CommitmentState) {
+/// Writes a side's new newest commitment in a channel, and what changed from the one before.
+pub fn tell_held(line: &mut Line, world: &World, side: Side, channel: u64) {
+    let Some(own) = world.book(side).channel(channel) else {
+        return;
+    };
+    let [.., before, now] = own.own_commitments() else {
+        return;
+    };
     let (a, b) = (&now.view.a, &now.view.b);
+    let (new_a, new_b) = (a.offered.values(), b.offered.values());
     let (old_a, old_b) = (
         before.view.a.offered.values(),
         before.view.b.offered.values(),
@@ -47,20 +53,10 @@ fn tell_newest(line: &mut Line, channel: u64, before: &CommitmentState, now: &Co
             Count(b.balance),
         ],
     );
-    tell_without(line, Side::A, a.offered.values(), old_a);
-    tell_without(line, Side::B, b.offered.values(), old_b);
+    tell_without(line, Side::A, new_a, old_a);
+    tell_without(line, Side::B, new_b, old_b);
     line.push(r#"],"out":["#);
-    tell_without(line, Side::A, old_a, a.offered.values());
-    tell_without(line, Side::B, old_b, b.offered.values());
+    tell_without(line, Side::A, old_a, new_a);
+    tell_without(line, Side::B, old_b, new_b);
     line.push("]}");
-}
-
-/// Writes a side's new newest commitment in a channel.
-pub fn tell_held(line: &mut Line, world: &World, side: Side, channel: u64) {
-    let Some(own) = world.book(side).channel(channel) else {
-        return;
-    };
-    if let [.., before, now] = own.own_commitments() {
-        tell_newest(line, channel, before, now);
-    }
 }

@@ -1,12 +1,11 @@
 //! The line that ends a trace.
 
-use crate::coins::Coins;
-use crate::names::tell_both;
+use crate::coins::Told;
 use book::Book;
 use chain::{Coins as _, Index};
 use terms::Side;
 use trace_words::Line;
-use trace_words::Piece::{Count, Sum, Text};
+use trace_words::Piece::{Count, Sum};
 use world::World;
 
 // Writes the chain's height, its unspent outputs and its fees.
@@ -45,21 +44,20 @@ fn tell_kept(line: &mut Line, book: &Book) {
 
 /// Writes the end: the chain, the penalties that each side keeps, the lengths of their histories, and the value that is
 /// each side's alone.
-pub fn tell_end(line: &mut Line, coins: &Coins, world: &World) {
+pub fn tell_end(line: &mut Line, told: &Told, world: &World) {
     let (a, b) = (world.book(Side::A), world.book(Side::B));
     tell_chain(line, world.chain());
     line.push(r#","kept":{"A":["#);
     tell_kept(line, a);
     line.push(r#"],"B":["#);
     tell_kept(line, b);
-    line.push("]}");
-    let (of_a, of_b) = (a.entries().len() as u64, b.entries().len() as u64);
-    tell_both(line, r#","history":{"A":%,"B":%}"#, of_a, of_b);
-    tell_both(
-        line,
-        r#","onchain":{"A":%,"B":%}"#,
-        coins.alone.a,
-        coins.alone.b,
+    line.write(
+        "]},\"history\":{\"A\":%,\"B\":%},\"onchain\":{\"A\":%,\"B\":%}}}\n",
+        &[
+            Count(a.entries().len() as u64),
+            Count(b.entries().len() as u64),
+            Count(told.of_a),
+            Count(told.of_b),
+        ],
     );
-    line.push("}}\n");
 }

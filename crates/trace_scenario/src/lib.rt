@@ -11,7 +11,7 @@
 //! let status = run(alloc, &mut input, &mut out);
 //! ```
 //!
-//! The tests `prints_texts` and `refuses_input` of `trace_tests` call it.
+//! Tested by `show/check`, which computes the lines of all examples anew, and by the calls of `bench/answers.py`.
 #![tactic(auto)]
 
 ghost use Rattle.std.specs.Prelude.{◌≤◌};
@@ -29,29 +29,20 @@ mod outputs;
 mod playing;
 mod pool;
 
+use crate::coins::Told;
 use crate::endings::tell_end;
 use crate::openings::tell_opening;
-use crate::playing::{Told, played, tell_answer};
+use crate::playing::played;
 use chain::Coins as _;
 use scenario::{Event, Scenario, ScenarioError};
 use serde_json::Value;
 use std::alloc::Global;
-use std::fmt::Display;
 use std::io::{Read, Write};
-use trace_words::{InputError, Line, read_all, refuse_memory, write_told};
+use trace_words::{InputError, Line, read_all, refuse_memory, write_refusal, write_told};
 use world::World;
 use world::errors::WorldError;
 
-// Writes a line at once, clears it, and returns the status.
-fn write_line(out: &mut dyn Write, line: &mut Line) -> u8
-    ensures { result ≤ 1 }
-{
-    let status = write_told(out, line, 0);
-    line.clear();
-    status
-}
-
-// Plays an event, writes its line, and returns the status.
+// Plays an event, writes its line at once, and returns the status.
 fn tell_event(
     alloc: Global,
     out: &mut dyn Write,
@@ -68,13 +59,13 @@ fn tell_event(
     match played(world, event) {
         Ok(outcomes) => {
             for outcome in &outcomes {
-                tell_answer(line, index, words, outcome);
-                told.tell_event(alloc, line, world, before, event, outcome);
+                told.tell_event(alloc, line, world, before, index, words, event, outcome);
             }
+            drop(outcomes);
         }
         Err(_) => line.fail(),
     }
-    write_line(out, line)
+    write_told(out, line, 0)
 }
 
 // Writes the lines of a world and its events, by a line and a state that are new, and returns the status.
@@ -89,8 +80,8 @@ fn tell_events(
 ) -> u8
     ensures { result ≤ 1 }
 {
-    tell_opening(line, &mut told.coins, world, events.len());
-    if write_line(out, line) == 1 {
+    tell_opening(line, told, world, events.len());
+    if write_told(out, line, 0) == 1 {
         return 1;
     }
     for (index, event) in events.iter().enumerate() {
@@ -100,8 +91,8 @@ fn tell_events(
             }
         }
     }
-    tell_end(line, &told.coins, world);
-    write_line(out, line)
+    tell_end(line, told, world);
+    write_told(out, line, 0)
 }
 
 // Writes the lines of a world and its events, and returns the status.
@@ -116,7 +107,10 @@ fn tell_world(
 {
     let mut line = Line::new(alloc);
     let mut told = Told::new(alloc);
-    tell_events(alloc, out, &mut line, world, &mut told, events, words)
+    let status = tell_events(alloc, out, &mut line, world, &mut told, events, words);
+    drop(line);
+    drop(told);
+    status
 }
 
 // The events of a scenario as JSON values.
@@ -136,9 +130,15 @@ fn tell_scenario(alloc: Global, out: &mut dyn Write, scenario: &Scenario, value:
 {
     let words = words_in(value);
     match World::new(alloc, &scenario.seeds, scenario.channels.values()) {
-        Ok(mut world) => tell_world(alloc, out, &mut world, scenario.events.values(), words),
-        Err(WorldError::NoMemory) => refuse_memory(out),
-        Err(error) => refuse(alloc, out, error),
+        Ok(mut world) => {
+            let status = tell_world(alloc, out, &mut world, scenario.events.values(), words);
+            drop(world);
+            status
+        }
+        Err(error) => match error {
+            WorldError::NoMemory => refuse_memory(out),
+            _ => write_refusal(alloc, out, error, None),
+        },
     }
 }
 
@@ -147,8 +147,15 @@ fn tell_read(alloc: Global, out: &mut dyn Write, scenario: &Scenario, bytes: &[u
     ensures { result ≤ 1 }
 {
     match Value::from_slice(alloc, bytes) {
-        Ok(value) => tell_scenario(alloc, out, scenario, &value),
-        Err(_) => refuse_memory(out),
+        Ok(value) => {
+            let status = tell_scenario(alloc, out, scenario, &value);
+            drop(value);
+            status
+        }
+        Err(error) => {
+            drop(error);
+            refuse_memory(out)
+        }
     }
 }
 
@@ -157,21 +164,16 @@ fn tell_bytes(alloc: Global, out: &mut dyn Write, bytes: &[u8]) -> u8
     ensures { result ≤ 1 }
 {
     match Scenario::read(alloc, bytes) {
-        Ok(scenario) => tell_read(alloc, out, &scenario, bytes),
-        Err(ScenarioError::NoMemory) => refuse_memory(out),
-        Err(error) => refuse(alloc, out, error),
+        Ok(scenario) => {
+            let status = tell_read(alloc, out, &scenario, bytes);
+            drop(scenario);
+            status
+        }
+        Err(error) => match error {
+            ScenarioError::NoMemory => refuse_memory(out),
+            _ => write_refusal(alloc, out, error, None),
+        },
     }
-}
-
-// Writes that the input is refused, and returns the status.
-fn refuse<D: Display + Drop>(alloc: Global, out: &mut dyn Write, refusal: D) -> u8
-    ensures { result ≤ 1 }
-{
-    let mut line = Line::new(alloc);
-    line.push(r#"{"refused":""#);
-    line.push_shown(refusal);
-    line.push("\"}\n");
-    write_told(out, &line, 1)
 }
 
 /// Plays the scenario in the input, and returns the status: 0 when all lines
@@ -180,8 +182,12 @@ pub fn run(alloc: Global, input: &mut dyn Read, out: &mut dyn Write) -> u8
     ensures { result ≤ 1 }
 {
     match read_all(alloc, input) {
-        Ok(bytes) => tell_bytes(alloc, out, bytes.as_slice()),
+        Ok(bytes) => {
+            let status = tell_bytes(alloc, out, bytes.as_slice());
+            drop(bytes);
+            status
+        }
         Err(InputError::NoMemory) => refuse_memory(out),
-        Err(error) => refuse(alloc, out, error.text()),
+        Err(error) => write_refusal(alloc, out, error.text(), None),
     }
 }

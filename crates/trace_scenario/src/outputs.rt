@@ -1,12 +1,23 @@
-//! New outputs, and who can spend them when.
+//! Spent outputs, and new ones with who can spend them when.
 
-use crate::coins::{Coin, Coins, Kind};
-use crate::names::{side_name, tell_outpoint};
+use crate::coins::{Coin, Kind, Told};
+use crate::names::side_name;
 use chain::Confirmed;
 use terms::Side;
 use trace_words::Line;
-use trace_words::Piece::{Count, Text};
-use tx::OutPoint;
+use trace_words::Piece::{Count, Hash, Text};
+use tx::{OutPoint, Tx};
+
+/// Writes the outputs that a transaction spends.
+pub fn tell_spends(line: &mut Line, tx: &Tx) {
+    line.push(r#","spends":["#);
+    for input in tx.inputs() {
+        let txid = input.outpoint.txid;
+        let index = u64::from(input.outpoint.index);
+        line.element(r#""%:%""#, &[Hash(txid), Count(index)]);
+    }
+    line.push("]");
+}
 
 /// The outpoint of an output of a transaction.
 pub fn outpoint_of(confirmed: &Confirmed, index: usize) -> OutPoint {
@@ -16,20 +27,7 @@ pub fn outpoint_of(confirmed: &Confirmed, index: usize) -> OutPoint {
     }
 }
 
-// The name of a kind of output.
-fn kind_name(kind: Kind) -> &'static str {
-    match kind {
-        Kind::Funding => "funding",
-        Kind::ToLocal => "to_local",
-        Kind::ToRemote => "to_remote",
-        Kind::Htlc => "htlc",
-        Kind::SecondStage => "second_stage",
-        Kind::Wallet => "wallet",
-    }
-}
-
-// Writes that a side can spend an output
-// from a block of this height on.
+// Writes that a side can spend an output from a block of this height on.
 fn tell_way(line: &mut Line, side: Side, by: &'static str, due: u64) {
     line.element(
         r#"{"side":"%","by":"%","due":%}"#,
@@ -37,36 +35,34 @@ fn tell_way(line: &mut Line, side: Side, by: &'static str, due: u64) {
     );
 }
 
-// Writes who can spend an output, and when.
-fn tell_ways(line: &mut Line, coin: &Coin) {
-    match coin.kind {
-        Kind::Funding => {}
-        Kind::ToLocal | Kind::SecondStage => tell_way(line, coin.owner, "delay", coin.due),
-        Kind::ToRemote | Kind::Wallet => tell_way(line, coin.owner, "key", coin.due),
-        Kind::Htlc => {
-            tell_way(line, coin.owner, "timeout", coin.due);
-            tell_way(line, coin.owner.other(), "preimage", coin.height);
-        }
-    }
-    let is_secret = matches!(coin.kind, Kind::ToLocal | Kind::SecondStage | Kind::Htlc);
-    if is_secret && coin.is_revoked {
-        tell_way(line, coin.holder.other(), "revocation", coin.height);
-    }
-}
-
-/// Writes a new output, and leaves its object open.
-pub fn tell_output(line: &mut Line, coins: &mut Coins, outpoint: &OutPoint, coin: Coin) {
-    line.element(r#"{"outpoint":""#, &[]);
-    tell_outpoint(line, outpoint);
-    line.write(
-        r#"","value":%,"kind":"%","owner":"%","ways":["#,
+/// Writes a new output, and leaves its object open. Its owner is the first that can spend it.
+pub fn tell_output(line: &mut Line, told: &mut Told, outpoint: &OutPoint, coin: Coin) {
+    let (kind, by) = match coin.kind {
+        Kind::Funding => ("funding", "key"),
+        Kind::ToLocal => ("to_local", "delay"),
+        Kind::ToRemote => ("to_remote", "key"),
+        Kind::Htlc => ("htlc", "timeout"),
+        Kind::SecondStage => ("second_stage", "delay"),
+        Kind::Wallet => ("wallet", "key"),
+    };
+    let txid = outpoint.txid;
+    line.element(
+        r#"{"outpoint":"%:%","value":%,"kind":"%","owner":"%","ways":["#,
         &[
+            Hash(txid),
+            Count(u64::from(outpoint.index)),
             Count(coin.value),
-            Text(kind_name(coin.kind)),
+            Text(kind),
             side_name(coin.owner),
         ],
     );
-    tell_ways(line, &coin);
+    tell_way(line, coin.owner, by, coin.due);
+    if matches!(coin.kind, Kind::Htlc) {
+        tell_way(line, coin.owner.other(), "preimage", coin.height);
+    }
+    if coin.is_revoked && matches!(coin.kind, Kind::ToLocal | Kind::SecondStage | Kind::Htlc) {
+        tell_way(line, coin.holder.other(), "revocation", coin.height);
+    }
     line.push("]");
-    coins.come(line, outpoint, coin);
+    told.come(line, outpoint, coin);
 }

@@ -13,7 +13,7 @@
 //! let status = run_words(alloc, words, &mut input, &mut out, &mut err);
 //! ```
 //!
-//! Tested in `trace_tests`, against `bench/witnesses.py`.
+//! Tested by `bench/witnesses.py`, which makes the digests anew, and by the calls of `bench/answers.py`.
 #![tactic(auto)]
 
 mod causes;

@@ -11,15 +11,21 @@ use tx::{DecodeError, Tx, TxOut, decode};
 fn tx_of(alloc: Global, bytes: &[u8]) -> Result<Tx, SpentError> {
     match decode(alloc, bytes) {
         Ok(tx) => Ok(tx),
-        Err(DecodeError::NoMemory) => Err(SpentError::Input(InputError::NoMemory)),
-        Err(error) => Err(SpentError::Decode(error)),
+        Err(error) => match error {
+            DecodeError::NoMemory => Err(SpentError::Input(InputError::NoMemory)),
+            _ => Err(SpentError::Decode(error)),
+        },
     }
 }
 
 /// Reads the transaction on the first line of a text.
 pub fn read_tx(alloc: Global, text: &str) -> Result<Tx, SpentError> {
     match hex::decode(alloc, text.lines().next().unwrap_or("")) {
-        Ok(bytes) => tx_of(alloc, bytes.as_slice()),
+        Ok(bytes) => {
+            let tx = tx_of(alloc, bytes.as_slice());
+            drop(bytes);
+            tx
+        }
         Err(FromHexError::OutOfMemory) => Err(SpentError::Input(InputError::NoMemory)),
         Err(_) => Err(SpentError::Input(InputError::BadHex)),
     }
@@ -57,7 +63,10 @@ fn push_output(
 ) -> Result<(), SpentError> {
     match outputs.push(read_output(alloc, line, number)?) {
         Ok(()) => Ok(()),
-        Err(_) => Err(SpentError::Input(InputError::NoMemory)),
+        Err(failed) => {
+            drop(failed);
+            Err(SpentError::Input(InputError::NoMemory))
+        }
     }
 }
 
@@ -68,7 +77,10 @@ pub fn read_outputs(alloc: Global, text: &str, count: usize) -> Result<Vec<TxOut
     }
     let mut outputs = Vec::new(alloc);
     for (index, line) in text.lines().skip(1).enumerate() {
-        push_output(alloc, &mut outputs, line, index.saturating_add(2))?;
+        if let Err(error) = push_output(alloc, &mut outputs, line, index.saturating_add(2)) {
+            drop(outputs);
+            return Err(error);
+        }
     }
     Ok(outputs)
 }

@@ -1,19 +1,10 @@
 // Writes the verdict on an input.
 
-use crate::causes::{cause_sentence, fault_sentence};
-use lists::{ByteString, Stack};
+use crate::causes::cause_sentence;
 use script::Op;
 use trace_words::Piece::{Count, Hash, Text};
 use trace_words::{Form, Line, byte_of, opcode_name};
 use verdict::{Clean, Fault, Stopped, Verdict};
-
-// The elements of a stack, the top last.
-fn stack_values(stack: &Option<Stack<ByteString>>) -> &[ByteString] {
-    match stack {
-        Some(stack) => stack.values(),
-        None => &[],
-    }
-}
 
 // The name of the opcode at which a run stops, or another text if it stops at the end.
 fn op_or(ops: &[Op], index: usize, end: &'static str) -> &'static str {
@@ -75,25 +66,17 @@ fn stopped_json(line: &mut Line, stopped: &Stopped) {
             Text(cause_sentence(stopped.cause)),
         ],
     );
-    for item in stack_values(&stopped.stack).iter().rev() {
-        line.element(r#"""#, &[]);
-        line.push_hex(item.bytes());
-        line.push(r#"""#);
+    if let Some(stack) = &stopped.stack {
+        for item in stack.values().iter().rev() {
+            line.element(r#"""#, &[]);
+            line.push_hex(item.bytes());
+            line.push(r#"""#);
+        }
     }
     line.write("],\"digest\":\"%\"}\n", &[Hash(digest)]);
 }
 
-// Writes an element of a stack on a line. The empty element is `-`.
-fn element_page(line: &mut Line, item: &[u8]) {
-    line.push("  stack   ");
-    if item.is_empty() {
-        line.push("-");
-    }
-    line.push_hex(item);
-    line.push("\n");
-}
-
-// Writes where a run stops, why, and the stack there, for people.
+// Writes where a run stops, why, and the stack there, for people. The empty element is `-`.
 fn stopped_page(line: &mut Line, stopped: &Stopped) {
     let digest = stopped.digest;
     let ops = stopped.script.ops();
@@ -108,47 +91,71 @@ fn stopped_page(line: &mut Line, stopped: &Stopped) {
     );
     line.push_shown(stopped.cause);
     line.write(": %\n", &[Text(cause_sentence(stopped.cause))]);
-    for item in stack_values(&stopped.stack).iter().rev() {
-        element_page(line, item.bytes());
+    if let Some(stack) = &stopped.stack {
+        for item in stack.values().iter().rev() {
+            line.push("  stack   ");
+            if item.bytes().is_empty() {
+                line.push("-");
+            }
+            line.push_hex(item.bytes());
+            line.push("\n");
+        }
     }
     line.write("  digest  %\n", &[Hash(digest)]);
 }
 
 // Writes why no script runs, between texts of the form.
 fn tell_fault(line: &mut Line, fault: &Fault, before: &str, between: &str, after: &str) {
+    let (name, says) = match fault {
+        Fault::OtherProgram => (
+            "OtherProgram",
+            "the program is not of version 0 with the hash of a key or of a script",
+        ),
+        Fault::NotTwoItems => (
+            "NotTwoItems",
+            "the program has the hash of a key, and the witness has not two items",
+        ),
+        Fault::NoScript => (
+            "NoScript",
+            "the program has the hash of a script, and the witness has no item",
+        ),
+        Fault::OtherScript => (
+            "OtherScript",
+            "the last item of the witness has another hash than the program",
+        ),
+        Fault::BadScript(_) => ("", "the last item of the witness is not a script"),
+    };
     line.push(before);
-    line.push_shown(fault);
+    line.push(name);
+    if let Fault::BadScript(error) = fault {
+        line.push_shown(error);
+    }
     line.push(between);
-    line.push(fault_sentence(fault));
+    line.push(says);
     line.push(after);
-}
-
-// Writes the verdict as an object on a line.
-fn verdict_json(line: &mut Line, input: usize, verdict: &Verdict) {
-    line.write(r#"{"input":%"#, &[Count(input as u64)]);
-    match verdict {
-        Verdict::Refused(fault) => {
-            tell_fault(line, fault, r#","refused":""#, r#"","says":""#, "\"}\n")
-        }
-        Verdict::Stopped(stopped) => stopped_json(line, stopped),
-        Verdict::Clean(clean) => clean_json(line, clean),
-    }
-}
-
-// Writes the verdict for people.
-fn verdict_page(line: &mut Line, input: usize, verdict: &Verdict) {
-    line.write("input %", &[Count(input as u64)]);
-    match verdict {
-        Verdict::Refused(fault) => tell_fault(line, fault, " is refused: ", ": ", "\n"),
-        Verdict::Stopped(stopped) => stopped_page(line, stopped),
-        Verdict::Clean(clean) => clean_page(line, clean),
-    }
 }
 
 /// Writes the verdict on an input: an object on a line, or lines for people.
 pub fn tell_verdict(line: &mut Line, form: Form, input: usize, verdict: &Verdict) {
+    let number = Count(input as u64);
     match form {
-        Form::Json => verdict_json(line, input, verdict),
-        Form::Text => verdict_page(line, input, verdict),
+        Form::Json => {
+            line.write(r#"{"input":%"#, &[number]);
+            match verdict {
+                Verdict::Refused(fault) => {
+                    tell_fault(line, fault, r#","refused":""#, r#"","says":""#, "\"}\n")
+                }
+                Verdict::Stopped(stopped) => stopped_json(line, stopped),
+                Verdict::Clean(clean) => clean_json(line, clean),
+            }
+        }
+        Form::Text => {
+            line.write("input %", &[number]);
+            match verdict {
+                Verdict::Refused(fault) => tell_fault(line, fault, " is refused: ", ": ", "\n"),
+                Verdict::Stopped(stopped) => stopped_page(line, stopped),
+                Verdict::Clean(clean) => clean_page(line, clean),
+            }
+        }
     }
 }

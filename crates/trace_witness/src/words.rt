@@ -8,7 +8,7 @@ use crate::texts::tell_verdict;
 use sighash::SighashCache;
 use std::alloc::Global;
 use std::io::{Read, Write};
-use trace_words::Piece::{Count, Text};
+use trace_words::Piece::Count;
 use trace_words::{Form, InputError, Line, read_all, refuse_memory, refuse_words, write_told};
 use tx::{Tx, TxIn, TxOut};
 use verdict::{Verdict, judge};
@@ -25,39 +25,32 @@ pub fn run_words(
     ensures { result ≤ 2 }
 {
     let (form, rest) = Form::read(words);
-    if rest.is_empty() {
-        tell(alloc, form, input, out)
-    } else {
-        refuse_words(err)
+    if !rest.is_empty() {
+        return refuse_words(err);
     }
-}
-
-// Judges the inputs of the transaction in the input, and returns the status.
-fn tell(alloc: Global, form: Form, input: &mut dyn Read, out: &mut dyn Write) -> u8
-    ensures { result ≤ 1 }
-{
     match read_all(alloc, input) {
-        Ok(bytes) => tell_bytes(alloc, form, bytes.as_slice(), out),
+        Ok(bytes) => {
+            let status = tell_bytes(alloc, form, bytes.as_slice(), out);
+            drop(bytes);
+            status
+        }
         Err(error) => refuse(alloc, form, &SpentError::Input(error), out),
     }
 }
 
-// The same of a text's bytes.
+// Judges the inputs of the transaction in the bytes of a text, and returns the status.
 fn tell_bytes(alloc: Global, form: Form, bytes: &[u8], out: &mut dyn Write) -> u8
     ensures { result ≤ 1 }
 {
-    match str::from_utf8(bytes) {
-        Ok(text) => tell_text(alloc, form, text, out),
-        Err(_) => refuse(alloc, form, &SpentError::Input(InputError::BadHex), out),
-    }
-}
-
-// The same of a text.
-fn tell_text(alloc: Global, form: Form, text: &str, out: &mut dyn Write) -> u8
-    ensures { result ≤ 1 }
-{
+    let Ok(text) = str::from_utf8(bytes) else {
+        return refuse(alloc, form, &SpentError::Input(InputError::BadHex), out);
+    };
     match read_tx(alloc, text) {
-        Ok(tx) => tell_tx(alloc, form, text, &tx, out),
+        Ok(tx) => {
+            let status = tell_tx(alloc, form, text, &tx, out);
+            drop(tx);
+            status
+        }
         Err(error) => refuse(alloc, form, &error, out),
     }
 }
@@ -67,7 +60,11 @@ fn tell_tx(alloc: Global, form: Form, text: &str, tx: &Tx, out: &mut dyn Write) 
     ensures { result ≤ 1 }
 {
     match read_outputs(alloc, text, tx.inputs().len()) {
-        Ok(outputs) => tell_inputs(alloc, form, tx, outputs.as_slice(), out),
+        Ok(outputs) => {
+            let status = tell_inputs(alloc, form, tx, outputs.as_slice(), out);
+            drop(outputs);
+            status
+        }
         Err(error) => refuse(alloc, form, &error, out),
     }
 }
@@ -76,16 +73,11 @@ fn tell_tx(alloc: Global, form: Form, text: &str, tx: &Tx, out: &mut dyn Write) 
 fn refuse(alloc: Global, form: Form, error: &SpentError, out: &mut dyn Write) -> u8
     ensures { result ≤ 1 }
 {
+    let (before, after) = match form {
+        Form::Json => (r#"{"refused":""#, "\"}\n"),
+        Form::Text => ("refused ", "\n"),
+    };
     let mut line = Line::new(alloc);
-    match form {
-        Form::Json => tell_refusal(&mut line, error, r#"{"refused":""#, "\"}\n"),
-        Form::Text => tell_refusal(&mut line, error, "refused ", "\n"),
-    }
-    write_told(out, &line, 1)
-}
-
-// Writes a refusal between texts of the form.
-fn tell_refusal(line: &mut Line, error: &SpentError, before: &str, after: &str) {
     line.push(before);
     match error {
         SpentError::Input(InputError::NoMemory) => line.fail(),
@@ -95,6 +87,9 @@ fn tell_refusal(line: &mut Line, error: &SpentError, before: &str, after: &str) 
         SpentError::BadLine(number) => line.write("BadLine %", &[Count(*number as u64)]),
     }
     line.push(after);
+    let status = write_told(out, &mut line, 1);
+    drop(line);
+    status
 }
 
 // Judges each input, writes each verdict at once, and returns the greatest status.
@@ -130,7 +125,11 @@ fn tell_input(
     ensures { result ≤ 1 }
 {
     match judge(alloc, tx, cache, index, input, output) {
-        Ok(verdict) => write_verdict(alloc, form, index, &verdict, out),
+        Ok(verdict) => {
+            let status = write_verdict(alloc, form, index, &verdict, out);
+            drop(verdict);
+            status
+        }
         Err(_) => refuse_memory(out),
     }
 }
@@ -151,5 +150,7 @@ fn write_verdict(
         Verdict::Clean(_) => 0,
         _ => 1,
     };
-    write_told(out, &line, status)
+    let written = write_told(out, &mut line, status);
+    drop(line);
+    written
 }

@@ -1,7 +1,5 @@
-// Opcodes and paths as JSON.
+// Paths as JSON.
 
-use crate::looks::Look;
-use crate::names::opcode_name;
 use crate::pieces::Piece;
 use crate::pieces::Piece::{Count, Sum, Text};
 use crate::sentences::{Role, Sentence};
@@ -9,62 +7,7 @@ use crate::weights::{SIGNATURE_SIZE, TOKEN_SIZE, witness_weight};
 use crate::writer::Line;
 use facts::{Fact, KeySource, Stated};
 use paths::Path;
-use script::Op;
 use std::slice;
-
-// Writes the members of a push besides its opcode.
-fn tell_push(line: &mut Line, item: &[u8]) {
-    line.push(r#","hex":""#);
-    line.push_hex(item);
-    match Look::of(item) {
-        Look::Key => line.push(r#"","looks":"key""#),
-        Look::Hash => line.push(r#"","looks":"hash""#),
-        Look::Bytes => line.push(r#"","looks":"bytes""#),
-        Look::Number(number) => line.write(
-            r#"","looks":"number","number":%%"#,
-            &[Text(sign(number.negative)), Count(number.magnitude)],
-        ),
-    }
-}
-
-/// The sign of a number.
-pub fn sign(negative: bool) -> &'static str {
-    if negative { "-" } else { "" }
-}
-
-/// Writes an opcode, an element of an array: it begins at this byte, and is in this number of branches.
-pub fn tell_op(line: &mut Line, op: &Op, byte: usize, depth: usize) {
-    line.element(
-        r#"{"byte":%,"depth":%,"op":"%""#,
-        &[
-            Count(byte as u64),
-            Count(depth as u64),
-            Text(opcode_name(op)),
-        ],
-    );
-    match op {
-        Op::Push(item) => tell_push(line, item.bytes()),
-        Op::Number(n) => tell_push(line, slice::from_ref(n)),
-        _ => {}
-    }
-    line.push("}");
-}
-
-// The kind of a fact.
-fn kind(fact: &Fact) -> &'static str {
-    match fact {
-        Fact::Hash(_, _) => "hash",
-        Fact::Size(_, _) => "size",
-        Fact::Truth(_) => "truth",
-        Fact::Is(_, _) => "is",
-        Fact::KeyForm(_) => "key",
-        Fact::Form(_) => "form",
-        Fact::Token(_, _) => "token",
-        Fact::Assigned(_, _) => "assigned",
-        Fact::Lock(_) => "lock",
-        Fact::Age(_) => "age",
-    }
-}
 
 // The slots of a fact.
 fn slots(fact: &Fact) -> &[usize] {
@@ -115,10 +58,22 @@ fn tell_value(line: &mut Line, fact: &Fact) {
 
 // Writes a fact, an element of an array.
 fn tell_fact(line: &mut Line, stated: &Stated) {
+    let kind = match &stated.fact {
+        Fact::Hash(_, _) => "hash",
+        Fact::Size(_, _) => "size",
+        Fact::Truth(_) => "truth",
+        Fact::Is(_, _) => "is",
+        Fact::KeyForm(_) => "key",
+        Fact::Form(_) => "form",
+        Fact::Token(_, _) => "token",
+        Fact::Assigned(_, _) => "assigned",
+        Fact::Lock(_) => "lock",
+        Fact::Age(_) => "age",
+    };
     line.element(
         r#"{"kind":"%","holds":%,"role":"%","slots":["#,
         &[
-            Text(kind(&stated.fact)),
+            Text(kind),
             Piece::flag(stated.holds),
             Text(Role::of(stated).text()),
         ],

@@ -12,7 +12,7 @@
 //! let status = run_words(alloc, words, &mut input, &mut out, &mut err);
 //! ```
 //!
-//! Tested in `trace_tests`, and by the recorded runs of the program `trace`.
+//! Tested by the recorded run of the program `trace`, and by the calls of `bench/answers.py`.
 #![tactic(auto)]
 
 ghost use Rattle.std.specs.Prelude.{◌≡◌, ◌≤◌, ◌⊎◌};
@@ -22,6 +22,7 @@ mod json;
 mod lines;
 mod looks;
 mod names;
+mod opcodes;
 mod pages;
 mod pieces;
 mod places;
@@ -32,7 +33,7 @@ mod writer;
 
 use crate::lines::{tell_input, told};
 pub use input::{InputError, MAX_INPUT, read_all};
-pub use lines::write_told;
+pub use lines::{write_refusal, write_told};
 pub use looks::Look;
 pub use names::opcode_name;
 pub use pieces::Piece;
@@ -47,27 +48,9 @@ pub use writer::Line;
 /// The line that is printed for wrong words.
 pub const USAGE: &str = "usage: trace scenario | dump | script [--text] [HEX] | witness [--text]\n";
 
-/// Runs the program on its words (without its name) and returns its status: 0 when all scripts are listed, 1 for a refused script, refused input or a failed
+/// Runs the word `script` on the words after it and returns its status: 0 when all scripts are listed, 1 for a refused script, refused input or a failed
 /// write, 2 for wrong words, which are detected before any input is read. All text about a script is made before its first byte is written.
 pub fn run_words(
-    alloc: Global,
-    words: &[String],
-    input: &mut dyn Read,
-    out: &mut dyn Write,
-    err: &mut dyn Write,
-) -> u8
-    ensures { result ≤ 2 }
-{
-    match words.split_first() {
-        Some((word, rest)) if word.as_str() == "script" => {
-            tell_scripts(alloc, rest, input, out, err)
-        }
-        _ => refuse_words(err),
-    }
-}
-
-// Explains the scripts that the words after `script` ask for, and returns the status.
-fn tell_scripts(
     alloc: Global,
     words: &[String],
     input: &mut dyn Read,

@@ -3,20 +3,43 @@
 ghost use Rattle.std.specs.Prelude.{◌≡◌, ◌≤◌, ◌⊎◌};
 
 use crate::input::{InputError, read_all};
+use crate::pieces::Piece::Count;
 use crate::reading::{Form, refuse, tell};
 use crate::writer::Line;
 use crate::{refuse_memory, written};
 use std::alloc::Global;
+use std::fmt::Display;
 use std::io::{Read, Write};
 
-/// Writes what was explained, and returns the status. Returns 1 if the write fails, or if memory ran out before, which it then reports instead.
-pub fn write_told(out: &mut dyn Write, line: &Line, status: u8) -> u8
+/// Writes a line, clears it, and returns the status. Returns 1 if the write fails, or if memory ran out before, which it then reports instead.
+pub fn write_told(out: &mut dyn Write, line: &mut Line, status: u8) -> u8
     ensures { (result ≡ status) ⊎ (result ≡ 1) }
 {
-    match line.text() {
+    let status = match line.text() {
         Some(text) => written(out, text, status),
         None => refuse_memory(out),
+    };
+    line.clear();
+    status
+}
+
+/// Writes that an input is refused: an object on a line, with the number of the refusal if it has one. Returns the status.
+pub fn write_refusal<D: Display + Drop>(
+    alloc: Global,
+    out: &mut dyn Write,
+    refusal: D,
+    number: Option<u64>,
+) -> u8
+    ensures { result ≤ 1 }
+{
+    let mut line = Line::new(alloc);
+    line.push(r#"{"refused":""#);
+    line.push_shown(refusal);
+    match number {
+        Some(number) => line.write("\",\"number\":%}\n", &[Count(number)]),
+        None => line.push("\"}\n"),
     }
+    write_told(out, &mut line, 1)
 }
 
 /// Explains a script, and returns the status.
@@ -29,7 +52,7 @@ pub fn told(alloc: Global, text: &str, form: Form, out: &mut dyn Write) -> u8
     } else {
         1
     };
-    write_told(out, &line, status)
+    write_told(out, &mut line, status)
 }
 
 /// Explains each script of the input, one a line and each at once, and returns the greatest status.
@@ -46,16 +69,9 @@ pub fn tell_input(alloc: Global, form: Form, input: &mut dyn Read, out: &mut dyn
 fn tell_text(alloc: Global, bytes: &[u8], form: Form, out: &mut dyn Write) -> u8
     ensures { result ≤ 1 }
 {
-    match str::from_utf8(bytes) {
-        Ok(text) => tell_lines(alloc, text, form, out),
-        Err(_) => refuse_input(alloc, form, InputError::BadHex, out),
-    }
-}
-
-// Explains each script of a text.
-fn tell_lines(alloc: Global, text: &str, form: Form, out: &mut dyn Write) -> u8
-    ensures { result ≤ 1 }
-{
+    let Ok(text) = str::from_utf8(bytes) else {
+        return refuse_input(alloc, form, InputError::BadHex, out);
+    };
     let mut status = 0;
     for line in text.lines() {
         if told(alloc, line, form, out) == 1 {
@@ -74,5 +90,5 @@ fn refuse_input(alloc: Global, form: Form, refusal: InputError, out: &mut dyn Wr
         InputError::NoMemory => line.fail(),
         _ => refuse(&mut line, form, None, &[], refusal.text(), None),
     }
-    write_told(out, &line, 1)
+    write_told(out, &mut line, 1)
 }

@@ -2,6 +2,7 @@
 
 use crate::input::InputError;
 use crate::names::{depth, depth_after};
+use crate::opcodes::tell_op;
 use crate::pieces::Piece;
 use crate::pieces::Piece::{Count, Text};
 use crate::places::place;
@@ -123,27 +124,17 @@ fn tell_unlisted(alloc: Global, line: &mut Line, form: Form, script: &Script, er
 
 // Writes what comes first of each script: its number of bytes, and its opcodes.
 fn begin(line: &mut Line, form: Form, bytes: Option<u64>, ops: &[Op]) {
-    match form {
-        Form::Json => {
-            line.write(r#"{"bytes":%,"opcodes":["#, &[Piece::or_null(bytes)]);
-            tell_ops(line, form, ops);
-            line.push("]");
-        }
-        Form::Text => tell_ops(line, form, ops),
+    if let Form::Json = form {
+        line.write(r#"{"bytes":%,"opcodes":["#, &[Piece::or_null(bytes)]);
     }
-}
-
-// Writes the opcodes of a script.
-fn tell_ops(line: &mut Line, form: Form, ops: &[Op]) {
     let (mut byte, mut ifs) = (0usize, 0usize);
     for op in ops {
-        let depth = depth(op, ifs);
-        match form {
-            Form::Json => json::tell_op(line, op, byte, depth),
-            Form::Text => pages::tell_op(line, op, byte, depth),
-        }
+        tell_op(line, form, op, byte, depth(op, ifs));
         byte = byte.saturating_add(op.payload_len()).saturating_add(1);
         ifs = depth_after(op, ifs);
+    }
+    if let Form::Json = form {
+        line.push("]");
     }
 }
 

@@ -11,7 +11,7 @@ use script::limits::LOCKTIME_THRESHOLD;
 use std::fmt;
 
 /// What a fact says about a path.
-#[derive(Clone, Copy, PartialEq, Eq, Drop)]
+#[derive(Clone, Copy, Drop)]
 pub enum Role {
     /// Whose signature the path takes.
     Who,
@@ -191,21 +191,31 @@ fn write_token<W: fmt::Write>(
     write!(f, "slot {slot} {verb} a signature by {}", Key(key))
 }
 
+// Writes a number between texts.
+fn write_number<W: fmt::Write>(
+    f: &mut fmt::Formatter<W>,
+    before: &str,
+    number: u64,
+    after: &str,
+) -> fmt::Result
+    ensures { WritesOnOk W.write_str_gives f.old result
+        (before.now ++ (decimal number ++ after.now)) f.new }
+{
+    write!(f, "{before}{number}{after}")
+}
+
 // Writes that an absolute lock holds (BIP 65), or that its check fails.
 fn write_lock<W: fmt::Write>(f: &mut fmt::Formatter<W>, lock: u64, holds: bool) -> fmt::Result
     ensures { WritesOnOk W.write_str_gives f.old result (lock_sentence lock holds) f.new }
 {
     if !holds {
-        return write!(f, "while the check of the lock time {lock} fails");
+        return write_number(f, "while the check of the lock time ", lock, " fails");
     }
     if lock < LOCKTIME_THRESHOLD {
-        let block = lock + 1;
-        return write!(f, "in block {block} at the earliest");
+        return write_number(f, "in block ", lock + 1, " at the earliest");
     }
-    write!(
-        f,
-        "at the time {lock} in seconds since 1970, which this profile never reaches"
-    )
+    let never = " in seconds since 1970, which this profile never reaches";
+    write_number(f, "at the time ", lock, never)
 }
 
 // Writes that a relative lock holds (BIP 112), or that its check fails.
@@ -213,16 +223,15 @@ fn write_age<W: fmt::Write>(f: &mut fmt::Formatter<W>, age: u32, holds: bool) ->
     ensures { WritesOnOk W.write_str_gives f.old result (age_sentence age holds) f.new }
 {
     if !holds {
-        return write!(f, "while the check of the relative lock {age} fails");
+        let check = "while the check of the relative lock ";
+        return write_number(f, check, u64::from(age), " fails");
     }
-    let units = age % 0x1_0000;
+    let units = u64::from(age % 0x1_0000);
     if age / 0x40_0000 % 2 == 0 {
-        return write!(f, "after {units} blocks");
+        return write_number(f, "after ", units, " blocks");
     }
-    write!(
-        f,
-        "after {units} units of 512 seconds, which this profile never reaches"
-    )
+    let never = " units of 512 seconds, which this profile never reaches";
+    write_number(f, "after ", units, never)
 }
 
 /// A fact, printed as a sentence.

@@ -60,22 +60,16 @@ impl Line {
         }
     }
 
-    // Writes a piece.
-    fn push_piece(&mut self, piece: &Piece) {
-        match piece {
-            Piece::Text(text) => self.push(text),
-            Piece::Count(number) => self.push_shown(*number),
-            Piece::Sum(number) => self.push_shown(*number),
-            Piece::Hash(bytes) => self.push_hex(bytes),
-        }
-    }
-
     /// Writes a template, with the next piece in the place of each `%`.
     pub fn write(&mut self, template: &str, pieces: &[Piece]) {
         for (index, text) in template.split('%').enumerate() {
             self.push(text);
-            if let Some(piece) = pieces.get(index) {
-                self.push_piece(piece);
+            match pieces.get(index) {
+                Some(Piece::Text(text)) => self.push(text),
+                Some(Piece::Count(number)) => self.push_shown(*number),
+                Some(Piece::Sum(number)) => self.push_shown(*number),
+                Some(Piece::Hash(bytes)) => self.push_hex(bytes),
+                None => {}
             }
         }
     }

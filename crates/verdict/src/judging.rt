@@ -55,7 +55,9 @@ pub fn judge(
         }
         let script = key_hash_script(alloc, &program[2..])?;
         let code = script.as_slice();
-        return judge_code(alloc, tx, cache, index, input, value, code, witness);
+        let judged = judge_code(alloc, tx, cache, index, input, value, code, witness);
+        drop(script);
+        return judged;
     }
     if !is_script_hash_program(program) {
         return Ok(Verdict::Refused(Fault::OtherProgram));
@@ -168,7 +170,10 @@ fn judge_script(
             let digest = spend.digest;
             Ok(Verdict::Clean(Clean { run, path, digest }))
         }
-        Err(Stop::NoMemory) => Err(AllocError),
+        Err(Stop::NoMemory) => {
+            drop(script);
+            Err(AllocError)
+        }
         Err(Stop::At(cause, index)) => stopped(alloc, script, items, spend, cause, index),
     }
 }
@@ -185,14 +190,20 @@ fn stopped(
     ensures { outcome spend.now script items.now ≡ StopsAt index cause
         → IsJudged (Some (record { spend = spend.now; ops = script; items = items.now })) result }
 {
-    let stack = elements_at(alloc, &script, items, spend, index)?;
-    Ok(Verdict::Stopped(Stopped {
-        cause,
-        index,
-        script,
-        stack,
-        digest: spend.digest,
-    }))
+    let digest = spend.digest;
+    match elements_at(alloc, &script, items, spend, index) {
+        Ok(stack) => Ok(Verdict::Stopped(Stopped {
+            cause,
+            index,
+            script,
+            stack,
+            digest,
+        })),
+        Err(error) => {
+            drop(script);
+            Err(error)
+        }
+    }
 }
 
 // The first listed path that the items meet, if the script is listed.
@@ -205,7 +216,11 @@ fn path_of(
     ensures { IfOk result (λ o. o ≡ path_taken spend.now script items.now) }
 {
     match check(alloc, script) {
-        Ok(checked) => met_path(alloc, spend, items, checked.paths()),
+        Ok(checked) => {
+            let met = met_path(alloc, spend, items, checked.paths());
+            drop(checked);
+            met
+        }
         Err(error) => match error {
             CheckError::NoMemory => Err(AllocError),
             _ => Ok(None),

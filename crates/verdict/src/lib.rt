@@ -8,23 +8,11 @@
 //! `machine` runs the scripts, and `paths` lists the ways. `trace_witness` prints the verdicts.
 //!
 //! ```rust
-//! /// Whether each input of a transaction runs clean, where these are the outputs that they spend.
-//! fn is_clean(alloc: Global, tx: &Tx, outputs: &[TxOut]) -> Result<bool, AllocError> {
-//!     let cache = SighashCache::new(tx);
-//!     for (index, input) in tx.inputs().iter().enumerate() {
-//!         let Some(output) = outputs.get(index) else {
-//!             return Ok(false);
-//!         };
-//!         match judge(alloc, tx, &cache, index, input, output)? {
-//!             Verdict::Clean(_) => {}
-//!             _ => return Ok(false),
-//!         }
-//!     }
-//!     Ok(true)
-//! }
+//! let cache = SighashCache::new(tx);
+//! let verdict = judge(alloc, tx, &cache, index, input, output)?;
 //! ```
 //!
-//! The test `finds_each_input_clean` of `trace_tests` calls this function.
+//! `trace_witness` calls it so for each input. What it says of inputs of each kind is tested by `bench/witnesses.py`.
 #![tactic(auto)]
 
 mod judging;

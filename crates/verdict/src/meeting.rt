@@ -1,12 +1,12 @@
 // Whether the items of a witness meet facts.
 
 ghost use Rattle.std.specs.Prelude.{◌≡◌, map, reverse, IfOk};
-ghost use Rattle.std.specs.List.{list_all, position_from};
+ghost use Rattle.std.specs.List.{position_from};
 ghost use Rattle.facts.specs.Meaning.{slot_of, key_of, holds_of};
-ghost use Rattle.verdict.specs.Meeting.{is_as_stated, is_met};
+ghost use Rattle.verdict.specs.Meeting.{is_met};
 
 use digest::hash160;
-use facts::{Fact, KeySource, Stated};
+use facts::{Fact, KeySource};
 use lists::{ByteString, Stack};
 use machine::{is_age_reached, is_assigned, is_lock_reached};
 use paths::Path;
@@ -103,24 +103,7 @@ fn holds(
     }
 }
 
-// Whether all facts are as they are stated.
-fn are_as_stated(
-    alloc: Global,
-    spend: &Spend,
-    items: &[ByteString],
-    facts: &[Stated],
-) -> Result<bool, AllocError>
-    ensures { IfOk result (λ b. b ≡ list_all (is_as_stated spend.now items.now) facts.now) }
-{
-    for stated in facts {
-        if holds(alloc, spend, items, &stated.fact)? != stated.holds {
-            return Ok(false);
-        }
-    }
-    Ok(true)
-}
-
-// Whether a witness meets a path.
+// Whether a witness meets a path: it has as many items, and all facts are as they are stated.
 fn meets(
     alloc: Global,
     spend: &Spend,
@@ -132,7 +115,13 @@ fn meets(
     if path.arity != items.len() {
         return Ok(false);
     }
-    are_as_stated(alloc, spend, items, path.facts.values())
+    let facts = path.facts.values();
+    for stated in facts {
+        if holds(alloc, spend, items, &stated.fact)? != stated.holds {
+            return Ok(false);
+        }
+    }
+    Ok(true)
 }
 
 /// The number of the first path that a witness meets under a spend: it has as many items, and each fact is as the path states it. The only error is

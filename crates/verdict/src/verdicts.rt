@@ -6,25 +6,19 @@ ghost use Rattle.verdict.specs.Refusals.{fault_number};
 use lists::{ByteString, Stack};
 use machine::Run;
 use script::{Cause, ParseError, Script};
-use thiserror::Error;
 
 /// Why no script runs for an input (BIP 141).
-#[derive(Debug, Drop, Error)]
+#[derive(Drop)]
 pub enum Fault {
     /// The program is not of version 0 with the hash of a key or of a script.
-    #[error("OtherProgram")]
     OtherProgram,
     /// The program has the hash of a key, and the witness has not two items.
-    #[error("NotTwoItems")]
     NotTwoItems,
     /// The program has the hash of a script, and the witness has no item.
-    #[error("NoScript")]
     NoScript,
     /// The last item of the witness has another hash than the program.
-    #[error("OtherScript")]
     OtherScript,
     /// The last item of the witness is not a script.
-    #[error("{0}")]
     BadScript(ParseError),
 }
 
@@ -59,7 +53,7 @@ pub struct Stopped {
 }
 
 /// A run that is clean.
-#[derive(Clone, Copy, Drop)]
+#[derive(Drop)]
 pub struct Clean {
     /// How it went.
     pub run: Run,
