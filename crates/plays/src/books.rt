@@ -8,188 +8,214 @@ mod damages;
 mod loading;
 mod random;
 
-use anyhow::{Context, Result, bail};
 use book_peers::{Act, Peers, Reply, offer};
-use loading::{print_damages, print_loaded, print_stored, print_version, read_beginnings};
-use random::play_games;
-use std::alloc::Global;
+use loading::{show_beginnings, show_damages, show_loaded, show_stored, show_version};
+use page::Page;
+use random::show_games;
 use terms::Side;
 use updates::OwnUpdate;
 
-// A line, and its words after the side.
-#[derive(Clone, Copy, Drop)]
-struct Words<'a> {
-    line: &'a str,
-    words: &'a str,
+/// The number that a word names, or 0.
+fn number(word: &str) -> u64 {
+    word.parse().unwrap_or(0)
 }
 
-// An offer of an amount in millisatoshis, up to an expiry.
-fn offer_of(words: &str) -> Result<Act> {
-    let (amount, expiry) = words.split_once(' ').context("an offer has two numbers")?;
-    Ok(Act::Update(offer(amount.parse()?, expiry.parse()?)))
+/// The same, of 32 bits.
+fn short_number(word: &str) -> u32 {
+    u32::try_from(number(word)).unwrap_or(0)
 }
 
-// A change of the feerate.
-fn fee_of(rate: &str) -> Result<Act> {
-    Ok(Act::Update(OwnUpdate::SetFee {
-        rate: rate.parse()?,
-    }))
+/// An offer of an amount in millisatoshis, up to an expiry.
+fn offer_of(words: &str) -> Act {
+    let (amount, expiry) = words.split_once(' ').unwrap_or((words, ""));
+    Act::Update(offer(number(amount), short_number(expiry)))
 }
 
-// The call of a word followed by numbers.
-fn act_with(word: &str, words: &str) -> Result<Act> {
-    match word {
-        "offer" => offer_of(words),
-        "fee" => fee_of(words),
-        "keep" => Ok(Act::Keep(words.parse()?)),
-        "release" => Ok(Act::Release(words.parse()?)),
-        _ => bail!("no such call"),
+/// The call of a word followed by numbers.
+fn act_with(word: &str, words: &str) -> Option<Act> {
+    if word == "offer" {
+        Some(offer_of(words))
+    } else if word == "fee" {
+        Some(Act::Update(OwnUpdate::SetFee {
+            rate: short_number(words),
+        }))
+    } else if word == "keep" {
+        Some(Act::Keep(number(words)))
+    } else if word == "release" {
+        Some(Act::Release(number(words)))
+    } else {
+        None
     }
 }
 
-// The call of a single word.
-fn plain_act(word: &str) -> Result<Act> {
-    match word {
-        "sign" => Ok(Act::Sign),
-        "deliver" => Ok(Act::Deliver),
-        "zeros" => Ok(Act::Zeros),
-        _ => bail!("no such call"),
+/// The call of a single word.
+fn plain_act(word: &str) -> Option<Act> {
+    if word == "sign" {
+        Some(Act::Sign)
+    } else if word == "deliver" {
+        Some(Act::Deliver)
+    } else if word == "zeros" {
+        Some(Act::Zeros)
+    } else {
+        None
     }
 }
 
-// The call that the words name.
-fn act_of(words: &str) -> Result<Act> {
+/// The call that the words name.
+fn act_of(words: &str) -> Option<Act> {
     match words.split_once(' ') {
         Some((word, words)) => act_with(word, words),
         None => plain_act(words),
     }
 }
 
-// Prints the result of a call.
-fn print_reply(rt: &impl Print, line: &str, reply: &Reply) -> Result<()> {
+/// Writes the result of a call.
+fn write_reply(page: &mut Page, reply: Reply) {
     match reply {
-        Reply::Done => println!(rt; "{line}: ok")?,
-        Reply::NoMessage => println!(rt; "{line}: NoMessage")?,
-        Reply::NotUpdated(error) => println!(rt; "{line}: {error}")?,
-        Reply::NotSigned(error) => println!(rt; "{line}: {error}")?,
-        Reply::NotKept(error) => println!(rt; "{line}: {error}")?,
-    }
-    Ok(())
-}
-
-// A side's dump.
-fn dump(alloc: Global, peers: &Peers, side: Side) -> Result<String> {
-    Ok(peers.node(side).book.dump(alloc)?)
-}
-
-// Prints whether a side's dump is still this one.
-fn print_unchanged(
-    rt: &impl Print,
-    alloc: Global,
-    peers: &Peers,
-    side: Side,
-    before: &str,
-) -> Result<()> {
-    let after = dump(alloc, peers, side)?;
-    let is_same = after.as_str() == before;
-    println!(rt; "  unchanged: {is_same}")?;
-    Ok(())
-}
-
-// Plays a call on a side with this dump, and prints the result; after a refusal also whether the dump changed.
-fn play_from(
-    rt: &impl Print,
-    alloc: Global,
-    peers: &mut Peers,
-    side: Side,
-    call: &Words,
-    before: &str,
-) -> Result<()> {
-    let act = act_of(call.words)?;
-    let reply = peers.act(side, 0, act)?;
-    print_reply(rt, call.line, &reply)?;
-    match &reply {
-        Reply::Done => Ok(()),
-        _ => print_unchanged(rt, alloc, peers, side, before),
+        Reply::Done => page.push("ok"),
+        Reply::NoMessage => page.push("NoMessage"),
+        Reply::NotUpdated(error) => page.show(&error),
+        Reply::NotSigned(error) => page.show(&error),
+        Reply::NotKept(error) => page.show(&error),
     }
 }
 
-// Plays the call of a line.
-fn play_line(
-    rt: &impl Print,
-    alloc: Global,
-    peers: &mut Peers,
-    side: Side,
-    call: &Words,
-) -> Result<()> {
-    let before = dump(alloc, peers, side)?;
-    play_from(rt, alloc, peers, side, call, &before)
-}
-
-fn print_entries(rt: &impl Print, peers: &Peers) -> Result<()> {
-    let (a, b) = (peers.a.book.entries(), peers.b.book.entries());
-    println!(rt; "entries of A {}, of B {}", a.len(), b.len())?;
-    Ok(())
-}
-
-// Plays random games, and prints how many of their histories are loaded as they were dumped.
-fn print_random(rt: &impl Print, alloc: Global, peers: &mut Peers, games: u32) -> Result<()> {
-    let tally = play_games(alloc, peers, games)?;
-    println!(rt;
-        "random histories: {}, the same dump again: {}",
-        tally.histories, tally.same
-    )?;
-    println!(rt; "  at least 100 entries of each kind: {}", tally.has(100))?;
-    Ok(())
-}
-
-fn print_beginnings(rt: &impl Print, alloc: Global, text: String) -> Result<()> {
-    let read = read_beginnings(alloc, text);
-    println!(rt; "beginnings that are not refused as NotJson: {read}")?;
-    Ok(())
-}
-
-// Handles a line of one word about A's dump.
-fn follow_dump(rt: &impl Print, alloc: Global, word: &str, text: String) -> Result<()> {
-    match word {
-        "beginnings" => print_beginnings(rt, alloc, text),
-        "damages" => print_damages(rt, alloc, &text),
-        "version" => print_version(rt, alloc, &text),
-        "dump" => Ok(println!(rt; "{text}")?),
-        _ => bail!("no such word"),
+/// Shows whether a side's dump is still this one.
+fn show_unchanged(page: &mut Page, peers: &Peers, side: Side, before: &str) {
+    match peers.node(side).book.dump(page.alloc()) {
+        Ok(after) => page.push(if after.as_str() == before {
+            "  unchanged: true\n"
+        } else {
+            "  unchanged: false\n"
+        }),
+        Err(_) => page.fail(),
     }
 }
 
-// Opens this number of channels between two empty books.
-fn open(alloc: Global, peers: &mut Peers, channels: u32) -> Result<()> {
-    *peers = Peers::new(alloc);
-    peers.open(alloc, channels)
+/// A side acts in a channel; `None` if that can't be done.
+fn reply_of(peers: &mut Peers, side: Side, channel: usize, act: Act) -> Option<Reply> {
+    peers.act(side, channel, act).ok()
 }
 
-// Handles a line of two words or more.
-fn follow_words(
-    rt: &impl Print,
-    alloc: Global,
-    peers: &mut Peers,
-    call: &Words,
-    word: &str,
-) -> Result<()> {
-    match word {
-        "open" => open(alloc, peers, call.words.parse()?),
-        "load" => print_loaded(rt, alloc, call.line, call.words),
-        "stored" => print_stored(rt, alloc, call.words),
-        "random" => print_random(rt, alloc, peers, call.words.parse()?),
-        "A" => play_line(rt, alloc, peers, Side::A, call),
-        "B" => play_line(rt, alloc, peers, Side::B, call),
-        _ => bail!("no such line"),
+/// Shows the result of a call of a side that had this dump; after a refusal also whether the dump changed.
+fn show_reply(page: &mut Page, peers: &Peers, side: Side, reply: Reply, before: &str) {
+    write_reply(page, reply);
+    page.push("\n");
+    if !matches!(reply, Reply::Done) {
+        show_unchanged(page, peers, side, before);
+    }
+}
+
+/// Plays a call of a side with this dump.
+fn play_from(page: &mut Page, peers: &mut Peers, side: Side, words: &str, before: &str) {
+    let Some(act) = act_of(words) else {
+        return page.fail();
+    };
+    match reply_of(peers, side, 0, act) {
+        Some(reply) => show_reply(page, peers, side, reply, before),
+        None => page.fail(),
+    }
+}
+
+/// Plays the call that the words of a line name.
+fn play_line(page: &mut Page, peers: &mut Peers, side: Side, words: &str) {
+    match peers.node(side).book.dump(page.alloc()) {
+        Ok(before) => play_from(page, peers, side, words, before.as_str()),
+        Err(_) => page.fail(),
+    }
+}
+
+/// Shows how many entries the histories of both have.
+fn show_entries(page: &mut Page, peers: &Peers) {
+    page.count("entries of A ", peers.a.book.entries().len() as u64);
+    page.count(", of B ", peers.b.book.entries().len() as u64);
+    page.push("\n");
+}
+
+/// Shows what a word asks of A's dump.
+fn show_dump(page: &mut Page, word: &str, dump: &mut String) {
+    if word == "beginnings" {
+        show_beginnings(page, dump);
+    } else if word == "damages" {
+        show_damages(page, dump.as_str());
+    } else if word == "version" {
+        show_version(page, dump.as_str());
+    } else if word == "dump" {
+        page.push(dump.as_str());
+        page.push("\n");
+    } else {
+        page.fail();
+    }
+}
+
+/// Handles a line of one word about A's dump.
+fn follow_dump(page: &mut Page, peers: &Peers, word: &str) {
+    match peers.a.book.dump(page.alloc()) {
+        Ok(mut dump) => show_dump(page, word, &mut dump),
+        Err(_) => page.fail(),
+    }
+}
+
+/// Handles a line of one word.
+fn follow_word(page: &mut Page, peers: &Peers, word: &str) {
+    if word == "entries" {
+        show_entries(page, peers);
+    } else {
+        follow_dump(page, peers, word);
+    }
+}
+
+/// Handles a line of two words or more.
+fn follow_words(page: &mut Page, peers: &mut Peers, line: &str, word: &str, words: &str) {
+    if word == "load" {
+        show_loaded(page, line, words);
+    } else if word == "stored" {
+        show_stored(page, words);
+    } else if word == "random" {
+        show_games(page, short_number(words));
+    } else {
+        page.push(line);
+        page.push(": ");
+        play_line(
+            page,
+            peers,
+            if word == "A" { Side::A } else { Side::B },
+            words,
+        );
     }
 }
 
 /// Handles a line.
-pub fn follow(rt: &impl Print, alloc: Global, peers: &mut Peers, line: &str) -> Result<()> {
+fn follow(page: &mut Page, peers: &mut Peers, line: &str) {
     match line.split_once(' ') {
-        Some((word, words)) => follow_words(rt, alloc, peers, &Words { line, words }, word),
-        None if line == "entries" => print_entries(rt, peers),
-        None => follow_dump(rt, alloc, line, dump(alloc, peers, Side::A)?),
+        Some((word, words)) => follow_words(page, peers, line, word, words),
+        None => follow_word(page, peers, line),
+    }
+}
+
+/// Opens this number of channels, and handles the lines.
+fn follow_all(page: &mut Page, peers: &mut Peers, channels: u32, lines: &str) {
+    if peers.open(page.alloc(), channels).is_err() {
+        return page.fail();
+    }
+    for line in lines.lines() {
+        follow(page, peers, line);
+    }
+}
+
+/// Handles the lines after the opening of this number of channels.
+fn play(page: &mut Page, channels: u32, lines: &str) {
+    let mut peers = Peers::new(page.alloc());
+    follow_all(page, &mut peers, channels, lines);
+}
+
+/// Handles all lines. Before the first `open` there is no channel.
+pub fn show_all(page: &mut Page, lines: &str) {
+    let (before, others) = lines.split_once("\nopen ").unwrap_or((lines, ""));
+    play(page, 0, before);
+    for group in others.split("\nopen ") {
+        if let Some((channels, lines)) = group.split_once('\n') {
+            play(page, short_number(channels), lines);
+        }
     }
 }

@@ -14,71 +14,39 @@
 mod books;
 mod dues;
 
-use anyhow::{Result, bail};
-use book_peers::Peers;
+use page::Page;
+use std::io;
+use std::process::ExitCode;
 
-/// The kind of a part.
-#[derive(Clone, Copy, PartialEq, Eq)]
-enum Word {
-    Book,
-    Due,
-}
-
-/// The current part, and the state that its lines left.
-#[derive(Drop)]
-struct Reading {
-    word: Word,
-    /// The two nodes with a book each.
-    peers: Peers,
-}
-
-/// The kind that a header names.
-fn word_of(name: &str) -> Result<Word> {
-    match name {
-        "book" => Ok(Word::Book),
-        "due" => Ok(Word::Due),
-        _ => bail!("no such word"),
+/// Shows a part, which begins with its name in a line.
+fn show_part(page: &mut Page, part: &str) {
+    let (name, lines) = part.split_once('\n').unwrap_or((part, ""));
+    page.push("== ");
+    page.push(name);
+    page.push("\n");
+    if name == "book" {
+        books::show_all(page, lines);
+    } else if name == "due" {
+        dues::show_all(page);
+    } else {
+        page.fail();
     }
 }
 
-/// Begins a part, and prints the output of a part without lines.
-fn begin<R: Print + AllocGlobal>(rt: &R, word: &mut Word, name: &str) -> Result<()> {
-    println!(rt; "== {name}")?;
-    *word = word_of(name)?;
-    if *word == Word::Due {
-        dues::show_all(rt)?;
-    }
-    Ok(())
-}
-
-/// Handles a line of a part.
-fn answer<R: Print + AllocGlobal>(rt: &R, reading: &mut Reading, line: &str) -> Result<()> {
-    match reading.word {
-        Word::Book => books::follow(rt, rt.alloc(), &mut reading.peers, line),
-        Word::Due => bail!("the word has no lines"),
+/// Shows all parts.
+fn show_all(page: &mut Page, input: &str) {
+    for part in input.split("== ") {
+        if !part.is_empty() {
+            show_part(page, part);
+        }
     }
 }
 
-/// Reads a line.
-fn read<R: Print + AllocGlobal>(rt: &R, reading: &mut Reading, line: &str) -> Result<()> {
-    match line.strip_prefix("== ") {
-        Some(name) => begin(rt, &mut reading.word, name),
-        None => answer(rt, reading, line),
+fn main(rt: HostRuntime) -> ExitCode {
+    let mut page = Page::new(rt.alloc());
+    match io::read_to_string(rt.alloc(), rt.stdin()) {
+        Ok(input) => show_all(&mut page, input.as_str()),
+        Err(_) => page.fail(),
     }
-}
-
-/// Reads all lines.
-fn read_all<R: Input + Print + AllocGlobal>(rt: &R, reading: &mut Reading) -> Result<()> {
-    for line in rt.lines(rt.alloc()) {
-        read(rt, reading, line?.as_str())?;
-    }
-    Ok(())
-}
-
-fn main(rt: HostRuntime) -> Result<()> {
-    let mut reading = Reading {
-        word: Word::Book,
-        peers: Peers::new(rt.alloc()),
-    };
-    read_all(&rt, &mut reading)
+    page.print(&rt)
 }

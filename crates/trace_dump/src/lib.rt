@@ -37,11 +37,7 @@ pub fn run(alloc: Global, input: &mut dyn Read, out: &mut dyn Write) -> u8
     ensures { result ≤ 1 }
 {
     match read_all(alloc, input) {
-        Ok(bytes) => {
-            let status = tell_dump(alloc, bytes.as_slice(), out);
-            drop(bytes);
-            status
-        }
+        Ok(bytes) => tell_dump(alloc, bytes.as_slice(), out),
         Err(InputError::NoMemory) => refuse_memory(out),
         Err(error) => {
             let number = u64::from(error.number()) + 4;
@@ -55,11 +51,7 @@ fn tell_dump(alloc: Global, bytes: &[u8], out: &mut dyn Write) -> u8
     ensures { result ≤ 1 }
 {
     match load_dump(alloc, bytes) {
-        Ok(book) => {
-            let status = tell_loaded(alloc, &book, out);
-            drop(book);
-            status
-        }
+        Ok(book) => tell_loaded(alloc, &book, out),
         Err(error) => match error {
             LoadError::NoMemory => refuse_memory(out),
             _ => {
@@ -76,7 +68,5 @@ fn tell_loaded(alloc: Global, book: &Book, out: &mut dyn Write) -> u8
 {
     let mut line = Line::new(alloc);
     tell_book(alloc, &mut line, book);
-    let status = write_told(out, &mut line, 0);
-    drop(line);
-    status
+    write_told(out, &mut line, 0)
 }

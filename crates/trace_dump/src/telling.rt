@@ -137,7 +137,6 @@ fn tell_amounts(
             for claim in &claims {
                 tell_claim(line, claim);
             }
-            drop(claims);
         }
         Err(_) => line.fail(),
     }
@@ -159,10 +158,7 @@ fn tell_closing(
         &[Text(name), Count(state.number), kept],
     );
     match commitment_amounts(alloc, terms, &state.view, state.owner) {
-        Ok(amounts) => {
-            tell_amounts(alloc, line, close, hashes, &amounts);
-            drop(amounts);
-        }
+        Ok(amounts) => tell_amounts(alloc, line, close, hashes, &amounts),
         Err(_) => line.fail(),
     }
     line.push("]}");

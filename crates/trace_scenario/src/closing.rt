@@ -132,7 +132,6 @@ fn tell_if_built(
                 let outputs = commitment.outputs();
                 tell_closing(told, line, state.number, to_local, outputs, confirmed);
             }
-            drop(commitment);
             is_same
         }
         Err(_) => {

@@ -61,7 +61,6 @@ fn tell_event(
             for outcome in &outcomes {
                 told.tell_event(alloc, line, world, before, index, words, event, outcome);
             }
-            drop(outcomes);
         }
         Err(_) => line.fail(),
     }
@@ -107,10 +106,7 @@ fn tell_world(
 {
     let mut line = Line::new(alloc);
     let mut told = Told::new(alloc);
-    let status = tell_events(alloc, out, &mut line, world, &mut told, events, words);
-    drop(line);
-    drop(told);
-    status
+    tell_events(alloc, out, &mut line, world, &mut told, events, words)
 }
 
 // The events of a scenario as JSON values.
@@ -130,11 +126,7 @@ fn tell_scenario(alloc: Global, out: &mut dyn Write, scenario: &Scenario, value:
 {
     let words = words_in(value);
     match World::new(alloc, &scenario.seeds, scenario.channels.values()) {
-        Ok(mut world) => {
-            let status = tell_world(alloc, out, &mut world, scenario.events.values(), words);
-            drop(world);
-            status
-        }
+        Ok(mut world) => tell_world(alloc, out, &mut world, scenario.events.values(), words),
         Err(error) => match error {
             WorldError::NoMemory => refuse_memory(out),
             _ => write_refusal(alloc, out, error, None),
@@ -147,15 +139,8 @@ fn tell_read(alloc: Global, out: &mut dyn Write, scenario: &Scenario, bytes: &[u
     ensures { result ≤ 1 }
 {
     match Value::from_slice(alloc, bytes) {
-        Ok(value) => {
-            let status = tell_scenario(alloc, out, scenario, &value);
-            drop(value);
-            status
-        }
-        Err(error) => {
-            drop(error);
-            refuse_memory(out)
-        }
+        Ok(value) => tell_scenario(alloc, out, scenario, &value),
+        Err(_) => refuse_memory(out),
     }
 }
 
@@ -164,11 +149,7 @@ fn tell_bytes(alloc: Global, out: &mut dyn Write, bytes: &[u8]) -> u8
     ensures { result ≤ 1 }
 {
     match Scenario::read(alloc, bytes) {
-        Ok(scenario) => {
-            let status = tell_read(alloc, out, &scenario, bytes);
-            drop(scenario);
-            status
-        }
+        Ok(scenario) => tell_read(alloc, out, &scenario, bytes),
         Err(error) => match error {
             ScenarioError::NoMemory => refuse_memory(out),
             _ => write_refusal(alloc, out, error, None),
@@ -182,11 +163,7 @@ pub fn run(alloc: Global, input: &mut dyn Read, out: &mut dyn Write) -> u8
     ensures { result ≤ 1 }
 {
     match read_all(alloc, input) {
-        Ok(bytes) => {
-            let status = tell_bytes(alloc, out, bytes.as_slice());
-            drop(bytes);
-            status
-        }
+        Ok(bytes) => tell_bytes(alloc, out, bytes.as_slice()),
         Err(InputError::NoMemory) => refuse_memory(out),
         Err(error) => write_refusal(alloc, out, error.text(), None),
     }

@@ -11,21 +11,15 @@ use tx::{DecodeError, Tx, TxOut, decode};
 fn tx_of(alloc: Global, bytes: &[u8]) -> Result<Tx, SpentError> {
     match decode(alloc, bytes) {
         Ok(tx) => Ok(tx),
-        Err(error) => match error {
-            DecodeError::NoMemory => Err(SpentError::Input(InputError::NoMemory)),
-            _ => Err(SpentError::Decode(error)),
-        },
+        Err(DecodeError::NoMemory) => Err(SpentError::Input(InputError::NoMemory)),
+        Err(error) => Err(SpentError::Decode(error)),
     }
 }
 
 /// Reads the transaction on the first line of a text.
 pub fn read_tx(alloc: Global, text: &str) -> Result<Tx, SpentError> {
     match hex::decode(alloc, text.lines().next().unwrap_or("")) {
-        Ok(bytes) => {
-            let tx = tx_of(alloc, bytes.as_slice());
-            drop(bytes);
-            tx
-        }
+        Ok(bytes) => tx_of(alloc, bytes.as_slice()),
         Err(FromHexError::OutOfMemory) => Err(SpentError::Input(InputError::NoMemory)),
         Err(_) => Err(SpentError::Input(InputError::BadHex)),
     }
@@ -63,10 +57,7 @@ fn push_output(
 ) -> Result<(), SpentError> {
     match outputs.push(read_output(alloc, line, number)?) {
         Ok(()) => Ok(()),
-        Err(failed) => {
-            drop(failed);
-            Err(SpentError::Input(InputError::NoMemory))
-        }
+        Err(_) => Err(SpentError::Input(InputError::NoMemory)),
     }
 }
 
@@ -77,10 +68,7 @@ pub fn read_outputs(alloc: Global, text: &str, count: usize) -> Result<Vec<TxOut
     }
     let mut outputs = Vec::new(alloc);
     for (index, line) in text.lines().skip(1).enumerate() {
-        if let Err(error) = push_output(alloc, &mut outputs, line, index.saturating_add(2)) {
-            drop(outputs);
-            return Err(error);
-        }
+        push_output(alloc, &mut outputs, line, index.saturating_add(2))?;
     }
     Ok(outputs)
 }

@@ -29,11 +29,7 @@ pub fn run_words(
         return refuse_words(err);
     }
     match read_all(alloc, input) {
-        Ok(bytes) => {
-            let status = tell_bytes(alloc, form, bytes.as_slice(), out);
-            drop(bytes);
-            status
-        }
+        Ok(bytes) => tell_bytes(alloc, form, bytes.as_slice(), out),
         Err(error) => refuse(alloc, form, &SpentError::Input(error), out),
     }
 }
@@ -46,11 +42,7 @@ fn tell_bytes(alloc: Global, form: Form, bytes: &[u8], out: &mut dyn Write) -> u
         return refuse(alloc, form, &SpentError::Input(InputError::BadHex), out);
     };
     match read_tx(alloc, text) {
-        Ok(tx) => {
-            let status = tell_tx(alloc, form, text, &tx, out);
-            drop(tx);
-            status
-        }
+        Ok(tx) => tell_tx(alloc, form, text, &tx, out),
         Err(error) => refuse(alloc, form, &error, out),
     }
 }
@@ -60,11 +52,7 @@ fn tell_tx(alloc: Global, form: Form, text: &str, tx: &Tx, out: &mut dyn Write) 
     ensures { result ≤ 1 }
 {
     match read_outputs(alloc, text, tx.inputs().len()) {
-        Ok(outputs) => {
-            let status = tell_inputs(alloc, form, tx, outputs.as_slice(), out);
-            drop(outputs);
-            status
-        }
+        Ok(outputs) => tell_inputs(alloc, form, tx, outputs.as_slice(), out),
         Err(error) => refuse(alloc, form, &error, out),
     }
 }
@@ -87,9 +75,7 @@ fn refuse(alloc: Global, form: Form, error: &SpentError, out: &mut dyn Write) ->
         SpentError::BadLine(number) => line.write("BadLine %", &[Count(*number as u64)]),
     }
     line.push(after);
-    let status = write_told(out, &mut line, 1);
-    drop(line);
-    status
+    write_told(out, &mut line, 1)
 }
 
 // Judges each input, writes each verdict at once, and returns the greatest status.
@@ -125,11 +111,7 @@ fn tell_input(
     ensures { result ≤ 1 }
 {
     match judge(alloc, tx, cache, index, input, output) {
-        Ok(verdict) => {
-            let status = write_verdict(alloc, form, index, &verdict, out);
-            drop(verdict);
-            status
-        }
+        Ok(verdict) => write_verdict(alloc, form, index, &verdict, out),
         Err(_) => refuse_memory(out),
     }
 }
@@ -150,7 +132,5 @@ fn write_verdict(
         Verdict::Clean(_) => 0,
         _ => 1,
     };
-    let written = write_told(out, &mut line, status);
-    drop(line);
-    written
+    write_told(out, &mut line, status)
 }

@@ -2,14 +2,13 @@
 
 use crate::dues::settings::Setting;
 use crate::dues::sides::{informed_signer, point_of, secret_of};
-use anyhow::Result;
 use commit::signing_digests;
 use keys::{Key, Signer};
 use lists::List;
 use penalty::RevokedState;
 use resolve::{Known, KnownCommitment, RevokedCommitment, RevokedCommitments, SignedCommitment};
 use sighash::Token;
-use std::alloc::{AllocError, Global};
+use std::alloc::Global;
 use terms::{Side, Terms};
 
 /// The commitment of a number.
@@ -18,9 +17,9 @@ fn commitment(
     setting: &Setting,
     owner: Side,
     number: u64,
-) -> Result<KnownCommitment> {
-    let point = point_of(alloc, owner, number)?;
-    Ok(KnownCommitment::new(alloc, &setting.terms, &setting.view, owner, number, &point)?)
+) -> Option<KnownCommitment> {
+    let point = point_of(alloc, owner, number);
+    KnownCommitment::new(alloc, &setting.terms, &setting.view, owner, number, &point).ok()
 }
 
 /// The peer's tokens on a commitment.
@@ -31,25 +30,22 @@ struct Tokens {
 }
 
 /// The tokens of a key over digests.
-fn tokens_over(alloc: Global, key: &Key, digests: &[[u8; 32]]) -> Result<List<Token>, AllocError> {
+fn tokens_over(alloc: Global, key: &Key, digests: &[[u8; 32]]) -> Option<List<Token>> {
     let mut tokens = Vec::new(alloc);
     for digest in digests {
-        tokens.push(Token::new(&key.bytes, digest))?;
+        if tokens.push(Token::new(&key.bytes, digest)).is_err() {
+            return None;
+        }
     }
-    Ok(List::from_vec(tokens))
+    Some(List::from_vec(tokens))
 }
 
 /// The peer's tokens on an owner's commitment.
-fn tokens_on(
-    alloc: Global,
-    terms: &Terms,
-    owner: Side,
-    known: &KnownCommitment,
-) -> Result<Tokens, AllocError> {
-    let digests = signing_digests(alloc, terms, known.commitment())?;
+fn tokens_on(alloc: Global, terms: &Terms, owner: Side, known: &KnownCommitment) -> Option<Tokens> {
+    let digests = signing_digests(alloc, terms, known.commitment()).ok()?;
     let key = known.commitment().keys().remote_htlc;
     let funding = terms.party(owner.other()).bases.funding;
-    Ok(Tokens {
+    Some(Tokens {
         commitment: Token::new(&funding.bytes, &digests.commitment),
         htlcs: tokens_over(alloc, &key, digests.htlcs.values())?,
     })
@@ -62,16 +58,18 @@ fn with_tokens(
     owner: Side,
     own: KnownCommitment,
     tokens: Tokens,
-) -> Result<SignedCommitment> {
+) -> Option<SignedCommitment> {
     let Tokens { commitment, htlcs } = tokens;
-    Ok(SignedCommitment::new(alloc, terms, owner, own, commitment, htlcs)?)
+    SignedCommitment::new(alloc, terms, owner, own, commitment, htlcs).ok()
 }
 
 /// The commitment of a number with the peer's tokens.
-fn signed(alloc: Global, setting: &Setting, owner: Side, number: u64) -> Result<SignedCommitment> {
+fn signed(alloc: Global, setting: &Setting, owner: Side, number: u64) -> Option<SignedCommitment> {
     let own = commitment(alloc, setting, owner, number)?;
-    let tokens = tokens_on(alloc, &setting.terms, owner, &own)?;
-    with_tokens(alloc, &setting.terms, owner, own, tokens)
+    match tokens_on(alloc, &setting.terms, owner, &own) {
+        Some(tokens) => with_tokens(alloc, &setting.terms, owner, own, tokens),
+        None => None,
+    }
 }
 
 /// The state of a revoked commitment.
@@ -80,38 +78,57 @@ fn revoked_state(
     setting: &Setting,
     owner: Side,
     number: u64,
-) -> Result<RevokedState> {
-    let secret = secret_of(alloc, owner, number)?;
-    let view = setting.view.copy()?;
-    Ok(RevokedState::new(setting.terms, view, owner, number, secret)?)
+) -> Option<RevokedState> {
+    let secret = secret_of(alloc, owner, number);
+    let view = setting.view.copy().ok()?;
+    RevokedState::new(setting.terms, view, owner, number, secret).ok()
 }
 
-/// Adds the revoked commitment of a number, after those before it.
-fn push_revoked(
+/// A revoked commitment, whose penalties are kept.
+fn revoked(
     alloc: Global,
     setting: &Setting,
     owner: Side,
     number: u64,
-    list: &mut RevokedCommitments,
-) -> Result<()> {
+) -> Option<RevokedCommitment> {
     let state = revoked_state(alloc, setting, owner, number)?;
-    let revoked = RevokedCommitment::new(alloc, state, true)?;
-    list.push(revoked)?;
-    Ok(())
+    RevokedCommitment::new(alloc, state, true).ok()
 }
 
-/// Adds the first commitments, which are revoked.
-fn push_all_revoked(
+/// Adds the first commitments, which are revoked. Returns whether that can be done.
+fn push_revoked(
     alloc: Global,
     setting: &Setting,
     owner: Side,
     count: u64,
     list: &mut RevokedCommitments,
-) -> Result<()> {
+) -> bool {
     for number in 0..count {
-        push_revoked(alloc, setting, owner, number, list)?;
+        match revoked(alloc, setting, owner, number) {
+            Some(revoked) => {
+                if list.push(revoked).is_err() {
+                    return false;
+                }
+            }
+            None => return false,
+        }
     }
-    Ok(())
+    true
+}
+
+/// The first commitments, which are revoked.
+fn all_revoked(
+    alloc: Global,
+    setting: &Setting,
+    owner: Side,
+    count: u64,
+) -> Option<RevokedCommitments> {
+    let mut list = RevokedCommitments::new(alloc);
+    if push_revoked(alloc, setting, owner, count, &mut list) {
+        Some(list)
+    } else {
+        None
+    }
 }
 
 /// The commitments of the peer.
@@ -128,12 +145,11 @@ fn peers_commitments(
     setting: &Setting,
     peer: Side,
     newest: u64,
-) -> Result<PeersCommitments> {
-    let mut revoked = RevokedCommitments::new(alloc);
-    push_all_revoked(alloc, setting, peer, newest, &mut revoked)?;
+) -> Option<PeersCommitments> {
+    let revoked = all_revoked(alloc, setting, peer, newest)?;
     let next = commitment(alloc, setting, peer, newest.saturating_add(1))?;
     let newest = commitment(alloc, setting, peer, newest)?;
-    Ok(PeersCommitments {
+    Some(PeersCommitments {
         newest,
         next,
         revoked,
@@ -155,11 +171,11 @@ fn own_of(
     side: Side,
     newest: u64,
     preimage: Option<[u8; 32]>,
-) -> Result<Own> {
-    let preimages = Vec::from_slice(alloc, preimage.as_slice())?;
+) -> Option<Own> {
+    let preimages = Vec::from_slice(alloc, preimage.as_slice()).ok()?;
     let signer = informed_signer(alloc, side, newest)?;
     let commitment = signed(alloc, setting, side, newest)?;
-    Ok(Own {
+    Some(Own {
         signer,
         commitment,
         preimages: List::from_vec(preimages),
@@ -198,8 +214,13 @@ pub fn known(
     side: Side,
     newest: u64,
     preimage: Option<[u8; 32]>,
-) -> Result<Known> {
+) -> Option<Known> {
     let own = own_of(alloc, setting, side, newest, preimage)?;
-    let theirs = peers_commitments(alloc, setting, side.other(), newest)?;
-    Ok(joined(alloc, &setting.terms, side, own, theirs))
+    match peers_commitments(alloc, setting, side.other(), newest) {
+        Some(theirs) => Some(joined(alloc, &setting.terms, side, own, theirs)),
+        None => {
+            drop(own);
+            None
+        }
+    }
 }

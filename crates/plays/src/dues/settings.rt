@@ -2,11 +2,10 @@
 
 use crate::dues::publishing::funding_output;
 use crate::dues::sides::party;
-use anyhow::Result;
 use chain::{Chain, Coins};
 use digest::sha256;
 use lists::List;
-use std::alloc::{AllocError, Global};
+use std::alloc::Global;
 use terms::{Htlc, Share, Side, Terms, View};
 
 /// The satoshis of the channel, of which A has 80,000 at the start.
@@ -33,39 +32,53 @@ pub struct Offer {
 }
 
 /// The terms of a channel whose funding output is granted on a chain. A opened it, at 1,000 satoshis per 1,000 units of weight.
-fn open(alloc: Global, delays: Delays, chain: &mut Chain) -> Result<Terms> {
-    let a = party(alloc, Side::A, 80_000_000, delays[0])?;
-    let b = party(alloc, Side::B, 20_000_000, delays[1])?;
+fn open(alloc: Global, delays: Delays, chain: &mut Chain) -> Option<Terms> {
+    let a = party(alloc, Side::A, 80_000_000, delays[0]);
+    let b = party(alloc, Side::B, 20_000_000, delays[1]);
     let output = funding_output(alloc, &a.bases.funding, &b.bases.funding, CAPACITY)?;
-    let funding = chain.grant(output)?;
-    Ok(Terms::new(funding, CAPACITY, Side::A, 1000, a, b)?)
+    let funding = chain.grant(output).ok()?;
+    Terms::new(funding, CAPACITY, Side::A, 1000, a, b).ok()
+}
+
+/// Appends an HTLC. Returns whether there was memory.
+fn push(offered: &mut Vec<Htlc>, offer: &Offer) -> bool {
+    let htlc = Htlc {
+        id: offered.len() as u64,
+        amount: offer.satoshis.saturating_mul(1000),
+        hash: sha256(&PREIMAGE),
+        expiry: offer.expiry,
+    };
+    offered.push(htlc).is_ok()
+}
+
+/// The balance that is left to a side after its offers.
+fn balance(start: u64, offers: &[Offer]) -> u64 {
+    let mut balance = start;
+    for offer in offers {
+        balance = balance.saturating_sub(offer.satoshis.saturating_mul(1000));
+    }
+    balance
 }
 
 /// The balance that is left to a side after its offers, and the HTLCs that it offered.
-fn share(alloc: Global, start: u64, offers: &[Offer]) -> Result<Share, AllocError> {
-    let mut balance = start;
+fn share(alloc: Global, start: u64, offers: &[Offer]) -> Option<Share> {
     let mut offered = Vec::new(alloc);
-    for (id, offer) in offers.iter().enumerate() {
-        let amount = offer.satoshis.saturating_mul(1000);
-        balance = balance.saturating_sub(amount);
-        offered.push(Htlc {
-            id: id as u64,
-            amount,
-            hash: sha256(&PREIMAGE),
-            expiry: offer.expiry,
-        })?;
+    for offer in offers {
+        if !push(&mut offered, offer) {
+            return None;
+        }
     }
-    Ok(Share {
-        balance,
+    Some(Share {
+        balance: balance(start, offers),
         offered: List::from_vec(offered),
     })
 }
 
 /// What commitments with these HTLCs of A and of B pay.
-fn view(alloc: Global, of_a: &[Offer], of_b: &[Offer]) -> Result<View, AllocError> {
+fn view(alloc: Global, of_a: &[Offer], of_b: &[Offer]) -> Option<View> {
     let a = share(alloc, 80_000_000, of_a)?;
     let b = share(alloc, 20_000_000, of_b)?;
-    Ok(View {
+    Some(View {
         a,
         b,
         feerate: 1000,
@@ -79,8 +92,8 @@ pub fn open_channel(
     of_a: &[Offer],
     of_b: &[Offer],
     chain: &mut Chain,
-) -> Result<Setting> {
-    let view = view(alloc, of_a, of_b)?;
+) -> Option<Setting> {
     let terms = open(alloc, delays, chain)?;
-    Ok(Setting { terms, view })
+    let view = view(alloc, of_a, of_b)?;
+    Some(Setting { terms, view })
 }

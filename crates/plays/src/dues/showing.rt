@@ -1,16 +1,16 @@
-// Prints what follows from what a side knows.
+// What is shown of a side: its commitment, the claims that are due by each verdict, and transactions that take claims.
 
 use crate::dues::known::known;
-use crate::dues::publishing::{answer, closing_tx, show_id};
+use crate::dues::publishing::{closing_tx, fill_some};
 use crate::dues::settings::Setting;
-use anyhow::{Result, bail};
 use chain::{Chain, Coins};
 use claim::{Claim, Slot};
 use filling::{FillError, Filled};
+use page::Page;
 use resolve::{Known, Verdict, due_claims};
 use std::alloc::Global;
 use terms::Side;
-use tx::{Tx, TxIn};
+use tx::{Tx, txid};
 
 /// The verdicts. Commitment 1 is not among those that B revoked.
 const VERDICTS: [Verdict; 6] = [
@@ -57,93 +57,70 @@ pub struct Step {
     pub is_mined: bool,
 }
 
-/// The number of claims that are due by a verdict.
-fn count(alloc: Global, known: &Known, verdict: Verdict) -> Result<usize> {
-    Ok(due_claims(alloc, known, verdict)?.len())
+/// The number of claims that are due by a verdict; `None` if memory ran out.
+fn count(alloc: Global, known: &Known, verdict: Verdict) -> Option<u64> {
+    match due_claims(alloc, known, verdict) {
+        Ok(claims) => Some(claims.len() as u64),
+        Err(_) => None,
+    }
 }
 
-/// Prints the number of claims that are due by each verdict.
-fn show_counts<R: Print + AllocGlobal>(rt: &R, what: &str, known: &Known) -> Result<()> {
+/// Shows the number of claims that are due by a verdict.
+fn show_count(page: &mut Page, what: &str, known: &Known, verdict: Verdict) {
+    page.push(what);
+    page.push(", ");
+    page.debug(&verdict);
+    match count(page.alloc(), known, verdict) {
+        Some(count) => page.count(": ", count),
+        None => page.fail(),
+    }
+    page.push(" claims due\n");
+}
+
+/// Shows the number of claims that are due by each verdict.
+fn show_counts(page: &mut Page, what: &str, known: &Known) {
     for verdict in &VERDICTS {
-        let count = count(rt.alloc(), known, *verdict)?;
-        println!(rt; "{what}, {verdict:?}: {count} claims due")?;
+        show_count(page, what, known, *verdict);
     }
-    Ok(())
 }
 
-/// Drops the next commitment of the peer.
-fn forget_next(known: &mut Known) {
-    known.next = None;
+/// Shows a field of a transaction.
+fn show_field(page: &mut Page, what: &str, field: &str, number: u32) {
+    page.push(what);
+    page.count(field, u64::from(number));
+    page.push("\n");
 }
 
-/// Prints a field of a transaction.
-fn show_field(rt: &impl Print, what: &str, field: &str, number: u32) -> Result<()> {
-    println!(rt; "{what}: {field} {number}")?;
-    Ok(())
+/// Shows the id of a transaction, in the hash's own byte order.
+fn show_id(page: &mut Page, tx: &Tx) {
+    page.hex("    ", &txid(tx));
+    page.push("\n");
 }
 
-/// Prints the sequences of a transaction's inputs.
-fn show_sequences(rt: &impl Print, what: &str, inputs: &[TxIn]) -> Result<()> {
-    for input in inputs {
-        show_field(rt, what, "sequence", input.sequence)?;
+/// Shows a transaction of claims.
+fn show_tx(page: &mut Page, what: &str, tx: &Tx) {
+    show_field(page, what, ": version ", tx.version());
+    show_field(page, what, ": lock time ", tx.lock_time());
+    for input in tx.inputs() {
+        show_field(page, what, ": sequence ", input.sequence);
     }
-    Ok(())
+    show_id(page, tx);
 }
 
-/// Prints a transaction of claims.
-fn show_tx<R: Print + AllocGlobal>(rt: &R, what: &str, tx: &Tx) -> Result<()> {
-    show_field(rt, what, "version", tx.version())?;
-    show_field(rt, what, "lock time", tx.lock_time())?;
-    show_sequences(rt, what, tx.inputs())?;
-    show_id(rt, tx)
-}
-
-/// Adds a copy of a transaction to a block.
-fn push_copy(tx: &Tx, block: &mut Vec<Tx>) -> Result<()> {
-    block.push(tx.copy()?)?;
-    Ok(())
-}
-
-/// Prints the result of a filling; its transaction goes into the block, if there is one.
-fn show_filling<R: Print + AllocGlobal>(
-    rt: &R,
-    what: &str,
-    filling: &Result<Filled, FillError>,
-    block: &mut Vec<Tx>,
-) -> Result<()> {
+/// Shows a filling, and returns its transaction, if there is one.
+fn show_filling(page: &mut Page, what: &str, filling: Result<Filled, FillError>) -> Option<Tx> {
     match filling {
         Ok(filled) => {
-            show_tx(rt, what, filled.tx())?;
-            push_copy(filled.tx(), block)
+            show_tx(page, what, filled.tx());
+            Some(filled.into_tx())
         }
-        Err(refusal) => Ok(println!(rt; "{what}: {refusal}")?),
-    }
-}
-
-/// Prints the result of filling claims in one transaction.
-fn show_answer<R: Print + AllocGlobal>(
-    rt: &R,
-    what: &str,
-    claims: &[&Claim],
-    value: u64,
-    known: &Known,
-    block: &mut Vec<Tx>,
-) -> Result<()> {
-    let filling = answer(rt.alloc(), claims, value, known)?;
-    show_filling(rt, what, &filling, block)
-}
-
-/// Fills the first two of at least three claims in one transaction.
-fn show_first_two<R: Print + AllocGlobal>(
-    rt: &R,
-    what: &str,
-    claims: &[Claim],
-    known: &Known,
-    block: &mut Vec<Tx>,
-) -> Result<()> {
-    match claims {
-        [first, second, ..] => show_answer(rt, what, &[first, second], 11_000, known, block),
-        _ => bail!("three HTLCs time out"),
+        Err(refusal) => {
+            page.push(what);
+            page.push(": ");
+            page.show(&refusal);
+            page.push("\n");
+            None
+        }
     }
 }
 
@@ -152,154 +129,129 @@ fn is_by_preimage(claim: &Claim) -> bool {
     matches!(claim.slots().first(), Some(Slot::Preimage(_)))
 }
 
-/// Fills the first claim with a preimage.
-fn show_by_preimage<R: Print + AllocGlobal>(
-    rt: &R,
-    what: &str,
-    claims: &[Claim],
-    known: &Known,
-    block: &mut Vec<Tx>,
-) -> Result<()> {
+/// The place of the first claim with a preimage, and its value.
+fn by_preimage(claims: &[Claim]) -> (usize, u64) {
+    let mut place: usize = 0;
     for claim in claims {
         if is_by_preimage(claim) {
-            return show_answer(rt, what, &[claim], claim.place().value, known, block);
+            return (place, claim.place().value);
         }
+        place = place.saturating_add(1);
     }
-    bail!("an HTLC was offered to the side")
+    (place, 0)
 }
 
-/// Claims the first output twice.
-fn show_twice<R: Print + AllocGlobal>(
-    rt: &R,
-    claims: &[Claim],
-    known: &Known,
-    block: &mut Vec<Tx>,
-) -> Result<()> {
-    match claims {
-        [htlc, ..] => show_answer(rt, "one twice", &[htlc, htlc], 10_000, known, block),
-        _ => bail!("a revoked commitment has a claim"),
-    }
-}
-
-/// Claims the commitment's three outputs together, before any HTLC transaction.
-fn show_three<R: Print + AllocGlobal>(
-    rt: &R,
+/// Shows the filling of the claims at some places into one output of this value.
+fn show_some(
+    page: &mut Page,
     what: &str,
     claims: &[Claim],
+    places: &[usize],
     value: u64,
     known: &Known,
-    block: &mut Vec<Tx>,
-) -> Result<()> {
-    match claims {
-        [htlc, _, remote, local] => {
-            show_answer(rt, what, &[htlc, remote, local], value, known, block)
-        }
-        _ => bail!("a revoked commitment with an HTLC has four claims"),
-    }
+) -> Option<Tx> {
+    let filling = fill_some(page.alloc(), claims, places, value, known);
+    show_filling(page, what, filling)
 }
 
-/// Claims an output twice; and three outputs together,
-/// with a satoshi too many and with their exact worth.
-fn show_penalties<R: Print + AllocGlobal>(
-    rt: &R,
-    what: &str,
-    claims: &[Claim],
-    known: &Known,
-    block: &mut Vec<Tx>,
-) -> Result<()> {
-    show_twice(rt, claims, known, block)?;
-    show_three(rt, "a satoshi more", claims, 99_105, known, block)?;
-    show_three(rt, what, claims, 99_104, known, block)
-}
-
-/// Prints the transactions that take claims.
-fn show_taken<R: Print + AllocGlobal>(
-    rt: &R,
+/// Shows transactions that take claims, and returns the last one.
+fn show_taken(
+    page: &mut Page,
     what: &str,
     claims: &[Claim],
     taken: Taken,
     known: &Known,
-    block: &mut Vec<Tx>,
-) -> Result<()> {
+) -> Option<Tx> {
     match taken {
-        Taken::FirstTwo => show_first_two(rt, what, claims, known, block),
-        Taken::ByPreimage => show_by_preimage(rt, what, claims, known, block),
-        Taken::Penalties => show_penalties(rt, what, claims, known, block),
+        Taken::FirstTwo => show_some(page, what, claims, &[0, 1], 11_000, known),
+        Taken::ByPreimage => {
+            let (place, value) = by_preimage(claims);
+            show_some(page, what, claims, &[place], value, known)
+        }
+        Taken::Penalties => {
+            drop(show_some(page, "one twice", claims, &[0, 0], 10_000, known));
+            drop(show_some(page, "a satoshi more", claims, &[0, 2, 3], 99_105, known));
+            show_some(page, what, claims, &[0, 2, 3], 99_104, known)
+        }
     }
 }
 
-/// Prints the transactions that take claims due by a verdict.
-fn show_due<R: Print + AllocGlobal>(
-    rt: &R,
+/// Shows the transactions that take claims due by a verdict, and returns the last one.
+fn show_due(
+    page: &mut Page,
     what: &str,
     known: &Known,
     verdict: Verdict,
     taken: Taken,
-    block: &mut Vec<Tx>,
-) -> Result<()> {
-    let claims = due_claims(rt.alloc(), known, verdict)?;
-    show_taken(rt, what, claims.as_slice(), taken, known, block)
-}
-
-/// Prints the side's newest commitment, with both signatures; it goes into the block.
-fn show_commitment<R: Print + AllocGlobal>(
-    rt: &R,
-    known: &Known,
-    block: &mut Vec<Tx>,
-) -> Result<()> {
-    let tx = closing_tx(rt.alloc(), known)?;
-    show_id(rt, &tx)?;
-    block.push(tx)?;
-    Ok(())
-}
-
-/// Prints what to show of a side.
-fn show_known<R: Print + AllocGlobal>(
-    rt: &R,
-    step: &Step,
-    known: &mut Known,
-    block: &mut Vec<Tx>,
-) -> Result<()> {
-    match step.shown {
-        Shown::Counts => show_counts(rt, step.what, known),
-        Shown::CountsWithoutNext => {
-            forget_next(known);
-            show_counts(rt, step.what, known)
-        }
-        Shown::Commitment => show_commitment(rt, known, block),
-        Shown::Claims(verdict, taken) => show_due(rt, step.what, known, verdict, taken, block),
+) -> Option<Tx> {
+    match due_claims(page.alloc(), known, verdict) {
+        Ok(claims) => show_taken(page, what, claims.as_slice(), taken, known),
+        Err(_) => None,
     }
 }
 
-/// Prints what to show of the side of a step.
-fn show_step<R: Print + AllocGlobal>(
-    rt: &R,
-    setting: &Setting,
-    step: &Step,
-    block: &mut Vec<Tx>,
-) -> Result<()> {
-    let mut known = known(rt.alloc(), setting, step.side, step.newest, step.preimage)?;
-    show_known(rt, step, &mut known, block)
+/// Shows the side's newest commitment, with both signatures, and returns it.
+fn show_commitment(page: &mut Page, known: &Known) -> Option<Tx> {
+    let tx = closing_tx(page.alloc(), known)?;
+    show_id(page, &tx);
+    Some(tx)
 }
 
-/// Connects a block, and prints its height.
-fn connect(rt: &impl Print, what: &str, block: Vec<Tx>, chain: &mut Chain) -> Result<()> {
-    let height = chain.connect(block)?;
-    println!(rt; "{what}: height {height}")?;
-    Ok(())
+/// Shows what a step asks for, and returns the last transaction that is shown.
+fn show_known(page: &mut Page, step: &Step, known: &mut Known) -> Option<Tx> {
+    match step.shown {
+        Shown::Counts => {
+            show_counts(page, step.what, known);
+            None
+        }
+        Shown::CountsWithoutNext => {
+            drop(known.next.take());
+            show_counts(page, step.what, known);
+            None
+        }
+        Shown::Commitment => show_commitment(page, known),
+        Shown::Claims(verdict, taken) => show_due(page, step.what, known, verdict, taken),
+    }
+}
+
+/// Shows what a step asks for of its side, and returns the last transaction that is shown.
+fn show_step(page: &mut Page, setting: &Setting, step: &Step) -> Option<Tx> {
+    match known(page.alloc(), setting, step.side, step.newest, step.preimage) {
+        Some(mut known) => {
+            let shown = show_known(page, step, &mut known);
+            drop(known);
+            shown
+        }
+        None => {
+            page.fail();
+            None
+        }
+    }
+}
+
+/// Connects a block, and shows its height.
+fn connect(page: &mut Page, what: &str, block: Vec<Tx>, chain: &mut Chain) {
+    page.push(what);
+    match chain.connect(block) {
+        Ok(height) => page.count(": height ", height),
+        Err(_) => page.fail(),
+    }
+    page.push("\n");
+}
+
+/// Mines a transaction in a block.
+fn mine(page: &mut Page, what: &str, tx: Tx, chain: &mut Chain) {
+    let mut block = Vec::new(page.alloc());
+    if block.push(tx).is_err() {
+        page.fail();
+    }
+    connect(page, what, block, chain);
 }
 
 /// Plays a step in a channel whose funding output stands on a chain.
-pub fn play_step<R: Print + AllocGlobal>(
-    rt: &R,
-    setting: &Setting,
-    step: &Step,
-    chain: &mut Chain,
-) -> Result<()> {
-    let mut block = Vec::new(rt.alloc());
-    show_step(rt, setting, step, &mut block)?;
-    if !step.is_mined {
-        return Ok(());
+pub fn play_step(page: &mut Page, setting: &Setting, step: &Step, chain: &mut Chain) {
+    match show_step(page, setting, step) {
+        Some(tx) if step.is_mined => mine(page, step.what, tx, chain),
+        _ => {}
     }
-    connect(rt, step.what, block, chain)
 }
