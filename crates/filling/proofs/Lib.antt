@@ -2,6 +2,7 @@ pub mod Lists
 pub mod Repeats
 pub mod Standing
 pub mod Fitted
+pub mod AcceptedFit
 pub mod Bounds
 pub mod Outpoints
 pub mod Repeated

@@ -1,5 +1,6 @@
 -- What a filling is, and what holds of it.
 use Rattle.std.specs.Prelude.{◌≡◌, ℕ, ◌≤◌, List, [], ◌∷◌, map, Some}
+use Rattle.std.specs.List.{AllByRecursion}
 use Rattle.script.specs.Limits.{max_ops, max_stack_size}
 use Rattle.script.specs.Run.{Clean}
 use Rattle.tx.specs.declared.input.TxIn.{TxIn}
@@ -9,7 +10,7 @@ use Rattle.sighash.specs.Programs.{run_of}
 use Rattle.keys.specs.Rights.{Rights}
 use Rattle.claim.specs.declared.parts.Place.{Place}
 use Rattle.claim.specs.Fitting.{output_at}
-use Rattle.claim.specs.Claims.{ClaimParts, FitsClaim}
+use Rattle.claim.specs.Claims.{ClaimParts, FitsClaim, IsWhole}
 use Rattle.filling.specs.Filling.{filling_of}
 use Rattle.filling.specs.Refusals.{ArePassed, AreFillable, all_slots}
 
@@ -46,3 +47,9 @@ pub record IsFillingOf (claims : List ClaimParts) (outputs : List Output) (r : R
   pub tx : f.tx ≡ filling_of claims outputs preimages
   pub places : f.places ≡ map (λ c. c.place) claims
   pub fits : AllFit f.tx claims f.tx.inputs
+
+-- where nothing refuses accepted claims, each input of the transaction that fills them fits its claim
+abbrev pub FillingsFit : Type 0
+FillingsFit =
+    (claims : List ClaimParts) (outputs : List Output) (r : Rights) (preimages : List (List ℕ)) → AllByRecursion IsWhole claims → ArePassed claims outputs
+    → AreFillable r preimages (all_slots claims) → AllFit (filling_of claims outputs preimages) claims (filling_of claims outputs preimages).inputs

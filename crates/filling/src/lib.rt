@@ -19,6 +19,7 @@ pub mod errors;
 mod exclusions;
 pub mod filled;
 pub mod filling;
+pub mod laws;
 mod preimages;
 mod unsigned;
 mod witnesses;
