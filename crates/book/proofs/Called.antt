@@ -1,17 +1,17 @@
 -- What a call does to a history, and to what a book keeps beside it.
-use Rattle.std.proofs.Common.{◌≡◌, ℕ, ◌<◌, Bool, true, false, List, [], ◌∷◌, ◌++◌, length, cond, is_some, Option, Some, None, Result, Ok, Err, refl, sym, ap, ◌∙◌, arith, inl, inr}
+use Rattle.std.proofs.Common.{◌≡◌, ℕ, ◌<◌, Bool, true, false, List, [], ◌∷◌, ◌++◌, length, cond, is_some, Option, Some, None, Result, Ok, Err, refl, sym, ap, ◌∙◌, subst, arith, inl, inr}
 use Rattle.std.specs.Prelude.{slice_get, is_ok, nat_le}
 use Rattle.std.specs.Map.{lookup, values_of}
 use Rattle.indexmap.specs.Layout.{set_value_at}
 use Rattle.book.specs.declared.limits.TheConstants.{MAX_CHANNELS}
-use Rattle.claim.specs.Claims.{ClaimParts}
+use Rattle.claim.specs.Claims.{ClaimParts, IsWhole}
 use Rattle.filling.specs.Filled.{Filling}
 use Rattle.channel.specs.Rights.{rights_of}
 use Rattle.book.specs.Signers.{fill_refusal}
 use Rattle.book.specs.declared.calls.Batch.{Batch}
 use Rattle.book.specs.declared.calls.Opening.{Opening}
 use Rattle.book.proofs.Fundings.{as_many, funds, stands, written, joined}
-use Rattle.std.specs.List.{cons_option, list_any}
+use Rattle.std.specs.List.{AllByRecursion, cons_option, list_any}
 use Rattle.std.proofs.lemmas.Bool.{and_from}
 use Rattle.std.proofs.lemmas.Bool.Decides.{nat_tests}
 use Rattle.std.proofs.lemmas.List.{reverse-append}
@@ -31,7 +31,7 @@ use Rattle.book.specs.declared.errors.OpenError.TheVariants.{NoMemory as out_of_
 use Rattle.book.specs.Penalties.{same_outpoint}
 use Rattle.book.specs.Books.{ChannelBook, Channels, at_index, stepped as state_stepped, with_state, with_kept, opened_by, channels_after, replayed, replay}
 use Rattle.book.specs.Replies.{Reply, opened, stepped, signed, revoked, kept, released, is_accepted, answer_of, reply_of, extended, step_refusal, messages_of, sign_refusal, keep_refusal}
-use Rattle.book.specs.Accepted.{all_accepted}
+use Rattle.book.specs.Accepted.{all_accepted, claims_by, AreWhole}
 use Rattle.book.specs.Kept.{by_funding, AreLeft}
 use Rattle.book.specs.Calling.{IsCall, IsOpenRefusal, token_refusal, filling_by}
 use Rattle.book.proofs.Accepted.{one_more}
@@ -44,11 +44,18 @@ taken : (history new : List Entry) (seat : ℕ) (call : Call) (reply no_memory :
     → new ≡ history ++ entry seat call ∷ [] → IsCall no_memory reply history new seat call
 taken history new seat call reply no_memory answer ok is = inr (sym answer, is ∙ ap (λ b. extended b history seat call) (sym (ap is_accepted answer ∙ ok)))
 
+-- the claims of one more call are whole
+whole_grown : (history : List Entry) (e : Entry) → AreWhole history → AllByRecursion IsWhole (claims_by e.call) → AreWhole (history ++ e ∷ [])
+whole_grown [] e h w = (w, tt)
+whole_grown (x ∷ xs) e h w = (h.0, whole_grown xs e h.1 w)
+
 -- what is kept after it
 keeping : (history new : List Entry) (channels channels' : List (OutPoint × ChannelBook)) (seat : ℕ) (call : Call) (reply : Reply) → AreLeft history channels → reply_of peer_tokens history call ≡ reply
-    → is_accepted reply ≡ true → new ≡ history ++ entry seat call ∷ [] → channels' ≡ by_funding (channels_after call (replay history)) → AreLeft new channels'
-keeping history new channels channels' seat call reply k answer ok is after = record {
+    → is_accepted reply ≡ true → new ≡ history ++ entry seat call ∷ [] → channels' ≡ by_funding (channels_after call (replay history))
+    → AllByRecursion IsWhole (claims_by call) → AreLeft new channels'
+keeping history new channels channels' seat call reply k answer ok is after whole = record {
   accepted = ap (all_accepted peer_tokens) is ∙ one_more peer_tokens history (entry seat call) ∙ and_from _ _ (ap is_accepted answer ∙ ok) k.accepted;
+  whole = subst AreWhole (sym is) (whole_grown history (entry seat call) k.whole whole);
   left = after ∙ ap by_funding (sym (ap replay is ∙ ap replayed (reverse-append history (entry seat call ∷ []))));
 }
 
@@ -56,9 +63,10 @@ keeping history new channels channels' seat call reply k answer ok is after = re
 keeping_at : (f : ChannelBook → ChannelBook) → ((ch : ChannelBook) → (f ch).state.held.terms ≡ ch.state.held.terms)
     → (history new : List Entry) (channels : List (OutPoint × ChannelBook)) (seat : ℕ) (call : Call) (reply : Reply) (c : ℕ) (x y : ChannelBook)
     → channels_after call (replay history) ≡ at_index f c (replay history) → AreLeft history channels → reply_of peer_tokens history call ≡ reply → is_accepted reply ≡ true
-    → new ≡ history ++ entry seat call ∷ [] → slice_get (values_of channels) c ≡ Some x → y ≡ f x → AreLeft new (set_value_at channels c y)
-keeping_at f same history new channels seat call reply c x y after k answer ok is found e =
-    keeping history new channels (set_value_at channels c y) seat call reply k answer ok is (written history channels k f same c x y found e ∙ ap by_funding (sym after))
+    → new ≡ history ++ entry seat call ∷ [] → slice_get (values_of channels) c ≡ Some x → y ≡ f x → AllByRecursion IsWhole (claims_by call)
+    → AreLeft new (set_value_at channels c y)
+keeping_at f same history new channels seat call reply c x y after k answer ok is found e whole =
+    keeping history new channels (set_value_at channels c y) seat call reply k answer ok is (written history channels k f same c x y found e ∙ ap by_funding (sym after)) whole
 
 -- a step leaves the terms
 pub step_leaves_terms : (step : Step) (ch : ChannelBook) → (state_stepped step ch.state).held.terms ≡ ch.state.held.terms
@@ -121,7 +129,7 @@ step_done history new channels seat c x y step m no_memory k found none message 
     let answer = step_answer (replay history) c x step m (stands history channels k c x found) none message in
     record {
       called = taken history new seat (Stepping c step) (stepped (Ok (cons_option m []))) no_memory answer refl is;
-      keeps = keeping_at (with_state (state_stepped step)) (step_leaves_terms step) history new channels seat (Stepping c step) (stepped (Ok (cons_option m []))) c x y refl k answer refl is found written_as;
+      keeps = keeping_at (with_state (state_stepped step)) (step_leaves_terms step) history new channels seat (Stepping c step) (stepped (Ok (cons_option m []))) c x y refl k answer refl is found written_as tt;
     }
 
 pub revoke_done : (history new : List Entry) (channels : List (OutPoint × ChannelBook)) (seat c : ℕ) (x y : ChannelBook) (secret : List ℕ) (next_point : Key) (n : ℕ) (no_memory : Reply) → AreLeft history channels
@@ -131,7 +139,7 @@ revoke_done history new channels seat c x y secret next_point n no_memory k foun
     let answer = revoke_answer (replay history) c x secret next_point n (stands history channels k c x found) none number in
     record {
       called = taken history new seat (Revoke c secret next_point) (revoked (Ok n)) no_memory answer refl is;
-      keeps = keeping_at (with_state (λ s. after s (RevokeAndAck secret next_point))) (λ ch. refl) history new channels seat (Revoke c secret next_point) (revoked (Ok n)) c x y refl k answer refl is found written_as;
+      keeps = keeping_at (with_state (λ s. after s (RevokeAndAck secret next_point))) (λ ch. refl) history new channels seat (Revoke c secret next_point) (revoked (Ok n)) c x y refl k answer refl is found written_as tt;
     }
 
 pub sign_done : (history new : List Entry) (channels : List (OutPoint × ChannelBook)) (seat c : ℕ) (x y : ChannelBook) (m : Message) (no_memory : Reply) → AreLeft history channels
@@ -141,7 +149,7 @@ sign_done history new channels seat c x y m no_memory k found none message writt
     let answer = sign_answer (replay history) c x m (stands history channels k c x found) none message in
     record {
       called = taken history new seat (Sign c) (signed (Ok m)) no_memory answer refl is;
-      keeps = keeping_at (with_state after_sign) (λ ch. refl) history new channels seat (Sign c) (signed (Ok m)) c x y refl k answer refl is found written_as;
+      keeps = keeping_at (with_state after_sign) (λ ch. refl) history new channels seat (Sign c) (signed (Ok m)) c x y refl k answer refl is found written_as tt;
     }
 
 pub open_done : (history new : List Entry) (channels channels' : List (OutPoint × ChannelBook)) (seat n : ℕ) (o : Opening) (no_memory : Reply) → AreLeft history channels
@@ -153,7 +161,7 @@ open_done history new channels channels' seat n o no_memory k room absent token 
     let answer = open_answer (replay history) o n (ap (nat_le MAX_CHANNELS) (sym many) ∙ room) other token (index ∙ many) in
     record {
       called = taken history new seat (Open o) (opened (Ok n)) no_memory answer refl is;
-      keeps = keeping history new channels channels' seat (Open o) (opened (Ok n)) k answer refl is (more ∙ joined history channels k (opened_by o));
+      keeps = keeping history new channels channels' seat (Open o) (opened (Ok n)) k answer refl is (more ∙ joined history channels k (opened_by o)) tt;
     }
 
 -- ---- refused calls
@@ -193,20 +201,20 @@ no_token history channels seat o e k room absent h = by e h
 
 pub release_done : (history new : List Entry) (channels : List (OutPoint × ChannelBook)) (seat c : ℕ) (x : ChannelBook) (b : Batch) (f : Filling) (no_memory : Reply) → AreLeft history channels
     → slice_get (values_of channels) c ≡ Some x → fill_refusal b.claims b.outputs (rights_of x.state) b.preimages ≡ None → f ≡ filling_by b
-    → new ≡ history ++ entry seat (Release c b) ∷ [] → IsDone no_memory (released (Ok f)) history new channels seat (Release c b)
-release_done history new channels seat c x b f no_memory k found none filled is =
+    → new ≡ history ++ entry seat (Release c b) ∷ [] → AllByRecursion IsWhole b.claims → IsDone no_memory (released (Ok f)) history new channels seat (Release c b)
+release_done history new channels seat c x b f no_memory k found none filled is whole =
     let answer = release_answer (replay history) c x b f (stands history channels k c x found) none filled in
     record {
       called = taken history new seat (Release c b) (released (Ok f)) no_memory answer refl is;
-      keeps = keeping history new channels channels seat (Release c b) (released (Ok f)) k answer refl is k.left;
+      keeps = keeping history new channels channels seat (Release c b) (released (Ok f)) k answer refl is k.left whole;
     }
 
 pub keep_done : (history new : List Entry) (channels : List (OutPoint × ChannelBook)) (seat c n : ℕ) (x y : ChannelBook) (claims : List ClaimParts) (no_memory : Reply) → AreLeft history channels
     → slice_get (values_of channels) c ≡ Some x → keep_refusal x n claims ≡ None → y ≡ with_kept n x
-    → new ≡ history ++ entry seat (Keep c n claims) ∷ [] → IsDone no_memory (kept (Ok tt)) history new (set_value_at channels c y) seat (Keep c n claims)
-keep_done history new channels seat c n x y claims no_memory k found none written_as is =
+    → new ≡ history ++ entry seat (Keep c n claims) ∷ [] → AllByRecursion IsWhole claims → IsDone no_memory (kept (Ok tt)) history new (set_value_at channels c y) seat (Keep c n claims)
+keep_done history new channels seat c n x y claims no_memory k found none written_as is whole =
     let answer = keep_answer (replay history) c n x claims (stands history channels k c x found) none in
     record {
       called = taken history new seat (Keep c n claims) (kept (Ok tt)) no_memory answer refl is;
-      keeps = keeping_at (with_kept n) (λ ch. refl) history new channels seat (Keep c n claims) (kept (Ok tt)) c x y refl k answer refl is found written_as;
+      keeps = keeping_at (with_kept n) (λ ch. refl) history new channels seat (Keep c n claims) (kept (Ok tt)) c x y refl k answer refl is found written_as whole;
     }

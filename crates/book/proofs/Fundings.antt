@@ -1,5 +1,5 @@
 -- The channels by their funding outputs.
-use Rattle.std.proofs.Common.{◌≡◌, ℕ, zero, suc, ◌&&◌, ◌||◌, ◌==◌, cond, Bool, true, false, List, [], ◌∷◌, ◌++◌, length, Option, Some, is_some, refl, sym, ap, ◌∙◌, arith}
+use Rattle.std.proofs.Common.{◌≡◌, ℕ, zero, suc, ◌&&◌, ◌||◌, ◌==◌, cond, Bool, true, false, List, [], ◌∷◌, ◌++◌, length, Option, Some, is_some, refl, sym, ap, ◌∙◌, subst, arith}
 use Rattle.std.specs.Prelude.{slice_get}
 use Rattle.std.specs.Cmp.Lexicographic.{nat_list_eq_equiv}
 use Rattle.std.specs.List.{list_any}
@@ -14,7 +14,7 @@ use Rattle.book.specs.Penalties.{same_outpoint}
 use Rattle.channel.specs.Tokens.{peer_tokens}
 use Rattle.book.specs.declared.calls.Entry.{Entry}
 use Rattle.book.specs.Books.{ChannelBook, Channels, at_index, replay, fundings_of}
-use Rattle.book.specs.Accepted.{all_accepted}
+use Rattle.book.specs.Accepted.{all_accepted, AreWhole}
 use Rattle.book.specs.Kept.{by_funding, AreLeft}
 
 same_number : (x y : ℕ) → (x == y) ≡ (y == x)
@@ -84,5 +84,6 @@ module _ (history : List Entry) (channels : List (OutPoint × ChannelBook)) (k :
   pub left_alone : (new : List Entry) → new ≡ history → (c : ℕ) (x y : ChannelBook) → slice_get (values_of channels) c ≡ Some x → y ≡ x → AreLeft new (set_value_at channels c y)
   left_alone new is c x y found e = record {
     accepted = ap (all_accepted peer_tokens) is ∙ k.accepted;
+    whole = subst AreWhole (sym is) k.whole;
     left = ap (λ es. set_value_at es c y) k.left ∙ unchanged c (replay history) x y (stands c x found) e ∙ ap (λ h. by_funding (replay h)) (sym is);
   }

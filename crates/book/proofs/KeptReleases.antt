@@ -137,7 +137,7 @@ filled_later {c} {es} {claim} e f =
     let l = later e.call c (replayed es) f.channel f.there in
     record { channel = l.new; there = l.there; fills = all_fill_later f.channel l.new l.grew (map filling_of claim.slots) f.fills }
 
-only_one : {X : Type 0} (x y : X) → Contains (x ∷ []) y → x ≡ y
+pub only_one : {X : Type 0} (x y : X) → Contains (x ∷ []) y → x ≡ y
 only_one x y (zero, lt, at) = at
 only_one x y (suc k, lt, at) = absurd (omega (arith, lt))
 
@@ -163,7 +163,7 @@ kept_fills tokens_of c n seat set claim (e ∷ es) ok kept within = filled_later
     parts : (is_taken tokens_of es e ≡ true) × (are_accepted tokens_of es ≡ true)
     parts = and_parts (is_taken tokens_of es e) (are_accepted tokens_of es) ok
 
-in_reverse : {X : Type 0} (xs : List X) (y : X) → Contains xs y → Contains (reverse xs) y
+pub in_reverse : {X : Type 0} (xs : List X) (y : X) → Contains xs y → Contains (reverse xs) y
 in_reverse [] y h = absurd (omega (arith, h.1))
 in_reverse (x ∷ xs) y h = subst (λ zs. Contains zs y) (sym (reverse-append (x ∷ []) xs)) (⊎_elim
     (λ here. subst (λ z. Contains (reverse xs ++ x ∷ []) z) (only_one x y here) (Contains-push (reverse xs) x))

@@ -1,7 +1,10 @@
 -- Histories of accepted calls.
 use Rattle.std.specs.Prelude.{◌≡◌, ◌↔◌, ◌<◌, ℕ, suc, Bool, true, false, ◌&&◌, if◌then◌else◌, List, [], ◌∷◌, reverse, take, length, Option, Some, None, option_map}
+use Rattle.std.specs.List.{AllByRecursion}
+use Rattle.claim.specs.Claims.{ClaimParts, IsWhole}
 use Rattle.channel.specs.States.{Signing}
 use Rattle.book.specs.declared.calls.Call.{Call}
+use Rattle.book.specs.declared.calls.Call.TheVariants.{Keep, Release}
 use Rattle.book.specs.declared.calls.Entry.{Entry}
 use Rattle.book.specs.Books.{replayed}
 use Rattle.book.specs.Replies.{is_accepted, answer_of, history_after}
@@ -18,6 +21,16 @@ are_accepted tokens_of (e ∷ es) = is_taken tokens_of es e && are_accepted toke
 -- the same for a history, which has the oldest entry first
 abbrev pub all_accepted : Signing → List Entry → Bool
 all_accepted tokens_of history = are_accepted tokens_of (reverse history)
+
+-- the claims of a call
+abbrev pub claims_by : Call → List ClaimParts
+claims_by (Keep c n claims) = claims
+claims_by (Release c batch) = batch.claims
+claims_by call = []
+
+-- the claims of each call are what every claim is
+abbrev pub AreWhole : List Entry → Type 0
+AreWhole history = AllByRecursion (λ e. AllByRecursion IsWhole (claims_by e.call)) history
 
 -- the index of the first of further entries, the oldest first, that is refused after those before it and these, the newest first
 abbrev pub first_refused_after : Signing → List Entry → List Entry → Option ℕ

@@ -4,7 +4,7 @@ use Rattle.tx.specs.declared.input.OutPoint.{OutPoint}
 use Rattle.channel.specs.Tokens.{peer_tokens}
 use Rattle.book.specs.declared.calls.Entry.{Entry}
 use Rattle.book.specs.Books.{ChannelBook, Channels, is_kept, replay}
-use Rattle.book.specs.Accepted.{all_accepted}
+use Rattle.book.specs.Accepted.{all_accepted, AreWhole}
 
 -- by number, a flag says whether the number is kept, and no number past
 -- the flags is; all numbers below `below` are kept, and `below` is not
@@ -23,7 +23,8 @@ pub record IsBeside (ch : ChannelBook) (flags : List Bool) (below : ℕ) : Type 
 abbrev pub by_funding : Channels → List (OutPoint × ChannelBook)
 by_funding chs = map (λ ch. (ch.state.held.terms.funding, ch)) chs
 
--- the channels are those that a history of accepted calls leaves, each by its funding output
+-- the channels are those that a history of accepted calls and whole claims leaves, each by its funding output
 pub record AreLeft (history : List Entry) (channels : List (OutPoint × ChannelBook)) : Type 0 where
   pub accepted : all_accepted peer_tokens history ≡ true
+  pub whole : AreWhole history
   pub left : channels ≡ by_funding (replay history)

@@ -1,9 +1,10 @@
--- Kept claims can be released.
+-- Kept claims can be released, and what is released fits its claims.
 use Rattle.std.specs.Prelude.{◌≡◌, ℕ, true, List, Contains, Some, None, Err, slice_get}
 use Rattle.std.specs.List.{AllByRecursion}
 use Rattle.claim.specs.Claims.{ClaimParts}
 use Rattle.filling.specs.declared.errors.FillError.TheVariants.{NoRight}
 use Rattle.filling.specs.Refusals.{all_slots}
+use Rattle.filling.specs.Filled.{AllFit}
 use Rattle.channel.specs.States.{Signing}
 use Rattle.book.specs.declared.calls.Batch.{Batch}
 use Rattle.book.specs.declared.calls.Call.TheVariants.{Keep, Release}
@@ -13,7 +14,8 @@ use Rattle.book.specs.Books.{ChannelBook, replay}
 use Rattle.channel.specs.Rights.{rights_of}
 use Rattle.book.specs.Signers.{first_lack}
 use Rattle.book.specs.Replies.{released, reply_of}
-use Rattle.book.specs.Accepted.{all_accepted}
+use Rattle.book.specs.Accepted.{all_accepted, AreWhole}
+use Rattle.book.specs.Calling.{filling_by}
 
 -- a claim of a set that an entry of the history keeps in a channel
 pub record IsKeptIn (c : ℕ) (history : List Entry) (claim : ClaimParts) : Type 0 where
@@ -31,3 +33,9 @@ pub record KeptAreFillable : Type 0 where
   pub releases :
       (tokens_of : Signing) (history : List Entry) (c : ℕ) (batch : Batch) → all_accepted tokens_of history ≡ true → AllByRecursion (IsKeptIn c history) batch.claims
       → reply_of tokens_of history (Release c batch) ≡ released (Err (Unfilled NoRight)) → ⊥
+
+-- each input of a release's filling fits its claim, in a history of accepted calls
+abbrev pub ReleasesFit : Type 0
+ReleasesFit =
+    (tokens_of : Signing) (history : List Entry) (seat c : ℕ) (batch : Batch) → all_accepted tokens_of history ≡ true → AreWhole history
+    → Contains history (record { seat = seat; call = Release c batch }) → AllFit (filling_by batch).tx batch.claims (filling_by batch).tx.inputs

@@ -42,7 +42,7 @@ fill_refusal claims outputs r preimages =
 abbrev pub RightsAreTested : Type 0
 RightsAreTested = (r : Rights) (key : List ℕ) → may_sign r key ≡ true ↔ MaySign r key
 
--- the first refusal is the one that `fill` returns, barring out-of-memory
+-- the first refusal is the one that `fill` returns, barring out-of-memory, and there is none exactly if nothing refuses the claims
 pub record RefusalsAreFound : Type 0 where
   pub refused :
       (claims : List ClaimParts) (outputs : List Output) (r : Rights) (preimages : List (List ℕ)) (e : FillError) → IsFirstRefusal claims outputs r preimages e
@@ -50,3 +50,6 @@ pub record RefusalsAreFound : Type 0 where
   pub filled :
       (claims : List ClaimParts) (outputs : List Output) (r : Rights) (preimages : List (List ℕ)) → ArePassed claims outputs → AreFillable r preimages (all_slots claims)
       → fill_refusal claims outputs r preimages ≡ None
+  pub only :
+      (claims : List ClaimParts) (outputs : List Output) (r : Rights) (preimages : List (List ℕ)) → fill_refusal claims outputs r preimages ≡ None
+      → ArePassed claims outputs × AreFillable r preimages (all_slots claims)

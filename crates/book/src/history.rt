@@ -4,6 +4,7 @@ use crate::calls::{Batch, Call, Entry, Opening, Step};
 use crate::errors::{KeepError, KnowError, OpenError, ReleaseError, SignError, StepError};
 use crate::fulfils::Fulfils;
 use crate::limits::MAX_CHANNELS;
+use crate::matching::hold_whole;
 use crate::open_channel::{OpenChannel, Taken};
 use channel::{Channel, Message};
 use claim::Claim;
@@ -46,7 +47,7 @@ impl Book {
     ghost use Rattle.channel.specs.Tokens.{peer_tokens};
     ghost use Rattle.updates.specs.declared.errors.ChannelError.TheVariants.{NoMemory as refusal_memory};
     ghost use Rattle.filling.specs.declared.errors.FillError.TheVariants.{NoMemory as fill_memory};
-    ghost use Rattle.book.specs.Accepted.{all_accepted};
+    ghost use Rattle.book.specs.Accepted.{all_accepted, AreWhole};
     ghost use Rattle.book.specs.Guarding.{is_guarded};
     ghost use Rattle.book.specs.Replies.{opened, stepped, signed, revoked, kept, released};
     ghost use Rattle.book.specs.Calling.{IsCall, IsKeepRefusal, step_reply};
@@ -66,11 +67,12 @@ impl Book {
         }
     }
 
-    /// The history, the oldest entry first. Each entry's call was accepted after the entries before it. No signature stands after a revocation in its channel
-    /// unless the penalties of the revoked commitment were kept between the two.
+    /// The history, the oldest entry first. Each entry's call was accepted after the entries before it, and each of its claims is an accepted one. No signature stands after a revocation in
+    /// its channel unless the penalties of the revoked commitment were kept between the two.
     pub fn entries(&self) -> &[Entry]
         ensures value { result.now ≡ self.now }
         ensures accepted { all_accepted peer_tokens self.now ≡ true }
+        ensures whole { AreWhole self.now }
         ensures guarded { is_guarded self.now ≡ true }
     {
         &self.entries
@@ -267,6 +269,8 @@ impl Book {
             Ok(()) => {}
             Err(error) => return Err(error),
         }
+        // By this call the proof knows that the claims were accepted.
+        hold_whole(claims.values());
         let call = Call::Keep {
             channel,
             number,
@@ -302,6 +306,7 @@ impl Book {
             Ok(()) => {}
             Err(error) => return Err(error),
         }
+        hold_whole(set.claims());
         let call = Call::Keep {
             channel,
             number,
@@ -329,6 +334,7 @@ impl Book {
             Ok(filled) => filled,
             Err(error) => return Err(ReleaseError::Unfilled(error)),
         };
+        hold_whole(batch.claims.values());
         let call = Call::Release { channel, batch };
         self.entries.push(Entry { seat, call }).unwrap();
         Ok(filled)

@@ -5,8 +5,10 @@ ghost use Rattle.book.specs.Guarding.{AcceptedIsGuarded, GuardedMeans};
 ghost use Rattle.book.specs.Again.{ClaimsComeBack, OpeningsComeBack, EntriesComeBack};
 ghost use Rattle.book.specs.Refused.{RefusalsComeInOrder};
 ghost use Rattle.book.specs.Penalties.{PenaltySetsAreExact};
-ghost use Rattle.book.specs.Releasing.{KeptAreFillable};
+ghost use Rattle.book.specs.Releasing.{KeptAreFillable, ReleasesFit};
 ghost use Rattle.book.specs.Signers.{RightsAreTested, RefusalsAreFound};
+
+use filling::laws::fillings_fit;
 
 /// A book's calls lead exactly to the histories in which each entry is accepted after those before it. Any other history has a first entry that is refused: all entries before it are
 /// accepted, and together with it they are not.
@@ -26,7 +28,7 @@ pub fn rights_are_tested()
     ensures { RightsAreTested }
 {}
 
-/// The definition's first refusal of a filling is the one that `fill` returns, barring out-of-memory.
+/// The definition's first refusal of a filling is the one that `fill` returns, barring out-of-memory. It has none exactly if nothing refuses the claims.
 pub fn refusals_are_found()
     ensures { RefusalsAreFound }
 {}
@@ -41,6 +43,14 @@ pub fn penalty_sets_are_exact()
 pub fn kept_are_fillable()
     ensures { KeptAreFillable }
 {}
+
+/// After any history of accepted calls and claims, each input of a release's filling fits its claim. So it spends the claim's output, whenever it is due.
+pub fn releases_fit()
+    ensures { ReleasesFit }
+{
+    // By this law the proof knows that claims which nothing refuses are filled by inputs that fit them.
+    fillings_fit();
+}
 
 /// An accepted claim, an opening, and an entry with accepted claims come back unchanged from their plain forms.
 pub fn what_is_dumped_is_taken_again()

@@ -1,7 +1,9 @@
 //! Whether claims are a penalty set.
 
 ghost use Rattle.std.specs.Prelude.{◌≡◌, ◌↔◌, ◌&&◌, not, map, All, IsTrue};
+ghost use Rattle.std.specs.List.{AllByRecursion};
 ghost use Rattle.claim.specs.declared.parts.Shell.TheVariants.{Open};
+ghost use Rattle.claim.specs.Claims.{IsWhole};
 ghost use Rattle.forms.specs.Fillings.{filling_of};
 ghost use Rattle.penalty.specs.Claimable.{claimable_of};
 ghost use Rattle.penalty.specs.Sets.{claimed_by, IsClaimOn, AreClaimsOn};
@@ -58,6 +60,15 @@ fn keeps(checked: &Checked)
 {
     let _ = checked.paths();
     let _ = checked.script().ops();
+}
+
+/// Tells the proof what the type of claims keeps.
+pub(crate) fn hold_whole(claims: &[Claim])
+    ensures { AllByRecursion IsWhole claims.now }
+{
+    for claim in claims {
+        let _ = claim.path();
+    }
 }
 
 // Whether a claim has an open shell, and claims what another claim does, in the same way.

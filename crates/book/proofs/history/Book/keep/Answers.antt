@@ -2,7 +2,8 @@ use Rattle.std.proofs.Common.{◌≡◌, List, None, subst, Err, Ok, refl}
 use Rattle.book.specs.declared.calls.Call.TheVariants.{Keep}
 use Rattle.book.specs.declared.calls.Entry.{Entry}
 use Rattle.book.specs.declared.errors.KeepError.TheVariants.{NoMemory}
-use Rattle.claim.specs.Claims.{ClaimParts}
+use Rattle.std.specs.List.{AllByRecursion}
+use Rattle.claim.specs.Claims.{ClaimParts, IsWhole}
 use Rattle.book.specs.Replies.{kept, keep_refusal}
 use Rattle.book.specs.Calling.{IsCall, IsKeepRefusal}
 use Rattle.book.proofs.Fundings.{left_alone}
@@ -16,15 +17,17 @@ invariant_of-self-2 c =
     let i = c.self.inside in
     let is = grown c.push.result c.unwrap.result c.push.new.self.items c.reserve.new.self.items i.entries.items _ _ c.unwrap.ensures c.push.ensures.items c.in-Ok.ensures.items refl in
     let tested = subst (λ (cs : List ClaimParts). keep_refusal c.index_mut-open.result.now c.args.number cs ≡ None) c.values.ensures c.in-Ok-keep.ensures.tested in
+    let whole = subst (λ (cs : List ClaimParts). AllByRecursion IsWhole cs) c.values-2.ensures c.hold_whole.ensures in
     called i.entries.items i.channels.entries _ c.self.invariant _ _ _ _ is refl
-    (keep_done i.entries.items c.push.new.self.items i.channels.entries c.args.seat c.args.channel c.args.number c.index_mut-open.result.now c.keep.new.self c.args.claims (kept (Err NoMemory)) c.self.invariant.left c.index_mut-open.ensures.value tested c.in-Ok-keep.ensures.ok is).keeps
+    (keep_done i.entries.items c.push.new.self.items i.channels.entries c.args.seat c.args.channel c.args.number c.index_mut-open.result.now c.keep.new.self c.args.claims (kept (Err NoMemory)) c.self.invariant.left c.index_mut-open.ensures.value tested c.in-Ok-keep.ensures.ok is whole).keeps
 
 pub returns : goal.returns
 returns c =
     let i = c.self.inside in
     let is = grown c.push.result c.unwrap.result c.push.new.self.items c.reserve.new.self.items i.entries.items _ _ c.unwrap.ensures c.push.ensures.items c.in-Ok.ensures.items refl in
     let tested = subst (λ (cs : List ClaimParts). keep_refusal c.index_mut-open.result.now c.args.number cs ≡ None) c.values.ensures c.in-Ok-keep.ensures.tested in
-    let done = keep_done i.entries.items c.push.new.self.items i.channels.entries c.args.seat c.args.channel c.args.number c.index_mut-open.result.now c.keep.new.self c.args.claims (kept (Err NoMemory)) c.self.invariant.left c.index_mut-open.ensures.value tested c.in-Ok-keep.ensures.ok is in
+    let whole = subst (λ (cs : List ClaimParts). AllByRecursion IsWhole cs) c.values-2.ensures c.hold_whole.ensures in
+    let done = keep_done i.entries.items c.push.new.self.items i.channels.entries c.args.seat c.args.channel c.args.number c.index_mut-open.result.now c.keep.new.self c.args.claims (kept (Err NoMemory)) c.self.invariant.left c.index_mut-open.ensures.value tested c.in-Ok-keep.ensures.ok is whole in
     subst (λ (h : List Entry). IsCall (kept (Err NoMemory)) (kept (Ok tt)) h c.push.new.self.items c.args.seat (Keep c.args.channel c.args.number c.args.claims)) c.self.view_is done.called
 
 pub invariant_of-self-in-Err-keep : goal.invariant_of-self-in-Err-keep

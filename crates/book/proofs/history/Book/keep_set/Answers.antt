@@ -1,6 +1,7 @@
 use Rattle.std.proofs.Common.{◌≡◌, List, None, Bor, subst, Err, Ok, sym, ap, ◌∙◌, refl}
 use Rattle.std.proofs.lemmas.Option.{same_Some}
-use Rattle.claim.specs.Claims.{ClaimParts}
+use Rattle.std.specs.List.{AllByRecursion}
+use Rattle.claim.specs.Claims.{ClaimParts, IsWhole}
 use Rattle.penalty.specs.declared.states.RevokedState.{RevokedState}
 use Rattle.penalty.specs.Claimable.{claimable_of}
 use Rattle.penalty.specs.Sets.{AreClaimsOn}
@@ -28,8 +29,9 @@ invariant_of-self-2 c =
     let named = ap (λ (cs : List ClaimParts). entry c.args.seat (Keep c.args.channel c.args.number cs)) (c.from_vec.ensures ∙ c.into_claims.ensures.value) in
     let is = grown c.push.result c.unwrap.result c.push.new.self.items c.reserve.new.self.items i.entries.items _ _ c.unwrap.ensures c.push.ensures.items c.in-Ok.ensures.items named in
     let tested = subst (λ (cs : List ClaimParts). keep_refusal c.index_mut-open.result.now c.args.number cs ≡ None) c.claims.ensures.value c.in-Ok-keep.ensures.tested in
+    let whole = subst (λ (cs : List ClaimParts). AllByRecursion IsWhole cs) c.claims-2.ensures.value c.hold_whole.ensures in
     called i.entries.items i.channels.entries _ c.self.invariant _ _ _ _ is refl
-    (keep_done i.entries.items c.push.new.self.items i.channels.entries c.args.seat c.args.channel c.args.number c.index_mut-open.result.now c.keep.new.self claims (kept (Err NoMemory)) c.self.invariant.left c.index_mut-open.ensures.value tested c.in-Ok-keep.ensures.ok is).keeps
+    (keep_done i.entries.items c.push.new.self.items i.channels.entries c.args.seat c.args.channel c.args.number c.index_mut-open.result.now c.keep.new.self claims (kept (Err NoMemory)) c.self.invariant.left c.index_mut-open.ensures.value tested c.in-Ok-keep.ensures.ok is whole).keeps
 
 pub returns : goal.returns
 returns c =
@@ -38,7 +40,8 @@ returns c =
     let named = ap (λ (cs : List ClaimParts). entry c.args.seat (Keep c.args.channel c.args.number cs)) (c.from_vec.ensures ∙ c.into_claims.ensures.value) in
     let is = grown c.push.result c.unwrap.result c.push.new.self.items c.reserve.new.self.items i.entries.items _ _ c.unwrap.ensures c.push.ensures.items c.in-Ok.ensures.items named in
     let tested = subst (λ (cs : List ClaimParts). keep_refusal c.index_mut-open.result.now c.args.number cs ≡ None) c.claims.ensures.value c.in-Ok-keep.ensures.tested in
-    let done = keep_done i.entries.items c.push.new.self.items i.channels.entries c.args.seat c.args.channel c.args.number c.index_mut-open.result.now c.keep.new.self claims (kept (Err NoMemory)) c.self.invariant.left c.index_mut-open.ensures.value tested c.in-Ok-keep.ensures.ok is in
+    let whole = subst (λ (cs : List ClaimParts). AllByRecursion IsWhole cs) c.claims-2.ensures.value c.hold_whole.ensures in
+    let done = keep_done i.entries.items c.push.new.self.items i.channels.entries c.args.seat c.args.channel c.args.number c.index_mut-open.result.now c.keep.new.self claims (kept (Err NoMemory)) c.self.invariant.left c.index_mut-open.ensures.value tested c.in-Ok-keep.ensures.ok is whole in
     subst (λ (h : List Entry). IsCall (kept (Err NoMemory)) (kept (Ok tt)) h c.push.new.self.items c.args.seat (Keep c.args.channel c.args.number claims)) c.self.view_is done.called
 
 pub invariant_of-self-in-Err-keep : goal.invariant_of-self-in-Err-keep
