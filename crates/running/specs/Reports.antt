@@ -4,11 +4,11 @@ use Rattle.std.specs.List.{AllByRecursion}
 use Rattle.claim.specs.Claims.{IsWhole}
 use Rattle.channel.specs.Tokens.{peer_tokens}
 use Rattle.book.specs.declared.calls.Entry.{Entry}
-use Rattle.book.specs.Accepted.{all_accepted}
+use Rattle.book.specs.Accepted.{all_accepted, claims_by}
 use Rattle.book.specs.Guarding.{is_guarded}
 use Rattle.desk.specs.Histories.{History, GoesOn}
 use Rattle.scenario.specs.declared.scenarios.Scenario.{Scenario}
-use Rattle.world.specs.Worlds.{World, claims_by}
+use Rattle.world.specs.Worlds.{World}
 use Rattle.world.specs.Beginning.{IsBeginning}
 use Rattle.running.specs.declared.counts.Counts.{Counts}
 use Rattle.running.specs.declared.runs.Report.{Report}

@@ -8,7 +8,7 @@ ghost use Rattle.running.specs.Beginning.{AreReady};
 ghost use Rattle.running.specs.Crews.{IsMember, IsLine, IsPlayer, IsCrew};
 ghost use Rattle.running.specs.Events.{turns_in, all_turns};
 ghost use Rattle.running.specs.Reports.{HasWholeClaims, IsLeft, IsReport, total_of};
-ghost use Rattle.world.specs.Worlds.{claims_by};
+ghost use Rattle.book.specs.Accepted.{claims_by};
 
 use crate::beginning::{Opened, begin, open_side};
 use crate::counts::Counts;

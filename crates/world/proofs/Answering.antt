@@ -3,8 +3,7 @@ use Rattle.std.proofs.Common.{◌≡◌, ℕ, zero, suc, Bool, true, false, List
 use Rattle.std.proofs.lemmas.List.{reverse-append}
 use Rattle.std.proofs.lemmas.Option.{same_Some}
 use Rattle.std.specs.Prelude.{is_some}
-use Rattle.std.specs.List.{AllByRecursion, cons_option}
-use Rattle.claim.specs.Claims.{IsWhole}
+use Rattle.std.specs.List.{cons_option}
 use Rattle.channel.specs.declared.messages.Message.{Message}
 use Rattle.channel.specs.Tokens.{peer_tokens}
 use Rattle.book.specs.declared.calls.Call.{Call}
@@ -17,10 +16,10 @@ use Rattle.book.specs.Dispatch.{no_memory_of}
 use Rattle.world.specs.declared.errors.EventError.{EventError}
 use Rattle.world.specs.declared.errors.EventError.TheVariants as errors
 use Rattle.world.specs.declared.limits.TheConstants.{SEAT}
-use Rattle.world.specs.Worlds.{Node, IsNode, claims_by, answer_to, after_call, opens_none}
+use Rattle.book.specs.Accepted.{AreWhole}
+use Rattle.world.specs.Worlds.{Node, IsNode, answer_to, after_call, opens_none}
 use Rattle.side.specs.Acts.{messages_in}
 use Rattle.world.specs.Refusing.{refusal_in, IsRefusal, IsAnswered}
-use Rattle.world.proofs.Whole.{AreCalled, called_after}
 
 -- the first refusal is a refusal
 pub refused : (first : Option EventError) (e : EventError) → first ≡ Some e → IsRefusal first e
@@ -158,15 +157,11 @@ same_channels : (old new : List Entry) (call : Call) (no_memory reply : Reply) �
 same_channels old new call no_memory reply (inl (is, same)) none = ap (λ h. length (replay h)) same
 same_channels old new call no_memory reply (inr (is, after)) none = ap (λ h. length (replay h)) after ∙ extends _ old call none
 
-still_called : (old new : List Entry) (call : Call) (no_memory reply : Reply) → IsCall no_memory reply old new SEAT call → AllByRecursion IsWhole (claims_by call) → AreCalled old → AreCalled new
-still_called old new call no_memory reply (inl (is, same)) whole called = subst AreCalled (sym same) called
-still_called old new call no_memory reply (inr (is, after)) whole called = subst AreCalled (sym after) (called_after _ old call whole called)
-
 pub is_node : (n : Node) (history : List Entry) (call : Call) (no_memory reply : Reply) → IsNode n → IsCall no_memory reply n.history history SEAT call → OpensNone call
-    → AllByRecursion IsWhole (claims_by call) → IsNode (record n { history = history })
+    → AreWhole history → IsNode (record n { history = history })
 is_node n history call no_memory reply is called none whole = record {
   lines = is.lines ∙ sym (same_channels n.history history call no_memory reply called none);
-  claims_are_whole = still_called n.history history call no_memory reply called whole is.claims_are_whole;
+  claims_are_whole = whole;
   jobs = is.jobs;
   taken = is.taken;
 }

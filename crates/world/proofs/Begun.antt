@@ -31,6 +31,7 @@ use Rattle.world.specs.declared.limits.TheConstants.{SEAT}
 use Rattle.world.specs.Worlds.{World, Node, Line, inboxes, answer_to, after_call, with_line}
 use Rattle.world.specs.Pairing.{ArePaired}
 use Rattle.world.specs.Beginning.{empty_world, with_opened, granted, Begins, AllBegin, HasBegun}
+use Rattle.world.proofs.Fillings.{called_grows, fillings_grow}
 use Rattle.world.proofs.Turns.{opened_more}
 
 -- nothing is left past the end
@@ -96,6 +97,7 @@ after paired taken seeds c plain w both few begun are =
       agree = agree_on w both.a both.b c a b begun.agree
           (opened_more A (opened_by both.a) (opened_by both.b) (replay w.a.history) (replay w.b.history) (inboxes w.a) (inboxes w.b)
           (paired seeds c are.terms A both.a both.b are.by_a are.by_b) begun.agree);
+      released = fillings_grow w.a.history (with_opened both.a w.a).history w.b.history (with_opened both.b w.b).history w.released (called_grows w.a (Open both.a)) (called_grows w.b (Open both.b)) begun.released;
     }
 
 pub has_begun : OpeningsArePaired → OpeningsAreTaken → (seeds : Seeds) (c : ℕ) (plain : ProposedTerms) (w v : World) → c < 8 → HasBegun c w → Begins seeds c plain w v → HasBegun (c + 1) v
@@ -103,7 +105,7 @@ has_begun paired taken seeds c plain w v few begun b =
     subst (λ n. HasBegun n v) (next c) (subst (HasBegun (suc c)) (sym b.after) (after paired taken seeds c plain w b.both few begun b.openings))
 
 pub nothing_begun : HasBegun 0 empty_world
-nothing_begun = record { a_stands = refl; b_stands = refl; grants = refl; some_block = omega arith; a_called = no_call; b_called = no_call; agree = tt }
+nothing_begun = record { a_stands = refl; b_stands = refl; grants = refl; some_block = omega arith; a_called = no_call; b_called = no_call; agree = tt; released = tt }
 
 -- ---- channels in order
 

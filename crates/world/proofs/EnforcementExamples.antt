@@ -1,5 +1,5 @@
 -- A claim, an input that fits it, and a chain, for which the premises of the theorem hold.
-use Rattle.std.proofs.Common.{◌≡◌, ℕ, true, false, List, [], ◌∷◌, replicate, refl, lit≤, lit<, Some, None, Ok}
+use Rattle.std.proofs.Common.{◌≡◌, ℕ, true, false, List, [], ◌∷◌, replicate, refl, lit≤, lit<, Some, None, Ok, inl, inr}
 use Rattle.std.specs.Prelude.{IsTrue, is_ok}
 use Rattle.std.proofs.lemmas.List.Elements.{All-nil, All-cons}
 use Rattle.std.proofs.lemmas.Slice.Eq.{bytes_eq-Decides}
@@ -23,9 +23,15 @@ use Rattle.claim.specs.declared.parts.Shell.TheVariants.{Open}
 use Rattle.claim.specs.Judgement.{judgement_of}
 use Rattle.claim.specs.Fitting.{FillsSlots, Fits}
 use Rattle.claim.specs.Claims.{ClaimParts, TakesPath, IsWhole}
+use Rattle.filling.specs.Filled.{AllFit}
 use Rattle.sighash.specs.Programs.{script_hash_program, spend_of}
 use Rattle.chain.specs.Blocks.{Contents, Coin, grant_id, grant_outpoint, coin_at}
+use Rattle.book.specs.declared.calls.Batch.{Batch}
+use Rattle.book.specs.declared.calls.Call.TheVariants.{Release}
+use Rattle.book.specs.declared.calls.Entry.{Entry}
+use Rattle.book.specs.Calling.{filling_by}
 use Rattle.world.specs.Enforcement.{IsDue, IsTime}
+use Rattle.world.specs.Releasing.{IsFillingIn, AreFillings}
 
 -- a push of a key, and CHECKSIG, with its one path; the hash of its bytes was computed elsewhere
 abbrev key : List ℕ
@@ -102,3 +108,25 @@ due = record { fits = record { path = path; taken = taken; fits = fits }; coin =
 -- the next block has height 1, above the lock time 0, and the claim has no age
 time : IsTime 1 claim (spending input) coin
 time = record { above = lit< tt; age = lit≤ tt }
+
+-- ---- what was released
+
+-- the batch of the claim alone; its filling is the transaction above, whose input fits the claim
+abbrev batch : Batch
+batch = record { claims = claim ∷ []; outputs = record { value = 900; script = [] } ∷ []; preimages = []; some = lit≤ tt; inputs = lit≤ tt; given = lit≤ tt }
+
+its_filling : (filling_by batch).tx ≡ spending input
+its_filling = refl
+
+its_inputs_fit : AllFit (spending input) batch.claims (spending input).inputs
+its_inputs_fit = (record { path = path; taken = taken; fits = fits }, tt)
+
+-- in a history that releases it the transaction is a filling, whichever side the history is of
+abbrev history : List Entry
+history = record { seat = 0; call = Release 0 batch } ∷ []
+
+is_filling : IsFillingIn history (spending input)
+is_filling = record { seat = 0; channel = 0; batch = batch; noted = (0, lit< tt, refl); filled = refl }
+
+are_fillings : AreFillings history [] (spending input ∷ []) × AreFillings [] history (spending input ∷ [])
+are_fillings = ((inl is_filling, tt), (inr is_filling, tt))

@@ -33,6 +33,7 @@ use Rattle.world.specs.Steps.{own_call, call_refusal, world_after_call as after_
 use Rattle.world.specs.Theorem.{StepsKeep}
 use Rattle.world.proofs.Inboxes.{inboxes_sent, inboxes_received, got_of_map, inboxes_read, inboxes_back}
 use Rattle.world.proofs.Calls.{received, filed, released_by}
+use Rattle.world.proofs.Fillings.{released_after}
 use Rattle.world.proofs.Fitting.{AreFitting, fitting_world, is_world, history_of, agree_from, both_fit, one_fits, as_before, Sends, own_sends, sign_sends}
 
 -- ---- refusals
@@ -154,4 +155,4 @@ fitting_after w v e o fit (refuses some) = fit
 fitting_after w v e o fit runs_out = fit
 
 pub steps_keep : StepsKeep
-steps_keep w v e o is step a b = is_world v a b (fitting_after w v e o (fitting_world w is) step)
+steps_keep w v e o is step a b = is_world v a b (fitting_after w v e o (fitting_world w is) step) (released_after w v e o is.released step)

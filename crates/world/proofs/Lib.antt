@@ -1,12 +1,14 @@
 mod Turns
 mod Calls
 mod Begun
+mod Ends
 pub mod DueClaims
 pub mod EnforcementExamples
 pub mod StepExamples
 pub mod Whole
 mod Inboxes
 mod Fitting
+mod Fillings
 pub mod Kept
 pub mod Moments
 pub mod Plays
@@ -20,3 +22,4 @@ pub mod Grants
 pub mod Opened
 pub mod Keyed
 mod OpeningExamples
+mod EndsExamples

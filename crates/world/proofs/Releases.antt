@@ -170,7 +170,7 @@ unrefused : (k : ℕ) (n : Node) (channel : ℕ) (batch : Batch) → is_no_count
 unrefused k n channel batch counted ready = ap (λ b. if_so b errors.NoJob (refusal_of (take k n.taken) n)) counted ∙ ready.left
 
 -- the filling in the book's reply is that of the batch
-same_filling : (o : Option ChannelBook) (b : Batch) (f : Filling) → released (asked NoSuchChannel o (λ ch. fill_answer ch.state b.claims b.outputs b.preimages)) ≡ released (Ok f)
+pub same_filling : (o : Option ChannelBook) (b : Batch) (f : Filling) → released (asked NoSuchChannel o (λ ch. fill_answer ch.state b.claims b.outputs b.preimages)) ≡ released (Ok f)
     → f.tx ≡ filling_of b.claims b.outputs b.preimages
 same_filling None b f e = absurd cc
 same_filling (Some ch) b f e = by (fill_refusal b.claims b.outputs (rights_of ch.state) b.preimages) e

@@ -1,12 +1,9 @@
 -- The claims of a side were accepted.
-use Rattle.std.proofs.Common.{ℕ, zero, suc, Bool, true, false, List, [], ◌∷◌, ◌++◌, map, take, drop}
+use Rattle.std.proofs.Common.{ℕ, zero, suc, List, [], ◌∷◌, ◌++◌, map, take, drop}
 use Rattle.std.specs.List.{AllByRecursion, flat_map}
 use Rattle.claim.specs.Claims.{IsWhole}
-use Rattle.book.specs.declared.calls.Call.{Call}
-use Rattle.book.specs.declared.calls.Entry.{Entry}
-use Rattle.book.specs.Replies.{extended}
-use Rattle.world.specs.declared.limits.TheConstants.{SEAT}
-use Rattle.world.specs.Worlds.{Node, IsNode, claims_by}
+use Rattle.book.specs.Accepted.{claims_by}
+use Rattle.world.specs.Worlds.{Node, IsNode}
 use Rattle.world.specs.Theorem.{claims_of}
 
 -- ---- lists
@@ -32,16 +29,6 @@ pub all_take : {A : Type 0} (P : A → Type 0) (k : ℕ) (xs : List A) → AllBy
 all_take P zero xs u = tt
 all_take P (suc k) [] u = tt
 all_take P (suc k) (x ∷ xs) u = (u.0, all_take P k xs u.1)
-
--- ---- the claims of the calls
-
-abbrev pub AreCalled : List Entry → Type 0
-AreCalled history = AllByRecursion (λ e. AllByRecursion IsWhole (claims_by e.call)) history
-
-pub called_after : (accepted : Bool) (history : List Entry) (call : Call) → AllByRecursion IsWhole (claims_by call) → AreCalled history → AreCalled (extended accepted history SEAT call)
-called_after false history call whole called = called
-called_after true history call whole called =
-    all_append (λ e. AllByRecursion IsWhole (claims_by e.call)) history (record { seat = SEAT; call = call } ∷ []) called (whole, tt)
 
 -- ---- the claims of a side
 

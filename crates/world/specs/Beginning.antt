@@ -22,6 +22,7 @@ use Rattle.world.specs.Agreeing.{first_grants}
 use Rattle.world.specs.declared.errors.WorldError.{WorldError}
 use Rattle.world.specs.declared.errors.WorldError.TheVariants.{NoMemory as no_memory, OverLimit, BadTerms}
 use Rattle.world.specs.Worlds.{World, Node, inboxes, answer_to, after_call, with_line}
+use Rattle.world.specs.Releasing.{AreFillings}
 use Rattle.world.specs.Pairing.{AgreeBy}
 
 -- the book accepts the opening, and the side has a line for the channel; or the side is as before, and the book refuses or memory ran out
@@ -84,3 +85,4 @@ pub record HasBegun (c : ℕ) (w : World) : Type 0 where
   pub a_called : IsHistory peer_tokens w.a.history
   pub b_called : IsHistory peer_tokens w.b.history
   pub agree : AgreeBy A w.a.history w.b.history (inboxes w.a) (inboxes w.b)
+  pub released : AreFillings w.a.history w.b.history w.released

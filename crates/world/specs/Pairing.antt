@@ -3,8 +3,9 @@ use Rattle.std.specs.Prelude.{◌≡◌, ℕ, ◌∷◌, List, [], Some, slice_g
 use Rattle.terms.specs.declared.sides.Side.{Side}
 use Rattle.channel.specs.declared.messages.Message.{Message}
 use Rattle.channel.specs.Tokens.{peer_tokens}
+use Rattle.channel.specs.States.{State}
 use Rattle.channel.specs.Playing.{placed}
-use Rattle.channel.specs.Agreeing.{IsPaired}
+use Rattle.channel.specs.Agreeing.{FirstOf, IsSoundState, IsPaired}
 use Rattle.book.specs.declared.calls.Entry.{Entry}
 use Rattle.book.specs.Books.{Channels, replay}
 use Rattle.book.specs.Replies.{is_accepted, reply_of}
@@ -24,3 +25,12 @@ AgreeBy side mine peers to_me to_peer = ArePaired side (replay mine) (replay pee
 abbrev pub DeliveriesAreTaken : Type 0
 DeliveriesAreTaken = (side : Side) (mine peers : List Entry) (to_me to_peer : List (List Message)) (c : ℕ) (m : Message) (rest : List Message)
     → AgreeBy side mine peers to_me to_peer → slice_get to_me c ≡ Some (m ∷ rest) → is_accepted (reply_of peer_tokens mine (call_of c m)) ≡ true
+
+-- the two ends of a channel: they have the same terms, and each accepted what the other signed, commitment for commitment. In each view of either no balance is below 0, and balances and
+-- HTLCs sum to the capacity
+pub record AreEnds (a b : State) : Type 0 where
+  pub terms : a.held.terms ≡ b.held.terms
+  pub a_accepted : FirstOf a.mine b.signed
+  pub b_accepted : FirstOf b.mine a.signed
+  pub a_sound : IsSoundState a
+  pub b_sound : IsSoundState b

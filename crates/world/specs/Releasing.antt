@@ -1,5 +1,6 @@
 -- Jobs that are taken, and claims that are released.
-use Rattle.std.specs.Prelude.{◌≡◌, ℕ, ◌==◌, Bool, true, ◌||◌, not, nat_lt, List, [], ◌∷◌, ◌++◌, length, take, drop, Option, Some, None, Ok}
+use Rattle.std.specs.Prelude.{◌≡◌, ◌⊎◌, ℕ, ◌==◌, Bool, true, ◌||◌, not, nat_lt, List, [], ◌∷◌, ◌++◌, length, take, drop, Contains, Option, Some, None, Ok}
+use Rattle.std.specs.List.{AllByRecursion}
 use Rattle.tx.specs.Parts.{Output}
 use Rattle.tx.specs.Limits.{max_inputs, max_value}
 use Rattle.tx.specs.Fields.{Transaction}
@@ -9,8 +10,10 @@ use Rattle.filling.specs.Filled.{Filling}
 use Rattle.channel.specs.States.{State}
 use Rattle.book.specs.declared.calls.Batch.{Batch}
 use Rattle.book.specs.declared.calls.Call.TheVariants.{Release}
+use Rattle.book.specs.declared.calls.Entry.{Entry}
 use Rattle.book.specs.declared.errors.ReleaseError.TheVariants.{NoSuchChannel}
 use Rattle.book.specs.Calls.{IsBatchOf}
+use Rattle.book.specs.Calling.{filling_by}
 use Rattle.book.specs.Books.{ChannelBook}
 use Rattle.book.specs.Replies.{Reply, released, asked, fill_answer, if_so}
 use Rattle.world.specs.declared.errors.EventError.{EventError}
@@ -80,3 +83,17 @@ pub record IsReleasedTo (k : ℕ) (n done : Node) (pool released waiting filling
   pub is : IsReleased k n done tx
   pub waits : waiting ≡ pool ++ tx ∷ []
   pub stays : fillings ≡ released ++ tx ∷ []
+
+-- ---- what was released
+
+-- a transaction is the filling of a release in a history
+pub record IsFillingIn (history : List Entry) (t : Transaction) : Type 0 where
+  pub seat : ℕ
+  pub channel : ℕ
+  pub batch : Batch
+  pub noted : Contains history (record { seat = seat; call = Release channel batch })
+  pub filled : t ≡ (filling_by batch).tx
+
+-- each of these transactions is one, in the history of one side or of the other
+abbrev pub AreFillings : List Entry → List Entry → List Transaction → Type 0
+AreFillings a b ts = AllByRecursion (λ t. IsFillingIn a t ⊎ IsFillingIn b t) ts

@@ -3,8 +3,9 @@
 --
 -- Over every interleaving of channel steps, blocks, reorganisations, broadcasts, looks and releases, two things hold. First, take any filling of an accepted claim whose output is unspent, and whose
 -- height and age are reached. It passes the chain's test of its input and runs to one true value, within 201 counted opcodes and 1,000 entries. No operand is missing, no check fails, and no branch
--- stays open. Second, after a received revocation no commitment is signed until verified penalties for every claimable output are kept.
-use Rattle.std.specs.Prelude.{◌≡◌, ◌⊎◌, ℕ, true, List, ◌∷◌, ◌++◌, length, map, Some, slice_get}
+-- stays open. Second, after a received revocation no commitment is signed until verified penalties for every claimable output are kept. Besides, what was released fits its claims, and the two sides
+-- agree.
+use Rattle.std.specs.Prelude.{◌≡◌, ◌⊎◌, ℕ, true, List, ◌∷◌, ◌++◌, length, map, Contains, Some, slice_get}
 use Rattle.std.specs.List.{AllByRecursion, flat_map}
 use Rattle.tx.specs.declared.input.TxIn.{TxIn}
 use Rattle.tx.specs.Fields.{Transaction}
@@ -14,18 +15,23 @@ use Rattle.claim.specs.Claims.{ClaimParts, IsWhole}
 use Rattle.channel.specs.declared.messages.Message.{Message}
 use Rattle.channel.specs.Tokens.{peer_tokens}
 use Rattle.scenario.specs.declared.events.Event.{Event}
-use Rattle.scenario.specs.declared.events.Event.TheVariants.{Deliver}
-use Rattle.book.specs.Accepted.{all_accepted, IsHistory}
+use Rattle.filling.specs.Filled.{AllFit}
+use Rattle.book.specs.declared.calls.Batch.{Batch}
+use Rattle.book.specs.declared.calls.Call.TheVariants.{Release}
+use Rattle.book.specs.Books.{ChannelBook}
+use Rattle.book.specs.Accepted.{all_accepted, claims_by, IsHistory}
 use Rattle.book.specs.Guarding.{is_guarded}
 use Rattle.book.specs.Replies.{is_accepted}
+use Rattle.book.specs.Calling.{filling_by}
 use Rattle.world.specs.declared.errors.EventError.{EventError}
 use Rattle.world.specs.declared.errors.EventError.TheVariants.{NoSuchChannel, NoMessage}
 use Rattle.world.specs.declared.outcomes.Outcome.{Outcome}
-use Rattle.world.specs.Worlds.{World, Node, IsNode, claims_by, node_of, inboxes, answer_to}
+use Rattle.world.specs.Worlds.{World, Node, IsNode, node_of, channel_of, inboxes, answer_to}
 use Rattle.side.specs.Acts.{call_of}
-use Rattle.world.specs.Pairing.{AgreeBy}
+use Rattle.world.specs.Pairing.{AgreeBy, AreEnds}
+use Rattle.world.specs.Releasing.{AreFillings}
 use Rattle.world.specs.Enforcement.{IsDue, Passes}
-use Rattle.world.specs.Steps.{refusal_of, WorldSteps, Runs}
+use Rattle.world.specs.Steps.{receipt_refusal, WorldSteps, Runs}
 
 -- the claims of a side: those that its book kept and released, its jobs, and the claims that it took
 abbrev pub claims_of : Node → List ClaimParts
@@ -42,9 +48,15 @@ pub record HoldsAt (w : World) : Type 0 where
   -- an input that fits an accepted claim passes the chain's test for the next block and runs clean, once it is due
   pub opens : (x : ClaimParts) (t : Transaction) (input : TxIn) → IsWhole x → (due : IsDue w.chain.blocks (length w.chain.blocks) x t input)
       → Passes w.chain.blocks (length w.chain.blocks) x t input due
+  -- each transaction that was released is the filling of a release in a side's history, and each input of such a filling fits its claim
+  pub released : AreFillings w.a.history w.b.history w.released
+  pub fits : (s : Side) (seat c : ℕ) (batch : Batch) → Contains (node_of s w).history (record { seat = seat; call = Release c batch })
+      → AllFit (filling_by batch).tx batch.claims (filling_by batch).tx.inputs
+  -- the two sides hold the two ends of each channel
+  pub agree : (c : ℕ) (x y : ChannelBook) → channel_of w.a c ≡ Some x → channel_of w.b c ≡ Some y → AreEnds x.state y.state
   -- a side's book takes the oldest message on its way to it; so, barring out-of-memory, a delivery is refused only without a channel or a message
   pub takes : (s : Side) (c : ℕ) (m : Message) (rest : List Message) → slice_get (inboxes (node_of s w)) c ≡ Some (m ∷ rest) → is_accepted (answer_to (node_of s w) (call_of c m)) ≡ true
-  pub delivers : (s : Side) (c : ℕ) (r : EventError) → refusal_of w (Deliver s c) ≡ Some r → (r ≡ NoSuchChannel) ⊎ (r ≡ NoMessage)
+  pub delivers : (s : Side) (c : ℕ) (r : EventError) → receipt_refusal s c w ≡ Some r → (r ≡ NoSuchChannel) ⊎ (r ≡ NoMessage)
 
 -- what `play` did: a run of the events, at each moment of which all of this holds
 pub record IsPlay (w : World) (es : List Event) (os : List Outcome) (end : World) : Type 0 where
@@ -54,13 +66,14 @@ pub record IsPlay (w : World) (es : List Event) (os : List Outcome) (end : World
 
 -- ---- why it holds
 
--- what each event keeps: the histories are those of calls, and the books hold the two ends of the same channels, with the messages on their way
+-- what each event keeps: the histories are those of calls, the books hold the two ends of the same channels, with the messages on their way, and what was released is of these histories
 pub record IsWorld (w : World) : Type 0 where
   pub a : IsNode w.a
   pub b : IsNode w.b
   pub a_called : IsHistory peer_tokens w.a.history
   pub b_called : IsHistory peer_tokens w.b.history
   pub agree : AgreeBy A w.a.history w.b.history (inboxes w.a) (inboxes w.b)
+  pub released : AreFillings w.a.history w.b.history w.released
 
 abbrev pub StepsKeep : Type 0
 StepsKeep = (w v : World) (e : Event) (o : Outcome) → IsWorld w → WorldSteps w e v o → IsNode v.a → IsNode v.b → IsWorld v

@@ -4,15 +4,16 @@ use Rattle.std.specs.List.{AllByRecursion}
 use Rattle.tx.specs.Fields.{Transaction}
 use Rattle.terms.specs.declared.sides.Side.{Side}
 use Rattle.terms.specs.declared.sides.Side.TheVariants.{A, B}
-use Rattle.claim.specs.Claims.{ClaimParts, IsWhole}
+use Rattle.claim.specs.Claims.{IsWhole}
 use Rattle.channel.specs.declared.messages.Message.{Message}
 use Rattle.channel.specs.Tokens.{peer_tokens}
 use Rattle.chain.specs.Blocks.{Standing}
 use Rattle.watch.specs.Watching.{Seen, nothing_seen}
 use Rattle.book.specs.declared.calls.Call.{Call}
-use Rattle.book.specs.declared.calls.Call.TheVariants.{Open, Keep, Release}
+use Rattle.book.specs.declared.calls.Call.TheVariants.{Open}
 use Rattle.book.specs.declared.calls.Entry.{Entry}
 use Rattle.book.specs.Books.{ChannelBook, at_index, replay}
+use Rattle.book.specs.Accepted.{AreWhole}
 use Rattle.book.specs.Replies.{Reply, reply_of, history_after}
 use Rattle.world.specs.declared.limits.TheConstants.{SEAT}
 use Rattle.side.specs.declared.due.DueClaim.{DueClaim}
@@ -32,12 +33,6 @@ pub record Node : Type 0 where
   pub jobs : List DueClaim
   pub taken : List DueClaim
 
--- the claims of a call
-abbrev pub claims_by : Call → List ClaimParts
-claims_by (Keep c n claims) = claims
-claims_by (Release c batch) = batch.claims
-claims_by call = []
-
 -- whether a call opens no channel
 abbrev pub opens_none : Call → Bool
 opens_none (Open o) = false
@@ -46,7 +41,7 @@ opens_none call = true
 -- what is true of each side: it has a line for each channel of its book, and its claims were accepted
 pub record IsNode (n : Node) : Type 0 where
   pub lines : length n.lines ≡ length (replay n.history)
-  pub claims_are_whole : AllByRecursion (λ e. AllByRecursion IsWhole (claims_by e.call)) n.history
+  pub claims_are_whole : AreWhole n.history
   pub jobs : AllByRecursion (λ j. IsWhole j.claim) n.jobs
   pub taken : AllByRecursion (λ j. IsWhole j.claim) n.taken
 

@@ -5,7 +5,7 @@ ghost use Rattle.world.specs.Agreeing.{FundingsAreSpent, OpeningsArePaired, Open
 ghost use Rattle.world.specs.Pairing.{DeliveriesAreTaken};
 ghost use Rattle.world.specs.Theorem.{StepsKeep, WorldsHold};
 
-use book::laws::{accepted_is_called, signing_is_guarded};
+use book::laws::{accepted_is_called, releases_fit, signing_is_guarded};
 use channel::laws::peers_agree;
 use claim::laws::accepted_claims_spend;
 
@@ -28,20 +28,24 @@ pub fn deliveries_are_taken()
     peers_agree();
 }
 
-/// Each event keeps the invariant of a world: the histories of both books are those of calls, and the books agree, with the messages on their way.
+/// Each event keeps the invariant of a world: the histories of both books are those of calls, and the books agree, with the messages on their way. What was released are fillings of
+/// these histories.
 pub fn steps_keep()
     ensures { StepsKeep }
 {}
 
 /// The Enforcement theorem at a moment, in any world that events lead to. Each call in both books was accepted. No signature follows a revocation without the penalties kept between
-/// the two. Every claim of a side is an accepted one. An input that fits an accepted claim passes and runs clean once it is due. No delivery is refused for its message.
+/// the two. Every claim of a side is an accepted one. An input that fits an accepted claim passes and runs clean once it is due. What was released are fillings of the two histories,
+/// whose inputs fit their claims. The two sides hold the two ends of each channel. No delivery is refused for its message.
 pub fn worlds_hold()
     ensures { WorldsHold }
 {
     // By these laws the proof knows what holds for histories, for claims, and for books that agree.
     accepted_is_called();
     signing_is_guarded();
+    releases_fit();
     claims_spend();
+    peers_agree();
     deliveries_are_taken();
 }
 

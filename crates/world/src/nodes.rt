@@ -1,15 +1,10 @@
 //! One side of the world.
 
-ghost use Rattle.std.specs.List.{AllByRecursion};
-ghost use Rattle.claim.specs.Claims.{IsWhole};
-ghost use Rattle.world.specs.Worlds.{claims_by};
-
 use crate::errors::EventError;
 use crate::limits::SEAT;
 use book::errors::OpenError;
 use book::{Book, Call, Opening, Reply};
 use channel::Message;
-use claim::Claim;
 use side::{DueClaim, message_of};
 use std::alloc::Global;
 use std::collections::VecDeque;
@@ -56,26 +51,6 @@ impl Model for Node {
     ghost view = { λ n. record { history = n.book; lines = n.lines.items; read = n.read; learnt = n.learnt.items; jobs = n.jobs.items; taken = n.taken.items } };
 
     ghost invariant = { λ n. IsNode (record { history = n.book; lines = n.lines.items; read = n.read; learnt = n.learnt.items; jobs = n.jobs.items; taken = n.taken.items }) };
-}
-
-// Tells the proof that claims were accepted.
-fn hold_whole(claims: &[Claim])
-    ensures { AllByRecursion IsWhole claims.now }
-{
-    for claim in claims {
-        let _ = claim.path();
-    }
-}
-
-// The same for the claims of a call.
-fn hold_whole_call(call: &Call)
-    ensures { AllByRecursion IsWhole (claims_by call.now) }
-{
-    match call {
-        Call::Keep { claims, .. } => hold_whole(claims.values()),
-        Call::Release { batch, .. } => hold_whole(batch.claims.values()),
-        _ => {}
-    }
 }
 
 impl Node {
@@ -150,8 +125,10 @@ impl Node {
             (reply_form result) self.old.history self.new.history SEAT call }
         ensures rest { self.new ≡ record self.old { history = self.new.history } }
     {
-        hold_whole_call(&call);
-        self.book.call(SEAT, call)
+        let reply = self.book.call(SEAT, call);
+        // By this call the proof knows that the claims in the history were accepted.
+        let _ = self.book.entries();
+        reply
     }
 
     /// Makes a call of the side's book that opens no channel, and returns the message
