@@ -5,6 +5,10 @@ use Rattle.std.proofs.lemmas.Option.{none-some, same_Some}
 use Rattle.terms.specs.declared.sides.Side.{Side}
 use Rattle.terms.specs.declared.sides.Side.TheVariants.{A, B}
 use Rattle.terms.specs.Sides.{other}
+use Rattle.penalty.specs.declared.states.RevokedState.{RevokedState}
+use Rattle.chain.specs.Blocks.{Contents}
+use Rattle.safety.specs.Spending.{HasShortDelay}
+use Rattle.safety.specs.Fates.{NothingEscapesAbove}
 use Rattle.channel.specs.declared.messages.Message.{Message}
 use Rattle.channel.specs.Tokens.{peer_tokens}
 use Rattle.channel.specs.Agreeing.{PeersAgree}
@@ -65,8 +69,9 @@ nodes_of : (w : World) → IsWorld w → (s : Side) → IsNode (node_of s w)
 nodes_of w is A = is.a
 nodes_of w is B = is.b
 
-pub worlds_hold : AcceptedMeans → AcceptedIsGuarded → ReleasesFit → ClaimsSpend → PeersAgree → DeliveriesAreTaken → WorldsHold
-worlds_hold means gate releasing opening peers deliveries w is =
+pub worlds_hold : AcceptedMeans → AcceptedIsGuarded → ReleasesFit → ClaimsSpend → ((blocks : List Contents) (height : ℕ) (state : RevokedState) → HasShortDelay state → NothingEscapesAbove blocks height state) → PeersAgree
+    → DeliveriesAreTaken → WorldsHold
+worlds_hold means gate releasing opening escapes peers deliveries w is =
     let fit = fitting_world w is in
     let accepted : (s : Side) → all_accepted peer_tokens (node_of s w).history ≡ true = λ s. (means.accepted_exactly peer_tokens (node_of s w).history).0 (history_of s w fit) in
     let takes : (s : Side) (c : ℕ) (m : Message) (rest : List Message) → slice_get (inboxes (node_of s w)) c ≡ Some (m ∷ rest) → is_accepted (answer_to (node_of s w) (call_of c m)) ≡ true
@@ -78,6 +83,7 @@ worlds_hold means gate releasing opening peers deliveries w is =
       opens = λ x t input whole due. opening w.chain.blocks _ x t input whole due;
       released = is.released;
       fits = λ s seat c batch there. releasing peer_tokens (node_of s w).history seat c batch (accepted s) (nodes_of w is s).claims_are_whole there;
+      others = λ state short. escapes w.chain.blocks _ state short;
       agree = λ c x y here there. ends_at peers c (replay w.a.history) (replay w.b.history) (inboxes w.a) (inboxes w.b) x y is.agree here there;
       takes = takes;
       delivers = λ s c r refused. line_is c (node_of s w) (node_of (other s) w) (slice_get (node_of s w).lines c) r

@@ -4,7 +4,7 @@
 -- Over every interleaving of channel steps, blocks, reorganisations, broadcasts, looks and releases, two things hold. First, take any filling of an accepted claim whose output is unspent, and whose
 -- height and age are reached. It passes the chain's test of its input and runs to one true value, within 201 counted opcodes and 1,000 entries. No operand is missing, no check fails, and no branch
 -- stays open. Second, after a received revocation no commitment is signed until verified penalties for every claimable output are kept. Besides, what was released fits its claims, and the two sides
--- agree.
+-- agree. And whoever makes the next block, nobody else takes what a revoked commitment lets a side claim, except in the ways of `Fate`.
 use Rattle.std.specs.Prelude.{◌≡◌, ◌⊎◌, ℕ, true, List, ◌∷◌, ◌++◌, length, map, Contains, Some, slice_get}
 use Rattle.std.specs.List.{AllByRecursion, flat_map}
 use Rattle.tx.specs.declared.input.TxIn.{TxIn}
@@ -12,9 +12,12 @@ use Rattle.tx.specs.Fields.{Transaction}
 use Rattle.terms.specs.declared.sides.Side.{Side}
 use Rattle.terms.specs.declared.sides.Side.TheVariants.{A}
 use Rattle.claim.specs.Claims.{ClaimParts, IsWhole}
+use Rattle.penalty.specs.declared.states.RevokedState.{RevokedState}
 use Rattle.channel.specs.declared.messages.Message.{Message}
 use Rattle.channel.specs.Tokens.{peer_tokens}
 use Rattle.scenario.specs.declared.events.Event.{Event}
+use Rattle.safety.specs.Spending.{HasShortDelay}
+use Rattle.safety.specs.Fates.{NothingEscapesAbove}
 use Rattle.filling.specs.Filled.{AllFit}
 use Rattle.book.specs.declared.calls.Batch.{Batch}
 use Rattle.book.specs.declared.calls.Call.TheVariants.{Release}
@@ -52,6 +55,9 @@ pub record HoldsAt (w : World) : Type 0 where
   pub released : AreFillings w.a.history w.b.history w.released
   pub fits : (s : Side) (seat c : ℕ) (batch : Batch) → Contains (node_of s w).history (record { seat = seat; call = Release c batch })
       → AllFit (filling_by batch).tx batch.claims (filling_by batch).tx.inputs
+  -- whoever makes the next block: an input in it that takes an output which a revoked commitment lets its owner's peer claim has one of the fates of `Fate`, as far as the peer's tokens in it are over
+  -- what the peer signed
+  pub others : (state : RevokedState) → HasShortDelay state → NothingEscapesAbove w.chain.blocks (length w.chain.blocks) state
   -- the two sides hold the two ends of each channel
   pub agree : (c : ℕ) (x y : ChannelBook) → channel_of w.a c ≡ Some x → channel_of w.b c ≡ Some y → AreEnds x.state y.state
   -- a side's book takes the oldest message on its way to it; so, barring out-of-memory, a delivery is refused only without a channel or a message
