@@ -146,8 +146,9 @@ pub struct Mark {
 }
 
 impl Index {
-    ghost use Rattle.std.specs.Prelude.{◌≡◌, ◌+◌, IfOk, OnErr, option_map, reverse, slice_get, sum_by};
+    ghost use Rattle.std.specs.Prelude.{◌≡◌, ◌+◌, true, IfOk, OnErr, option_map, reverse, slice_get, sum_by};
     ghost use Rattle.chain.specs.Blocks.{Standing, has_id, unspent_of, fees_of, granted_of};
+    ghost use Rattle.chain.specs.Checked.{is_checked};
     ghost use Rattle.chain.specs.Conserving.{GrantsAreApart};
     ghost use Rattle.chain.specs.Connecting.{ConnectsSome};
     ghost use Rattle.chain.specs.Marking.{IsMark, IsGrown};
@@ -210,6 +211,13 @@ impl Index {
         ensures { result ≡ has_id self.now.blocks id.now }
     {
         Store::has_id(self, id)
+    }
+
+    /// Whatever calls the chain got, each transaction on it passed the tests of `connect` when it was added, after those before it.
+    pub fn passed_tests(&self)
+        ensures { is_checked self.now.blocks ≡ true }
+    {
+        let _ = &self.greatest;
     }
 
     /// Conservation, whatever calls the chain got: the value of its unspent outputs and its fees together are the satoshis that were granted.

@@ -35,7 +35,8 @@ impl Model for World {
 }
 
 impl World {
-    ghost use Rattle.std.specs.Prelude.{◌≡◌, None, MatchResult, option_map, slice_get};
+    ghost use Rattle.std.specs.Prelude.{◌≡◌, true, None, MatchResult, option_map, slice_get};
+    ghost use Rattle.chain.specs.Checked.{is_checked};
     ghost use Rattle.world.specs.Worlds.{node_of};
     ghost use Rattle.world.specs.Beginning.{beginning_refusal, IsBeginning, IsBeginningRefusal};
     ghost use Rattle.world.specs.Steps.{WorldSteps};
@@ -66,11 +67,14 @@ impl World {
         &self.parts.node(side).book
     }
 
-    /// The chain.
+    /// The chain. Each transaction on it passed the tests of `connect` when it was added, so the laws of `safety` on such chains hold of it.
     pub fn chain(&self) -> &Index
-        ensures { result.now ≡ self.now.chain }
+        ensures value { result.now ≡ self.now.chain }
+        ensures checked { is_checked result.now.blocks ≡ true }
     {
-        &self.parts.chain
+        let chain = &self.parts.chain;
+        chain.passed_tests();
+        chain
     }
 
     /// The transactions that wait for a block, in order.
