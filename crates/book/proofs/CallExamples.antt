@@ -1,5 +1,5 @@
 -- A book's replies, call by call: those of the first scenario, and each refusal before the next one in the order.
-use Rattle.std.proofs.Common.{◌≡◌, ℕ, true, false, List, [], ◌∷◌, ◌++◌, length, replicate, map, Some, None, Ok, Err, refl, lit≤}
+use Rattle.std.proofs.Common.{◌≡◌, ℕ, true, false, List, [], ◌∷◌, ◌++◌, length, replicate, map, Some, None, Ok, Err, refl, lit≤, lit<}
 use Rattle.sha2.specs.Sha256.{sha256, digest_bytes, hash_after, compress, rounds, schedule, first_words}
 use Rattle.keys.specs.Derivation.{point_of}
 use Rattle.terms.specs.declared.htlcs.Htlc.{Htlc}
@@ -96,6 +96,8 @@ module _ (bases : BaseKeys) (seed : List ℕ) (own : IsSeedOf seed bases) where
     b = record { dust = 546; delay = 144; minimum = 1000; start = 20000000; bases = bases };
     limited = lit≤ tt;
     whole = refl;
+    short_a = lit< tt;
+    short_b = lit< tt;
   }
 
   -- the two sides have the same base keys

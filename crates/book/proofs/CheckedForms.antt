@@ -13,6 +13,7 @@ use Rattle.script.specs.Token.{is_key}
 use Rattle.keys.specs.Derivation.{derived_key, revocation_key}
 use Rattle.terms.specs.declared.htlcs.Htlc.{Htlc}
 use Rattle.terms.specs.declared.sides.Side.{Side}
+use Rattle.terms.specs.declared.sides.Side.TheVariants.{A, B}
 use Rattle.terms.specs.declared.agreement.Terms.{Terms}
 use Rattle.terms.specs.declared.views.View.{View}
 use Rattle.terms.specs.Agreement.{party}
@@ -130,14 +131,19 @@ keys_in : (terms : Terms) (view : View) (owner : Side) (number : ℕ) (point : L
 unfolding commitment_of
 keys_in terms view owner number point = are_keys terms owner point
 
-delay_in : (terms : Terms) (view : View) (owner : Side) (number : ℕ) (point : List ℕ) → (party owner terms).delay < 2 ^ 16 → (commitment_of terms view owner number point).delay < 2 ^ 16
-unfolding commitment_of
-delay_in terms view owner number point h = h
+-- a side's delay is below 2^16, by the type of terms
+short_delay : (terms : Terms) (side : Side) → (party side terms).delay < 2 ^ 16
+short_delay terms A = terms.short_a
+short_delay terms B = terms.short_b
 
-pub forms_are_checked : (terms : Terms) (view : View) (owner : Side) (number : ℕ) (point : List ℕ) → CanPay terms view → (party owner terms).delay < 2 ^ 16
+delay_in : (terms : Terms) (view : View) (owner : Side) (number : ℕ) (point : List ℕ) → (commitment_of terms view owner number point).delay < 2 ^ 16
+unfolding commitment_of
+delay_in terms view owner number point = short_delay terms owner
+
+pub forms_are_checked : (terms : Terms) (view : View) (owner : Side) (number : ℕ) (point : List ℕ) → CanPay terms view
     → AllByRecursion (λ o. IsChecked o.form) (claimable_in (commitment_of terms view owner number point))
 unfolding claimable_in
-forms_are_checked terms view owner number point pays short =
+forms_are_checked terms view owner number point pays =
     let c = commitment_of terms view owner number point in
-    forms_from c (keys_in terms view owner number point) (delay_in terms view owner number point short) 0 c.outputs
+    forms_from c (keys_in terms view owner number point) (delay_in terms view owner number point) 0 c.outputs
     (recursion_from_All (λ o. IsOutput c.delay c.keys o) c.outputs (outputs_stand terms view owner number point pays).each)

@@ -88,7 +88,7 @@ openings_come_back o = go (can_agree (plain_terms o.terms)) refl
         (same_opening
         (record { terms = terms_with o.side (plain_opening o) h; side = o.side; seed = o.seed; first_point = o.first_point; next_point = o.next_point; token = o.token; own = owns o.side (plain_opening o) h })
         o (record { terms_is = same h; side_is = refl; seed_is = refl; first_point_is = refl; next_point_is = refl; token_is = refl }))
-    go false h = absurd (cc (agrees (plain_terms o.terms) (record { limited = o.terms.limited; whole = o.terms.whole })))
+    go false h = absurd (cc (agrees (plain_terms o.terms) (record { limited = o.terms.limited; whole = o.terms.whole }) o.terms.short_a o.terms.short_b))
 
 -- ---- entries
 
@@ -150,7 +150,7 @@ update_again channel s u d (Ok v) is same back go =
 update_again channel s u d (Err e) is same back go = tt
 
 pub opening_again : (o : Opening) → (CanOpen (plain_opening o) → call_in (open_data (plain_opening o)) ≡ Some (plain.Open (plain_opening o))) → HasTokens (Open o) → call_in (call_data (Open o)) ≡ Some (plain_call (Open o))
-opening_again o go token = go (agrees (plain_terms o.terms) (record { limited = o.terms.limited; whole = o.terms.whole }), token)
+opening_again o go token = go (agrees (plain_terms o.terms) (record { limited = o.terms.limited; whole = o.terms.whole }) o.terms.short_a o.terms.short_b, token)
 
 pub release_again : (channel : ℕ) (batch : Batch) → (are_within (length batch.claims) (length batch.outputs) ≡ true
     → call_in (release_data channel batch.claims batch.outputs batch.preimages) ≡ Some (plain.Release channel (map plain_claim batch.claims) batch.outputs batch.preimages))

@@ -81,6 +81,8 @@ module _ (bases : BaseKeys) (seed : List ℕ) (own : IsSeedOf seed bases) where
     b = record { dust = 546; delay = 144; minimum = 1000; start = 20000000; bases = bases };
     limited = lit≤ tt;
     whole = refl;
+    short_a = lit< tt;
+    short_b = lit< tt;
   }
 
   abbrev opening : Opening

@@ -1,5 +1,5 @@
 -- Keys, terms, openings and batches with equal parts are equal: what their types keep besides has one proof.
-use Rattle.std.proofs.Common.{◌≡◌, ◌≤◌, ℕ, ◌+◌, ◌*◌, Bool, true, false, true≢false, List, length, Option, Some, None, refl, sym, ap, ◌∙◌, subst}
+use Rattle.std.proofs.Common.{◌≡◌, ◌≤◌, ◌<◌, ℕ, ◌+◌, ◌*◌, ◌^◌, Bool, true, false, true≢false, List, length, Option, Some, None, refl, sym, ap, ◌∙◌, subst}
 use Rattle.std.specs.Prelude.{◌↔◌, ◌&&◌, nat_le, nat_lt, IsTrue, IsSome, IfSome}
 use Rattle.std.proofs.lemmas.Bool.{and_from, and_parts, le-leb, leb-true, lt-ltb, ltb-true, eq-eqb}
 use Rattle.std.proofs.Math.Bridge.{le_prop}
@@ -54,6 +54,8 @@ same_terms t u h =
       b = h.b_is i;
       limited = is_prop→PathP (λ j. h.capacity_is j ≤ max_value) (λ j. le_prop) t.limited u.limited i;
       whole = is_prop→PathP (λ j. (h.a_is j).start + (h.b_is j).start ≡ MSAT_PER_SAT * h.capacity_is j) (λ j. ℕ_set _ _) t.whole u.whole i;
+      short_a = is_prop→PathP (λ j. (h.a_is j).delay < 2 ^ 16) (λ j. le_prop) t.short_a u.short_a i;
+      short_b = is_prop→PathP (λ j. (h.b_is j).delay < 2 ^ 16) (λ j. le_prop) t.short_b u.short_b i;
     }
 
 seed_prop : (seed : List ℕ) (bases : BaseKeys) → IsProp (IsSeedOf seed bases)
@@ -84,8 +86,13 @@ same_batch b c h =
 
 -- ---- what the constructors return
 
-pub agrees : (t : ProposedTerms) → CanAgree t.capacity t.a.start t.b.start → can_agree t ≡ true
-agrees t h = and_from (nat_le t.capacity max_value) _ (le-leb t.capacity max_value h.limited) (eq-eqb (t.a.start + t.b.start) (MSAT_PER_SAT * t.capacity) h.whole)
+pub agrees : (t : ProposedTerms) → CanAgree t.capacity t.a.start t.b.start → t.a.delay < 2 ^ 16 → t.b.delay < 2 ^ 16 → can_agree t ≡ true
+agrees t h a b =
+    and_from _ _
+    (and_from _ _
+    (and_from (nat_le t.capacity max_value) _ (le-leb t.capacity max_value h.limited) (eq-eqb (t.a.start + t.b.start) (MSAT_PER_SAT * t.capacity) h.whole))
+    (lt-ltb t.a.delay (2 ^ 16) a))
+    (lt-ltb t.b.delay (2 ^ 16) b)
 
 -- the terms of an opening, by whether the sides can agree on them
 abbrev terms_by : (o : PlainOpening) (agreed : Bool) → can_agree o.terms ≡ agreed → Option Terms

@@ -1,5 +1,5 @@
 -- The penalty set of a revoked commitment, as a book tests it.
-use Rattle.std.specs.Prelude.{◌≡◌, ℕ, ◌<◌, ◌^◌, ◌==◌, Bool, true, false, ◌&&◌, not, Ok, is_ok, All, List, [], ◌∷◌, Option, Some, None, slice_get}
+use Rattle.std.specs.Prelude.{◌≡◌, ℕ, ◌==◌, Bool, true, false, ◌&&◌, not, Ok, is_ok, All, List, [], ◌∷◌, Option, Some, None, slice_get}
 use Rattle.std.specs.List.{AllByRecursion}
 use Rattle.std.specs.Str.{bytes_eq}
 use Rattle.script.specs.Spelling.{spelling, IsOp}
@@ -8,7 +8,6 @@ use Rattle.keys.specs.Derivation.{point_of}
 use Rattle.terms.specs.declared.sides.Side.{Side}
 use Rattle.terms.specs.declared.agreement.Terms.{Terms}
 use Rattle.terms.specs.declared.views.View.{View}
-use Rattle.terms.specs.Agreement.{party}
 use Rattle.terms.specs.Sides.{other}
 use Rattle.paths.specs.Listing.{CheckedScript, listing}
 use Rattle.claim.specs.declared.parts.Place.{Place}
@@ -96,7 +95,7 @@ pub record PenaltySetsAreExact : Type 0 where
       (c : Contents) (claims : List ClaimParts) → AllByRecursion (λ o. IsChecked o.form) (claimable_in c) → AllByRecursion (λ x. IsChecked x.ways) claims
       → are_claims_on (claimable_in c) claims ≡ true → AreClaimsOn (claimable_in c) claims
   pub forms :
-      (terms : Terms) (view : View) (owner : Side) (number : ℕ) (point : List ℕ) → CanPay terms view → (party owner terms).delay < 2 ^ 16
+      (terms : Terms) (view : View) (owner : Side) (number : ℕ) (point : List ℕ) → CanPay terms view
       → AllByRecursion (λ o. IsChecked o.form) (claimable_in (commitment_of terms view owner number point))
   pub same :
       (s : State) (c : CommitmentState) (secret : List ℕ) (state : RevokedState) → HasParts s.held.terms c.view (other s.held.side) c.number secret state

@@ -1,5 +1,5 @@
 -- Plays of two peers with their outcomes and newest commitments, from a model of BOLT 2 that keeps a stage for each update at each end and moves amounts.
-use Rattle.std.proofs.Common.{◌≡◌, ℕ, List, [], ◌∷◌, length, replicate, ap, ◌∙◌, refl, lit≤}
+use Rattle.std.proofs.Common.{◌≡◌, ℕ, List, [], ◌∷◌, length, replicate, ap, ◌∙◌, refl, lit≤, lit<}
 use Rattle.sha2.specs.Sha256.{sha256, digest_bytes, hash_after, compress, rounds, schedule, first_words}
 use Rattle.tx.specs.declared.input.OutPoint.{OutPoint}
 use Rattle.terms.specs.declared.sides.Side.TheVariants.{A, B}
@@ -64,6 +64,8 @@ terms_0 funding bases = record {
   b = record { dust = 546; delay = 144; minimum = 0; start = 1000000; bases = bases };
   limited = lit≤ tt;
   whole = refl;
+  short_a = lit< tt;
+  short_b = lit< tt;
 }
 
 abbrev steps_0 : List PairStep
@@ -89,6 +91,8 @@ terms_1 funding bases = record {
   b = record { dust = 546; delay = 144; minimum = 1; start = 1400000; bases = bases };
   limited = lit≤ tt;
   whole = refl;
+  short_a = lit< tt;
+  short_b = lit< tt;
 }
 
 abbrev steps_1 : List PairStep
@@ -114,6 +118,8 @@ terms_2 funding bases = record {
   b = record { dust = 546; delay = 144; minimum = 1; start = 500000000; bases = bases };
   limited = lit≤ tt;
   whole = refl;
+  short_a = lit< tt;
+  short_b = lit< tt;
 }
 
 abbrev steps_2 : List PairStep
@@ -139,6 +145,8 @@ terms_3 funding bases = record {
   b = record { dust = 546; delay = 144; minimum = 1; start = 1000000; bases = bases };
   limited = lit≤ tt;
   whole = refl;
+  short_a = lit< tt;
+  short_b = lit< tt;
 }
 
 abbrev steps_3 : List PairStep
@@ -165,6 +173,8 @@ terms_4 funding bases = record {
   b = record { dust = 546; delay = 144; minimum = 1; start = 1000000; bases = bases };
   limited = lit≤ tt;
   whole = refl;
+  short_a = lit< tt;
+  short_b = lit< tt;
 }
 
 abbrev steps_4 : List PairStep
@@ -190,6 +200,8 @@ terms_5 funding bases = record {
   b = record { dust = 546; delay = 144; minimum = 0; start = 2500000; bases = bases };
   limited = lit≤ tt;
   whole = refl;
+  short_a = lit< tt;
+  short_b = lit< tt;
 }
 
 abbrev steps_5 : List PairStep

@@ -1,5 +1,5 @@
 -- What a channel refuses, message by message, and in which order; the secrets are those of BOLT 3, "Storage Tests".
-use Rattle.std.proofs.Common.{◌≡◌, ℕ, true, false, List, [], ◌∷◌, length, replicate, Some, None, refl, lit≤}
+use Rattle.std.proofs.Common.{◌≡◌, ℕ, true, false, List, [], ◌∷◌, length, replicate, Some, None, refl, lit≤, lit<}
 use Rattle.std.specs.Int.Count.{count_trailing_zeros}
 use Rattle.sha2.specs.Sha256.{sha256, digest_bytes, hash_after, compress, rounds, schedule, first_words}
 use Rattle.tx.specs.declared.input.OutPoint.{OutPoint}
@@ -63,6 +63,8 @@ module _ (funding : OutPoint) (bases : BaseKeys) (seed : List ℕ) where
     b = record { dust = 546; delay = 144; minimum = 1000; start = 20000000; bases = bases };
     limited = lit≤ tt;
     whole = refl;
+    short_a = lit< tt;
+    short_b = lit< tt;
   }
 
   abbrev a : State

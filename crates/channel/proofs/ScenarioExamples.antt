@@ -1,5 +1,5 @@
 -- Plays under known terms: an HTLC that is failed, and a change of the feerate; their views were computed by hand.
-use Rattle.std.proofs.Common.{◌≡◌, ℕ, List, [], ◌∷◌, replicate, ap, ◌∙◌, refl, lit≤}
+use Rattle.std.proofs.Common.{◌≡◌, ℕ, List, [], ◌∷◌, replicate, ap, ◌∙◌, refl, lit≤, lit<}
 use Rattle.tx.specs.declared.input.OutPoint.{OutPoint}
 use Rattle.terms.specs.declared.htlcs.Htlc.{Htlc}
 use Rattle.terms.specs.declared.sides.Side.TheVariants.{A, B}
@@ -79,6 +79,8 @@ module _ (tokens_of : Signing) (funding : OutPoint) (bases : BaseKeys) (seed_a s
     b = record { dust = 546; delay = 144; minimum = 1000; start = 20000000; bases = bases };
     limited = lit≤ tt;
     whole = refl;
+    short_a = lit< tt;
+    short_b = lit< tt;
   }
 
   abbrev opened : World

@@ -1,5 +1,5 @@
 -- The amounts of commitments (BOLT 3, appendix C), and amounts at the dust limit.
-use Rattle.std.proofs.Common.{◌≡◌, ℕ, map, List, [], ◌∷◌, Option, Some, None, refl, lit≤}
+use Rattle.std.proofs.Common.{◌≡◌, ℕ, map, List, [], ◌∷◌, Option, Some, None, refl, lit≤, lit<}
 use Rattle.tx.specs.declared.input.OutPoint.{OutPoint}
 use Rattle.terms.specs.declared.htlcs.Htlc.{Htlc}
 use Rattle.terms.specs.declared.sides.Side.{Side}
@@ -21,7 +21,7 @@ module _ (funding : OutPoint) (bases : BaseKeys) where
 
   -- of a capacity that is A's at the start, and the dust limits of A and B
   abbrev opened_by_a : ℕ → ℕ → Terms
-  opened_by_a dust-a dust-b = record { funding = funding; capacity = 10000000; opener = A; feerate = 1000; a = side dust-a 10000000000; b = side dust-b 0; limited = lit≤ tt; whole = refl }
+  opened_by_a dust-a dust-b = record { funding = funding; capacity = 10000000; opener = A; feerate = 1000; a = side dust-a 10000000000; b = side dust-b 0; limited = lit≤ tt; whole = refl; short_a = lit< tt; short_b = lit< tt }
 
   abbrev of_amount : ℕ → Htlc
   of_amount amount = record { id = 0; amount = amount; hash = []; expiry = 500 }

@@ -1,5 +1,5 @@
 -- Commitments of either opener: the mask of their numbers (BOLT 3, "Commitment Transaction"), and who pays the fee.
-use Rattle.std.proofs.Common.{◌≡◌, ℕ, map, List, [], ◌∷◌, Option, Some, replicate, refl, lit≤}
+use Rattle.std.proofs.Common.{◌≡◌, ℕ, map, List, [], ◌∷◌, Option, Some, replicate, refl, lit≤, lit<}
 use Rattle.std.specs.Prelude.{IsTrue}
 use Rattle.sha2.specs.Sha256.{sha256, digest_bytes, hash_after, compress, rounds, schedule, first_words}
 use Rattle.script.specs.Token.{is_key}
@@ -42,7 +42,7 @@ module _ (funding : OutPoint) (any : Key) where
   }
 
   abbrev opened_by : Side → Terms
-  opened_by opener = record { funding = funding; capacity = 100000; opener = opener; feerate = 1000; a = side key_of_a 60000000; b = side key_of_b 40000000; limited = lit≤ tt; whole = refl }
+  opened_by opener = record { funding = funding; capacity = 100000; opener = opener; feerate = 1000; a = side key_of_a 60000000; b = side key_of_b 40000000; limited = lit≤ tt; whole = refl; short_a = lit< tt; short_b = lit< tt }
 
   abbrev view : View
   view = record { a = record { balance = 60000000; offered = [] }; b = record { balance = 40000000; offered = [] }; feerate = 1000 }

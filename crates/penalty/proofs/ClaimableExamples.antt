@@ -1,5 +1,5 @@
 -- What revoked commitments let the peer claim (BOLT 5, "Revoked Transaction Close Handling"), by amounts that were computed by hand.
-use Rattle.std.proofs.Common.{◌≡◌, ℕ, map, List, [], ◌∷◌, refl, lit≤}
+use Rattle.std.proofs.Common.{◌≡◌, ℕ, map, List, [], ◌∷◌, refl, lit≤, lit<}
 use Rattle.tx.specs.declared.input.OutPoint.{OutPoint}
 use Rattle.tx.specs.Spelling.{transaction_id}
 use Rattle.keys.specs.Derivation.{point_of, revocation_key}
@@ -68,7 +68,7 @@ module _ (funding : OutPoint) (of_a of_b : BaseKeys) (hash secret : List ℕ) wh
 
   -- 100,000 satoshis, of which A has 80,000 at the start; A opened the channel
   abbrev terms : Terms
-  terms = record { funding = funding; capacity = 100000; opener = A; feerate = 1000; a = side 80000000 144 of_a; b = side 20000000 72 of_b; limited = lit≤ tt; whole = refl }
+  terms = record { funding = funding; capacity = 100000; opener = A; feerate = 1000; a = side 80000000 144 of_a; b = side 20000000 72 of_b; limited = lit≤ tt; whole = refl; short_a = lit< tt; short_b = lit< tt }
 
   abbrev htlc : ℕ → ℕ → ℕ → Htlc
   htlc id amount expiry = record { id = id; amount = amount; hash = hash; expiry = expiry }

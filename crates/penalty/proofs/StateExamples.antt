@@ -1,5 +1,5 @@
 -- Which views a commitment can pay, on both sides of each limit.
-use Rattle.std.proofs.Common.{◌≡◌, ℕ, replicate, List, [], Some, None, refl, lit≤}
+use Rattle.std.proofs.Common.{◌≡◌, ℕ, replicate, List, [], Some, None, refl, lit≤, lit<}
 use Rattle.tx.specs.declared.input.OutPoint.{OutPoint}
 use Rattle.terms.specs.declared.htlcs.Htlc.{Htlc}
 use Rattle.terms.specs.declared.sides.Side.TheVariants.{A}
@@ -15,7 +15,7 @@ module _ (funding : OutPoint) (bases : BaseKeys) where
   side start = record { dust = 546; delay = 144; minimum = 0; start = start; bases = bases }
 
   abbrev terms : Terms
-  terms = record { funding = funding; capacity = 10; opener = A; feerate = 1000; a = side 10000; b = side 0; limited = lit≤ tt; whole = refl }
+  terms = record { funding = funding; capacity = 10; opener = A; feerate = 1000; a = side 10000; b = side 0; limited = lit≤ tt; whole = refl; short_a = lit< tt; short_b = lit< tt }
 
   abbrev htlcs : ℕ → ℕ → ℕ → List Htlc
   htlcs count amount expiry = replicate count (record { id = 0; amount = amount; hash = []; expiry = expiry })

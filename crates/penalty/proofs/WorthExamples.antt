@@ -1,5 +1,5 @@
 -- What the claims of revoked commitments are worth, by amounts that were computed by hand: a channel of 100,000 satoshis.
-use Rattle.std.proofs.Common.{◌≡◌, ℕ, Bool, false, map, List, [], ◌∷◌, refl, lit≤}
+use Rattle.std.proofs.Common.{◌≡◌, ℕ, Bool, false, map, List, [], ◌∷◌, refl, lit≤, lit<}
 use Rattle.std.specs.Prelude.{◌+◌, ◌==◌, nat_lt}
 use Rattle.tx.specs.declared.input.OutPoint.{OutPoint}
 use Rattle.terms.specs.declared.htlcs.Htlc.{Htlc}
@@ -23,7 +23,7 @@ module _ (funding : OutPoint) (bases : BaseKeys) (hash secret : List ℕ) where
   side dust start = record { dust = dust; delay = 144; minimum = 0; start = start; bases = bases }
 
   abbrev opened_by : Side → Terms
-  opened_by opener = record { funding = funding; capacity = 100000; opener = opener; feerate = 5000; a = side 546 60000000; b = side 1000 40000000; limited = lit≤ tt; whole = refl }
+  opened_by opener = record { funding = funding; capacity = 100000; opener = opener; feerate = 5000; a = side 546 60000000; b = side 1000 40000000; limited = lit≤ tt; whole = refl; short_a = lit< tt; short_b = lit< tt }
 
   abbrev offers : List ℕ → List Htlc
   offers amounts = map (λ amount. record { id = 0; amount = amount; hash = hash; expiry = 600 }) amounts

@@ -291,7 +291,7 @@ module _ (hash : List ℕ) where
 
     -- the whole channel is there: 9,337 + 20,000 + 69,104 satoshis, and 663 were the fee of HTLC-timeout
     all_there : AreAllThere blocks revoked []
-    all_there = nothing_is_lost revoked (lit< tt) blocks chain [] (All-nil IsSignable) shows
+    all_there = nothing_is_lost revoked blocks chain [] (All-nil IsSignable) shows
 
     it_stands : all_there.stands 0 ≡ true
     it_stands =

@@ -146,7 +146,7 @@ side start delay b = record { dust = 546; delay = delay; minimum = 0; start = st
 
 module _ (funding : OutPoint) (hash : List ℕ) where
   abbrev pub terms : Terms
-  terms = record { funding = funding; capacity = 100000; opener = A; feerate = 1000; a = side 80000000 144 (bases 0x10); b = side 20000000 72 (bases 0x20); limited = lit≤ tt; whole = refl }
+  terms = record { funding = funding; capacity = 100000; opener = A; feerate = 1000; a = side 80000000 144 (bases 0x10); b = side 20000000 72 (bases 0x20); limited = lit≤ tt; whole = refl; short_a = lit< tt; short_b = lit< tt }
 
   abbrev pub htlc : Htlc
   htlc = record { id = 0; amount = 10000000; hash = hash; expiry = 5 }

@@ -160,9 +160,9 @@ fated state o since height t input own final taken =
     (taken_so state o since height t input own taken)
 
 pub nothing_escapes : NothingEscapes
-nothing_escapes state short o height t input coin k own all w =
+nothing_escapes state o height t input coin k own all w =
     fated state o coin.height height t input own (passed height t input coin k.passes).final
-    (only_as_signed state short o height t input coin k (signed_by_peer (commitment_in state) own)
+    (only_as_signed state o height t input coin k (signed_by_peer (commitment_in state) own)
     (All-append IsSignable (map (htlc_signed (commitment_in state)) (htlcs_of (commitment_in state))) own (htlcs_signable state) all) w)
 
 -- ---- on a chain
@@ -171,8 +171,8 @@ coin_is : {X : Type 0} (x y : X) → Some x ≡ Some y → x ≡ y
 coin_is x y e = cc
 
 pub nothing_escapes_on_chains : NothingEscapesOnChains
-nothing_escapes_on_chains state short o among blocks tested height t stands input i coin at output =
+nothing_escapes_on_chains state o among blocks tested height t stands input i coin at output =
     let p = inputs_have_passed blocks tested height t stands input i in
     let same = coin_is p.0 coin (sym p.1 ∙ at) in
-    nothing_escapes state short o height t input (record { output = coin.output; height = coin.height; spent = false })
+    nothing_escapes state o height t input (record { output = coin.output; height = coin.height; spent = false })
     (record { claimable = among; output = output; passes = subst (λ (x : Coin). coin_refusal height t input (Some (marked false x)) ≡ None) same p.2 })

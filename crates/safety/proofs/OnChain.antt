@@ -65,9 +65,9 @@ later Late Later f c o t input (by_owner b) = by_owner (record { form = b.form; 
 later Late Later f c o t input (by_twin w) = by_twin w
 
 pub who_spends : WhoSpends
-who_spends state short o height t input coin k =
+who_spends state o height t input coin k =
     let p = passed height t input coin k.passes in
     later (Waits t input (commitment_in state).delay) (IsLate state coin.height height)
     (λ w. waited t input coin.height height (commitment_in state).delay w p.old)
     (commitment_in state) o t input
-    (who_can_spend state short o k.claimable t input p.counted p.tallest (ap (run_of t input) (sym k.output) ∙ p.clean))
+    (who_can_spend state o k.claimable t input p.counted p.tallest (ap (run_of t input) (sym k.output) ∙ p.clean))

@@ -11,7 +11,7 @@ use Rattle.safety.specs.Signing.{Signed, IsSignable, digest_of, AreSame, ListsCo
 use Rattle.safety.specs.Spending.{spend_on, IsLate, CanSpend, by_peer, by_owner, by_twin}
 use Rattle.safety.specs.Taking.{ShowsOnly, IsTaken, as_signed, by_collision, OnlyAsSigned}
 use Rattle.safety.specs.Taking.{by_owner as taken_by_owner, by_twin as taken_by_twin}
-use Rattle.safety.proofs.Claimed.{delay_in}
+use Rattle.safety.proofs.Claimed.{delay_short}
 use Rattle.safety.proofs.Limits.{is_plain}
 use Rattle.safety.proofs.OnChain.{who_spends}
 use Rattle.safety.proofs.Signing.{one_digest}
@@ -28,12 +28,11 @@ taken state o since height t input signed g all shows (by_owner b) = taken_by_ow
 taken state o since height t input signed g all shows (by_twin w) = taken_by_twin w
 
 pub only_as_signed : OnlyAsSigned
-only_as_signed state short o height t input coin k signed all w =
-    let d = delay_in state in
-    let p = is_plain state (omega (arith, short, d)) o k.claimable in
+only_as_signed state o height t input coin k signed all w =
+    let p = is_plain state (delay_short state) o k.claimable in
     let code = p.short in
     let value = p.low in
     let good : IsInput input = All-contains IsInput t.inputs input (All-from_recursion IsInput t.inputs w.limits.inputs.each) w.among in
     taken state o coin.height height t input signed
     (record { transaction = w.limits; input = good; code = omega (arith, code); value = omega (arith, value) }) all w.shows
-    (who_spends state short o height t input coin k)
+    (who_spends state o height t input coin k)

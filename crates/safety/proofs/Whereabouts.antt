@@ -36,7 +36,7 @@ use Rattle.penalty.proofs.Programs.{same_htlc}
 use Rattle.penalty.proofs.Second.{first_output}
 use Rattle.penalty.proofs.Worth.{each_stage, each_claimable}
 use Rattle.safety.specs.Signing.{Signed, IsSignable}
-use Rattle.safety.specs.Spending.{spend_on, HasShortDelay, Takes}
+use Rattle.safety.specs.Spending.{spend_on, Takes}
 use Rattle.safety.specs.Taking.{IsAsSigned}
 use Rattle.safety.specs.Fates.{htlc_signed, signed_by_peer, Ending}
 use Rattle.safety.specs.Whereabouts.{IsOnChain, HasCommitment, IsNamedBy, ShowsOnlyOn, IsCoinOf, Whereabouts, unspent, taken, NothingIsLost}
@@ -146,7 +146,6 @@ passes blocks checked o coin k height t input n =
 
 -- the premises of the law
 record IsGiven (blocks : List Block) (state : RevokedState) (own : List Signed) : Type 0 where
-  short : HasShortDelay state
   chain : HasCommitment blocks state
   all : All IsSignable own
   shows : ShowsOnlyOn blocks state own
@@ -161,7 +160,7 @@ ends blocks state own g o i coin k height t input n never =
     let signed : IsAsSigned c.keys (signed_by_peer c own) (spend_on o t input) = record { limits = chain.limits height t n.stands; among = n.within; shows = g.shows o i height t input n } in
     let signable = All-append IsSignable (map (htlc_signed c) (htlcs_of c)) own (htlcs_signable state) g.all in
     ⊎_elim (λ (f : IsForHtlc c o t input). absurd (never f)) (λ (e : Ending state o coin.height height t input own). e)
-    (taken_so state o coin.height height t input own (only_as_signed state g.short o height t input unmarked takes (signed_by_peer c own) signable signed))
+    (taken_so state o coin.height height t input own (only_as_signed state o height t input unmarked takes (signed_by_peer c own) signable signed))
 
 where_is : (blocks : List Block) (state : RevokedState) (own : List Signed) → IsGiven blocks state own → (o : Claimable) → Contains (claimable_of state) o → HasCoin blocks o
     → ((height : ℕ) (t : Transaction) (input : TxIn) → IsNamedBy blocks o height t input → IsForHtlc (commitment_in state) o t input → ⊥) → Whereabouts blocks state own o
@@ -226,7 +225,7 @@ each_from blocks state own g index (o ∷ os) at a =
     (each_from blocks state own g (index + 1) os (others_of c.outputs index o os at)) o.kind refl a
 
 pub nothing_is_lost : NothingIsLost
-nothing_is_lost state short blocks chain own all shows =
+nothing_is_lost state blocks chain own all shows =
     let c = commitment_in state in
     record {
       stands = standing blocks c;
@@ -234,5 +233,5 @@ nothing_is_lost state short blocks chain own all shows =
       claimable = each_claimable state (standing blocks c);
       apart = apart_from blocks state chain 0 c.outputs (all_of c.outputs);
       worth = each_stage state (standing blocks c);
-      each = each_from blocks state own (record { short = short; chain = chain; all = all; shows = shows }) 0 c.outputs (all_of c.outputs) (each_claimable state (standing blocks c));
+      each = each_from blocks state own (record { chain = chain; all = all; shows = shows }) 0 c.outputs (all_of c.outputs) (each_claimable state (standing blocks c));
     }

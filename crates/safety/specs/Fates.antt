@@ -16,7 +16,7 @@ use Rattle.penalty.specs.declared.states.RevokedState.{RevokedState}
 use Rattle.penalty.specs.Claimable.{Claimable, place_in, commitment_in, claimable_of}
 use Rattle.penalty.specs.Covering.{IsClaimedAt}
 use Rattle.safety.specs.Signing.{Signed, IsSignable, digest_of, AreSame, ListsCollide}
-use Rattle.safety.specs.Spending.{spend_on, ShowsTwin, IsOwners, HasShortDelay, IsLate, Takes}
+use Rattle.safety.specs.Spending.{spend_on, ShowsTwin, IsOwners, IsLate, Takes}
 use Rattle.safety.specs.Taking.{IsAsSigned}
 use Rattle.safety.specs.Standing.{StandsAt}
 
@@ -70,8 +70,7 @@ HasFate state o since height t input =
 -- this holds of any coin that is one of the outputs that a revoked state lets the peer claim
 abbrev pub NothingEscapes : Type 0
 NothingEscapes =
-    (state : RevokedState) → HasShortDelay state
-    → (o : Claimable) (height : ℕ) (t : Transaction) (input : TxIn) (coin : Coin) → Takes state o height t input coin
+    (state : RevokedState) (o : Claimable) (height : ℕ) (t : Transaction) (input : TxIn) (coin : Coin) → Takes state o height t input coin
     → HasFate state o coin.height height t input
 
 -- this holds of any transaction that a block of this height may hold above these blocks
@@ -83,7 +82,7 @@ NothingEscapesAbove blocks height state =
 -- this holds of each transaction on a chain that passed its tests, by the coin that its input names
 abbrev pub NothingEscapesOnChains : Type 0
 NothingEscapesOnChains =
-    (state : RevokedState) → HasShortDelay state → (o : Claimable) → Contains (claimable_of state) o
+    (state : RevokedState) (o : Claimable) → Contains (claimable_of state) o
     → (blocks : List Block) → is_checked blocks ≡ true
     → (height : ℕ) (t : Transaction) → StandsAt blocks height t → (input : TxIn) → Contains t.inputs input
     → (coin : Coin) → coin_at blocks input.outpoint ≡ Some coin → coin.output ≡ output_at o.place

@@ -1,5 +1,5 @@
 -- What an input has that spends an output which the owner's peer can claim by a revoked commitment.
-use Rattle.std.specs.Prelude.{◌≡◌, ◌⊎◌, ℕ, ◌+◌, ◌%◌, ◌^◌, ◌<◌, ◌≤◌, false, List, [], ◌∷◌, Some, None}
+use Rattle.std.specs.Prelude.{◌≡◌, ◌⊎◌, ℕ, ◌+◌, ◌%◌, ◌^◌, ◌≤◌, false, List, [], ◌∷◌, Some, None}
 use Rattle.std.specs.List.{Contains}
 use Rattle.sha2.specs.Sha256.{sha256}
 use Rattle.digest.specs.Hash.{hash160}
@@ -13,7 +13,6 @@ use Rattle.tx.specs.Fields.{Transaction}
 use Rattle.sighash.specs.Programs.{run_of}
 use Rattle.chain.specs.Blocks.{Coin}
 use Rattle.chain.specs.Checks.{coin_refusal}
-use Rattle.terms.specs.Agreement.{party}
 use Rattle.claim.specs.Fitting.{output_at}
 use Rattle.commit.specs.Keys.{KeyBytes}
 use Rattle.commit.specs.Commitments.{Contents}
@@ -70,9 +69,9 @@ pub record Waits (t : Transaction) (input : TxIn) (delay : ℕ) : Type 0 where
   pub enough : delay ≤ input.sequence % 2 ^ 16
 
 -- whatever input runs clean on an output that a revoked state lets the peer claim spends it in one of these ways
-abbrev pub AreSpentSo : RevokedState → Type 0
-AreSpentSo state =
-    (o : Claimable) → Contains (claimable_of state) o
+abbrev pub WhoCanSpend : Type 0
+WhoCanSpend =
+    (state : RevokedState) (o : Claimable) → Contains (claimable_of state) o
     → (t : Transaction) (input : TxIn) (counted height : ℕ) → run_of t input (output_at o.place) ≡ Some (Clean counted height)
     → CanSpend (Waits t input (commitment_in state).delay) (commitment_in state) o t input
 
@@ -87,17 +86,7 @@ abbrev pub IsLate : RevokedState → (since height : ℕ) → Type 0
 IsLate state since height = since + (commitment_in state).delay ≤ height
 
 -- whatever input passes the chain's test of such an output spends it in one of these ways
-abbrev pub AreTakenSo : RevokedState → Type 0
-AreTakenSo state =
-    (o : Claimable) (height : ℕ) (t : Transaction) (input : TxIn) (coin : Coin) → Takes state o height t input coin
-    → CanSpend (IsLate state coin.height height) (commitment_in state) o t input
-
--- the owner's delay is a number of 16 bits, as it is in its type
-abbrev pub HasShortDelay : RevokedState → Type 0
-HasShortDelay state = (party state.owner state.terms).delay < 2 ^ 16
-
-abbrev pub WhoCanSpend : Type 0
-WhoCanSpend = (state : RevokedState) → HasShortDelay state → AreSpentSo state
-
 abbrev pub WhoSpends : Type 0
-WhoSpends = (state : RevokedState) → HasShortDelay state → AreTakenSo state
+WhoSpends =
+    (state : RevokedState) (o : Claimable) (height : ℕ) (t : Transaction) (input : TxIn) (coin : Coin) → Takes state o height t input coin
+    → CanSpend (IsLate state coin.height height) (commitment_in state) o t input

@@ -8,7 +8,7 @@ use Rattle.commit.specs.Keys.{KeyBytes}
 use Rattle.penalty.specs.declared.states.RevokedState.{RevokedState}
 use Rattle.penalty.specs.Claimable.{Claimable, commitment_in}
 use Rattle.safety.specs.Signing.{Signed, IsSignable, digest_of, AreSame, ListsCollide}
-use Rattle.safety.specs.Spending.{spend_on, IsSignedBy, peer_keys, ShowsTwin, IsOwners, HasShortDelay, IsLate, Takes}
+use Rattle.safety.specs.Spending.{spend_on, IsSignedBy, peer_keys, ShowsTwin, IsOwners, IsLate, Takes}
 
 -- where the witness has a token of one of the peer's keys over the input's digest, that digest is of one that the peer signed
 abbrev pub ShowsOnly : KeyBytes → List Signed → Signed → Type 0
@@ -31,7 +31,6 @@ pub data IsTaken (state : RevokedState) (o : Claimable) (since height : ℕ) (t 
 -- this holds of each output that a revoked state lets the peer claim, whatever the peer signed
 abbrev pub OnlyAsSigned : Type 0
 OnlyAsSigned =
-    (state : RevokedState) → HasShortDelay state
-    → (o : Claimable) (height : ℕ) (t : Transaction) (input : TxIn) (coin : Coin) → Takes state o height t input coin
+    (state : RevokedState) (o : Claimable) (height : ℕ) (t : Transaction) (input : TxIn) (coin : Coin) → Takes state o height t input coin
     → (signed : List Signed) → All IsSignable signed → IsAsSigned (commitment_in state).keys signed (spend_on o t input)
     → IsTaken state o coin.height height t input signed

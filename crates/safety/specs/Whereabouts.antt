@@ -13,7 +13,7 @@ use Rattle.penalty.specs.declared.states.RevokedState.{RevokedState}
 use Rattle.penalty.specs.Claimable.{Claimable, commitment_in, claimable_of}
 use Rattle.penalty.specs.Worth.{staged, value_of, fees_with, IsCapacityWith}
 use Rattle.safety.specs.Signing.{Signed, IsSignable}
-use Rattle.safety.specs.Spending.{spend_on, HasShortDelay}
+use Rattle.safety.specs.Spending.{spend_on}
 use Rattle.safety.specs.Standing.{StandsAt}
 use Rattle.safety.specs.Taking.{ShowsOnly}
 use Rattle.safety.specs.Fates.{signed_by_peer, Ending}
@@ -75,5 +75,5 @@ pub record AreAllThere (blocks : List Block) (state : RevokedState) (own : List 
 -- this holds whatever inputs of its own the peer signed
 abbrev pub NothingIsLost : Type 0
 NothingIsLost =
-    (state : RevokedState) → HasShortDelay state → (blocks : List Block) → HasCommitment blocks state
+    (state : RevokedState) (blocks : List Block) → HasCommitment blocks state
     → (own : List Signed) → All IsSignable own → ShowsOnlyOn blocks state own → AreAllThere blocks state own

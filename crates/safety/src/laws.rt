@@ -1,18 +1,16 @@
-//! Laws over the definitions alone, and two of them for a given state.
+//! Laws over the definitions alone.
 
-ghost use Rattle.std.specs.Prelude.{◌<◌, ◌^◌, ℕ, List};
+ghost use Rattle.std.specs.Prelude.{ℕ, List};
 ghost use Rattle.chain.specs.Blocks.{Contents as Block};
 ghost use Rattle.penalty.specs.declared.states.RevokedState.{RevokedState as State};
 ghost use Rattle.safety.specs.Satisfying.{ToLocalSatisfied, KeyHashSatisfied, OfferedSatisfied, ReceivedSatisfied};
 ghost use Rattle.safety.specs.Signing.{OneDigest, OneToken};
-ghost use Rattle.safety.specs.Spending.{AreSpentSo, AreTakenSo, HasShortDelay, WhoCanSpend, WhoSpends};
+ghost use Rattle.safety.specs.Spending.{WhoCanSpend, WhoSpends};
 ghost use Rattle.safety.specs.Owning.{OnlyPeerSigns};
 ghost use Rattle.safety.specs.Standing.{HavePassed};
 ghost use Rattle.safety.specs.Taking.{OnlyAsSigned};
 ghost use Rattle.safety.specs.Fates.{SignedWithCommitment, NothingEscapes, NothingEscapesAbove, NothingEscapesOnChains};
 ghost use Rattle.safety.specs.Whereabouts.{NothingIsLost};
-
-use penalty::RevokedState;
 
 /// Whatever runs clean on to_local has a token of the revocation key; or one of the delayed key, and a sequence that CHECKSEQUENCEVERIFY accepts for the
 /// delay.
@@ -35,7 +33,7 @@ pub fn who_satisfies_an_htlc()
 
 /// Any input that runs clean on an output that a revoked state lets the owner's peer claim is of one of three kinds. It has a token, over its own digest, of one of the
 /// peer's keys that the output's script names. Or, only on the form of to_local, it has a token of the delayed key and a relative lock of at least the delay. Or it
-/// shows other bytes with the hash of the script, or with that of one of the peer's keys. The delay is below 2^16.
+/// shows other bytes with the hash of the script, or with that of one of the peer's keys.
 pub fn who_can_spend()
     ensures { WhoCanSpend }
 {}
@@ -44,20 +42,6 @@ pub fn who_can_spend()
 /// block. With a delay of 0 nobody waits.
 pub fn who_spends()
     ensures { WhoSpends }
-{}
-
-/// The last two laws for a given state: its delay is below 2^16 by its type.
-pub fn who_spends_of(state: &RevokedState)
-    ensures runs { AreSpentSo state.now }
-    ensures chain { AreTakenSo state.now }
-{
-    let party = state.terms.party(state.owner);
-    fits(party.delay)
-}
-
-// A number of 16 bits is below 2^16.
-fn fits(number: u16)
-    ensures { number < 2 ^ 16 }
 {}
 
 /// A digest is over one input of one transaction, with one script code and one value, whatever the witnesses; or two byte strings that are hashed for it collide. The
@@ -95,7 +79,7 @@ pub fn only_as_signed()
 pub fn nothing_escapes()
     ensures digests { SignedWithCommitment }
     ensures fates { NothingEscapes }
-    ensures above { (blocks : List Block) (height : ℕ) (state : State) → HasShortDelay state
+    ensures above { (blocks : List Block) (height : ℕ) (state : State)
         → NothingEscapesAbove blocks height state }
     ensures chains { NothingEscapesOnChains }
 {}

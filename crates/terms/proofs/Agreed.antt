@@ -1,8 +1,8 @@
 -- Terms are determined by their fields, and two sides agree on proposed ones exactly where the terms
 -- can be made.
-use Rattle.std.proofs.Common.{◌≡◌, ◌≤◌, ◌+◌, ◌*◌, Bool, true, false, true≢false, Some, None, refl, sym, ap, ◌∙◌, subst}
-use Rattle.std.specs.Prelude.{◌==◌, ◌&&◌, nat_le}
-use Rattle.std.proofs.lemmas.Bool.{and_from, and_parts, le-leb, leb-true, eq-eqb, eqb-true}
+use Rattle.std.proofs.Common.{◌≡◌, ◌≤◌, ◌<◌, ◌+◌, ◌*◌, ◌^◌, Bool, true, false, true≢false, Option, Some, None, refl, sym, ap, ◌∙◌, subst}
+use Rattle.std.specs.Prelude.{◌==◌, ◌&&◌, nat_le, nat_lt, is_some}
+use Rattle.std.proofs.lemmas.Bool.{and_from, and_parts, le-leb, leb-true, lt-ltb, eq-eqb, eqb-true}
 use Rattle.std.proofs.Math.Bridge.{le_prop}
 use Rattle.std.proofs.Math.Nat.{ℕ_set}
 use mathlib.Core.HLevel.{is_prop→PathP}
@@ -28,14 +28,23 @@ same_terms t u h =
       b = h.b_is i;
       limited = is_prop→PathP (λ j. h.capacity_is j ≤ max_value) (λ j. le_prop) t.limited u.limited i;
       whole = is_prop→PathP (λ j. (h.a_is j).start + (h.b_is j).start ≡ MSAT_PER_SAT * h.capacity_is j) (λ j. ℕ_set _ _) t.whole u.whole i;
+      short_a = is_prop→PathP (λ j. (h.a_is j).delay < 2 ^ 16) (λ j. le_prop) t.short_a u.short_a i;
+      short_b = is_prop→PathP (λ j. (h.b_is j).delay < 2 ^ 16) (λ j. le_prop) t.short_b u.short_b i;
     }
 
-agrees : (t : ProposedTerms) → CanAgree t.capacity t.a.start t.b.start → can_agree t ≡ true
-agrees t h = and_from (nat_le t.capacity max_value) _ (le-leb t.capacity max_value h.limited) (eq-eqb (t.a.start + t.b.start) (MSAT_PER_SAT * t.capacity) h.whole)
+agrees : (t : ProposedTerms) → CanAgree t.capacity t.a.start t.b.start → t.a.delay < 2 ^ 16 → t.b.delay < 2 ^ 16 → can_agree t ≡ true
+agrees t h a b =
+    and_from _ _
+    (and_from _ _
+    (and_from (nat_le t.capacity max_value) _ (le-leb t.capacity max_value h.limited) (eq-eqb (t.a.start + t.b.start) (MSAT_PER_SAT * t.capacity) h.whole))
+    (lt-ltb t.a.delay (2 ^ 16) a))
+    (lt-ltb t.b.delay (2 ^ 16) b)
 
 can : (t : ProposedTerms) → can_agree t ≡ true → CanAgree t.capacity t.a.start t.b.start
 can t h =
-    let parts = and_parts (nat_le t.capacity max_value) (t.a.start + t.b.start == MSAT_PER_SAT * t.capacity) h in
+    let last = and_parts (nat_le t.capacity max_value && t.a.start + t.b.start == MSAT_PER_SAT * t.capacity && nat_lt t.a.delay (2 ^ 16)) (nat_lt t.b.delay (2 ^ 16)) h in
+    let front = and_parts (nat_le t.capacity max_value && t.a.start + t.b.start == MSAT_PER_SAT * t.capacity) (nat_lt t.a.delay (2 ^ 16)) last.0 in
+    let parts = and_parts (nat_le t.capacity max_value) (t.a.start + t.b.start == MSAT_PER_SAT * t.capacity) front.0 in
     record { limited = leb-true t.capacity max_value parts.0; whole = eqb-true (t.a.start + t.b.start) (MSAT_PER_SAT * t.capacity) parts.1 }
 
 pub terms_are : (funding : OutPoint) (a b : BaseKeys) (p : ProposedTerms) (t : Terms) → CanAgree p.capacity p.a.start p.b.start
@@ -45,7 +54,8 @@ terms_are funding a b p t agreed fields = go (can_agree p) refl
   where
     go : (r : Bool) (h : can_agree p ≡ r) → Some t ≡ terms_if funding a b p r h
     go true h = ap Some (same_terms t (terms_with funding a b p h) fields)
-    go false h = absurd (true≢false (sym (agrees p agreed) ∙ h))
+    go false h =
+        absurd (true≢false (sym (agrees p agreed (subst (λ (x : Party). x.delay < 2 ^ 16) fields.a_is t.short_a) (subst (λ (x : Party). x.delay < 2 ^ 16) fields.b_is t.short_b)) ∙ h))
 
 no_terms : (funding : OutPoint) (a b : BaseKeys) (p : ProposedTerms) → (CanAgree p.capacity p.a.start p.b.start → ⊥) → None ≡ agreed_terms funding a b p
 unfolding agreed_terms
@@ -53,6 +63,15 @@ no_terms funding a b p cannot = go (can_agree p) refl
   where
     go : (r : Bool) (h : can_agree p ≡ r) → None ≡ terms_if funding a b p r h
     go true h = absurd (cannot (can p h))
+    go false h = refl
+
+-- there are terms exactly if the sides can agree
+pub some_terms : (funding : OutPoint) (a b : BaseKeys) (p : ProposedTerms) (r : Option Terms) → r ≡ agreed_terms funding a b p → is_some r ≡ can_agree p
+unfolding agreed_terms
+some_terms funding a b p r e = ap is_some e ∙ go (can_agree p) refl
+  where
+    go : (x : Bool) (h : can_agree p ≡ x) → is_some (terms_if funding a b p x h) ≡ x
+    go true h = refl
     go false h = refl
 
 -- of two parties that are these

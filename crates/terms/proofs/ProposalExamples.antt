@@ -1,5 +1,5 @@
 -- Terms that two sides can agree on, and terms that differ from them by one.
-use Rattle.std.proofs.Common.{◌≡◌, ℕ, ◌+◌, true, false, Some, None, refl, sym, lit≤}
+use Rattle.std.proofs.Common.{◌≡◌, ℕ, ◌+◌, true, false, Some, None, refl, sym, lit≤, lit<}
 use Rattle.tx.specs.declared.input.OutPoint.{OutPoint}
 use Rattle.terms.specs.declared.sides.Side.TheVariants.{A, B}
 use Rattle.terms.specs.declared.agreement.BaseKeys.{BaseKeys}
@@ -26,6 +26,19 @@ agreements : (can_agree (proposed 1 999 1) ≡ true)
     × (can_agree (proposed 2100000000000001 2100000000000001000 0) ≡ false)
 agreements = (refl, refl, refl, refl, refl)
 
+-- each side's delay is of 16 bits
+abbrev delayed : ℕ → ℕ → ProposedTerms
+delayed a b = record {
+  capacity = 1;
+  opener = B;
+  feerate = 6;
+  a = record { dust = 4; delay = a; minimum = 7; start = 999 };
+  b = record { dust = 5; delay = b; minimum = 8; start = 1 };
+}
+
+delays : (can_agree (delayed 65535 65535) ≡ true) × (can_agree (delayed 65536 65535) ≡ false) × (can_agree (delayed 65535 65536) ≡ false)
+delays = (refl, refl, refl)
+
 -- each side has its own values and keys
 module _ (funding : OutPoint) (keys_of_a keys_of_b : BaseKeys) where
   abbrev terms : Terms
@@ -38,6 +51,8 @@ module _ (funding : OutPoint) (keys_of_a keys_of_b : BaseKeys) where
     b = record { dust = 5; delay = 3; minimum = 8; start = 1; bases = keys_of_b };
     limited = lit≤ tt;
     whole = refl;
+    short_a = lit< tt;
+    short_b = lit< tt;
   }
 
   fields : HasFields terms funding 1 B 6 (party_of (proposed 1 999 1).a keys_of_a) (party_of (proposed 1 999 1).b keys_of_b)

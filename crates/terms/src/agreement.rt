@@ -1,6 +1,6 @@
 //! The terms of a channel.
 
-ghost use Rattle.std.specs.Prelude.{◌≡◌, ◌+◌, ◌*◌, ◌≤◌};
+ghost use Rattle.std.specs.Prelude.{◌≡◌, ◌+◌, ◌*◌, ◌^◌, ◌<◌, ◌≤◌};
 ghost use Rattle.tx.specs.Limits.{max_value};
 ghost use Rattle.terms.specs.declared.amounts.TheConstants.{MSAT_PER_SAT};
 
@@ -71,7 +71,14 @@ pub struct Terms {
     pub b: Party,
     pub ghost limited: { capacity ≤ max_value },
     pub ghost whole: { a.start + b.start ≡ MSAT_PER_SAT * capacity },
+    pub ghost short_a: { a.delay < 2 ^ 16 },
+    pub ghost short_b: { b.delay < 2 ^ 16 },
 }
+
+// A delay of 16 bits is below 2^16.
+fn fits(delay: u16)
+    ensures { delay < 2 ^ 16 }
+{}
 
 impl Terms {
     ghost use Rattle.std.specs.Prelude.{◌≡◌, ◌↔◌, IsOk, IfOk};
@@ -98,6 +105,9 @@ impl Terms {
         {
             return Err(TermsError::BadTerms);
         }
+        // By these calls the proof knows that both delays are short.
+        fits(a.delay);
+        fits(b.delay);
         Ok(Terms {
             funding,
             capacity,

@@ -2,12 +2,12 @@
 //! BOLT 3).
 //!
 //! [`Terms`] are the values of `open_channel` and `accept_channel`, the funding outpoint and both sides' base keys.
-//! Their type guarantees what all crates above rely on: the capacity is at most 21,000,000 bitcoins, and the two
-//! starting balances sum to it. [`ProposedTerms`], with a [`ProposedParty`] for each side, are the terms that are
-//! proposed before there are a funding output and keys; two sides may be unable to agree on them. A [`View`] is what
-//! one commitment pays: each side's balance, its HTLCs, and the feerate. [`mask`], [`obscure`] and [`number_of`]
-//! handle the number of a commitment and the fields of its transaction that carry it. `specs/Scripts.antt` has the
-//! opcodes of BOLT 3's five scripts, which `commit` spells and `forms` lists.
+//! Their type guarantees what all crates above rely on: the capacity is at most 21,000,000 bitcoins, the two starting
+//! balances sum to it, and each delay is below 2^16. [`ProposedTerms`], with a [`ProposedParty`] for each side, are the
+//! terms that are proposed before there are a funding output and keys; two sides may be unable to agree on them. A
+//! [`View`] is what one commitment pays: each side's balance, its HTLCs, and the feerate. [`mask`], [`obscure`] and
+//! [`number_of`] handle the number of a commitment and the fields of its transaction that carry it.
+//! `specs/Scripts.antt` has the opcodes of BOLT 3's five scripts, which `commit` spells and `forms` lists.
 //!
 //! `keys` provides the base keys. `updates` makes the views, `commit` the commitment of a view, and `texts` reads and
 //! writes proposed terms.

@@ -1,6 +1,6 @@
 //! Terms that are proposed, before there are a funding output and keys.
 
-ghost use Rattle.std.specs.Prelude.{◌≡◌};
+ghost use Rattle.std.specs.Prelude.{◌≡◌, ◌^◌, nat_lt};
 ghost use Rattle.terms.specs.Proposals.{party_of};
 
 use crate::agreement::{BaseKeys, Party, Terms};
@@ -47,13 +47,20 @@ fn party_of(proposed: &ProposedParty, bases: BaseKeys) -> Party
     }
 }
 
+// Whether a delay is below 2^16, as each of this type is.
+fn is_short(delay: u16) -> bool
+    ensures { result ≡ nat_lt delay (2 ^ 16) }
+{
+    u32::from(delay) < 65_536
+}
+
 impl ProposedTerms {
     ghost use Rattle.std.specs.Prelude.{◌≡◌, IfSome, is_some};
     ghost use Rattle.terms.specs.Agreement.{HasFields};
     ghost use Rattle.terms.specs.Proposals.{can_agree, party_of, agreed_terms};
 
     /// Whether two sides can agree on the terms: the capacity is at most 21,000,000 bitcoins, and the two starting balances sum to
-    /// it.
+    /// it. That each delay is below 2^16 is tested too, though its type has it: definitions see delays as numbers of any size.
     pub fn can_agree(&self) -> bool
         ensures { result ≡ can_agree self.now }
     {
@@ -61,6 +68,8 @@ impl ProposedTerms {
         let (a, b) = (self.a.start, self.b.start);
         capacity <= MAX_VALUE
             && u128::from(a) + u128::from(b) == u128::from(MSAT_PER_SAT) * u128::from(capacity)
+            && is_short(self.a.delay)
+            && is_short(self.b.delay)
     }
 
     /// The terms with a funding output and both sides' base keys; `None` where the sides cannot agree.

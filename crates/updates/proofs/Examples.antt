@@ -1,5 +1,5 @@
 -- What lists of updates make of HTLCs, balances and fees (BOLT 2), by numbers that were computed by hand.
-use Rattle.std.proofs.Common.{◌≡◌, ℕ, true, false, map, replicate, List, [], ◌∷◌, Option, Some, None, refl, lit≤}
+use Rattle.std.proofs.Common.{◌≡◌, ℕ, true, false, map, replicate, List, [], ◌∷◌, Option, Some, None, refl, lit≤, lit<}
 use Rattle.tx.specs.declared.input.OutPoint.{OutPoint}
 use Rattle.terms.specs.declared.agreement.BaseKeys.{BaseKeys}
 use Rattle.terms.specs.declared.agreement.Party.{Party}
@@ -108,7 +108,7 @@ module _ (funding : OutPoint) (bases : BaseKeys) where
   party start = record { dust = 546; delay = 144; minimum = 1000; start = start; bases = bases }
 
   abbrev terms : Terms
-  terms = record { funding = funding; capacity = 100000; opener = A; feerate = 1000; a = party 80000000; b = party 20000000; limited = lit≤ tt; whole = refl }
+  terms = record { funding = funding; capacity = 100000; opener = A; feerate = 1000; a = party 80000000; b = party 20000000; limited = lit≤ tt; whole = refl; short_a = lit< tt; short_b = lit< tt }
 
   abbrev offer : ℕ → ℕ → ℕ → Update
   offer id amount expiry = Add (record { id = id; amount = amount; hash = []; expiry = expiry })

@@ -7,7 +7,6 @@ use Rattle.terms.specs.declared.sides.Side.TheVariants.{A, B}
 use Rattle.terms.specs.Sides.{other}
 use Rattle.penalty.specs.declared.states.RevokedState.{RevokedState}
 use Rattle.chain.specs.Blocks.{Contents}
-use Rattle.safety.specs.Spending.{HasShortDelay}
 use Rattle.safety.specs.Fates.{NothingEscapesAbove}
 use Rattle.channel.specs.declared.messages.Message.{Message}
 use Rattle.channel.specs.Tokens.{peer_tokens}
@@ -69,7 +68,7 @@ nodes_of : (w : World) → IsWorld w → (s : Side) → IsNode (node_of s w)
 nodes_of w is A = is.a
 nodes_of w is B = is.b
 
-pub worlds_hold : AcceptedMeans → AcceptedIsGuarded → ReleasesFit → ClaimsSpend → ((blocks : List Contents) (height : ℕ) (state : RevokedState) → HasShortDelay state → NothingEscapesAbove blocks height state) → PeersAgree
+pub worlds_hold : AcceptedMeans → AcceptedIsGuarded → ReleasesFit → ClaimsSpend → ((blocks : List Contents) (height : ℕ) (state : RevokedState) → NothingEscapesAbove blocks height state) → PeersAgree
     → DeliveriesAreTaken → WorldsHold
 worlds_hold means gate releasing opening escapes peers deliveries w is =
     let fit = fitting_world w is in
@@ -83,7 +82,7 @@ worlds_hold means gate releasing opening escapes peers deliveries w is =
       opens = λ x t input whole due. opening w.chain.blocks _ x t input whole due;
       released = is.released;
       fits = λ s seat c batch there. releasing peer_tokens (node_of s w).history seat c batch (accepted s) (nodes_of w is s).claims_are_whole there;
-      others = λ state short. escapes w.chain.blocks _ state short;
+      others = λ state. escapes w.chain.blocks _ state;
       agree = λ c x y here there. ends_at peers c (replay w.a.history) (replay w.b.history) (inboxes w.a) (inboxes w.b) x y is.agree here there;
       takes = takes;
       delivers = λ s c r refused. line_is c (node_of s w) (node_of (other s) w) (slice_get (node_of s w).lines c) r

@@ -16,7 +16,6 @@ use Rattle.penalty.specs.declared.states.RevokedState.{RevokedState}
 use Rattle.channel.specs.declared.messages.Message.{Message}
 use Rattle.channel.specs.Tokens.{peer_tokens}
 use Rattle.scenario.specs.declared.events.Event.{Event}
-use Rattle.safety.specs.Spending.{HasShortDelay}
 use Rattle.safety.specs.Fates.{NothingEscapesAbove}
 use Rattle.filling.specs.Filled.{AllFit}
 use Rattle.book.specs.declared.calls.Batch.{Batch}
@@ -57,7 +56,7 @@ pub record HoldsAt (w : World) : Type 0 where
       → AllFit (filling_by batch).tx batch.claims (filling_by batch).tx.inputs
   -- whoever makes the next block: an input in it that takes an output which a revoked commitment lets its owner's peer claim has one of the fates of `Fate`, as far as the peer's tokens in it are over
   -- what the peer signed
-  pub others : (state : RevokedState) → HasShortDelay state → NothingEscapesAbove w.chain.blocks (length w.chain.blocks) state
+  pub others : (state : RevokedState) → NothingEscapesAbove w.chain.blocks (length w.chain.blocks) state
   -- the two sides hold the two ends of each channel
   pub agree : (c : ℕ) (x y : ChannelBook) → channel_of w.a c ≡ Some x → channel_of w.b c ≡ Some y → AreEnds x.state y.state
   -- a side's book takes the oldest message on its way to it; so, barring out-of-memory, a delivery is refused only without a channel or a message

@@ -8,7 +8,7 @@ pub returns-clause-fates : goal.returns-clause-fates
 returns-clause-fates c = nothing_escapes
 
 pub returns-clause-above : goal.returns-clause-above
-returns-clause-above c = λ blocks height state short o t input coin at k. nothing_escapes state short o height t input coin k
+returns-clause-above c = λ blocks height state o t input coin at k. nothing_escapes state o height t input coin k
 
 pub returns-clause-chains : goal.returns-clause-chains
 returns-clause-chains c = nothing_escapes_on_chains
