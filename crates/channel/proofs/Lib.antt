@@ -13,6 +13,7 @@ mod Meeting
 mod Agreement
 mod Theorem
 mod Records
+mod ByNumber
 mod Playing
 mod Pairing
 mod Trusting

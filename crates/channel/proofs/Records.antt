@@ -93,10 +93,10 @@ recorded_opened terms side seed point next_point = record {
   past_count = refl;
 }
 
-calm_when : (s : State) → AllPass (sign_tests s) → s.awaiting ≡ false
+pub calm_when : (s : State) → AllPass (sign_tests s) → s.awaiting ≡ false
 calm_when s (t1, t2) = (or_parts s.awaiting _ t1).0
 
-awaits_when : (tokens_of : Signing) (s : State) (secret : List ℕ) (next_point : Key) → AllPass (receive_tests tokens_of s (RevokeAndAck secret next_point)) → s.awaiting ≡ true
+pub awaits_when : (tokens_of : Signing) (s : State) (secret : List ℕ) (next_point : Key) → AllPass (receive_tests tokens_of s (RevokeAndAck secret next_point)) → s.awaiting ≡ true
 awaits_when tokens_of s secret next_point (t1, t2) = not-false s.awaiting t1
 
 recorded_after : (tokens_of : Signing) (s : State) (m : Message) → receive_refusal tokens_of s m ≡ None → IsRecorded s → IsRecorded (after s m)

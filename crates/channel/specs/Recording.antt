@@ -1,4 +1,4 @@
--- The view of each commitment that a state records: that of the sender's and the receiver's updates, at the stage that the commitment stands for.
+-- The commitments that a state records: each by its number, with the view of the sender's and the receiver's updates at the stage that it stands for.
 use Rattle.std.specs.Prelude.{◌≡◌, ◌+◌, Bool, true, false, List, [], ◌∷◌, ◌++◌, length}
 use Rattle.terms.specs.Sides.{other}
 use Rattle.updates.specs.Views.{view_by}
@@ -6,6 +6,8 @@ use Rattle.channel.specs.declared.commitments.CommitmentState.{CommitmentState}
 use Rattle.channel.specs.Points.{point_at}
 use Rattle.channel.specs.States.{Signing, State}
 use Rattle.channel.specs.Peers.{IsLived}
+use Rattle.channel.specs.Keeping.{one_if}
+use Rattle.channel.specs.Numbered.{AreNumbered}
 
 -- one's own newest commitment
 abbrev pub own_newest : State → CommitmentState
@@ -32,3 +34,12 @@ pub record IsRecorded (s : State) : Type 0 where
 -- the state has these records, whatever the peer sends
 abbrev pub SidesRecord : Type 0
 SidesRecord = (tokens_of : Signing) (s : State) → IsLived tokens_of s → IsRecorded s
+
+-- the commitments of both sides stand by number, and the view of each shares out the capacity
+pub record AreByNumber (s : State) : Type 0 where
+  pub mine : AreNumbered s.held.terms s.held.side (s.number + 1) s.mine
+  pub signed : AreNumbered s.held.terms (other s.held.side) (s.peer_number + 1 + one_if s.awaiting) s.signed
+
+-- they do so, whatever the peer sends
+abbrev pub SidesNumber : Type 0
+SidesNumber = (tokens_of : Signing) (s : State) → IsLived tokens_of s → AreByNumber s
