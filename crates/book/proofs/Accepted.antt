@@ -47,7 +47,7 @@ reached tokens_of (e ∷ es) ok = subst (IsHistory tokens_of) (grown (is_accepte
 pub onto : (e : Entry) (es before : List Entry) → reverse (e ∷ es) ++ before ≡ reverse es ++ (e ∷ before)
 onto e es before = ap (λ xs. xs ++ before) (reverse-append (e ∷ []) es) ∙ append_assoc (reverse es) (e ∷ []) before
 
-earlier : (tokens_of : Signing) (xs before : List Entry) → are_accepted tokens_of (xs ++ before) ≡ true → are_accepted tokens_of before ≡ true
+pub earlier : (tokens_of : Signing) (xs before : List Entry) → are_accepted tokens_of (xs ++ before) ≡ true → are_accepted tokens_of before ≡ true
 earlier tokens_of [] before ok = ok
 earlier tokens_of (x ∷ xs) before ok = earlier tokens_of xs before (and_parts (is_taken tokens_of (xs ++ before) x) (are_accepted tokens_of (xs ++ before)) ok).1
 

@@ -40,16 +40,16 @@ use Rattle.book.proofs.Fillable.{knowledge_of, CanFillClaim, set_fillable, nothi
 abbrev OwnsBases : ChannelBook → Type 0
 OwnsBases ch = IsSeedOf ch.state.seed (party ch.state.held.side ch.state.held.terms).bases
 
-all_changed : {A : Type 0} (P : A → Type 0) (f : A → A) → ((x : A) → P x → P (f x)) → (n : ℕ) (xs : List A) → AllByRecursion P xs → AllByRecursion P (at_index f n xs)
+pub all_changed : {A : Type 0} (P : A → Type 0) (f : A → A) → ((x : A) → P x → P (f x)) → (n : ℕ) (xs : List A) → AllByRecursion P xs → AllByRecursion P (at_index f n xs)
 all_changed P f keeps_it n [] h = tt
 all_changed P f keeps_it zero (x ∷ xs) h = (keeps_it x h.0, h.1)
 all_changed P f keeps_it (suc n) (x ∷ xs) h = (h.0, all_changed P f keeps_it n xs h.1)
 
-all_grown : {A : Type 0} (P : A → Type 0) (x : A) (xs : List A) → AllByRecursion P xs → P x → AllByRecursion P (xs ++ x ∷ [])
+pub all_grown : {A : Type 0} (P : A → Type 0) (x : A) (xs : List A) → AllByRecursion P xs → P x → AllByRecursion P (xs ++ x ∷ [])
 all_grown P x [] h k = (k, tt)
 all_grown P x (y ∷ xs) h k = (h.0, all_grown P x xs h.1 k)
 
-all_at : {A : Type 0} (P : A → Type 0) (xs : List A) (n : ℕ) (x : A) → AllByRecursion P xs → slice_get xs n ≡ Some x → P x
+pub all_at : {A : Type 0} (P : A → Type 0) (xs : List A) (n : ℕ) (x : A) → AllByRecursion P xs → slice_get xs n ≡ Some x → P x
 all_at P [] n x h e = absurd (cc)
 all_at P (y ∷ xs) zero x h e = let s : y ≡ x = cc in subst P s h.0
 all_at P (y ∷ xs) (suc n) x h e = all_at P xs n x h.1 e

@@ -14,11 +14,11 @@ use Rattle.claim.specs.declared.parts.Place.{Place}
 use Rattle.claim.specs.declared.parts.Shell.{Shell}
 use Rattle.claim.specs.declared.parts.Shell.TheVariants.{Open, Fixed}
 use Rattle.claim.specs.Judgement.{judgement_of}
-use Rattle.claim.specs.Claims.{ClaimParts, IsAccepted}
+use Rattle.claim.specs.Claims.{ClaimParts, IsAccepted, IsWhole}
 use Rattle.commit.specs.declared.outputs.OutputKind.{OutputKind}
 use Rattle.commit.specs.declared.outputs.OutputKind.TheVariants.{ToLocal, ToRemote, ToHtlc}
 use Rattle.commit.specs.declared.outputs.CommitmentOutput.{CommitmentOutput}
-use Rattle.commit.specs.Commitments.{Contents}
+use Rattle.commit.specs.Commitments.{Contents, commitment_of}
 use Rattle.forms.specs.Fillings.{Filling, Signature, PreimageOf, Bytes, filling_of}
 use Rattle.penalty.specs.Claimable.{Claimable, claims_on, claims_by, claims_from, commitment_in, claimable_of}
 use Rattle.penalty.specs.Sets.{claimed_by, IsClaimOn, AreClaimsOn}
@@ -221,11 +221,19 @@ pub set_is_found : (state : RevokedState) (claims : List ClaimParts) → AreClai
 unfolding claimable_of
 set_is_found state claims h = claims_found (claimable_of state) claims (open_from (commitment_in state) 0 (commitment_in state).outputs) h
 
+-- the scripts of claims are checked
+pub ways_are_checked : (claims : List ClaimParts) → AllByRecursion IsWhole claims → AllByRecursion (λ c. IsChecked c.ways) claims
+ways_are_checked [] h = tt
+ways_are_checked (c ∷ cs) h = (record { each = h.0.ops; listed = h.0.listed }, ways_are_checked cs h.1)
+
 pub penalty_sets_are_exact : PenaltySetsAreExact
 unfolding claimable_of claimable_in
 penalty_sets_are_exact = record {
   found = λ c claims h. claims_found (claims_from c 0 c.outputs) claims (open_from c 0 c.outputs) h;
   only = λ c claims h k e. claims_are (claims_from c 0 c.outputs) claims (open_from c 0 c.outputs) h k e;
   forms = forms_are_checked;
+  exact = λ terms view owner number point claims pays whole e.
+      let c = commitment_of terms view owner number point in
+      claims_are (claims_from c 0 c.outputs) claims (open_from c 0 c.outputs) (forms_are_checked terms view owner number point pays) (ways_are_checked claims whole) e;
   same = λ s c secret state h. rw (h.terms_is, h.view_is, h.owner_is, h.number_is, h.secret_is) refl;
 }

@@ -1,6 +1,5 @@
 -- That a book signs nothing after a revocation for which it keeps no penalties (BOLT 5, "Revoked Transaction Close Handling").
-use Rattle.std.specs.Prelude.{◌≡◌, ℕ, suc, ◌==◌, Bool, true, false, ◌&&◌, if◌then◌else◌, List, [], ◌∷◌, ◌++◌, reverse, Option, Some, None, slice_get}
-use Rattle.std.specs.List.{AllByRecursion}
+use Rattle.std.specs.Prelude.{◌≡◌, ℕ, suc, ◌==◌, Bool, true, false, ◌&&◌, if◌then◌else◌, List, [], ◌∷◌, ◌++◌, reverse, Contains, Option, Some, None, slice_get}
 use Rattle.claim.specs.Claims.{ClaimParts}
 use Rattle.penalty.specs.Claimable.{Claimable}
 use Rattle.penalty.specs.Sets.{AreClaimsOn}
@@ -8,9 +7,9 @@ use Rattle.channel.specs.States.{Signing}
 use Rattle.book.specs.declared.calls.Call.{Call}
 use Rattle.book.specs.declared.calls.Call.TheVariants.{Open, Step, Sign, Revoke, Keep, Release}
 use Rattle.book.specs.declared.calls.Entry.{Entry}
-use Rattle.book.specs.Penalties.{claimable_at, are_claims_on, is_penalty_set, IsChecked}
-use Rattle.book.specs.Books.{ChannelBook, Channels, is_kept, replayed}
-use Rattle.book.specs.Accepted.{all_accepted}
+use Rattle.book.specs.Penalties.{claimable_at, is_penalty_set}
+use Rattle.book.specs.Books.{ChannelBook, Channels, is_kept, replayed, replay}
+use Rattle.book.specs.Accepted.{all_accepted, AreWhole}
 
 -- In this file lists of entries have the newest first.
 
@@ -80,17 +79,27 @@ is_guarded history = all_allowed (reverse history)
 abbrev pub AcceptedIsGuarded : Type 0
 AcceptedIsGuarded = (tokens_of : Signing) (history : List Entry) → all_accepted tokens_of history ≡ true → is_guarded history ≡ true
 
--- ---- the same, entry by entry
+-- ---- what is kept
 
--- a call keeps the penalties of a number in a channel, given the channels before the call: its claims are accepted, in order, on all that the peer's commitment of this number lets this side
--- claim. Where the scripts are checked ones, these are exactly the accepted claims on that
+-- the claims are the accepted ones, in order, on exactly what the peer's revoked commitment of a number lets this side claim in a channel
+pub record ArePenaltiesIn (c n : ℕ) (chs : Channels) (claims : List ClaimParts) : Type 0 where
+  pub outputs : List Claimable
+  pub lets : claimable_by (slice_get chs c) n ≡ Some outputs
+  pub exact : AreClaimsOn outputs claims
+
+-- so it is of each set that a history of accepted calls keeps, whatever comes after it
+abbrev pub KeptAreExact : Type 0
+KeptAreExact =
+    (tokens_of : Signing) (history : List Entry) (seat c n : ℕ) (claims : List ClaimParts) → all_accepted tokens_of history ≡ true → AreWhole history
+    → Contains history (record { seat = seat; call = Keep c n claims }) → ArePenaltiesIn c n (replay history) claims
+
+-- ---- the gate, entry by entry
+
+-- a call keeps the penalties of a number in a channel, given the channels before the call
 pub record IsKeeping (c n : ℕ) (chs : Channels) (call : Call) : Type 0 where
   pub claims : List ClaimParts
-  pub outputs : List Claimable
   pub keeps : call ≡ Keep c n claims
-  pub lets : claimable_by (slice_get chs c) n ≡ Some outputs
-  pub accepted : are_claims_on outputs claims ≡ true
-  pub exact : AllByRecursion (λ o. IsChecked o.form) outputs → AllByRecursion (λ x. IsChecked x.ways) claims → AreClaimsOn outputs claims
+  pub penalties : ArePenaltiesIn c n chs claims
 
 -- one of the entries between a revocation and a signature, which have the newest first, keeps the penalties of the revoked commitment
 pub record IsKeptBetween (c : ℕ) (between : List Entry) (revoking : Entry) (earlier : List Entry) : Type 0 where
@@ -100,9 +109,9 @@ pub record IsKeptBetween (c : ℕ) (between : List Entry) (revoking : Entry) (ea
   pub split : between ≡ front ++ keeping ∷ back
   pub kept : IsKeeping c (revocations c earlier) (replayed (back ++ revoking ∷ earlier)) keeping.call
 
--- this is so wherever a signature stands after a revocation in its channel
+-- this is so wherever a signature stands after a revocation in its channel, in a history of accepted calls
 abbrev pub GuardedMeans : Type 0
 GuardedMeans =
-    (history later between earlier : List Entry) (c : ℕ) (signing revoking : Entry) → is_guarded history ≡ true
+    (tokens_of : Signing) (history later between earlier : List Entry) (c : ℕ) (signing revoking : Entry) → all_accepted tokens_of history ≡ true → AreWhole history
     → reverse history ≡ later ++ signing ∷ (between ++ revoking ∷ earlier) → signing.call ≡ Sign c → is_revocation c revoking.call ≡ true
     → IsKeptBetween c between revoking earlier

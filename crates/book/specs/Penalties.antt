@@ -12,7 +12,7 @@ use Rattle.terms.specs.Sides.{other}
 use Rattle.paths.specs.Listing.{CheckedScript, listing}
 use Rattle.claim.specs.declared.parts.Place.{Place}
 use Rattle.claim.specs.Judgement.{judgement_of}
-use Rattle.claim.specs.Claims.{ClaimParts}
+use Rattle.claim.specs.Claims.{ClaimParts, IsWhole}
 use Rattle.commit.specs.Commitments.{Contents, commitment_of}
 use Rattle.forms.specs.Fillings.{Filling, Signature, PreimageOf, Bytes}
 use Rattle.penalty.specs.declared.states.RevokedState.{RevokedState}
@@ -88,7 +88,7 @@ pub record IsChecked (c : CheckedScript) : Type 0 where
   pub listed : listing c.ops ≡ Ok c.paths
 
 -- claims pass the test exactly if they are the accepted claims, in order, on what the commitment lets be claimed. This is so for checked scripts, which are those of each commitment that can pay its
--- view. A revoked state lets claim what its commitment does
+-- view, and those of each claim. A revoked state lets claim what its commitment does
 pub record PenaltySetsAreExact : Type 0 where
   pub found : (c : Contents) (claims : List ClaimParts) → AreClaimsOn (claimable_in c) claims → are_claims_on (claimable_in c) claims ≡ true
   pub only :
@@ -97,6 +97,9 @@ pub record PenaltySetsAreExact : Type 0 where
   pub forms :
       (terms : Terms) (view : View) (owner : Side) (number : ℕ) (point : List ℕ) → CanPay terms view
       → AllByRecursion (λ o. IsChecked o.form) (claimable_in (commitment_of terms view owner number point))
+  pub exact :
+      (terms : Terms) (view : View) (owner : Side) (number : ℕ) (point : List ℕ) (claims : List ClaimParts) → CanPay terms view → AllByRecursion IsWhole claims
+      → are_claims_on (claimable_in (commitment_of terms view owner number point)) claims ≡ true → AreClaimsOn (claimable_in (commitment_of terms view owner number point)) claims
   pub same :
       (s : State) (c : CommitmentState) (secret : List ℕ) (state : RevokedState) → HasParts s.held.terms c.view (other s.held.side) c.number secret state
       → claimable_of state ≡ claimable_in (revoked_contents s c secret)

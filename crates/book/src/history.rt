@@ -6,6 +6,7 @@ use crate::fulfils::Fulfils;
 use crate::limits::MAX_CHANNELS;
 use crate::matching::hold_whole;
 use crate::open_channel::{OpenChannel, Taken};
+use channel::laws::sides_are_sound;
 use channel::{Channel, Message};
 use claim::Claim;
 use filling::{FillError, Filled};
@@ -48,7 +49,7 @@ impl Book {
     ghost use Rattle.updates.specs.declared.errors.ChannelError.TheVariants.{NoMemory as refusal_memory};
     ghost use Rattle.filling.specs.declared.errors.FillError.TheVariants.{NoMemory as fill_memory};
     ghost use Rattle.book.specs.Accepted.{all_accepted, AreWhole};
-    ghost use Rattle.book.specs.Guarding.{is_guarded};
+    ghost use Rattle.book.specs.Guarding.{is_guarded, ArePenaltiesIn};
     ghost use Rattle.book.specs.Replies.{opened, stepped, signed, revoked, kept, released};
     ghost use Rattle.book.specs.Calling.{IsCall, IsKeepRefusal, step_reply};
     ghost use Rattle.book.specs.Books.{replay, kept_at, fundings_of};
@@ -243,8 +244,8 @@ impl Book {
         Ok(message)
     }
 
-    /// Keeps the penalties of the peer's revoked commitment of this number. Refused, in this order, with `NoSuchChannel`, `NotRevoked`, `AlreadyKept`, and `OtherState` where the claims are not its penalty
-    /// set. A refusal leaves the book as it was.
+    /// Keeps the penalties of the peer's revoked commitment of this number: accepted claims on exactly what it lets this side claim. Refused, in this order, with `NoSuchChannel`, `NotRevoked`,
+    /// `AlreadyKept`, and `OtherState` where the claims are not its penalty set. A refusal leaves the book as it was.
     pub fn keep(
         &mut self,
         seat: u32,
@@ -252,8 +253,9 @@ impl Book {
         number: u64,
         claims: List<Claim>,
     ) -> Result<(), KeepError>
-        ensures { IsCall (kept (Err KeepError.NoMemory)) (kept result) self.old self.new seat
+        ensures call { IsCall (kept (Err KeepError.NoMemory)) (kept result) self.old self.new seat
             (Call.Keep channel number claims) }
+        ensures exact { IfOk result (λ _. ArePenaltiesIn channel number (replay self.old) claims) }
     {
         let index = channel as usize;
         if index >= self.channels.len() {
@@ -269,8 +271,9 @@ impl Book {
             Ok(()) => {}
             Err(error) => return Err(error),
         }
-        // By this call the proof knows that the claims were accepted.
+        // By these calls the proof knows that the claims were accepted, and the peer's commitments can pay what they are for.
         hold_whole(claims.values());
+        sides_are_sound();
         let call = Call::Keep {
             channel,
             number,
@@ -289,8 +292,10 @@ impl Book {
         number: u64,
         set: PenaltySet,
     ) -> Result<(), KeepError>
-        ensures { IsCall (kept (Err KeepError.NoMemory)) (kept result) self.old self.new seat
+        ensures call { IsCall (kept (Err KeepError.NoMemory)) (kept result) self.old self.new seat
             (Call.Keep channel number set.claims) }
+        ensures exact { IfOk result (λ _. ArePenaltiesIn channel number (replay self.old)
+            set.claims) }
     {
         let index = channel as usize;
         if index >= self.channels.len() {
@@ -307,6 +312,7 @@ impl Book {
             Err(error) => return Err(error),
         }
         hold_whole(set.claims());
+        sides_are_sound();
         let call = Call::Keep {
             channel,
             number,

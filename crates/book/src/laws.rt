@@ -1,13 +1,14 @@
 //! Laws over the definitions alone.
 
 ghost use Rattle.book.specs.Accepted.{AcceptedMeans};
-ghost use Rattle.book.specs.Guarding.{AcceptedIsGuarded, GuardedMeans};
+ghost use Rattle.book.specs.Guarding.{AcceptedIsGuarded, GuardedMeans, KeptAreExact};
 ghost use Rattle.book.specs.Again.{ClaimsComeBack, OpeningsComeBack, EntriesComeBack};
 ghost use Rattle.book.specs.Refused.{RefusalsComeInOrder};
 ghost use Rattle.book.specs.Penalties.{PenaltySetsAreExact};
 ghost use Rattle.book.specs.Releasing.{KeptAreFillable, ReleasesFit};
 ghost use Rattle.book.specs.Signers.{RightsAreTested, RefusalsAreFound};
 
+use channel::laws::sides_are_sound;
 use filling::laws::fillings_fit;
 
 /// A book's calls lead exactly to the histories in which each entry is accepted after those before it. Any other history has a first entry that is refused: all entries before it are
@@ -21,7 +22,10 @@ pub fn accepted_is_called()
 pub fn signing_is_guarded()
     ensures guarded { AcceptedIsGuarded }
     ensures between { GuardedMeans }
-{}
+{
+    // By this law the proof knows that the peer's commitments can pay what they are for.
+    sides_are_sound();
+}
 
 /// A book's test of its signers' rights accepts exactly the keys that they may sign for.
 pub fn rights_are_tested()
@@ -37,6 +41,14 @@ pub fn refusals_are_found()
 pub fn penalty_sets_are_exact()
     ensures { PenaltySetsAreExact }
 {}
+
+/// After any history of accepted calls and claims, each set that it keeps is accepted claims on exactly what the peer's revoked commitment lets the side claim, whatever came after it.
+pub fn kept_are_exact()
+    ensures { KeptAreExact }
+{
+    // By this law the proof knows that the peer's commitments can pay what they are for.
+    sides_are_sound();
+}
 
 /// After any history, no slot of the claims in a channel's kept sets lacks a right or a preimage. This holds for one claim and for several together, so a release of kept claims is never
 /// refused with `NoRight`.

@@ -3,6 +3,7 @@ use Rattle.std.proofs.Common.{ℕ, List, [], ◌∷◌, refl}
 use Rattle.terms.specs.declared.sides.Side.TheVariants.{A}
 use Rattle.terms.specs.declared.agreement.Terms.{Terms}
 use Rattle.channel.specs.Peers.{opened_both, at_opening}
+use Rattle.channel.specs.Recording.{SidesNumber}
 use Rattle.channel.specs.Agreeing.{PeersAgree}
 use Rattle.book.specs.Books.{ChannelBook}
 use Rattle.world.specs.Pairing.{ArePaired, AreEnds}
@@ -18,5 +19,5 @@ module _ (terms : Terms) (seed_a seed_b : List ℕ) where
   paired : ArePaired A (of_a ∷ []) (of_b ∷ []) ([] ∷ []) ([] ∷ [])
   paired = (record { terms = terms; seed_a = seed_a; seed_b = seed_b; reached = at_opening }, tt)
 
-  ends : PeersAgree → AreEnds of_a.state of_b.state
-  ends agrees = ends_at agrees 0 (of_a ∷ []) (of_b ∷ []) ([] ∷ []) ([] ∷ []) of_a of_b paired refl refl
+  ends : PeersAgree → SidesNumber → AreEnds of_a.state of_b.state
+  ends agrees numbers = ends_at agrees numbers 0 (of_a ∷ []) (of_b ∷ []) ([] ∷ []) ([] ∷ []) of_a of_b paired refl refl

@@ -10,10 +10,11 @@ use Rattle.chain.specs.Blocks.{Contents}
 use Rattle.safety.specs.Fates.{NothingEscapesAbove}
 use Rattle.channel.specs.declared.messages.Message.{Message}
 use Rattle.channel.specs.Tokens.{peer_tokens}
+use Rattle.channel.specs.Recording.{SidesNumber}
 use Rattle.channel.specs.Agreeing.{PeersAgree}
 use Rattle.book.specs.Books.{replay}
 use Rattle.book.specs.Accepted.{all_accepted, AcceptedMeans}
-use Rattle.book.specs.Guarding.{AcceptedIsGuarded}
+use Rattle.book.specs.Guarding.{AcceptedIsGuarded, KeptAreExact}
 use Rattle.book.specs.Releasing.{ReleasesFit}
 use Rattle.book.specs.Replies.{Reply, opened, stepped, signed, revoked, kept, released, is_accepted, if_so}
 use Rattle.world.specs.declared.errors.EventError.{EventError}
@@ -68,9 +69,9 @@ nodes_of : (w : World) → IsWorld w → (s : Side) → IsNode (node_of s w)
 nodes_of w is A = is.a
 nodes_of w is B = is.b
 
-pub worlds_hold : AcceptedMeans → AcceptedIsGuarded → ReleasesFit → ClaimsSpend → ((blocks : List Contents) (height : ℕ) (state : RevokedState) → NothingEscapesAbove blocks height state) → PeersAgree
-    → DeliveriesAreTaken → WorldsHold
-worlds_hold means gate releasing opening escapes peers deliveries w is =
+pub worlds_hold : AcceptedMeans → AcceptedIsGuarded → KeptAreExact → ReleasesFit → ClaimsSpend → ((blocks : List Contents) (height : ℕ) (state : RevokedState) → NothingEscapesAbove blocks height state) → PeersAgree
+    → SidesNumber → DeliveriesAreTaken → WorldsHold
+worlds_hold means gate exact releasing opening escapes peers numbers deliveries w is =
     let fit = fitting_world w is in
     let accepted : (s : Side) → all_accepted peer_tokens (node_of s w).history ≡ true = λ s. (means.accepted_exactly peer_tokens (node_of s w).history).0 (history_of s w fit) in
     let takes : (s : Side) (c : ℕ) (m : Message) (rest : List Message) → slice_get (inboxes (node_of s w)) c ≡ Some (m ∷ rest) → is_accepted (answer_to (node_of s w) (call_of c m)) ≡ true
@@ -78,12 +79,13 @@ worlds_hold means gate releasing opening escapes peers deliveries w is =
     record {
       accepted = accepted;
       guarded = λ s. gate peer_tokens (node_of s w).history (accepted s);
+      kept = λ s seat c n claims there. exact peer_tokens (node_of s w).history seat c n claims (accepted s) (nodes_of w is s).claims_are_whole there;
       claims = λ s. are_whole (node_of s w) (nodes_of w is s);
       opens = λ x t input whole due. opening w.chain.blocks _ x t input whole due;
       released = is.released;
       fits = λ s seat c batch there. releasing peer_tokens (node_of s w).history seat c batch (accepted s) (nodes_of w is s).claims_are_whole there;
       others = λ state. escapes w.chain.blocks _ state;
-      agree = λ c x y here there. ends_at peers c (replay w.a.history) (replay w.b.history) (inboxes w.a) (inboxes w.b) x y is.agree here there;
+      agree = λ c x y here there. ends_at peers numbers c (replay w.a.history) (replay w.b.history) (inboxes w.a) (inboxes w.b) x y is.agree here there;
       takes = takes;
       delivers = λ s c r refused. line_is c (node_of s w) (node_of (other s) w) (slice_get (node_of s w).lines c) r
           (λ l found m rest queue. takes s c m rest (got_of_map (λ l. l.inbox) c (node_of s w).lines l found ∙ ap Some queue)) refused;

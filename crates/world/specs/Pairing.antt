@@ -5,6 +5,7 @@ use Rattle.channel.specs.declared.messages.Message.{Message}
 use Rattle.channel.specs.Tokens.{peer_tokens}
 use Rattle.channel.specs.States.{State}
 use Rattle.channel.specs.Playing.{placed}
+use Rattle.channel.specs.Recording.{AreByNumber}
 use Rattle.channel.specs.Agreeing.{FirstOf, IsSoundState, IsPaired}
 use Rattle.book.specs.declared.calls.Entry.{Entry}
 use Rattle.book.specs.Books.{Channels, replay}
@@ -27,10 +28,12 @@ DeliveriesAreTaken = (side : Side) (mine peers : List Entry) (to_me to_peer : Li
     → AgreeBy side mine peers to_me to_peer → slice_get to_me c ≡ Some (m ∷ rest) → is_accepted (reply_of peer_tokens mine (call_of c m)) ≡ true
 
 -- the two ends of a channel: they have the same terms, and each accepted what the other signed, commitment for commitment. In each view of either no balance is below 0, and balances and
--- HTLCs sum to the capacity
+-- HTLCs sum to the capacity. The commitments of each stand by number, and the view of each shares out the capacity
 pub record AreEnds (a b : State) : Type 0 where
   pub terms : a.held.terms ≡ b.held.terms
   pub a_accepted : FirstOf a.mine b.signed
   pub b_accepted : FirstOf b.mine a.signed
   pub a_sound : IsSoundState a
   pub b_sound : IsSoundState b
+  pub a_numbered : AreByNumber a
+  pub b_numbered : AreByNumber b

@@ -3,8 +3,8 @@
 --
 -- Over every interleaving of channel steps, blocks, reorganisations, broadcasts, looks and releases, two things hold. First, take any filling of an accepted claim whose output is unspent, and whose
 -- height and age are reached. It passes the chain's test of its input and runs to one true value, within 201 counted opcodes and 1,000 entries. No operand is missing, no check fails, and no branch
--- stays open. Second, after a received revocation no commitment is signed until verified penalties for every claimable output are kept. Besides, what was released fits its claims, and the two sides
--- agree. And whoever makes the next block, nobody else takes what a revoked commitment lets a side claim, except in the ways of `Fate`.
+-- stays open. Second, after a received revocation no commitment is signed until verified penalties for every claimable output are kept. Besides, what is kept is exactly what can be claimed, what
+-- was released fits its claims, and the two sides agree. And whoever makes the next block, nobody else takes what a revoked commitment lets a side claim, except in the ways of `Fate`.
 use Rattle.std.specs.Prelude.{◌≡◌, ◌⊎◌, ℕ, true, List, ◌∷◌, ◌++◌, length, map, Contains, Some, slice_get}
 use Rattle.std.specs.List.{AllByRecursion, flat_map}
 use Rattle.tx.specs.declared.input.TxIn.{TxIn}
@@ -19,10 +19,10 @@ use Rattle.scenario.specs.declared.events.Event.{Event}
 use Rattle.safety.specs.Fates.{NothingEscapesAbove}
 use Rattle.filling.specs.Filled.{AllFit}
 use Rattle.book.specs.declared.calls.Batch.{Batch}
-use Rattle.book.specs.declared.calls.Call.TheVariants.{Release}
-use Rattle.book.specs.Books.{ChannelBook}
+use Rattle.book.specs.declared.calls.Call.TheVariants.{Keep, Release}
+use Rattle.book.specs.Books.{ChannelBook, replay}
 use Rattle.book.specs.Accepted.{all_accepted, claims_by, IsHistory}
-use Rattle.book.specs.Guarding.{is_guarded}
+use Rattle.book.specs.Guarding.{is_guarded, ArePenaltiesIn}
 use Rattle.book.specs.Replies.{is_accepted}
 use Rattle.book.specs.Calling.{filling_by}
 use Rattle.world.specs.declared.errors.EventError.{EventError}
@@ -42,9 +42,11 @@ claims_of n = flat_map (λ e. claims_by e.call) n.history ++ map (λ j. j.claim)
 -- this holds at each moment
 pub record HoldsAt (w : World) : Type 0 where
   -- each call in both books was accepted after those before it, and no signature follows a revocation in its channel without the penalties kept between the two. (`GuardedMeans` of
-  -- `book/specs/Guarding.antt` says so entry by entry. By `PenaltySetsAreExact` of `book/specs/Penalties.antt`, the kept claims are exactly the accepted ones on all that is claimable.)
+  -- `book/specs/Guarding.antt` says so entry by entry.) What is kept is exactly the accepted claims on all that the revoked commitment lets the side claim
   pub accepted : (s : Side) → all_accepted peer_tokens (node_of s w).history ≡ true
   pub guarded : (s : Side) → is_guarded (node_of s w).history ≡ true
+  pub kept : (s : Side) (seat c n : ℕ) (claims : List ClaimParts) → Contains (node_of s w).history (record { seat = seat; call = Keep c n claims })
+      → ArePenaltiesIn c n (replay (node_of s w).history) claims
   -- each claim of a side is an accepted one
   pub claims : (s : Side) → AllByRecursion IsWhole (claims_of (node_of s w))
   -- an input that fits an accepted claim passes the chain's test for the next block and runs clean, once it is due

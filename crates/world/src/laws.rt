@@ -5,8 +5,8 @@ ghost use Rattle.world.specs.Agreeing.{FundingsAreSpent, OpeningsArePaired, Open
 ghost use Rattle.world.specs.Pairing.{DeliveriesAreTaken};
 ghost use Rattle.world.specs.Theorem.{StepsKeep, WorldsHold};
 
-use book::laws::{accepted_is_called, releases_fit, signing_is_guarded};
-use channel::laws::peers_agree;
+use book::laws::{accepted_is_called, kept_are_exact, releases_fit, signing_is_guarded};
+use channel::laws::{peers_agree, sides_are_sound};
 use claim::laws::accepted_claims_spend;
 use safety::laws::nothing_escapes;
 
@@ -35,20 +35,23 @@ pub fn steps_keep()
     ensures { StepsKeep }
 {}
 
-/// The Enforcement theorem at a moment, in any world that events lead to. Each call in both books was accepted. No signature follows a revocation without the penalties kept between
-/// the two. Every claim of a side is an accepted one. An input that fits an accepted claim passes and runs clean once it is due. Whoever makes the next block, nothing in it
-/// takes what a revoked commitment lets its owner's peer claim, except as `nothing_escapes` of `safety` says. What was released are fillings of the two histories, whose inputs fit their
-/// claims. The two sides hold the two ends of each channel. No delivery is refused for its message.
+/// The Enforcement theorem at a moment, in any world that events lead to. Each call in both books was accepted. No signature follows a revocation without the penalties kept
+/// between the two. What is kept is exactly the accepted claims on all that is claimable. Every claim of a side is an accepted one. An input that fits an accepted claim passes and
+/// runs clean once it is due. Whoever makes the next block, nothing in it takes what a revoked commitment lets its owner's peer claim, except as `nothing_escapes` of `safety`
+/// says. What was released are fillings of the two histories, whose inputs fit their claims. The two sides hold the two ends of each channel. No delivery is refused for its
+/// message.
 pub fn worlds_hold()
     ensures { WorldsHold }
 {
     // By these laws the proof knows what holds for histories, for claims, for what a revoked commitment pays, and for books that agree.
     accepted_is_called();
     signing_is_guarded();
+    kept_are_exact();
     releases_fit();
     claims_spend();
     nothing_escapes();
     peers_agree();
+    sides_are_sound();
     deliveries_are_taken();
 }
 

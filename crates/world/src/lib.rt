@@ -4,12 +4,13 @@
 //! events: offers, fulfils, fails, fees, signatures, deliveries, kept penalties, broadcasts, blocks, looks, takes,
 //! releases and reorganisations. What `play` ensures is the theorem of `specs/Theorem.antt`. It is a run of the
 //! relation `WorldSteps`, with one case for each event. At each moment of it both books are guarded, and each claim of
-//! a side is an accepted one. An input that fits an accepted claim passes and runs clean once it is due. Each side
-//! takes the oldest message on its way to it.
+//! a side is an accepted one. What is kept is exactly what can be claimed. An input that fits an accepted claim passes
+//! and runs clean once it is due, and what was released fits. Nobody else takes what a revoked commitment lets a side
+//! claim, except as `safety` lists. The two sides agree, and each takes the oldest message on its way to it.
 //!
 //! Messages and blocks both pass through here. `side` reads blocks, makes batches and penalty sets, and turns messages
 //! into calls of each side's `book`. `scenario` has the events, `publish` the broadcasts, and `mempool` mines them on
-//! the `chain`. `enforce_words` prints the outcome of each event.
+//! the `chain`. `safety` has the law of what others can take. `enforce_words` prints the outcome of each event.
 //!
 //! ```rust
 //! let mut world = World::new(alloc, &scenario.seeds, scenario.channels.values())?;

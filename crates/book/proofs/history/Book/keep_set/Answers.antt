@@ -8,12 +8,15 @@ use Rattle.penalty.specs.Sets.{AreClaimsOn}
 use Rattle.book.specs.declared.calls.Call.TheVariants.{Keep}
 use Rattle.book.specs.declared.calls.Entry.{Entry}
 use Rattle.book.specs.declared.errors.KeepError.TheVariants.{NoMemory}
+use Rattle.book.specs.Books.{replay}
+use Rattle.book.specs.Guarding.{ArePenaltiesIn}
 use Rattle.book.specs.Replies.{kept, keep_refusal}
 use Rattle.book.specs.Calling.{IsCall, IsKeepRefusal}
 use Rattle.book.proofs.Fundings.{left_alone}
 use Rattle.book.proofs.Fulfilled.{called, uncalled}
 use Rattle.book.proofs.Refused.{keep_refused}
 use Rattle.book.proofs.Called.{entry, grown, keep_done}
+use Rattle.book.proofs.KeptSets.{kept_by_call}
 use Rattle.book.proofs.history.Book.keep_set.Goals as goal
 
 pub keep-requires : goal.keep-requires
@@ -33,8 +36,8 @@ invariant_of-self-2 c =
     called i.entries.items i.channels.entries _ c.self.invariant _ _ _ _ is refl
     (keep_done i.entries.items c.push.new.self.items i.channels.entries c.args.seat c.args.channel c.args.number c.index_mut-open.result.now c.keep.new.self claims (kept (Err NoMemory)) c.self.invariant.left c.index_mut-open.ensures.value tested c.in-Ok-keep.ensures.ok is whole).keeps
 
-pub returns : goal.returns
-returns c =
+pub returns-clause-call : goal.returns-clause-call
+returns-clause-call c =
     let i = c.self.inside in
     let claims = c.args.set.claims in
     let named = ap (λ (cs : List ClaimParts). entry c.args.seat (Keep c.args.channel c.args.number cs)) (c.from_vec.ensures ∙ c.into_claims.ensures.value) in
@@ -44,14 +47,26 @@ returns c =
     let done = keep_done i.entries.items c.push.new.self.items i.channels.entries c.args.seat c.args.channel c.args.number c.index_mut-open.result.now c.keep.new.self claims (kept (Err NoMemory)) c.self.invariant.left c.index_mut-open.ensures.value tested c.in-Ok-keep.ensures.ok is whole in
     subst (λ (h : List Entry). IsCall (kept (Err NoMemory)) (kept (Ok tt)) h c.push.new.self.items c.args.seat (Keep c.args.channel c.args.number claims)) c.self.view_is done.called
 
+pub returns-clause-exact : goal.returns-clause-exact
+returns-clause-exact c =
+    let i = c.self.inside in
+    let claims = c.args.set.claims in
+    let named = ap (λ (cs : List ClaimParts). entry c.args.seat (Keep c.args.channel c.args.number cs)) (c.from_vec.ensures ∙ c.into_claims.ensures.value) in
+    let is = grown c.push.result c.unwrap.result c.push.new.self.items c.reserve.new.self.items i.entries.items _ _ c.unwrap.ensures c.push.ensures.items c.in-Ok.ensures.items named in
+    let tested = subst (λ (cs : List ClaimParts). keep_refusal c.index_mut-open.result.now c.args.number cs ≡ None) c.claims.ensures.value c.in-Ok-keep.ensures.tested in
+    let whole = subst (λ (cs : List ClaimParts). AllByRecursion IsWhole cs) c.claims-2.ensures.value c.hold_whole.ensures in
+    let done = keep_done i.entries.items c.push.new.self.items i.channels.entries c.args.seat c.args.channel c.args.number c.index_mut-open.result.now c.keep.new.self claims (kept (Err NoMemory)) c.self.invariant.left c.index_mut-open.ensures.value tested c.in-Ok-keep.ensures.ok is whole in
+    subst (λ (h : List Entry). ArePenaltiesIn c.args.channel c.args.number (replay h) claims) c.self.view_is
+    (kept_by_call c.sides_are_sound.ensures.numbered i.entries.items c.push.new.self.items c.args.seat c.args.channel c.args.number claims c.self.invariant.left.accepted whole done.called)
+
 pub invariant_of-self-in-Err-keep : goal.invariant_of-self-in-Err-keep
 invariant_of-self-in-Err-keep c =
     let i = c.self.inside in
     uncalled i.entries.items i.channels.entries _ c.self.invariant _ _ _ c.in-Ok.ensures.items refl
     (left_alone i.entries.items i.channels.entries c.self.invariant.left c.reserve.new.self.items c.in-Ok.ensures.items c.args.channel c.index_mut-open.result.now c.keep.new.self c.index_mut-open.ensures.value c.in-Err-keep.ensures.err)
 
-pub returns-in-Err-keep : goal.returns-in-Err-keep
-returns-in-Err-keep c =
+pub returns-in-Err-keep-clause-call : goal.returns-in-Err-keep-clause-call
+returns-in-Err-keep-clause-call c =
     let i = c.self.inside in
     let claims = c.args.set.claims in
     let tested = subst (λ (cs : List ClaimParts). IsKeepRefusal (keep_refusal c.index_mut-open.result.now c.args.number cs) c.in-Err-keep.error) c.claims.ensures.value c.in-Err-keep.ensures.tested in

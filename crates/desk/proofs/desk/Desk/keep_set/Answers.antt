@@ -20,7 +20,7 @@ put_back-requires-clause-follows g c =
     let n = c.args.seat.now.number in
     let call : Call = Keep c.args.channel c.args.number c.args.set.claims in
     let number : (view c.take-book.new.pass).number ≡ n = ap (λ (v : SeatView). v.number) taken.out ∙ c.requires.number in
-    let follows : Follows n h x = followed n h x call (no_memory_of call) (kept c.keep_set-reply.result) c.keep_set-reply.ensures in
+    let follows : Follows n h x = followed n h x call (no_memory_of call) (kept c.keep_set-reply.result) c.keep_set-reply.ensures.call in
     (h, ap (λ (v : SeatView). v.book) taken.out, subst (λ m. Follows m h x) (sym number) follows)
 
 pub returns-clause-reply : goal.returns-clause-reply
@@ -35,4 +35,4 @@ returns-clause-reply g c =
     let of : IsHistoryFor n (calls_in c.args.seat.now) (last_in c.args.seat.now) h =
     record { accepted = taken.accepted; guarded = taken.guarded; mine = ap (λ m. calls_of m h) (sym number) ∙ taken.mine; since = taken.since } in
     let out : (view c.put_back.new.pass).calls ≡ calls_of n x = ap (λ (v : SeatView). v.calls) back ∙ ap (λ (v : SeatView). calls_of v.number x) taken.out ∙ ap (λ m. calls_of m x) number in
-    answers n (calls_in c.args.seat.now) _ (last_in c.args.seat.now) _ h x call (kept c.keep_set-reply.result) of out (ap (λ (v : SeatView). v.last) back) c.keep_set-reply.ensures
+    answers n (calls_in c.args.seat.now) _ (last_in c.args.seat.now) _ h x call (kept c.keep_set-reply.result) of out (ap (λ (v : SeatView). v.last) back) c.keep_set-reply.ensures.call
