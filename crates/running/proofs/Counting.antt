@@ -1,14 +1,13 @@
 -- How many events are a channel's.
-use Rattle.std.proofs.Common.{◌≡◌, ℕ, zero, suc, ◌+◌, ◌<◌, ◌≤◌, List, [], ◌∷◌, ◌++◌, length, map, drop, get_or, Option, Some, None, Result, Ok, refl, sym, ap, ◌∙◌, arith, add-one}
+use Rattle.std.proofs.Common.{◌≡◌, ℕ, zero, suc, ◌+◌, ◌<◌, ◌≤◌, List, [], ◌∷◌, length, map, drop, get_or, Result, Ok, refl, sym, ap, ◌∙◌, arith, add-one}
 use Rattle.std.specs.List.{range_with_len}
 use Rattle.std.specs.declared.alloc.AllocError.{AllocError}
 use Rattle.std.specs.Prelude.{IfOk}
 use Rattle.std.proofs.lemmas.Simd.{map-map}
 use Rattle.scenario.specs.declared.events.Event.{Event}
-use Rattle.running.specs.declared.lines.Turn.{Turn}
 use Rattle.running.specs.declared.lines.Line.{Line}
 use Rattle.running.specs.declared.counts.Counts.{Counts}
-use Rattle.running.specs.Events.{turn_in, count_of, turns_at, turns_in, all_turns}
+use Rattle.running.specs.Events.{turns_at, turns_in, all_turns}
 use Rattle.running.specs.Reports.{total_of}
 
 -- the next event, and those after it

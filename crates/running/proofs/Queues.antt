@@ -1,7 +1,7 @@
 -- Passes and the copies of a queue's ends.
 use Rattle.std.proofs.Common.{◌≡◌, sym, ◌∙◌, subst}
 use Rattle.crossbeam_channel.specs.Claims.{IsSeatAt}
-use Rattle.crossbeam_channel.specs.Ends.{sends_on, receives_on, ruled_capacity}
+use Rattle.crossbeam_channel.specs.Ends.{ruled_capacity}
 use Rattle.jobs.specs.declared.queue.JobSender.{JobSender}
 use Rattle.jobs.specs.declared.queue.JobTaker.{JobTaker}
 use Rattle.jobs.specs.Ends.{JobPass, PutsWith, TakesWith, PutIntoOne, TakeFromOne, IsOneQueue}

@@ -1,5 +1,5 @@
 -- What a channel's thread does for one of its two sides.
-use Rattle.std.specs.Prelude.{◌≡◌, ℕ, ◌⊎◌, Bool, true, false, if◌then◌else◌, List, [], ◌∷◌, ◌++◌, drop, Option, Some, None, Ok, option_map, slice_get}
+use Rattle.std.specs.Prelude.{◌≡◌, ℕ, ◌⊎◌, Bool, false, if◌then◌else◌, List, [], ◌∷◌, ◌++◌, drop, Option, Some, None, Ok, option_map, slice_get}
 use Rattle.channel.specs.declared.messages.Message.{Message}
 use Rattle.book.specs.declared.calls.Step.TheVariants.{Own}
 use Rattle.book.specs.declared.calls.Call.{Call}

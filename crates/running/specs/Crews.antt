@@ -1,6 +1,5 @@
 -- What each thread has of its own fits what it shares.
-use Rattle.std.specs.Prelude.{◌≡◌, ℕ, ◌+◌, List, length, All}
-use Rattle.book.specs.declared.calls.Entry.{Entry}
+use Rattle.std.specs.Prelude.{All}
 use Rattle.board.specs.declared.board.Board.{Board}
 use Rattle.board.specs.Seats as board_seats
 use Rattle.desk.specs.Seats.{IsSeatOf, HasSameCalls}

@@ -3,7 +3,6 @@ use Rattle.std.specs.Prelude.{ℕ, ◌+◌, ◌==◌, if◌then◌else◌, List,
 use Rattle.std.specs.List.{range_with_len}
 use Rattle.scenario.specs.declared.events.Event.{Event}
 use Rattle.scenario.specs.declared.events.Event.TheVariants as events
-use Rattle.running.specs.declared.acts.Act.{Act}
 use Rattle.running.specs.declared.acts.Act.TheVariants.{Update, Sign, Deliver}
 use Rattle.running.specs.declared.lines.Turn.{Turn}
 

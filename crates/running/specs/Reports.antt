@@ -1,5 +1,5 @@
 -- What a node leaves.
-use Rattle.std.specs.Prelude.{◌≡◌, ℕ, ◌+◌, true, List, length, map}
+use Rattle.std.specs.Prelude.{◌≡◌, ℕ, ◌+◌, true, length, map}
 use Rattle.std.specs.List.{AllByRecursion}
 use Rattle.claim.specs.Claims.{IsWhole}
 use Rattle.channel.specs.Tokens.{peer_tokens}

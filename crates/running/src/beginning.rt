@@ -1,6 +1,6 @@
 //! What a node begins with: the books of the scenario's two sides behind their desks, and the chain.
 
-ghost use Rattle.std.specs.Prelude.{◌≡◌, ◌+◌, ◌<◌, ◌≤◌, IfOk, length, map};
+ghost use Rattle.std.specs.Prelude.{◌≡◌, ◌<◌, ◌≤◌, IfOk, map};
 ghost use Rattle.book.specs.Books.{replay, fundings_of};
 ghost use Rattle.desk.specs.Histories.{first_seat};
 ghost use Rattle.desk.specs.Seats.{AreSeats};

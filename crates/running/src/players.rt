@@ -1,6 +1,6 @@
 //! The events of the chain: broadcasts, blocks and reorganisations.
 
-ghost use Rattle.std.specs.Prelude.{◌≡◌, IfOk};
+ghost use Rattle.std.specs.Prelude.{IfOk};
 ghost use Rattle.board.specs.Seats as board_seats;
 ghost use Rattle.desk.specs.Seats.{IsSeatOf, HasSameCalls, number_in, calls_in, last_in};
 ghost use Rattle.desk.specs.Answers.{IsHistoryFor};

@@ -1,7 +1,7 @@
 //! A whole run of a node.
 
 ghost use Rattle.std.specs.Prelude.{◌≡◌, ◌+◌, ◌<◌, ◌≤◌, IfOk, All, length, map};
-ghost use Rattle.std.specs.List.{AllByRecursion, range_with_len};
+ghost use Rattle.std.specs.List.{AllByRecursion};
 ghost use Rattle.claim.specs.Claims.{IsWhole};
 ghost use Rattle.desk.specs.Seats.{IsSeatOf, last_in};
 ghost use Rattle.running.specs.Beginning.{AreReady};

@@ -1,6 +1,6 @@
 //! The threads that read blocks.
 
-ghost use Rattle.std.specs.Prelude.{◌≡◌, ◌<◌, [], length, map, replicate, reverse, All, IfOk, OnOk};
+ghost use Rattle.std.specs.Prelude.{◌≡◌, ◌<◌, length, map, replicate, reverse, All, IfOk, OnOk};
 ghost use Rattle.watch.specs.Watching.{nothing_seen, seen_up_to};
 ghost use Rattle.jobs.specs.Ends.{PutsWith, hand_of};
 ghost use Rattle.side.specs.Reading.{begun as begun_with};

@@ -1,6 +1,5 @@
 //! The threads of workers.
 
-ghost use Rattle.desk.specs.Seats.{IsSeatOf, HasSameCalls};
 ghost use Rattle.node.specs.Work.{IsWork};
 ghost use Rattle.running.specs.Crews.{IsWorker};
 

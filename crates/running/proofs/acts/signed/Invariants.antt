@@ -1,4 +1,3 @@
-use Rattle.std.proofs.Common.{◌≡◌}
 use Rattle.desk.specs.Histories.{GoesOn}
 use Rattle.desk.specs.Seats.{last_in, HasSameCalls}
 use Rattle.running.proofs.acts.signed.Given as goal

@@ -1,4 +1,4 @@
-use Rattle.std.proofs.Common.{◌≡◌, length, ap, ◌∙◌, arith, rules}
+use Rattle.std.proofs.Common.{length, ap, ◌∙◌, arith}
 use Rattle.side.specs.Reading.{Reader}
 use Rattle.desk.specs.Seats.{last_in}
 use Rattle.running.proofs.Asking.{answered_next, all_answered}

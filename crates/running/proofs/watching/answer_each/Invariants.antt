@@ -1,4 +1,4 @@
-use Rattle.std.proofs.Common.{◌≡◌, ◌<◌, length, drop, All}
+use Rattle.std.proofs.Common.{◌≡◌, length, drop}
 use Rattle.side.specs.Reading.{Reader}
 use Rattle.desk.specs.Histories.{History}
 use Rattle.desk.specs.Seats.{HasSameCalls, last_in}

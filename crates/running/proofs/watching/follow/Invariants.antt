@@ -1,4 +1,4 @@
-use Rattle.std.proofs.Common.{◌≡◌, length}
+use Rattle.std.proofs.Common.{length}
 use Rattle.running.specs.Crews.{GoesOnWatching}
 use Rattle.running.specs.Following.{IsFollower}
 use Rattle.running.proofs.watching.follow.Given as goal
