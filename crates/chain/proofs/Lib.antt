@@ -10,6 +10,7 @@ pub mod Conserved
 pub mod Spending
 pub mod Growing
 pub mod Offering
+pub mod Returned
 pub mod Undoing
 pub mod Sums
 pub mod Examples

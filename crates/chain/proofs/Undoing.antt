@@ -8,6 +8,8 @@ use Rattle.chain.specs.declared.errors.BlockError.{BlockError}
 use Rattle.chain.specs.Blocks.{Contents, Standing, empty_block}
 use Rattle.chain.specs.Checks.{transaction_refusal}
 use Rattle.chain.specs.Connecting.{added, unless_refused, unless_refusal, passing_added, has_grant, Connects, ConnectsSome}
+use Rattle.chain.specs.declared.refused.Refused.{Refused}
+use Rattle.chain.specs.Waiting.{ConnectsWaiting}
 use Rattle.chain.specs.Marking.{IsGrown}
 
 -- a chain grew by nothing, or by more blocks
@@ -53,6 +55,9 @@ by_newest old new n = record { above = n.0 ∷ []; blocks = n.1; no_grant = rw n
 -- each new block is such growth
 pub grown_by_some : (old new : Standing) (txs : List Transaction) (refusals : List (Option ChainError)) → ConnectsSome old txs refusals new → IsGrown old new
 grown_by_some old new txs refusals h = let n = passing_newest empty_block old.blocks txs in by_newest old new (n.0, h.0 ∙ n.1, n.2)
+
+pub grown_by_waiting : (old new : Standing) (txs : List Transaction) (refused : List Refused) → ConnectsWaiting old txs refused new → IsGrown old new
+grown_by_waiting old new txs refused h = let n = passing_newest empty_block old.blocks txs in by_newest old new (n.0, h.0 ∙ n.1, n.2)
 
 pub grown_by_connect : (old new : Standing) (txs : List Transaction) (height : ℕ) → Connects old txs (Ok height) new → IsGrown old new
 grown_by_connect old new txs height h = by_newest old new (added_newest 0 empty_block old.blocks txs new.blocks h.0)

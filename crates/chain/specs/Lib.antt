@@ -4,6 +4,7 @@ pub mod Refusals
 pub mod Running
 pub mod Checks
 pub mod Connecting
+pub mod Waiting
 pub mod Marking
 pub mod Storing
 pub mod Scanning

@@ -62,6 +62,14 @@ impl Confirmed {
     {
         &self.tx
     }
+
+    /// The transaction, without its id.
+    pub fn into_tx(self) -> Tx
+        ensures { result ≡ self }
+    {
+        let Confirmed { tx, id: _ } = self;
+        tx
+    }
 }
 
 /// A block: its transactions, and the outputs that were granted while it was the newest block.

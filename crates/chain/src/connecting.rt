@@ -1,15 +1,17 @@
 //! How a chain grows and shrinks by whole blocks.
 
-ghost use Rattle.std.specs.Prelude.{◌≡◌, ℕ, ◌-◌, ◌≤◌, ◌%◌, ◌^◌, ◌++◌, false, length, take, drop, reverse, Ok, Err, IfOk, OnOk, OnErr, MatchResult};
-ghost use Rattle.std.specs.List.{list_any};
+ghost use Rattle.std.specs.Prelude.{◌≡◌, ℕ, ◌-◌, ◌≤◌, ◌%◌, ◌^◌, ◌++◌, [], false, length, take, drop, reverse, Ok, Err, IfOk, OnOk, OnErr, MatchResult};
+ghost use Rattle.std.specs.List.{list_any, cons_option};
 ghost use Rattle.chain.specs.Blocks.{grant_outpoint, height_of, transactions_of};
 ghost use Rattle.chain.specs.Connecting.{Connects, ConnectsSome, Disconnects, Grants, has_grant, is_too_deep};
+ghost use Rattle.chain.specs.Waiting.{OffersBack, AddsWaiting, ConnectsWaiting};
 ghost use Rattle.chain.specs.Storing.{AddsOne, AddsAll, AddsPassing, ChangesNewest, MayTakeOff, Offers};
 
 use crate::blocks::{Block, Confirmed};
 use crate::checking::check_transaction;
 use crate::errors::{BlockError, ChainError};
 use crate::program::is_program;
+use crate::refused::Refused;
 use crate::store::Store;
 use digest::sha256;
 use sha2::{Digest, Sha256};
@@ -138,6 +140,74 @@ pub(crate) fn connect_some<S: Store>(
         Ok(refusals) => {
             store.note_height();
             Ok(refusals)
+        }
+        Err(error) => {
+            store.take_off();
+            Err(error)
+        }
+    }
+}
+
+/// Adds one transaction to the newest block if it passes its tests, and gives it back with its refusal otherwise. The only error is that
+/// memory ran out.
+#[tactic(auto, using(crate::proofs::Offering::named, crate::proofs::Returned::came_back, crate::proofs::Returned::taken_in))]
+fn offer_back<S: Store>(store: &mut S, confirmed: Confirmed) -> Result<Option<Refused>, AllocError>
+    requires { MayTakeOff (S.standing store.old).blocks }
+    ensures ok { IfOk result (λ refused. OffersBack (S.standing store.old) confirmed refused
+        (S.standing store.new)) }
+    ensures err { OnErr result (S.standing store.new ≡ S.standing store.old) }
+{
+    let Err(refusal) = check_transaction(&*store, &confirmed) else {
+        store.add(confirmed)?;
+        return Ok(None);
+    };
+    match refusal {
+        ChainError::NoMemory => Err(AllocError),
+        _ => Ok(Some(Refused { confirmed, refusal })),
+    }
+}
+
+/// Appends what came back, if it did.
+fn push_refused(refused: &mut Vec<Refused>, back: Option<Refused>) -> Result<(), AllocError>
+    ensures { OnOk result (refused.new.items ≡ refused.old.items ++ cons_option back []) }
+{
+    if let Some(back) = back {
+        refused.push(back)?;
+    }
+    Ok(())
+}
+
+/// Adds to the newest block those of the transactions that pass their tests after those before them, and gives the others back.
+fn add_waiting<S: Store>(store: &mut S, txs: Vec<Confirmed>) -> Result<Vec<Refused>, AllocError>
+    requires { MayTakeOff (S.standing store.old).blocks }
+    ensures newest { ChangesNewest (S.standing store.old) (S.standing store.new) }
+    ensures ok { IfOk result (λ refused. AddsWaiting
+        (S.standing store.old) txs.items refused.items (S.standing store.new)) }
+{
+    let mut refused = Vec::new(store.allocator());
+    for confirmed in txs {
+        let back = offer_back(store, confirmed)?;
+        push_refused(&mut refused, back)?;
+    }
+    Ok(refused)
+}
+
+/// Adds the next block, with those of the transactions that pass their tests after those before them, and gives the others back with their
+/// refusals. The ids are those that the transactions came with. The only error is that memory ran out, which changes nothing.
+#[tactic(auto, using(crate::proofs::Growing::more_than_one))]
+pub(crate) fn connect_waiting<S: Store>(
+    store: &mut S,
+    txs: Vec<Confirmed>,
+) -> Result<Vec<Refused>, AllocError>
+    ensures ok { IfOk result (λ refused. ConnectsWaiting
+        (S.standing store.old) txs.items refused.items (S.standing store.new)) }
+    ensures err { OnErr result (S.standing store.new ≡ S.standing store.old) }
+{
+    store.begin()?;
+    match add_waiting(store, txs) {
+        Ok(refused) => {
+            store.note_height();
+            Ok(refused)
         }
         Err(error) => {
             store.take_off();

@@ -7,6 +7,7 @@ use crate::coins::Coins;
 use crate::connecting::grant_outpoint;
 use crate::errors::{BlockError, ChainError};
 use crate::indexing::{forget_added, index_transaction, unindex_block, unindex_transaction};
+use crate::refused::Refused;
 use crate::store::{Found, Store};
 use crate::totals::Unspent;
 use crate::{checking, connecting, totals};
@@ -151,6 +152,7 @@ impl Index {
     ghost use Rattle.chain.specs.Checked.{is_checked};
     ghost use Rattle.chain.specs.Conserving.{GrantsAreApart};
     ghost use Rattle.chain.specs.Connecting.{ConnectsSome};
+    ghost use Rattle.chain.specs.Waiting.{ConnectsWaiting};
     ghost use Rattle.chain.specs.Marking.{IsMark, IsGrown};
 
     /// Adds the next block, with those of the transactions that pass the tests of `connect` after those before them, in their order. It gives
@@ -163,6 +165,18 @@ impl Index {
         ensures err { OnErr result (self.new ≡ self.old) }
     {
         connecting::connect_some(self, txs)
+    }
+
+    /// The same for transactions that came with their ids. Those that are not in the block are given back, in their order, each with its refusal,
+    /// so that none is copied or hashed again for a later block. The only error is that memory ran out, which changes nothing.
+    #[tactic(auto, using(crate::proofs::Undoing::grown_by_waiting, crate::proofs::Undoing::grown_itself))]
+    pub fn connect_waiting(&mut self, txs: Vec<Confirmed>) -> Result<Vec<Refused>, AllocError>
+        ensures ok { IfOk result (λ refused. ConnectsWaiting self.old txs.items refused.items
+            self.new) }
+        ensures grown { IfOk result (λ _. IsGrown self.old self.new) }
+        ensures err { OnErr result (self.new ≡ self.old) }
+    {
+        connecting::connect_waiting(self, txs)
     }
 
     /// Marks the state of the chain, so that `undo` can go back to it.

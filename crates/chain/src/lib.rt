@@ -35,6 +35,7 @@ mod indexing;
 pub mod laws;
 mod locks;
 mod program;
+mod refused;
 mod scan;
 mod store;
 mod totals;
@@ -45,6 +46,7 @@ pub use commands::{Answer, Command, replay_commands};
 pub use errors::{BlockError, ChainError};
 pub use index::{Index, Mark};
 pub use program::run_program;
+pub use refused::Refused;
 pub use scan::Scan;
 pub use totals::Unspent;
 

@@ -1,7 +1,8 @@
 //! What an index does besides the calls that every chain has: blocks of the transactions that pass, marks and copies.
 
 use crate::steps::{Cast, Source, Step, play_with};
-use chain::{ChainError, Index};
+use chain::{ChainError, Confirmed, Index, Refused};
+use std::alloc::Global;
 use std::process::Abort;
 use tx::Tx;
 
@@ -23,6 +24,13 @@ const REFUSALS: [Option<ChainError>; 5] = [
     None,
     Some(ChainError::Spent),
     Some(ChainError::NotFinal),
+];
+
+// Why those come back that the block does not take.
+const RETURNED: [ChainError; 3] = [
+    ChainError::Unknown,
+    ChainError::Spent,
+    ChainError::NotFinal,
 ];
 
 // Whether a transaction is on a chain, by its id.
@@ -49,6 +57,45 @@ fn takes_what_passes(rt: HostRuntime) {
     assert!(rt; stands(&rt, &cast, &chain, 1));
     assert!(rt; !stands(&rt, &cast, &chain, 2));
     play_with(&rt, &mut cast, &mut chain, &[Step::Hold(2, 850, 150)]);
+}
+
+// Transactions with their ids.
+fn with_ids(rt: &impl Abort, alloc: Global, txs: Vec<Tx>) -> Vec<Confirmed> {
+    let mut confirmed = Vec::new(alloc);
+    for tx in txs {
+        confirmed.push(Confirmed::new(tx)).expect(rt, "memory");
+    }
+    confirmed
+}
+
+// What came back at an index, and why.
+fn came_back(rt: &impl Abort, cast: &Cast, back: &[Refused], index: usize, place: usize) {
+    let refused = back.get(index).expect(rt, "a refused transaction");
+    assert_eq!(rt; *refused.confirmed.id(), tx::txid(cast.made(rt, place)));
+}
+
+fn refusals(rt: &impl Abort, alloc: Global, back: &[Refused]) -> Vec<ChainError> {
+    let mut refusals = Vec::new(alloc);
+    for refused in back {
+        refusals.push(refused.refusal).expect(rt, "memory");
+    }
+    refusals
+}
+
+// What the block does not take comes back in order, with the same refusals.
+#[test]
+fn gives_back_what_waits(rt: HostRuntime) {
+    let mut chain = Index::new(rt.alloc()).expect(&rt, "memory");
+    let mut cast = Cast::new(rt.alloc());
+    play_with(&rt, &mut cast, &mut chain, &SPENDS);
+    let offered = with_ids(&rt, rt.alloc(), cast.block(&rt, &OFFERED));
+    let back = chain.connect_waiting(offered).expect(&rt, "memory");
+    let why = refusals(&rt, rt.alloc(), &back);
+    assert_eq!(rt; why.as_slice(), RETURNED.as_slice());
+    came_back(&rt, &cast, &back, 0, 1);
+    came_back(&rt, &cast, &back, 1, 2);
+    came_back(&rt, &cast, &back, 2, 3);
+    assert_eq!(rt; count_at(&chain, 1), Some(2));
 }
 
 // Makes a block of the transactions that pass, and undoes it.

@@ -1,6 +1,6 @@
 -- How blocks take what waits in the pool.
 use Rattle.std.proofs.Common.{◌≡◌, ℕ, suc, ◌+◌, ◌≤◌, ◌<◌, ◌||◌, cond, Bool, true, false, List, [], ◌∷◌, ◌++◌, length, take, Option, Some, None, refl, sym, ap, subst, ◌∙◌, append_assoc, arith}
-use Rattle.std.specs.Prelude.{filter}
+use Rattle.std.specs.Prelude.{filter, max, if◌then◌else◌}
 use Rattle.std.specs.Ordering.{is_eq, nat_cmp}
 use Rattle.std.specs.Cmp.Lexicographic.{slice_cmp}
 use Rattle.std.specs.Str.{bytes_eq}
@@ -13,10 +13,12 @@ use Rattle.tx.specs.Spelling.{transaction_id}
 use Rattle.chain.specs.Marking.{IsGrown}
 use Rattle.tx.specs.Fields.{Transaction}
 use Rattle.chain.specs.declared.errors.ChainError.{ChainError}
-use Rattle.chain.specs.Blocks.{Contents, Standing, empty_block}
+use Rattle.chain.specs.Blocks.{Contents, Standing, empty_block, height_of}
 use Rattle.chain.specs.Checks.{transaction_refusal}
 use Rattle.chain.specs.Connecting.{unless_refusal, refusals_of, has_grant}
-use Rattle.mempool.specs.Mining.{Mined, waits, is_taken, still_waiting, blocks_after, has_waiting, IsNextBlock}
+use Rattle.chain.specs.declared.refused.Refused.{Refused}
+use Rattle.chain.specs.Waiting.{if_refused, refused_of, ConnectsWaiting}
+use Rattle.mempool.specs.Mining.{Mined, waits, is_taken, still_waiting, waiting_among, blocks_after, has_waiting, IsNextBlock}
 
 abbrev Fewer : List Transaction → List (Option ChainError) → Type 0
 Fewer ts rs = length (filter is_taken rs) + length (still_waiting ts rs) ≤ length ts
@@ -52,6 +54,43 @@ no_more_left old new txs waiting taken next =
     let few = fewer_left (empty_block ∷ old.blocks) txs in
     rw (next.taken_is, next.waiting_is) few
 
+-- what still waits is found among the refused ones
+same_waiting : (blocks : List Contents) (ts : List Transaction) → waiting_among (refused_of blocks ts) ≡ still_waiting ts (refusals_of blocks ts)
+same_waiting blocks [] = refl
+same_waiting blocks (t ∷ ts) = by (transaction_refusal blocks t) (same_waiting (unless_refusal (transaction_refusal blocks t) blocks t) ts)
+  where
+    by : (r : Option ChainError) → waiting_among (refused_of (unless_refusal r blocks t) ts) ≡ still_waiting ts (refusals_of (unless_refusal r blocks t) ts)
+        → waiting_among (if_refused r t (refused_of (unless_refusal r blocks t) ts)) ≡ still_waiting (t ∷ ts) (r ∷ refusals_of (unless_refusal r blocks t) ts)
+    by None h = h
+    by (Some e) h = ap (λ us. if waits (Some e) then t ∷ us else us) h
+
+-- each transaction is taken or refused
+taken_or_refused : (blocks : List Contents) (ts : List Transaction) → length (filter is_taken (refusals_of blocks ts)) + length (refused_of blocks ts) ≡ length ts
+taken_or_refused blocks [] = refl
+taken_or_refused blocks (t ∷ ts) = by (transaction_refusal blocks t) (taken_or_refused (unless_refusal (transaction_refusal blocks t) blocks t) ts)
+  where
+    by : (r : Option ChainError) → length (filter is_taken (refusals_of (unless_refusal r blocks t) ts)) + length (refused_of (unless_refusal r blocks t) ts) ≡ length ts
+        → length (filter is_taken (r ∷ refusals_of (unless_refusal r blocks t) ts)) + length (if_refused r t (refused_of (unless_refusal r blocks t) ts)) ≡ length (t ∷ ts)
+    by None h = omega (arith, h)
+    by (Some e) h = omega (arith, h)
+
+-- no more were refused than were offered
+pub fewer_refused : (old new : Standing) (ts : List Transaction) (refused : List Refused) → ConnectsWaiting old ts refused new → length refused ≤ length ts
+fewer_refused old new ts refused h = omega (arith, ap length h.1, taken_or_refused (empty_block ∷ old.blocks) ts)
+
+-- the next block, by what it gave back
+pub next_of : (old new : Standing) (ts waiting : List Transaction) (refused : List Refused) (taken : ℕ) → ConnectsWaiting old ts refused new → waiting ≡ waiting_among refused
+    → taken + length refused ≡ length ts → IsNextBlock old ts new waiting taken
+next_of old new ts waiting refused taken (blocks, back, greatest) w n =
+    let with : List Contents → ℕ → Standing = λ bs g. record { blocks = bs; greatest = g } in
+    let all = taken_or_refused (empty_block ∷ old.blocks) ts in
+    let as_many = ap length back in
+    record {
+      chain = ap (λ g. with new.blocks g) greatest ∙ ap (λ bs. with bs (max old.greatest (height_of bs))) blocks;
+      waiting_is = w ∙ ap waiting_among back ∙ same_waiting (empty_block ∷ old.blocks) ts;
+      taken_is = omega (arith, n, all, as_many);
+    }
+
 -- ---- growth
 
 none_in_both : (xs ys : List Contents) → list_any has_grant xs ≡ false → list_any has_grant ys ≡ false → list_any has_grant (xs ++ ys) ≡ false
@@ -66,16 +105,6 @@ grown_on first s s' g h = record {
   blocks = h.blocks ∙ ap (λ bs. h.above ++ bs) g.blocks ∙ sym (append_assoc h.above g.above first.blocks);
   no_grant = none_in_both h.above g.above h.no_grant g.no_grant;
 }
-
--- nothing waits past the last of the answers
-none_left : (ts : List Transaction) → still_waiting ts [] ≡ []
-none_left [] = refl
-none_left (t ∷ ts) = refl
-
-pub past_last : (t : Transaction) (ts items : List Transaction) (rs rs' : List (Option ChainError)) (left whole : List Transaction) → length rs ≡ 0 → rs' ≡ rs → items ≡ t ∷ ts → left ++ still_waiting items rs ≡ whole
-    → left ++ still_waiting ts rs' ≡ whole
-past_last t ts items [] rs' left whole none same is e = rw (same, none_left ts) (ap (λ us. left ++ still_waiting us []) (sym is) ∙ e)
-past_last t ts items (r ∷ rs) rs' left whole none same is e = absurd (omega (arith, none))
 
 -- ---- ids of what waits
 

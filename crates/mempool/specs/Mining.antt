@@ -6,6 +6,7 @@ use Rattle.tx.specs.Fields.{Transaction}
 use Rattle.tx.specs.Spelling.{transaction_id}
 use Rattle.chain.specs.declared.errors.ChainError.{ChainError}
 use Rattle.chain.specs.declared.errors.ChainError.TheVariants.{NotFinal, TooYoung, Unknown}
+use Rattle.chain.specs.declared.refused.Refused.{Refused}
 use Rattle.chain.specs.Blocks.{Contents, Standing, empty_block, height_of, has_id, transactions_of}
 use Rattle.chain.specs.Connecting.{passing_added, refusals_of}
 
@@ -31,6 +32,11 @@ abbrev pub still_waiting : List Transaction → List (Option ChainError) → Lis
 still_waiting [] rs = []
 still_waiting (t ∷ ts) [] = []
 still_waiting (t ∷ ts) (r ∷ rs) = if waits r then t ∷ still_waiting ts rs else still_waiting ts rs
+
+-- the same of those that were refused
+abbrev pub waiting_among : List Refused → List Transaction
+waiting_among [] = []
+waiting_among (r ∷ rs) = if waits (Some r.refusal) then r.confirmed ∷ waiting_among rs else waiting_among rs
 
 -- the chain with one more block
 abbrev pub with_blocks : List Contents → Standing → Standing

@@ -1,10 +1,10 @@
 //! New blocks from the pool.
 
-ghost use Rattle.std.specs.Prelude.{◌≡◌, length, filter, IfOk, OnErr};
+ghost use Rattle.std.specs.Prelude.{◌≡◌, Some, IfOk, OnErr};
 ghost use Rattle.chain.specs.Marking.{IsGrown};
-ghost use Rattle.mempool.specs.Mining.{waits as waits_for, is_taken, still_waiting, IsNextBlock, AreNewBlocks};
+ghost use Rattle.mempool.specs.Mining.{waits as waits_for, waiting_among, IsNextBlock, AreNewBlocks};
 
-use chain::{ChainError, Index};
+use chain::{ChainError, Confirmed, Index, Refused};
 use std::alloc::{AllocError, Global};
 use tx::Tx;
 
@@ -17,49 +17,54 @@ pub struct Mined {
     pub txs: u64,
 }
 
+// What the next block leaves: the transactions that still wait, with their ids.
+#[derive(Drop)]
+struct Left {
+    waiting: Vec<Confirmed>,
+    txs: u64,
+}
+
 // Whether a transaction that the chain refuses for this reason waits for a later block: its lock is not reached, or nothing created an output that it spends.
-fn waits(refusal: &Option<ChainError>) -> bool
-    ensures { result ≡ waits_for refusal.now }
+fn waits(refusal: ChainError) -> bool
+    ensures { result ≡ waits_for (Some refusal) }
 {
     match refusal {
-        Some(ChainError::NotFinal) | Some(ChainError::TooYoung) | Some(ChainError::Unknown) => true,
+        ChainError::NotFinal | ChainError::TooYoung | ChainError::Unknown => true,
         _ => false,
     }
 }
 
-/// Copies of transactions. The only error is that memory ran out.
-pub(crate) fn copied(alloc: Global, txs: &[Tx]) -> Result<Vec<Tx>, AllocError>
+// Copies of transactions, with their ids. The only error is that memory ran out.
+fn with_ids(alloc: Global, txs: &[Tx]) -> Result<Vec<Confirmed>, AllocError>
     ensures { IfOk result (λ copies. copies.items ≡ txs.now) }
 {
     let mut copies = Vec::with_capacity(alloc, txs.len())?;
     for tx in txs {
-        copies.push(tx.copy()?)?;
+        copies.push(Confirmed::new(tx.copy()?))?;
     }
     Ok(copies)
 }
 
-// The number of transactions that were taken.
-fn taken_in(refusals: &[Option<ChainError>]) -> u64
-    ensures { result ≡ length (filter is_taken refusals.now) }
+// The transactions alone. The only error is that memory ran out.
+fn without_ids(alloc: Global, waiting: Vec<Confirmed>) -> Result<Vec<Tx>, AllocError>
+    ensures { IfOk result (λ txs. txs.items ≡ waiting.items) }
 {
-    refusals.iter().filter(|refusal| refusal.is_none()).count() as u64
+    let mut txs = Vec::with_capacity(alloc, waiting.len())?;
+    for confirmed in waiting {
+        txs.push(confirmed.into_tx())?;
+    }
+    Ok(txs)
 }
 
-// Those of the transactions that still wait, by the reason of each refusal.
-fn waiting_of(
-    alloc: Global,
-    txs: Vec<Tx>,
-    refusals: &[Option<ChainError>],
-) -> Result<Vec<Tx>, AllocError>
-    ensures { IfOk result (λ left. left.items ≡ still_waiting txs.items refusals.now) }
+// Those that still wait, by the reason of each refusal. The only error is that memory ran out.
+fn waiting_of(alloc: Global, refused: Vec<Refused>) -> Result<Vec<Confirmed>, AllocError>
+    ensures { IfOk result (λ left. left.items ≡ waiting_among refused.items) }
 {
-    let mut left = Vec::with_capacity(alloc, txs.len())?;
-    let mut refusals = refusals.iter();
-    for tx in txs {
-        if let Some(refusal) = refusals.next() {
-            if waits(refusal) {
-                left.push(tx)?;
-            }
+    let mut left = Vec::with_capacity(alloc, refused.len())?;
+    for back in refused {
+        let Refused { confirmed, refusal } = back;
+        if waits(refusal) {
+            left.push(confirmed)?;
         }
     }
     Ok(left)
@@ -67,18 +72,16 @@ fn waiting_of(
 
 // One more block, of the transactions that the chain allows, in their order. Where memory ran out, the chain may have the block or not.
 #[tactic(auto, using(crate::proofs::Blocks::not_grown))]
-fn mine_one(alloc: Global, chain: &mut Index, waiting: Vec<Tx>) -> Result<Mined, AllocError>
+fn mine_one(alloc: Global, chain: &mut Index, waiting: Vec<Confirmed>) -> Result<Left, AllocError>
     ensures ok { IfOk result (λ m. IsNextBlock chain.old waiting.items chain.new m.waiting.items
         m.txs) }
     ensures grown { IsGrown chain.old chain.new }
 {
-    let txs = copied(alloc, &waiting)?;
-    let refusals = chain.connect_some(txs)?;
-    let taken = taken_in(&refusals);
-    Ok(Mined {
-        waiting: waiting_of(alloc, waiting, &refusals)?,
-        txs: taken,
-    })
+    let offered = waiting.len();
+    let refused = chain.connect_waiting(waiting)?;
+    let txs = (offered - refused.len()) as u64;
+    let waiting = waiting_of(alloc, refused)?;
+    Ok(Left { waiting, txs })
 }
 
 // `count` more blocks. Where memory ran out, the chain has some of them.
@@ -88,13 +91,14 @@ fn mine_all(alloc: Global, chain: &mut Index, pool: &[Tx], count: u64) -> Result
         m.txs) }
     ensures grown { IsGrown chain.old chain.new }
 {
-    let mut waiting = copied(alloc, pool)?;
+    let mut left = with_ids(alloc, pool)?;
     let mut txs = 0u64;
     for _block in 0..count {
-        let mined = mine_one(alloc, chain, waiting)?;
-        waiting = mined.waiting;
+        let mined = mine_one(alloc, chain, left)?;
+        left = mined.waiting;
         txs += mined.txs;
     }
+    let waiting = without_ids(alloc, left)?;
     Ok(Mined { waiting, txs })
 }
 

@@ -12,7 +12,7 @@ ghost use Rattle.mempool.specs.Mining.{with_fillings, has_waiting};
 ghost use Rattle.mempool.specs.Reorganising.{IsRefusal, reorg_refusal, IsTakenOff, IsBranch, IsReorganised};
 
 use crate::errors::ReorgError;
-use crate::mining::{Mined, copied, mine};
+use crate::mining::mine;
 use chain::{Block, ChainError, Coins, Index};
 use std::alloc::{AllocError, Global};
 use std::collections::BTreeSet;

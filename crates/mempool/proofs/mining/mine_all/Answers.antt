@@ -1,4 +1,6 @@
-use Rattle.std.proofs.Common.{◌≡◌, ◌+◌, ◌-◌, suc, arith}
+use Rattle.std.proofs.Common.{◌≡◌, ◌+◌, ◌-◌, suc, List, sym, ap, ◌∙◌, arith}
+use Rattle.tx.specs.Fields.{Transaction}
+use Rattle.mempool.specs.Mining.{Mined}
 use Rattle.mempool.proofs.Blocks.{next_block, no_more, no_more_left, grown_on}
 use Rattle.mempool.proofs.mining.mine_all.Goals as goal
 
@@ -16,4 +18,6 @@ loop-block-preserved c =
     }
 
 pub returns-clause-ok : goal.returns-clause-ok
-returns-clause-ok c = no_more _ _ _ (omega arith) c.loop-block.invariant.blocks
+returns-clause-ok c =
+    let with : List Transaction → Mined = λ ts. record { chain = c.loop-block.chain; waiting = ts; txs = c.loop-block.txs } in
+    no_more _ _ _ (omega arith) c.loop-block.invariant.blocks ∙ ap with (sym c.in_ok-waiting.ensures)
