@@ -200,28 +200,30 @@ fn revoked_due(alloc: Global, known: &Known, n: u64) -> Result<Vec<Claim>, Alloc
     }
 }
 
-// What is due by a verdict, where these are the known preimages.
-#[tactic(auto, unfolding(crate::specs::Due::due_of))]
-fn due_by(
+// What one's own commitment lets its owner claim by these preimages, each of which is hashed once.
+fn due_on_own(
     alloc: Global,
-    patterns: &Patterns,
-    known: &Known,
-    hashes: &KnownHashes<'_>,
-    verdict: Verdict,
+    own: &SignedCommitment,
+    preimages: &[[u8; 32]],
 ) -> Result<Vec<Claim>, AllocError>
-    requires { hashes.now ≡ known.now.preimages }
-    ensures { IfOk result (λ v. AreClaimsOn (due_of known.now verdict) v.items) }
+    ensures { IfOk result (λ v. AreClaimsOn (owners_due preimages.now own.now.commitment) v.items) }
 {
-    match verdict {
-        Verdict::Ours => owners_due(alloc, patterns, &known.own, hashes),
-        Verdict::Theirs => peers_due(alloc, patterns, &known.theirs, hashes),
-        Verdict::TheirsNext => match &known.next {
-            None => Ok(Vec::new(alloc)),
-            Some(next) => peers_due(alloc, patterns, next, hashes),
-        },
-        Verdict::Revoked(n) => revoked_due(alloc, known, n),
-        Verdict::Unknown => Ok(Vec::new(alloc)),
-    }
+    let hashes = KnownHashes::new(alloc, preimages)?;
+    let patterns = patterns(alloc)?;
+    owners_due(alloc, &patterns, own, &hashes)
+}
+
+// What a commitment of the peer lets one claim by these preimages, each of which is hashed once.
+fn due_on_theirs(
+    alloc: Global,
+    theirs: &KnownCommitment,
+    preimages: &[[u8; 32]],
+) -> Result<Vec<Claim>, AllocError>
+    ensures { IfOk result (λ v. AreClaimsOn (peers_due preimages.now theirs.now) v.items) }
+{
+    let hashes = KnownHashes::new(alloc, preimages)?;
+    let patterns = patterns(alloc)?;
+    peers_due(alloc, &patterns, theirs, &hashes)
 }
 
 /// The claims that are due by a verdict, each accepted, in the order of the commitment's outputs (BOLT 5):
@@ -234,10 +236,19 @@ fn due_by(
 ///
 /// The two claims that `accept` refuses are not due, nor is the delayed claim after one of them. These are a timeout where the revocation key's HASH160 is that
 /// of the empty item, and a preimage where it is the RIPEMD-160 of the payment hash. The only error is that memory ran out.
+#[tactic(auto, unfolding(crate::specs::Due::due_of))]
 pub fn due_claims(alloc: Global, known: &Known, verdict: Verdict) -> Result<Vec<Claim>, AllocError>
     ensures { IfOk result (λ v. AreClaimsOn (due_of known.now verdict) v.items) }
 {
-    let hashes = KnownHashes::new(alloc, known.preimages.values())?;
-    let patterns = patterns(alloc)?;
-    due_by(alloc, &patterns, known, &hashes, verdict)
+    let preimages = known.preimages.values();
+    match verdict {
+        Verdict::Ours => due_on_own(alloc, &known.own, preimages),
+        Verdict::Theirs => due_on_theirs(alloc, &known.theirs, preimages),
+        Verdict::TheirsNext => match &known.next {
+            None => Ok(Vec::new(alloc)),
+            Some(next) => due_on_theirs(alloc, next, preimages),
+        },
+        Verdict::Revoked(n) => revoked_due(alloc, known, n),
+        Verdict::Unknown => Ok(Vec::new(alloc)),
+    }
 }
