@@ -9,24 +9,33 @@ use resolve::Known;
 use side::{ReadParts, Reader};
 use std::alloc::{AllocError, Global};
 use std::process::Abort;
+use tx::OutPoint;
 use watch::Watch;
 
-// A reader of one channel, which has learnt one preimage before.
-fn reader_of_one(alloc: Global) -> Result<Reader, AllocError>
-    ensures { IfOk result (λ r. length r.seen ≡ 1) }
+// A reader of channels with these funding outputs, which has learnt one preimage before.
+fn reader_of(alloc: Global, fundings: Vec<OutPoint>) -> Result<Reader, AllocError>
+    ensures { IfOk result (λ r. length r.seen ≡ length fundings.items) }
 {
-    let fundings = Vec::from_slice(alloc, &[FUNDING])?;
     let mut watches = Vec::new(alloc);
-    watches.push(Watch::new(alloc))?;
+    for _channel in 0..fundings.len() {
+        watches.push(Watch::new(alloc))?;
+    }
     let learnt = Vec::from_slice(alloc, &[[7; 32]])?;
     Reader::new(alloc, fundings, watches, learnt)
 }
 
-// The number of channels that a reader asks for.
-fn count_asked(rt: &impl Abort, alloc: Global, block: &Block) -> usize {
-    let reader = reader_of_one(alloc).expect(rt, "memory");
-    let asked = reader.to_ask(alloc, block).expect(rt, "memory");
-    asked.len()
+// The same of one channel.
+fn reader_of_one(alloc: Global) -> Result<Reader, AllocError>
+    ensures { IfOk result (λ r. length r.seen ≡ 1) }
+{
+    reader_of(alloc, Vec::from_slice(alloc, &[FUNDING])?)
+}
+
+// The number of channels that a reader of these asks for.
+fn count_asked(rt: &impl Abort, alloc: Global, fundings: &[OutPoint], block: &Block) -> usize {
+    let fundings = Vec::from_slice(alloc, fundings).expect(rt, "memory");
+    let reader = reader_of(alloc, fundings).expect(rt, "memory");
+    reader.to_ask(alloc, block).expect(rt, "memory").len()
 }
 
 // The parts of a reader after it has read a block by this knowledge.
@@ -42,12 +51,13 @@ fn counts_of(rt: &impl Abort, alloc: Global, block: &Block) -> [usize; 3] {
     [parts.watches.len(), parts.learnt.len(), parts.due.len()]
 }
 
-// Nothing is asked for a channel whose funding output is unspent, and a block without transactions makes nothing
+// Nothing is asked for a channel whose funding output is unspent, be it one of few or of many, and a block without transactions makes nothing
 // due.
 #[test]
 fn reads_a_block(rt: HostRuntime) {
     let chain = Index::new(rt.alloc()).expect(&rt, "memory");
     let block = &chain.blocks()[0];
-    assert!(rt; count_asked(&rt, rt.alloc(), block) == 0);
+    assert!(rt; count_asked(&rt, rt.alloc(), &[FUNDING], block) == 0);
+    assert!(rt; count_asked(&rt, rt.alloc(), &[FUNDING; 20], block) == 0);
     assert!(rt; counts_of(&rt, rt.alloc(), block) == [1, 1, 0]);
 }

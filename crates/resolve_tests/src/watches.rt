@@ -30,5 +30,6 @@ fn watched(rt: &impl Abort, alloc: Global, block: &Block) -> Watch {
 #[test]
 fn copies_what_it_read(rt: HostRuntime) {
     let chain = Index::new(rt.alloc()).expect(&rt, "memory");
-    assert!(rt; watched(&rt, rt.alloc(), &chain.blocks()[0]).copy().is_ok());
+    let watch = watched(&rt, rt.alloc(), &chain.blocks()[0]);
+    assert!(rt; !watch.has_spends() && watch.copy().is_ok());
 }

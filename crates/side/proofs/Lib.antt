@@ -4,3 +4,5 @@ pub mod ReadingExamples
 pub mod BatchExamples
 pub mod ActExamples
 mod Broadcasts
+mod Hashed
+mod SpentPlaces

@@ -1,5 +1,5 @@
 -- The claims that a block makes due, by what is known of a channel.
-use Rattle.std.specs.Prelude.{◌≡◌, ℕ, List, [], ◌++◌, map, Option, Some, None}
+use Rattle.std.specs.Prelude.{◌≡◌, ℕ, Bool, true, false, List, [], ◌++◌, map, Option, Some, None}
 use Rattle.std.specs.List.{find, filter_map}
 use Rattle.std.specs.Str.{bytes_eq}
 use Rattle.sha2.specs.Sha256.{sha256}
@@ -18,6 +18,15 @@ use Rattle.side.specs.declared.due.DueClaim.{DueClaim}
 abbrev pub wanted_by : List (List ℕ) → Slot → Option (List ℕ)
 wanted_by preimages (Preimage hash) = find (λ p. bytes_eq (sha256 p) hash) preimages
 wanted_by preimages slot = None
+
+-- whether a slot asks for a preimage
+abbrev pub asks : Slot → Bool
+asks (Preimage hash) = true
+asks slot = false
+
+-- the first known preimage of a hash
+abbrev pub first_of : List (List ℕ) → List ℕ → Option (List ℕ)
+first_of preimages hash = find (λ p. bytes_eq (sha256 p) hash) preimages
 
 -- claims on a channel's outputs, as due claims, each with the known preimages that its slots need
 abbrev pub due_claims_of : ℕ → List (List ℕ) → List ClaimParts → List DueClaim

@@ -3,7 +3,7 @@
 ghost use Rattle.std.specs.Prelude.{◌≡◌, map, IfOk, OnOk};
 ghost use Rattle.side.specs.Following.{seen_in, unanswered, told, taught_in};
 
-use chain::Block;
+use crate::spent::Spent;
 use resolve::Known;
 use std::alloc::{AllocError, Global};
 use std::mem;
@@ -20,17 +20,16 @@ pub(crate) enum Followed {
 }
 
 impl Followed {
-    ghost use Rattle.std.specs.Prelude.{◌≡◌, reverse, OnOk};
+    ghost use Rattle.std.specs.Prelude.{◌≡◌, OnOk};
     ghost use Rattle.side.specs.Reading.{is_to_ask};
     ghost use Rattle.side.specs.Following.{seen_in, known_in, taught_in};
 
-    /// Whether to ask what is known of the channel before a block is read.
-    pub(crate) fn is_to_ask(&self, funding: &OutPoint, block: &Block) -> bool
-        ensures { result ≡ is_to_ask funding.now (seen_in self.now) (known_in self.now)
-            (reverse block.now.transactions) }
+    /// Whether to ask what is known of the channel before a block is read that spends these.
+    pub(crate) fn is_to_ask(&self, funding: &OutPoint, spent: &Spent<'_>) -> bool
+        ensures { result ≡ is_to_ask funding.now (seen_in self.now) (known_in self.now) spent.now }
     {
         match self {
-            Followed::Alone(watch) => watch.is_spent(funding, block),
+            Followed::Alone(watch) => spent.is_spent(funding, watch),
             Followed::Known(_) => false,
         }
     }

@@ -31,8 +31,10 @@ pub mod batches;
 mod due;
 mod following;
 pub mod laws;
+mod preimages;
 mod reading;
 mod sets;
+mod spent;
 
 pub use acts::{call_of, message_of};
 pub use batches::{BatchError, batch_of, worth_of};

@@ -1,17 +1,18 @@
 //! Reads blocks in two steps: what to ask before a block is read, and what is found with the answers.
 
-ghost use Rattle.std.specs.Prelude.{◌≡◌, if◌then◌else◌, ◌∷◌, ◌++◌, [], map, reverse, IfOk, OnOk};
-ghost use Rattle.std.specs.List.{AllByRecursion, cons_option, filter_map};
+ghost use Rattle.std.specs.Prelude.{◌≡◌, ◌≤◌, if◌then◌else◌, ◌∷◌, ◌++◌, [], filter, length, map, reverse, IfOk, OnOk};
+ghost use Rattle.std.specs.List.{AllByRecursion, cons_option, filter_map, list_any};
 ghost use Rattle.claim.specs.Claims.{IsWhole};
-ghost use Rattle.side.specs.Due.{wanted_by, due_claims_of, Finds, FindsIf, with_preimages};
+ghost use Rattle.side.specs.Due.{wanted_by, asks, due_claims_of, Finds, FindsIf, with_preimages};
 ghost use Rattle.side.specs.Reading.{FindsBlock};
 ghost use Rattle.side.specs.Following.{seen_in, known_in};
 
 use crate::due::DueClaim;
 use crate::following::{Followed, teach_all, tell, unanswered, watches_of};
+use crate::preimages::Preimages;
+use crate::spent::Spent;
 use chain::Block;
 use claim::{Claim, Slot};
-use digest::sha256;
 use lists::List;
 use resolve::Known;
 use std::alloc::{AllocError, Global};
@@ -74,18 +75,13 @@ fn nothing_found(alloc: Global) -> Found
 }
 
 // The first of the preimages that has the hash a slot asks for.
-fn wanted_by(preimages: &[[u8; 32]], slot: &Slot) -> Option<[u8; 32]>
+fn wanted_by(preimages: &Preimages<'_>, slot: &Slot) -> Option<[u8; 32]>
     ensures { result ≡ wanted_by preimages.now slot.now }
 {
     let Slot::Preimage(hash) = slot else {
         return None;
     };
-    for preimage in preimages {
-        if sha256(preimage) == *hash {
-            return Some(*preimage);
-        }
-    }
-    None
+    preimages.first_of(hash)
 }
 
 // Appends a preimage, if there is one.
@@ -101,7 +97,7 @@ fn push_some(preimages: &mut List<[u8; 32]>, preimage: Option<[u8; 32]>) -> Resu
 // The preimages that slots ask for, in order. The only error is that memory ran out.
 fn wanted_in(
     alloc: Global,
-    preimages: &[[u8; 32]],
+    preimages: &Preimages<'_>,
     slots: &[Slot],
 ) -> Result<List<[u8; 32]>, AllocError>
     ensures { IfOk result (λ w. w ≡ filter_map (wanted_by preimages.now) slots.now) }
@@ -114,10 +110,10 @@ fn wanted_in(
 }
 
 // Claims on a channel's outputs, as due claims. The only error is that memory ran out.
-fn due_claims_of(
+fn due_claims_by(
     alloc: Global,
     channel: u64,
-    preimages: &[[u8; 32]],
+    preimages: &Preimages<'_>,
     claims: Vec<Claim>,
 ) -> Result<VecDeque<DueClaim>, AllocError>
     ensures { IfOk result (λ due. due.items ≡ due_claims_of channel preimages.now claims.items) }
@@ -132,6 +128,39 @@ fn due_claims_of(
         })?;
     }
     Ok(due)
+}
+
+// Whether one of the slots asks for a preimage.
+fn some_asks(slots: &[Slot]) -> bool
+    ensures { result ≡ list_any asks slots.now }
+{
+    slots.iter().any(|slot| matches!(slot, Slot::Preimage(_)))
+}
+
+// The number of claims with such a slot. It decides how a preimage is found, and not which.
+fn asking_among(claims: &[Claim]) -> usize
+    ensures { result ≤ length claims.now }
+{
+    let mut asking = 0;
+    for index in 0..claims.len() {
+        if some_asks(claims[index].slots()) {
+            asking += 1;
+        }
+    }
+    asking
+}
+
+// The same, where the preimages are not sorted yet. They are only if several claims ask for one, so that none is hashed twice; if none does, none is hashed.
+fn due_claims_of(
+    alloc: Global,
+    channel: u64,
+    preimages: &[[u8; 32]],
+    claims: Vec<Claim>,
+) -> Result<VecDeque<DueClaim>, AllocError>
+    ensures { IfOk result (λ due. due.items ≡ due_claims_of channel preimages.now claims.items) }
+{
+    let preimages = Preimages::new(alloc, preimages, asking_among(&claims) > 1)?;
+    due_claims_by(alloc, channel, &preimages, claims)
 }
 
 // Appends preimages. The only error is that memory ran out.
@@ -282,11 +311,12 @@ impl Reader {
         ensures within { IfOk result (λ v. All (λ c. c < length self.now.seen) v.items) }
         ensures in_step { IsInStep self.now }
     {
+        let spent = Spent::by(alloc, block, self.channels.len())?;
         let mut channels = Vec::new(alloc);
         for index in 0..self.channels.len() {
             let funding = &self.fundings[index];
             let followed = &self.channels[index];
-            let asks = followed.is_to_ask(funding, block);
+            let asks = followed.is_to_ask(funding, &spent);
             push_if(&mut channels, index as u64, asks)?;
         }
         Ok(channels)

@@ -35,6 +35,10 @@ spends_in funding height txs = map (spend_at height) (filter (names funding) txs
 abbrev pub is_spent : OutPoint → Seen → List Transaction → Bool
 is_spent funding seen txs = not (length seen.spends == 0) || list_any (names funding) txs
 
+-- one was read
+abbrev pub has_spends : Seen → Bool
+has_spends seen = not (length seen.spends == 0)
+
 -- all that were read, once this block is read too
 abbrev pub spends_after : Seen → ℕ → List Transaction → Known → List Spend
 spends_after seen height txs known = seen.spends ++ spends_in known.terms.funding height txs

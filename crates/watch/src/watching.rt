@@ -81,7 +81,7 @@ fn copied_spends(alloc: Global, spends: &[Spend]) -> Result<Vec<Spend>, AllocErr
 
 impl Watch {
     ghost use Rattle.std.specs.Prelude.{◌≡◌, reverse, IfOk, OnOk, OnErr};
-    ghost use Rattle.watch.specs.Watching.{nothing_seen, is_spent, seen_after, seen_up_to};
+    ghost use Rattle.watch.specs.Watching.{nothing_seen, has_spends, is_spent, seen_after, seen_up_to};
     ghost use Rattle.watch.specs.Sights.{IsSight};
 
     /// A watch that has read no block.
@@ -111,11 +111,18 @@ impl Watch {
         self.spends.as_slice()
     }
 
+    /// Whether a transaction that spends the funding output was read.
+    pub fn has_spends(&self) -> bool
+        ensures { result ≡ has_spends self.now }
+    {
+        !self.spends.is_empty()
+    }
+
     /// Whether a transaction that spends the funding output was read or is in this block.
     pub fn is_spent(&self, funding: &OutPoint, block: &Block) -> bool
         ensures { result ≡ is_spent funding.now self.now (reverse block.now.transactions) }
     {
-        !self.spends.is_empty() || some_spends(funding, block.transactions())
+        self.has_spends() || some_spends(funding, block.transactions())
     }
 
     /// Reads the block at a height, above the blocks that it read before. It takes the transactions read so far that spend the funding output, in order. For

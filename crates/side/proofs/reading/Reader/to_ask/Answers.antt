@@ -1,8 +1,8 @@
-use Rattle.std.proofs.Common.{◌≡◌, ℕ, ◌+◌, ◌<◌, ◌≤◌, ◌++◌, List, length, reverse, sym, ap, subst, arith}
+use Rattle.std.proofs.Common.{◌≡◌, ℕ, ◌+◌, ◌<◌, ◌≤◌, ◌++◌, List, length, reverse, sym, ap, subst, ◌∙◌, arith}
 use Rattle.std.specs.List.{All}
 use Rattle.std.proofs.lemmas.List.{length-map}
-use Rattle.side.specs.Reading.{Reader, numbers_to_ask}
-use Rattle.side.specs.Following.{seen_in}
+use Rattle.side.specs.Reading.{Reader, is_to_ask, numbers_to_ask}
+use Rattle.side.specs.Following.{seen_in, known_in}
 use Rattle.side.proofs.Readings.{asked_from, asked_end, all_asked}
 use Rattle.side.proofs.Followed.{asked_of_followed}
 use Rattle.side.proofs.reading.Reader.to_ask.Goals as goal
@@ -14,10 +14,12 @@ loop-index-preserved c =
     let index = c.loop-index.index in
     let found = c.loop-index.channels.items in
     let more = c.push_if.new.numbers.items in
+    let followed = c.index-followed.result.now in
+    let asks = c.is_to_ask-asks.ensures ∙ ap (is_to_ask c.index-funding.result.now (seen_in followed) (known_in followed)) c.in_ok-spent.ensures in
     let before = subst (λ (x : Reader). found ++ asked_from x.fundings x.seen x.knowns txs index ≡ numbers_to_ask 0 x.fundings x.seen x.knowns txs) (sym c.self.view_is) c.loop-index.invariant in
     let after =
-    asked_of_followed i.fundings.items i.channels.items txs index c.index-funding.result.now c.index-followed.result.now c.is_to_ask-asks.result found more c.self.invariant (omega arith)
-    c.index-funding.ensures c.index-followed.ensures c.is_to_ask-asks.ensures c.in_ok-push_if.ensures before in
+    asked_of_followed i.fundings.items i.channels.items txs index c.index-funding.result.now followed c.is_to_ask-asks.result found more c.self.invariant (omega arith)
+    c.index-funding.ensures c.index-followed.ensures asks c.in_ok-push_if.ensures before in
     subst (λ (x : Reader). more ++ asked_from x.fundings x.seen x.knowns txs (index + 1) ≡ numbers_to_ask 0 x.fundings x.seen x.knowns txs) c.self.view_is after
 
 pub returns-clause-within : goal.returns-clause-within

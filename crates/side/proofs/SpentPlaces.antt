@@ -1,0 +1,47 @@
+-- The outpoints that transactions spend, as a set holds them.
+use Rattle.std.proofs.Common.{◌≡◌, ℕ, ◌+◌, ◌<◌, Bool, true, false, ◌||◌, cond, List, ◌∷◌, length, drop, refl, sym, ap, ◌∙◌, get_or, add-one, drop-cons}
+use Rattle.std.specs.List.{list_any}
+use Rattle.std.specs.Ordering.{is_eq}
+use Rattle.tx.specs.declared.input.OutPoint.{OutPoint}
+use Rattle.tx.specs.declared.input.TxIn.{TxIn}
+use Rattle.tx.specs.Fields.{Transaction}
+use Rattle.chain.specs.Blocks.{same_outpoint, names}
+use Rattle.chain.specs.Indexing.{outpoint_cmp}
+use Rattle.chain.proofs.Noting.{ties}
+
+-- one of the inputs spends it
+abbrev pub among : OutPoint → List TxIn → Bool
+among o inputs = list_any (λ i. same_outpoint i.outpoint o) inputs
+
+split : {A : Type 0} (xs : List A) (i : ℕ) (d x : A) → i < length xs → x ≡ get_or xs i d → drop i xs ≡ x ∷ drop (i + 1) xs
+split xs i d x h e = rw (add-one, e) (drop-cons xs i d h)
+
+moved : (t a b : Bool) → (a || cond t true b) ≡ ((t || a) || b)
+moved true true b = refl
+moved true false b = refl
+moved false a b = refl
+
+-- one input more is in the set
+pub input_added : (old new : OutPoint → Bool) (inputs : List TxIn) (i : ℕ) (d x : TxIn) (whole : OutPoint → Bool) → i < length inputs → x ≡ get_or inputs i d
+    → ((q : OutPoint) → new q ≡ cond (is_eq (outpoint_cmp x.outpoint q)) true (old q)) → ((o : OutPoint) → (among o (drop i inputs) || old o) ≡ whole o)
+    → (o : OutPoint) → (among o (drop (i + 1) inputs) || new o) ≡ whole o
+input_added old new inputs i d x whole l e u v o =
+    ap (λ t. among o (drop (i + 1) inputs) || t) (u o ∙ ap (λ t. cond t true (old o)) (ties x.outpoint o))
+    ∙ moved (same_outpoint x.outpoint o) (among o (drop (i + 1) inputs)) (old o)
+    ∙ ap (λ (xs : List TxIn). among o xs || old o) (sym (split inputs i d x l e))
+    ∙ v o
+
+regrouped : (a b c : Bool) → (b || (a || c)) ≡ ((a || b) || c)
+regrouped true true c = refl
+regrouped true false c = refl
+regrouped false b c = refl
+
+-- the inputs of one transaction more are in the set
+pub tx_added : (old new : OutPoint → Bool) (txs : List Transaction) (i : ℕ) (d t : Transaction) (inputs : List TxIn) (whole : OutPoint → Bool) → i < length txs → t ≡ get_or txs i d → inputs ≡ t.inputs
+    → ((o : OutPoint) → new o ≡ (among o inputs || old o)) → ((o : OutPoint) → (list_any (names o) (drop i txs) || old o) ≡ whole o)
+    → (o : OutPoint) → (list_any (names o) (drop (i + 1) txs) || new o) ≡ whole o
+tx_added old new txs i d t inputs whole l e s u v o =
+    ap (λ b. list_any (names o) (drop (i + 1) txs) || b) (u o ∙ ap (λ (xs : List TxIn). among o xs || old o) s)
+    ∙ regrouped (names o t) (list_any (names o) (drop (i + 1) txs)) (old o)
+    ∙ ap (λ (ts : List Transaction). list_any (names o) ts || old o) (sym (split txs i d t l e))
+    ∙ v o
