@@ -6,3 +6,4 @@ pub mod Lookouts
 pub mod Standing
 pub mod Finding
 pub mod Showing
+pub mod Settling

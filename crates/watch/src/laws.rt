@@ -3,6 +3,7 @@
 ghost use Rattle.watch.specs.Finding.{RevokedAreFound, OnlyRevokedAreFound};
 ghost use Rattle.watch.specs.Showing.{KeysAreKeys, SpendersGo, PreimagesAreLearnt};
 ghost use Rattle.watch.specs.Standing.{SeesWhatStands};
+ghost use Rattle.watch.specs.Settling.{ReadingSettles, EmptyBlocksGiveNothing};
 
 use paths::laws::scripts_are_satisfied_exactly;
 
@@ -29,3 +30,9 @@ pub fn preimages_are_learnt()
     // The proof takes from it that whatever runs clean meets a listed path.
     scripts_are_satisfied_exactly();
 }
+
+/// After a watch has read a block, it has given all that is due by what is known. From then on an empty block gives it nothing, as long as no more is known.
+pub fn empty_blocks_give_nothing()
+    ensures settles { ReadingSettles }
+    ensures nothing { EmptyBlocksGiveNothing }
+{}

@@ -18,6 +18,7 @@ pub mod Releases
 pub mod Keeps
 pub mod Played
 pub mod Readings
+pub mod QuietBlocks
 pub mod Grants
 pub mod Opened
 pub mod Keyed

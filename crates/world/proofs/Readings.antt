@@ -19,7 +19,7 @@ use Rattle.side.specs.declared.reading.ReadParts.{ReadParts}
 use Rattle.side.specs.Due.{FindsIf, with_preimages, taught}
 use Rattle.side.specs.Reading.{Reader, is_to_ask, numbers_to_ask, with_answer, FindsBlock, no_more, channel, IsRead}
 use Rattle.world.specs.Worlds.{Line, Node, IsNode}
-use Rattle.world.specs.Looking.{Knows, is_closed, ReadsChannel, quiet, sees, ReadsBlock, no_more as none_read, channel as one_read, Reading, IsAfter, Reads, all_read, block, reading_of, reading_in, parts_read, with_seen}
+use Rattle.world.specs.Looking.{Knows, is_closed, ReadsChannel, quiet, sees, ReadsBlock, no_more as none_read, channel as one_read, Reading, IsAfter, Reads, all_read, block, Upward, reading_of, reading_in, parts_read, with_seen}
 use Rattle.world.specs.Asking.{IfKnown, AreKnown, IsReady, AreReady}
 use Rattle.world.proofs.Whole.{all_append}
 
@@ -223,10 +223,6 @@ known_read history height txs r asked next are same is =
     known_after history r.learnt r.learnt is.shown is.shown next.learnt asked.knowns next.knowns are refl is.knowns_are refl (is.learnt_is ∙ ap (λ (x : Reader). x.learnt ++ is.shown) same)
 
 -- ---- blocks
-
--- reading the blocks above a height completes what was read up to it
-abbrev pub Upward : List Entry → List Contents → ℕ → Reading → ℕ → Reading → Type 0
-Upward history blocks from r at now = (done : Reading) → Reads history (at + 1) (drop (at + 1) blocks) now done → Reads history (from + 1) (drop (from + 1) blocks) r done
 
 at_place : {A : Type 0} (xs : List A) (n : ℕ) (x : A) → slice_get xs n ≡ Some x → drop n xs ≡ x ∷ drop (suc n) xs
 at_place [] n x e = absurd (none-some x e)

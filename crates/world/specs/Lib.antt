@@ -11,5 +11,6 @@ pub mod Beginning
 pub mod Keeping
 pub mod Looking
 pub mod Asking
+pub mod Quiet
 pub mod Publishing
 pub mod Pairing

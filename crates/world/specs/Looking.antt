@@ -61,6 +61,10 @@ pub data Reads (history : List Entry) : ℕ → List Contents → Reading → Re
   block : {height : ℕ} {b : Contents} {blocks : List Contents} {r next done : Reading}
       → IsAfter history height (reverse b.transactions) r next → Reads history (height + 1) blocks next done → Reads history height (b ∷ blocks) r done
 
+-- reading the blocks above a height completes what was read up to it
+abbrev pub Upward : List Entry → List Contents → ℕ → Reading → ℕ → Reading → Type 0
+Upward history blocks from r at now = (done : Reading) → Reads history (at + 1) (drop (at + 1) blocks) now done → Reads history (from + 1) (drop (from + 1) blocks) r done
+
 -- ---- a side
 
 -- what a reader has read so far, and what it holds at the end

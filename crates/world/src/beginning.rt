@@ -104,6 +104,8 @@ fn begin(
 {
     // By this law the proof knows that both books take the openings.
     openings_agree();
+    parts.quiet_a = false;
+    parts.quiet_b = false;
     let outpoint = grant_funding(alloc, &mut parts.chain, seeds, channel, plain)?;
     let both = both_of(alloc, seeds, channel, outpoint, plain)?;
     open(alloc, &mut parts.a, both.a)?;
@@ -119,6 +121,8 @@ fn empty(alloc: Global) -> Result<Parts, AllocError>
         alloc,
         a: Node::new(alloc),
         b: Node::new(alloc),
+        quiet_a: false,
+        quiet_b: false,
         chain,
         pool: Vec::new(alloc),
         released: Vec::new(alloc),

@@ -1,14 +1,16 @@
 //! How a side reads blocks.
 
 ghost use Rattle.std.specs.Prelude.{◌≡◌, ◌<◌, ◌+◌, map, length, reverse, drop, slice_get, IfOk, IfErr, OnOk, OnErr};
+ghost use Rattle.std.specs.Bool.{OnTrue};
 ghost use Rattle.std.specs.List.{AllByRecursion};
 ghost use Rattle.claim.specs.Claims.{IsWhole};
 ghost use Rattle.book.specs.Books.{replay, fundings_of};
 ghost use Rattle.book.specs.Knowing.{IsKnownIn};
 ghost use Rattle.side.specs.Reading.{begun};
 ghost use Rattle.world.specs.declared.errors.EventError.TheVariants.{NoMemory};
-ghost use Rattle.world.specs.Looking.{IsAfter, Reads, reading_of, reading_in, parts_read, with_seen, with_reading, Looks, seen_back_to, back_to};
+ghost use Rattle.world.specs.Looking.{IsAfter, Reads, Upward, reading_of, reading_in, parts_read, with_seen, with_reading, Looks, seen_back_to, back_to};
 ghost use Rattle.world.specs.Asking.{AreKnown, AreReady};
+ghost use Rattle.world.specs.Quiet.{AreQuiet, IsQuiet};
 
 use crate::errors::EventError;
 use crate::nodes::{Line, Node};
@@ -19,6 +21,7 @@ use resolve::Known;
 use side::{ReadParts, Reader};
 use std::alloc::{AllocError, Global};
 use watch::Watch;
+use watch::laws::empty_blocks_give_nothing;
 
 // What the book knows of one of its channels. The only error is that memory ran out.
 fn known_by(book: &Book, channel: u64) -> Result<Known, AllocError>
@@ -96,13 +99,39 @@ fn reader_of(alloc: Global, me: &Node) -> Result<Reader, AllocError>
     Reader::new(alloc, fundings, watches, learnt)
 }
 
-// Reads all blocks that a side has not read yet. The only error is that memory ran out.
-fn read_blocks(alloc: Global, me: &Node, chain: &Index) -> Result<Reader, AllocError>
+// The height up to which the blocks give a side nothing. Above what it has read, these are empty blocks, if the side is quiet.
+fn quiet_up_to(me: &Node, is_quiet: bool, chain: &Index) -> u64
+    requires { OnTrue is_quiet (IsQuiet me.now) }
+    ensures { Upward me.now.history (reverse chain.now.blocks) me.now.read
+        (reading_of me.now) result (reading_of me.now) }
+{
+    empty_blocks_give_nothing();
+    if !is_quiet {
+        return me.read;
+    }
+    let mut quiet = me.read;
+    for read in me.read..chain.height() {
+        let height = read + 1;
+        let Some(block) = chain.block_at(height) else {
+            unreachable!()
+        };
+        if !block.transactions().is_empty() {
+            return quiet;
+        }
+        quiet = height;
+    }
+    quiet
+}
+
+// Reads all blocks that a side has not read yet, of which those up to a height give it nothing. The only error is that memory ran out.
+fn read_blocks(alloc: Global, me: &Node, from: u64, chain: &Index) -> Result<Reader, AllocError>
+    requires { Upward me.now.history (reverse chain.now.blocks) me.now.read
+        (reading_of me.now) from (reading_of me.now) }
     ensures { IfOk result (λ r. Reads me.now.history (me.now.read + 1)
         (drop (me.now.read + 1) (reverse chain.now.blocks)) (reading_of me.now) (reading_in r)) }
 {
     let mut reader = reader_of(alloc, me)?;
-    for read in me.read..chain.height() {
+    for read in from..chain.height() {
         let height = read + 1;
         let Some(block) = chain.block_at(height) else {
             unreachable!()
@@ -110,6 +139,25 @@ fn read_blocks(alloc: Global, me: &Node, chain: &Index) -> Result<Reader, AllocE
         reader = read_block(alloc, &me.book, height, block, reader)?;
     }
     Ok(reader)
+}
+
+// Whether a side is quiet once it has stored what it read. It is after a block, if no block showed a preimage; and if there was none, it is as before.
+fn is_quiet_after(me: &Node, was_quiet: bool, chain: &Index, parts: &ReadParts) -> bool
+    requires quiet { OnTrue was_quiet (IsQuiet me.now) }
+    requires reads { Reads me.now.history (me.now.read + 1)
+        (drop (me.now.read + 1) (reverse chain.now.blocks)) (reading_of me.now)
+        (parts_read parts.now) }
+    ensures { OnTrue result (AreQuiet me.now.history parts.now.learnt.items 0
+        parts.now.watches.items) }
+{
+    empty_blocks_give_nothing();
+    if parts.learnt.len() != me.learnt.len() {
+        return false;
+    }
+    if me.read < chain.height() {
+        return true;
+    }
+    was_quiet
 }
 
 // Gives a channel this watch.
@@ -153,14 +201,28 @@ fn take_over(me: &mut Node, height: u64, parts: ReadParts) -> Result<(), AllocEr
 /// Reads all blocks that a side has not read yet, the oldest first, and each block channel by channel. Claims that fall due are queued as jobs, each with the known
 /// preimages that its slots need. What a block shows is known of all channels from the next block on. Returns the number of new jobs. If memory runs out, the only error,
 /// the side stays as it was.
-pub(crate) fn look(alloc: Global, me: &mut Node, chain: &Index) -> Result<u64, EventError>
+///
+/// The flag says that an empty block gives the side nothing. While it holds, the first of the blocks are passed over, up to one with a transaction.
+pub(crate) fn look(
+    alloc: Global,
+    me: &mut Node,
+    is_quiet: &mut bool,
+    chain: &Index,
+) -> Result<u64, EventError>
+    requires { OnTrue is_quiet.old (IsQuiet me.old) }
     ensures looks { IfOk result (Looks me.old chain.now.blocks me.new) }
     ensures memory { IfErr result (λ e. e ≡ NoMemory) }
     ensures err { OnErr result (me.new ≡ me.old) }
+    ensures quiet { OnTrue is_quiet.new (IsQuiet me.new) }
 {
-    let parts = read_blocks(alloc, me, chain)?.into_parts()?;
+    let was_quiet = *is_quiet;
+    *is_quiet = false;
+    let from = quiet_up_to(me, was_quiet, chain);
+    let parts = read_blocks(alloc, me, from, chain)?.into_parts()?;
+    let quiet = is_quiet_after(me, was_quiet, chain, &parts);
     let count = parts.due.len() as u64;
     take_over(me, chain.height(), parts)?;
+    *is_quiet = quiet;
     Ok(count)
 }
 

@@ -25,6 +25,10 @@ pub(crate) struct Parts {
     pub(crate) alloc: Global,
     pub(crate) a: Node,
     pub(crate) b: Node,
+    /// Whether an empty block gives the first side nothing.
+    pub(crate) quiet_a: bool,
+    /// Whether it gives the second side nothing.
+    pub(crate) quiet_b: bool,
     pub(crate) chain: Index,
     /// The transactions that wait for a block, in order.
     pub(crate) pool: Vec<Tx>,
@@ -33,11 +37,15 @@ pub(crate) struct Parts {
 }
 
 impl Model for Parts {
+    ghost use Rattle.std.specs.Bool.{OnTrue};
     ghost use Rattle.world.specs.Worlds.{World as WorldParts};
+    ghost use Rattle.world.specs.Quiet.{IsQuiet};
 
     ghost Value = { WorldParts };
 
     ghost view = { λ p. record { a = p.a; b = p.b; chain = p.chain; pool = p.pool.items; released = p.released.items } };
+
+    ghost invariant = { λ p. OnTrue p.quiet_a (IsQuiet p.a) × OnTrue p.quiet_b (IsQuiet p.b) };
 }
 
 // Maps success to `Done`.
@@ -129,6 +137,8 @@ impl Parts {
     fn update(&mut self, side: Side, channel: u64, update: OwnUpdate) -> Result<Outcome, EventError>
         ensures { IsPlayed self.old (Event.Own side channel update) result self.new }
     {
+        self.quiet_a = false;
+        self.quiet_b = false;
         match side {
             Side::A => done(delivering::update(&mut self.a, &mut self.b, channel, update)),
             Side::B => done(delivering::update(&mut self.b, &mut self.a, channel, update)),
@@ -139,6 +149,8 @@ impl Parts {
     fn sign(&mut self, side: Side, channel: u64) -> Result<Outcome, EventError>
         ensures { IsPlayed self.old (Event.Sign side channel) result self.new }
     {
+        self.quiet_a = false;
+        self.quiet_b = false;
         match side {
             Side::A => done(delivering::sign(&mut self.a, &mut self.b, channel)),
             Side::B => done(delivering::sign(&mut self.b, &mut self.a, channel)),
@@ -149,6 +161,8 @@ impl Parts {
     fn deliver(&mut self, side: Side, channel: u64) -> Result<Outcome, EventError>
         ensures { IsPlayed self.old (Event.Deliver side channel) result self.new }
     {
+        self.quiet_a = false;
+        self.quiet_b = false;
         let alloc = self.alloc;
         match side {
             Side::A => done(delivering::deliver(alloc, &mut self.a, &mut self.b, channel)),
@@ -160,6 +174,8 @@ impl Parts {
     fn keep(&mut self, side: Side, channel: u64, number: u64) -> Result<Outcome, EventError>
         ensures { IsPlayed self.old (Event.Keep side channel number) result self.new }
     {
+        self.quiet_a = false;
+        self.quiet_b = false;
         match side {
             Side::A => done(keeping::keep(self.alloc, &mut self.a, channel, number)),
             Side::B => done(keeping::keep(self.alloc, &mut self.b, channel, number)),
@@ -219,8 +235,18 @@ impl Parts {
         ensures { IsPlayed self.old (Event.Look side) result self.new }
     {
         match side {
-            Side::A => looked(looking::look(self.alloc, &mut self.a, &self.chain)),
-            Side::B => looked(looking::look(self.alloc, &mut self.b, &self.chain)),
+            Side::A => looked(looking::look(
+                self.alloc,
+                &mut self.a,
+                &mut self.quiet_a,
+                &self.chain,
+            )),
+            Side::B => looked(looking::look(
+                self.alloc,
+                &mut self.b,
+                &mut self.quiet_b,
+                &self.chain,
+            )),
         }
     }
 
@@ -228,6 +254,8 @@ impl Parts {
     fn take(&mut self, side: Side, count: u64) -> Result<Outcome, EventError>
         ensures { IsPlayed self.old (Event.Take side count) result self.new }
     {
+        self.quiet_a = false;
+        self.quiet_b = false;
         match side {
             Side::A => done(releasing::take(&mut self.a, count)),
             Side::B => done(releasing::take(&mut self.b, count)),
@@ -238,6 +266,8 @@ impl Parts {
     fn release(&mut self, side: Side, count: u64) -> Result<Outcome, EventError>
         ensures { IsPlayed self.old (Event.Release side count) result self.new }
     {
+        self.quiet_a = false;
+        self.quiet_b = false;
         let alloc = self.alloc;
         match side {
             Side::A => release(
@@ -266,6 +296,8 @@ impl Parts {
         ensures outcome { result ≡ blocks_outcome
             (record { chain = done.chain; waiting = done.pool.items; txs = done.txs }) }
     {
+        self.quiet_a = false;
+        self.quiet_b = false;
         let fork = self.chain.height() - depth;
         looking::back(&mut self.a, fork);
         looking::back(&mut self.b, fork);

@@ -3,9 +3,9 @@ use Rattle.std.proofs.lemmas.List.{length-reverse}
 use Rattle.book.specs.declared.calls.Entry.{Entry}
 use Rattle.side.specs.Reading.{Reader}
 use Rattle.world.specs.Worlds.{Node}
-use Rattle.world.specs.Looking.{IsAfter, reading_of, reading_in}
+use Rattle.world.specs.Looking.{Reading, IsAfter, Upward, reading_of, reading_in}
 use Rattle.world.specs.Asking.{AreKnown}
-use Rattle.world.proofs.Readings.{none_known, upward_start, upward_step, upward_end}
+use Rattle.world.proofs.Readings.{none_known, upward_step, upward_end}
 use Rattle.world.proofs.looking.read_blocks.Goals as goal
 
 pub loop-read-init : goal.loop-read-init
@@ -14,7 +14,7 @@ loop-read-init c =
     let is = c.in_ok-reader.ensures in
     let none = none_known me.history me.learnt (length (map (λ line. line.seen) me.lines)) in
     record {
-      upward = upward_start me.history (reverse c.args.chain.now.blocks) me.read c.me.inside.read (reading_of me) (reading_in c.in_ok-reader.reader) (ap (λ (n : Node). n.read) c.me.view_is) (ap reading_in is);
+      upward = subst (λ (r : Reading). Upward me.history (reverse c.args.chain.now.blocks) me.read (reading_of me) c.args.from r) (sym (ap reading_in is)) c.requires;
       known = subst (λ (r : Reader). AreKnown me.history r.learnt r.knowns) (sym is) none;
       fundings = ap (λ (r : Reader). r.fundings) is;
     }

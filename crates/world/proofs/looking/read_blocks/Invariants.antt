@@ -1,8 +1,7 @@
 use Rattle.std.proofs.Common.{◌≡◌, reverse}
 use Rattle.book.specs.Books.{fundings_of, replay}
-use Rattle.world.specs.Looking.{reading_of, reading_in}
+use Rattle.world.specs.Looking.{Upward, reading_of, reading_in}
 use Rattle.world.specs.Asking.{AreKnown}
-use Rattle.world.proofs.Readings.{Upward}
 use Rattle.world.proofs.looking.read_blocks.Given as goal
 
 abbrev pub invariant-loop-read : goal.invariant-loop-read
