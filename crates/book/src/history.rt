@@ -6,6 +6,7 @@ use crate::fulfils::Fulfils;
 use crate::limits::MAX_CHANNELS;
 use crate::matching::hold_whole;
 use crate::open_channel::{OpenChannel, Taken};
+use crate::releasing::FilledTwice;
 use channel::laws::sides_are_sound;
 use channel::{Channel, Message};
 use claim::Claim;
@@ -43,7 +44,7 @@ impl Model for Book {
 }
 
 impl Book {
-    ghost use Rattle.std.specs.Prelude.{◌≡◌, [], true, Err, length, slice_get, option_map, IfOk, IfErr, MatchResult};
+    ghost use Rattle.std.specs.Prelude.{◌≡◌, [], true, Ok, Err, length, slice_get, option_map, IfOk, IfErr, MatchResult};
     ghost use Rattle.std.specs.Option.{option_and_then, option_copied};
     ghost use Rattle.channel.specs.Tokens.{peer_tokens};
     ghost use Rattle.updates.specs.declared.errors.ChannelError.TheVariants.{NoMemory as refusal_memory};
@@ -344,6 +345,39 @@ impl Book {
         let call = Call::Release { channel, batch };
         self.entries.push(Entry { seat, call }).unwrap();
         Ok(filled)
+    }
+
+    /// The same, and hands out the transaction twice. It is filled once. A refusal leaves the book as it was.
+    pub fn release_twice(
+        &mut self,
+        seat: u32,
+        channel: u64,
+        batch: Batch,
+    ) -> Result<FilledTwice, ReleaseError>
+        ensures call { let no_memory = released (Err (ReleaseError.Unfilled fill_memory)) in
+            let call = Call.Release channel batch in
+            MatchResult result
+            (λ r. IsCall no_memory (released (Ok r.filled)) self.old self.new seat call)
+            (λ e. IsCall no_memory (released (Err e)) self.old self.new seat call) }
+        ensures copy { IfOk result (λ r. r.copy ≡ r.filled.tx) }
+    {
+        let index = channel as usize;
+        if index >= self.channels.len() {
+            return Err(ReleaseError::NoSuchChannel);
+        }
+        match self.entries.reserve(1) {
+            Ok(()) => {}
+            Err(_) => return Err(ReleaseError::Unfilled(FillError::NoMemory)),
+        }
+        let open = &self.channels[index];
+        let twice = match open.release_twice(self.alloc, &batch) {
+            Ok(filled) => filled,
+            Err(error) => return Err(ReleaseError::Unfilled(error)),
+        };
+        hold_whole(batch.claims.values());
+        let call = Call::Release { channel, batch };
+        self.entries.push(Entry { seat, call }).unwrap();
+        Ok(twice)
     }
 
     /// The state of the peer's revoked commitment of this number, from which its penalties are built. Refused, in this order, with `NoSuchChannel`, `NotRevoked` and `AlreadyKept`.

@@ -50,4 +50,4 @@ pub use calling::Reply;
 pub use calls::{Batch, Call, Entry, Opening, Step};
 pub use history::Book;
 pub use limits::MAX_CHANNELS;
-pub use releasing::filled;
+pub use releasing::{FilledTwice, filled};

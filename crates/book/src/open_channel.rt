@@ -13,7 +13,7 @@ use crate::errors::{KeepError, OpenError, SignError};
 use crate::flags::first_unset;
 use crate::judging::are_penalties;
 use crate::knowing::known_of;
-use crate::releasing::filled;
+use crate::releasing::{FilledTwice, filled};
 use crate::revoking::state_at;
 use channel::{Channel, Message, Tokens};
 use claim::Claim;
@@ -242,6 +242,28 @@ impl OpenChannel {
             in MatchResult result (λ _. first ≡ None) (IsFillRefusal first) }
     {
         filled(alloc, batch, self.channel.signer())
+    }
+
+    /// The same, with a copy of the transaction.
+    pub(crate) fn release_twice(
+        &self,
+        alloc: Global,
+        batch: &Batch,
+    ) -> Result<FilledTwice, FillError>
+        ensures ok { IfOk result (λ r. r.filled ≡ filling_by batch.now) }
+        ensures copy { IfOk result (λ r. r.copy ≡ r.filled.tx) }
+        ensures tested { let first = fill_refusal batch.now.claims batch.now.outputs
+            (rights_of self.now.state) batch.now.preimages
+            in MatchResult result (λ _. first ≡ None) (IsFillRefusal first) }
+    {
+        let filled = match self.release(alloc, batch) {
+            Ok(filled) => filled,
+            Err(error) => return Err(error),
+        };
+        match filled.tx().copy() {
+            Ok(copy) => Ok(FilledTwice { filled, copy }),
+            Err(_) => Err(FillError::NoMemory),
+        }
     }
 
     // Whether the claims are the penalties of the peer's revoked commitment of this number.

@@ -12,7 +12,14 @@ use claim::Claim;
 use filling::{FillError, Filled, fill};
 use keys::Signer;
 use std::alloc::{AllocError, Global};
-use tx::TxOut;
+use tx::{Tx, TxOut};
+
+/// Claims that were filled and released, and a copy of their transaction.
+#[derive(Drop)]
+pub struct FilledTwice {
+    pub filled: Filled,
+    pub copy: Tx,
+}
 
 // Clones outputs. The only error is that memory ran out.
 fn copies(alloc: Global, outputs: &[TxOut]) -> Result<Vec<TxOut>, AllocError>

@@ -111,12 +111,14 @@ fn keeps_the_same_claims_of_another_state(rt: HostRuntime) {
 
 // The penalties of a revoked commitment are filled by the channel's signer, in the book and outside of it, and by no
 // other. A signer that knows only the seed lacks the secret.
-const RELEASED: [Row; 7] = [
+const RELEASED: [Row; 9] = [
     Row::Offered(1_000_000),
     Row::Release(false),
+    Row::ReleaseTwice(false),
     Row::Revoke(0, Ok(0)),
     Row::Release(true),
-    Row::Entries(Side::A, 5),
+    Row::ReleaseTwice(true),
+    Row::Entries(Side::A, 6),
     Row::FilledByChannel(2),
     Row::NotFilledBySeed,
 ];

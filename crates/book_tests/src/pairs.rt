@@ -113,6 +113,13 @@ impl Pair {
         self.a.release(2, 0, batch).err()
     }
 
+    // The same, where the transaction is to be handed out twice.
+    pub(crate) fn release_twice(&mut self, rt: &impl Abort) -> Option<ReleaseError> {
+        let claims = first_claims(rt, self.alloc, self.came.secret);
+        let batch = batch_of(rt, self.alloc, claims);
+        self.a.release_twice(2, 0, batch).err()
+    }
+
     // The number of these claims that a signer fills outside of a book.
     fn fill_by(&self, rt: &impl Abort, signer: &Signer) -> Result<usize, FillError> {
         let claims = first_claims(rt, self.alloc, self.came.secret);

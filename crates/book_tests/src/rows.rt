@@ -48,6 +48,8 @@ pub(crate) enum Row {
     KeepSet(u64, u64, [u64; 2], u64, Option<KeepError>),
     /// A releases the claims on B's commitment 0, or has no right to a key.
     Release(bool),
+    /// The same, and the transaction is handed out twice.
+    ReleaseTwice(bool),
     /// The channel's signer fills this number of claims.
     FilledByChannel(usize),
     /// A signer that knows only the seed has no right to a key.
@@ -166,6 +168,7 @@ fn is_answered(rt: &impl Abort, alloc: Global, pair: &mut Pair, row: &Row) -> bo
             pair.keep_set(rt, channel, number, balances, of) == wanted
         }
         Row::Release(wanted) => is_released(pair.release(rt), wanted),
+        Row::ReleaseTwice(wanted) => is_released(pair.release_twice(rt), wanted),
         _ => is_shown(rt, alloc, pair, row),
     }
 }

@@ -27,11 +27,7 @@ const REFUSALS: [Option<ChainError>; 5] = [
 ];
 
 // Why those come back that the block does not take.
-const RETURNED: [ChainError; 3] = [
-    ChainError::Unknown,
-    ChainError::Spent,
-    ChainError::NotFinal,
-];
+const RETURNED: [ChainError; 3] = [ChainError::Unknown, ChainError::Spent, ChainError::NotFinal];
 
 // Whether a transaction is on a chain, by its id.
 fn stands(rt: &impl Abort, cast: &Cast, chain: &Index, place: usize) -> bool {

@@ -2,10 +2,13 @@
 use Rattle.std.proofs.Common.{◌≡◌, ℕ, zero, suc, Bool, true, false, List, [], ◌∷◌, length, Option, Some, None, Ok, Err, refl, sym, ap, subst, ◌∙◌, inl, inr}
 use Rattle.std.proofs.lemmas.List.{reverse-append}
 use Rattle.std.proofs.lemmas.Option.{same_Some}
-use Rattle.std.specs.Prelude.{is_some}
+use Rattle.std.specs.Prelude.{Result, MatchResult, is_some}
 use Rattle.std.specs.List.{cons_option}
 use Rattle.channel.specs.declared.messages.Message.{Message}
 use Rattle.channel.specs.Tokens.{peer_tokens}
+use Rattle.book.specs.declared.calls.Batch.{Batch}
+use Rattle.book.specs.declared.releasing.FilledTwice.{FilledTwice}
+use Rattle.book.specs.declared.errors.ReleaseError.{ReleaseError}
 use Rattle.book.specs.declared.calls.Call.{Call}
 use Rattle.book.specs.declared.calls.Call.TheVariants as calls
 use Rattle.book.specs.declared.calls.Entry.{Entry}
@@ -165,3 +168,11 @@ is_node n history call no_memory reply is called none whole = record {
   jobs = is.jobs;
   taken = is.taken;
 }
+
+-- the same for a release
+pub is_node_released : (n : Node) (history : List Entry) (channel : ℕ) (batch : Batch) (result : Result FilledTwice ReleaseError) → IsNode n
+    → MatchResult result (λ r. IsCall (no_memory_of (calls.Release channel batch)) (released (Ok r.filled)) n.history history SEAT (calls.Release channel batch))
+    (λ e. IsCall (no_memory_of (calls.Release channel batch)) (released (Err e)) n.history history SEAT (calls.Release channel batch))
+    → AreWhole history → IsNode (record n { history = history })
+is_node_released n history channel batch (Ok r) is called whole = is_node n history (calls.Release channel batch) _ _ is called (λ chs. refl) whole
+is_node_released n history channel batch (Err e) is called whole = is_node n history (calls.Release channel batch) _ _ is called (λ chs. refl) whole

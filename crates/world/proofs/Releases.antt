@@ -1,5 +1,5 @@
 -- Why claims are not released together, and the batch that releases them.
-use Rattle.std.proofs.Common.{◌≡◌, ℕ, ◌≤◌, Bool, true, false, List, [], ◌∷◌, map, take, length, Option, Some, None, Result, Ok, Err, refl, sym, ap, subst, ◌∙◌, inl, inr, arith}
+use Rattle.std.proofs.Common.{◌≡◌, ℕ, ◌≤◌, Bool, true, false, List, [], ◌∷◌, map, take, length, Option, Some, None, Ok, Err, refl, sym, ap, subst, ◌∙◌, arith}
 use Rattle.std.specs.Prelude.{slice_get, option_map, nat_lt, not}
 use Rattle.std.proofs.lemmas.Bool.Decides.{nat_tests}
 use Rattle.std.proofs.lemmas.Option.{none-some, same_Some}
@@ -8,24 +8,22 @@ use Rattle.tx.specs.Fields.{Transaction}
 use Rattle.tx.specs.Limits.{max_value}
 use Rattle.claim.specs.Claims.{ClaimParts}
 use Rattle.filling.specs.declared.errors.FillError.{FillError}
-use Rattle.filling.specs.declared.errors.FillError.TheVariants as fills
 use Rattle.filling.specs.Filling.{filling_of}
 use Rattle.filling.specs.Filled.{Filling}
 use Rattle.channel.specs.States.{State}
 use Rattle.channel.specs.Rights.{rights_of}
 use Rattle.book.specs.declared.calls.Batch.{Batch}
 use Rattle.book.specs.declared.calls.Call.TheVariants.{Release}
-use Rattle.book.specs.declared.calls.Entry.{Entry}
 use Rattle.book.specs.declared.calling.Reply.{Reply as Answer}
 use Rattle.book.specs.declared.calling.Reply.TheVariants as answers
 use Rattle.book.specs.declared.errors.ReleaseError.{ReleaseError}
 use Rattle.book.specs.declared.errors.ReleaseError.TheVariants.{NoSuchChannel, Unfilled}
 use Rattle.book.specs.Calls.{IsBatchOf}
-use Rattle.book.specs.Calling.{IsCall, IsFillRefusal, filling_by}
+use Rattle.book.specs.Calling.{IsCall, filling_by}
 use Rattle.book.specs.Dispatch.{no_memory_of, reply_form}
 use Rattle.book.specs.Signers.{fill_refusal}
 use Rattle.book.specs.Books.{ChannelBook}
-use Rattle.book.specs.Replies.{Reply, released, asked, unless, fill_answer, if_so}
+use Rattle.book.specs.Replies.{released, asked, unless, fill_answer, if_so}
 use Rattle.world.specs.declared.errors.EventError.{EventError}
 use Rattle.world.specs.declared.errors.EventError.TheVariants as errors
 use Rattle.side.specs.declared.due.DueClaim.{DueClaim}
@@ -137,32 +135,6 @@ is_ready jobs n j s batch found all little there is =
       left = by_book jobs n j found all little ∙ same_answer (channel_of n j.channel) t.ch (λ x. output_for x jobs ∷ []) (claims_in jobs) (preimages_for jobs) batch t.there batch_is;
     }
 
--- ---- the filling
-
--- the refusal of the filling is that of the release
-answer_refused : (o : Option ChannelBook) (ch : ChannelBook) (b : Batch) (e : FillError) → o ≡ Some ch → fill_refusal b.claims b.outputs (rights_of ch.state) b.preimages ≡ Some e
-    → refusal_in (released (asked NoSuchChannel o (λ c. fill_answer c.state b.claims b.outputs b.preimages))) ≡ Some (by_release (Unfilled e))
-answer_refused o ch b e there is =
-    ap (λ p. refusal_in (released (asked NoSuchChannel p (λ c. fill_answer c.state b.claims b.outputs b.preimages)))) there ∙ ap (λ r. refusal_in (released (unless Unfilled r (filling_by b)))) is
-
-pub refused_by : (jobs : List DueClaim) (n : Node) (channel : ℕ) (batch : Batch) (s : State) (e : FillError) (x : EventError) → IsReady jobs n channel batch → Some s ≡ option_map (λ ch. ch.state) (channel_of n channel)
-    → IsFillRefusal (fill_refusal batch.claims batch.outputs (rights_of s) batch.preimages) e → x ≡ by_release (Unfilled e) → IsRefusal (refusal_of jobs n) x
-refused_by jobs n channel batch s e x ready there is by = subst (λ (y : EventError). IsRefusal (refusal_of jobs n) y) (sym by) (of_fill e is)
-  where
-    t : IsThere (channel_of n channel) s
-    t = is_there (channel_of n channel) s there
-
-    first : (e : FillError) → fill_refusal batch.claims batch.outputs (rights_of s) batch.preimages ≡ Some e → refusal_of jobs n ≡ Some (by_release (Unfilled e))
-    first e is = ready.left ∙ answer_refused (channel_of n channel) t.ch batch e t.there (ap (λ (y : State). fill_refusal batch.claims batch.outputs (rights_of y) batch.preimages) t.state ∙ is)
-
-    of_fill : (e : FillError) → IsFillRefusal (fill_refusal batch.claims batch.outputs (rights_of s) batch.preimages) e → IsRefusal (refusal_of jobs n) (by_release (Unfilled e))
-    of_fill fills.NoMemory is = tt
-    of_fill fills.NoRight is = first fills.NoRight is
-    of_fill fills.NoPreimage is = first fills.NoPreimage is
-    of_fill fills.OutputsExceed is = first fills.OutputsExceed is
-    of_fill fills.MixedShells is = first fills.MixedShells is
-    of_fill fills.SameOutpoint is = first fills.SameOutpoint is
-
 -- ---- what is left
 
 unrefused : (k : ℕ) (n : Node) (channel : ℕ) (batch : Batch) → is_no_count k (length n.taken) ≡ false → IsReady (take k n.taken) n channel batch
@@ -186,38 +158,16 @@ pub record IsWhole (k : ℕ) (n new : Node) (t copy : Transaction) : Type 0 wher
   pub done : IsReleased k n new t
   pub same : copy ≡ t
 
-pub whole : (k : ℕ) (n mid new : Node) (channel : ℕ) (batch : Batch) (f : Filling) (t copy : Transaction) → copy ≡ (filling_by batch).tx → is_no_count k (length n.taken) ≡ false → IsReady (take k n.taken) n channel batch
+pub whole : (k : ℕ) (n mid new : Node) (channel : ℕ) (batch : Batch) (f : Filling) (t copy : Transaction) → copy ≡ f.tx → is_no_count k (length n.taken) ≡ false → IsReady (take k n.taken) n channel batch
     → refusal_in (answer_to n (Release channel batch)) ≡ None → mid ≡ after_call (Release channel batch) n → answer_to n (Release channel batch) ≡ released (Ok f) → t ≡ f.tx → new ≡ without_taken k mid
     → IsWhole k n new t copy
 whole k n mid new channel batch f t copy made counted ready none after answer tx without = record {
   first = unrefused k n channel batch counted ready ∙ none;
   done = record { channel = channel; batch = batch; filling = f; ready = ready; answer = answer; tx = tx; after = without ∙ ap (without_taken k) after };
-  same = made ∙ sym (same_filling (channel_of n channel) batch f answer) ∙ sym tx;
+  same = made ∙ sym tx;
 }
 
 -- ---- the book's reply
-
-abbrev is_release : Reply → Bool
-is_release (released r) = true
-is_release reply = false
-
--- the reply to a release is one for a release
-pub always_released : (old new : List Entry) (channel : ℕ) (batch : Batch) (answer : Answer) → IsCall (no_memory_of (Release channel batch)) (reply_form answer) old new SEAT (Release channel batch)
-    → ((r : Result Filling ReleaseError) → answer ≡ answers.Released r → ⊥) → ⊥
-always_released old new channel batch answer is other = by answer (told is) other
-  where
-    told : IsCall (no_memory_of (Release channel batch)) (reply_form answer) old new SEAT (Release channel batch) → is_release (reply_form answer) ≡ true
-    told (inl (reply, same)) = ap is_release reply
-    told (inr (reply, after)) = ap is_release reply
-
-    by : (a : Answer) → is_release (reply_form a) ≡ true → ((r : Result Filling ReleaseError) → a ≡ answers.Released r → ⊥) → ⊥
-    by (answers.Opened r) e other = absurd cc
-    by (answers.Stepped (Ok m)) e other = absurd cc
-    by (answers.Stepped (Err x)) e other = absurd cc
-    by (answers.Signed r) e other = absurd cc
-    by (answers.Revoked r) e other = absurd cc
-    by (answers.Kept r) e other = absurd cc
-    by (answers.Released r) e other = absurd (other r refl)
 
 pub record IsFilled (n new : Node) (channel : ℕ) (batch : Batch) (f : Filling) : Type 0 where
   pub none : refusal_in (answer_to n (Release channel batch)) ≡ None

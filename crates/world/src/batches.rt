@@ -1,43 +1,24 @@
 //! The batch by which a side releases claims.
 
-ghost use Rattle.std.specs.Prelude.{◌≡◌, ◌≤◌, false, take, map, length, None, IfOk, IfErr, MatchResult};
+ghost use Rattle.std.specs.Prelude.{◌≡◌, ◌≤◌, false, take, map, length, IfOk, IfErr, MatchResult};
 ghost use Rattle.tx.specs.Limits.{max_inputs};
-ghost use Rattle.channel.specs.Rights.{rights_of};
-ghost use Rattle.book.specs.Calling.{IsFillRefusal, filling_by};
-ghost use Rattle.book.specs.Signers.{fill_refusal};
 ghost use Rattle.world.specs.Refusing.{IsRefusal};
 ghost use Rattle.world.specs.Releasing.{is_no_count, refusal_of, release_refusal, IsReady};
 
 use crate::errors::EventError;
 use crate::nodes::Node;
 use crate::releasing::oldest_of;
-use book::errors::ReleaseError;
-use book::{Batch, filled};
-use channel::Channel;
-use filling::FillError;
+use book::Batch;
 use keys::Base;
 use side::{DueClaim, batch_of, worth_of};
 use std::alloc::Global;
-use tx::{MAX_INPUTS, Tx};
+use tx::MAX_INPUTS;
 
-/// The call of a book that releases claims, and the transaction that it will return.
+/// The call of a book that releases claims.
 #[derive(Drop)]
 pub(crate) struct Release {
     pub(crate) channel: u64,
     pub(crate) batch: Batch,
-    pub(crate) tx: Tx,
-}
-
-// The transaction of a batch, filled by the channel's signer; or the refusal of `fill`.
-fn filling_of(alloc: Global, channel: &Channel, batch: &Batch) -> Result<Tx, FillError>
-    ensures { let b = batch.now in
-        let first = fill_refusal b.claims b.outputs (rights_of channel.now) b.preimages in
-        MatchResult result (λ t. (first ≡ None) × (t ≡ (filling_by b).tx)) (IsFillRefusal first) }
-{
-    match filled(alloc, batch, channel.signer()) {
-        Ok(filling) => Ok(filling.into_tx()),
-        Err(refusal) => Err(refusal),
-    }
 }
 
 // Whether this is not a possible number of claims to release: none, more than 4,000, or more than were taken.
@@ -48,12 +29,12 @@ fn is_no_count(count: u64, taken: usize) -> bool
 }
 
 // The call that releases claims of a side. Refused, in this order, with `NoJob` where there is none, `MixedChannels`
-// and `OverValue`, else as a book refuses to release.
+// and `OverValue`; the book may still refuse it.
 fn release_by(alloc: Global, me: &Node, jobs: &[&DueClaim]) -> Result<Release, EventError>
     requires { length jobs.now ≤ max_inputs }
     ensures { let all = map (λ j. j.now) jobs.now in
         MatchResult result
-        (λ r. IsReady all me.now r.channel r.batch × (r.tx ≡ (filling_by r.batch).tx))
+        (λ r. IsReady all me.now r.channel r.batch)
         (IsRefusal (refusal_of all me.now)) }
 {
     let Some(first) = jobs.first() else {
@@ -69,17 +50,13 @@ fn release_by(alloc: Global, me: &Node, jobs: &[&DueClaim]) -> Result<Release, E
     };
     let payment = state.signer().base(Base::Payment);
     let batch = batch_of(alloc, &payment, jobs, value)?;
-    match filling_of(alloc, state, &batch) {
-        Ok(tx) => Ok(Release { channel, batch, tx }),
-        Err(refusal) => Err(EventError::of_release(ReleaseError::Unfilled(refusal))),
-    }
+    Ok(Release { channel, batch })
 }
 
 /// The call that releases the `count` oldest claims that a side took. Refused, in this order, with `NoJob`,
-/// `MixedChannels` and `OverValue`, else as a book refuses to release.
+/// `MixedChannels` and `OverValue`; the book may still refuse it.
 pub(crate) fn release_of(alloc: Global, me: &Node, count: u64) -> Result<Release, EventError>
     ensures ready { IfOk result (λ r. IsReady (take count me.now.taken) me.now r.channel r.batch) }
-    ensures filled { IfOk result (λ r. r.tx ≡ (filling_by r.batch).tx) }
     ensures counted { IfOk result (λ _. is_no_count count (length me.now.taken) ≡ false) }
     ensures err { IfErr result (IsRefusal (release_refusal count me.now)) }
 {

@@ -2,8 +2,8 @@
 
 use crate::errors::EventError;
 use crate::limits::SEAT;
-use book::errors::OpenError;
-use book::{Book, Call, Opening, Reply};
+use book::errors::{OpenError, ReleaseError};
+use book::{Batch, Book, Call, FilledTwice, Opening, Reply};
 use channel::Message;
 use side::{DueClaim, message_of};
 use std::alloc::Global;
@@ -54,9 +54,11 @@ impl Model for Node {
 }
 
 impl Node {
-    ghost use Rattle.std.specs.Prelude.{◌≡◌, true, []};
+    ghost use Rattle.std.specs.Prelude.{◌≡◌, true, [], Ok, Err, IfOk, MatchResult};
+    ghost use Rattle.book.specs.declared.calls.Call.TheVariants.{Release as Releasing};
     ghost use Rattle.book.specs.Calling.{IsCall};
     ghost use Rattle.book.specs.Dispatch.{no_memory_of, reply_form};
+    ghost use Rattle.book.specs.Replies.{released};
     ghost use Rattle.world.specs.Worlds.{IsNode, opens_none};
     ghost use Rattle.world.specs.Beginning.{IsOpened};
     ghost use Rattle.world.specs.Refusing.{IsAnswered};
@@ -129,6 +131,27 @@ impl Node {
         // By this call the proof knows that the claims in the history were accepted.
         let _ = self.book.entries();
         reply
+    }
+
+    /// Fills the claims of a batch by the side's book, and hands out the transaction twice. A refusal leaves the side as it was.
+    pub(crate) fn release(
+        &mut self,
+        channel: u64,
+        batch: Batch,
+    ) -> Result<FilledTwice, ReleaseError>
+        ensures book { let call = Releasing channel batch in
+            MatchResult result
+            (λ r. IsCall (no_memory_of call)
+            (released (Ok r.filled)) self.old.history self.new.history SEAT call)
+            (λ e. IsCall (no_memory_of call)
+            (released (Err e)) self.old.history self.new.history SEAT call) }
+        ensures copy { IfOk result (λ r. r.copy ≡ r.filled.tx) }
+        ensures rest { self.new ≡ record self.old { history = self.new.history } }
+    {
+        let filled = self.book.release_twice(SEAT, channel, batch);
+        // By this call the proof knows that the claims in the history were accepted.
+        let _ = self.book.entries();
+        filled
     }
 
     /// Makes a call of the side's book that opens no channel, and returns the message

@@ -11,8 +11,7 @@ ghost use Rattle.world.specs.Releasing.{take_refusal, with_taken, release_refusa
 use crate::batches::release_of;
 use crate::errors::EventError;
 use crate::nodes::Node;
-use book::{Batch, Call, Reply};
-use filling::Filled;
+use book::{Batch, FilledTwice};
 use side::DueClaim;
 use std::alloc::{AllocError, Global};
 use std::collections::VecDeque;
@@ -86,18 +85,16 @@ fn drop_taken(me: &mut Node, count: u64)
 }
 
 // Fills the claims of a batch by the side's book, refused as the book refuses. A refusal leaves the side as it was.
-fn filled_by(me: &mut Node, channel: u64, batch: Batch) -> Result<Filled, EventError>
+fn filled_by(me: &mut Node, channel: u64, batch: Batch) -> Result<FilledTwice, EventError>
     ensures side { let call = Releasing channel batch in
         IsEvent (refusal_in (answer_to me.old call)) result me.old (after_call call me.old) me.new }
     ensures filled { let call = Releasing channel batch in
-        IfOk result (λ f. answer_to me.old call ≡ released (Ok f)) }
+        IfOk result (λ f. answer_to me.old call ≡ released (Ok f.filled)) }
+    ensures copy { IfOk result (λ f. f.copy ≡ f.filled.tx) }
 {
-    match me.call(Call::Release { channel, batch }) {
-        Reply::Released(answer) => match answer {
-            Ok(filled) => Ok(filled),
-            Err(error) => Err(EventError::of_release(error)),
-        },
-        _ => unreachable!(),
+    match me.release(channel, batch) {
+        Ok(filled) => Ok(filled),
+        Err(error) => Err(EventError::of_release(error)),
     }
 }
 
@@ -117,10 +114,11 @@ pub(crate) fn release(alloc: Global, me: &mut Node, count: u64) -> Result<Releas
         (λ e. IsRefusal first e × (me.new ≡ me.old)) }
 {
     let release = release_of(alloc, me, count)?;
-    let filled = filled_by(me, release.channel, release.batch)?;
+    let twice = filled_by(me, release.channel, release.batch)?;
     drop_taken(me, count);
+    let FilledTwice { filled, copy } = twice;
     Ok(Released {
         tx: filled.into_tx(),
-        copy: release.tx,
+        copy,
     })
 }
