@@ -1,13 +1,14 @@
 #!/usr/bin/env python3
-"""Times how a side reads blocks after a revoked commitment closed a channel, in processor seconds, without the scenario up to there.
+"""Times how a side reads blocks after a revoked commitment closed a channel, in processor seconds, without the scenario up to there. Then how a reader of 1,000 open channels reads a block of 3,000
+transactions, beside a reader of one.
 
-  bench/looks.py            proves and builds what it runs; wants the toolchain's `rt`
-  bench/looks.py PROGRAM    times this build of crates/enforce
+  bench/looks.py                    proves and builds what it runs; wants the toolchain's `rt`
+  bench/looks.py PROGRAM READER     times these builds of crates/enforce and of bench/programs/reader_costs
 """
 
 import hashlib
 import json
-import os
+import subprocess
 import sys
 
 from bounds import bounded
@@ -50,8 +51,14 @@ def cost(program, htlcs, *blocks):
     return looked - passed
 
 
+def read(program, channels):
+    """The nanoseconds of a block of 3,000 transactions for a reader of so many open channels."""
+    done = subprocess.run([program], input=f"channels {channels}\n", capture_output=True, text=True, check=True)
+    return int(done.stdout.split()[-1])
+
+
 def main(words):
-    program = words[0] if words else built("enforce")
+    program, reader = words or (built("enforce"), built("reader_costs"))
     one = cost(program, HTLCS, 1)
     print(f"one look, {HTLCS} HTLCs, 1 block: {one * 1e3:.2f} ms")
     for blocks, most in ((10, 1.5), (100, 1.5), (1000, 1.5), (10_000, 3)):
@@ -62,6 +69,9 @@ def main(words):
     parts = cost(program, HTLCS, *10 * [100])
     print(f"ten looks of 100 blocks: {parts * 1e3:.2f} ms")
     bounded("ten looks of 100 blocks to one of 1,000", parts / whole, 2)
+    alone, many = read(reader, 1), read(reader, 1000)
+    print(f"a block of 3,000 transactions, 1 open channel: {alone / 1e6:.2f} ms, 1,000: {many / 1e6:.2f} ms")
+    bounded("a block of 3,000 transactions for 1,000 open channels to one", many / alone, 3)
 
 
 if __name__ == "__main__":
