@@ -1,14 +1,33 @@
 -- What is broadcast is of the channel in the history.
-use Rattle.std.proofs.Common.{Option, Some, None}
+use Rattle.std.proofs.Common.{◌≡◌, Option, Some, None, Result}
+use Rattle.std.specs.declared.alloc.AllocError.{AllocError}
+use Rattle.std.specs.Prelude.{IfOk}
+use Rattle.std.proofs.lemmas.Result.{IfOk-weaker}
 use Rattle.tx.specs.Fields.{Transaction}
 use Rattle.resolve.specs.declared.known.Known.{Known}
 use Rattle.book.specs.Books.{ChannelBook}
-use Rattle.book.specs.Knowing.{IsKnownIn}
+use Rattle.book.specs.Knowing.{IsKnownIn, IsKnowRefusal}
+use Rattle.book.specs.declared.errors.KnowError.{KnowError}
+use Rattle.book.specs.declared.errors.KnowError.TheVariants.{NoMemory, NoSuchChannel}
 use Rattle.desk.specs.Histories.{History}
 use Rattle.running.specs.declared.players.Broadcast.{Broadcast}
 use Rattle.running.specs.Broadcasts.{IsSignedBy, IsBroadcastOf}
 
-pub broadcast_of : (history : History) (b : Broadcast) (there : Option ChannelBook) (known : Known) (answer : Option Transaction) → IsKnownIn history b.channel there known
+broadcast_of : (history : History) (b : Broadcast) (there : Option ChannelBook) (known : Known) (answer : Option Transaction) → IsKnownIn history b.channel there known
     → IsSignedBy known b.number b.htlc answer → IsBroadcastOf history b there answer
 broadcast_of history b None known answer is signed = absurd is
 broadcast_of history b (Some ch) known answer is signed = (known, is, signed)
+
+-- nothing is broadcast in a channel that is not there
+pub no_broadcast : (history : History) (b : Broadcast) (there : Option ChannelBook) (e : KnowError) (r : Result (Option Transaction) AllocError) → IsKnowRefusal there e
+    → IfOk r (λ tx. (tx ≡ None) × (e ≡ NoSuchChannel)) → IfOk r (IsBroadcastOf history b there)
+no_broadcast history b None e r is none = IfOk-weaker r (λ tx. (tx ≡ None) × (e ≡ NoSuchChannel)) (IsBroadcastOf history b None) (λ tx it. it.0) none
+no_broadcast history b (Some ch) NoMemory r is none =
+    IfOk-weaker r (λ tx. (tx ≡ None) × (NoMemory ≡ NoSuchChannel)) (IsBroadcastOf history b (Some ch)) (λ tx it. let wrong : NoMemory ≡ NoSuchChannel = it.1 in absurd cc) none
+no_broadcast history b (Some ch) NoSuchChannel r is none = absurd cc
+
+-- what is broadcast by what is known
+pub broadcast_known : (history : History) (b : Broadcast) (there : Option ChannelBook) (known : Known) (r : Result (Option Transaction) AllocError) → IsKnownIn history b.channel there known
+    → IfOk r (IsSignedBy known b.number b.htlc) → IfOk r (IsBroadcastOf history b there)
+broadcast_known history b there known r is signed =
+    IfOk-weaker r (IsSignedBy known b.number b.htlc) (IsBroadcastOf history b there) (λ answer it. broadcast_of history b there known answer is it) signed

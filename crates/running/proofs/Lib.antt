@@ -2,7 +2,7 @@ pub mod Openings
 pub mod Reported
 pub mod Lengths
 pub mod Same
-pub mod Counting
+pub mod Playing
 pub mod Queues
 pub mod Replying
 pub mod Asking

@@ -114,7 +114,11 @@ IsTurnOf sides.B act before after done = HasTurned before.channel act before.b a
 abbrev pub IsTurn : Turn → Line → Line → Bool → Type 0
 IsTurn turn before after done = IsTurnOf turn.side turn.act before after done
 
+-- nothing was counted
+abbrev pub no_counts : Counts
+no_counts = record { played = 0; refused = 0 }
+
 -- an event's turn was played, or refused; nothing was done if it is none of the channel's
 abbrev pub Plays : Option Turn → Line → Line → Counts → Type 0
-Plays None before after counts = (after ≡ before) × (counts ≡ record { played = 0; refused = 0 })
+Plays None before after counts = (after ≡ before) × (counts ≡ no_counts)
 Plays (Some turn) before after counts = (done : Bool) × IsTurn turn before after done × (counts ≡ (if done then record { played = 1; refused = 0 } else record { played = 0; refused = 1 }))

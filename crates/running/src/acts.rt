@@ -26,7 +26,7 @@ use std::sync::Wait;
 use updates::OwnUpdate;
 
 /// What a side does in a channel.
-#[derive(Clone, Copy, Debug, Drop, PartialEq, Eq)]
+#[derive(Drop)]
 pub(crate) enum Act {
     /// It makes an update.
     Update(OwnUpdate),
@@ -59,15 +59,16 @@ fn settle(reply: Reply, inbox: &mut VecDeque<Message>) -> Result<bool, AllocErro
     match message_of(reply) {
         Ok(Some(message)) => match inbox.push_back(message) {
             Ok(()) => Ok(true),
-            Err(_) => Err(AllocError),
+            Err(back) => {
+                drop(back);
+                Err(AllocError)
+            }
         },
         Ok(None) => Ok(true),
         Err(refused) => {
-            if wants_memory(&refused) {
-                Err(AllocError)
-            } else {
-                Ok(false)
-            }
+            let wants = wants_memory(&refused);
+            drop(refused);
+            if wants { Err(AllocError) } else { Ok(false) }
         }
     }
 }
@@ -124,7 +125,10 @@ fn signed<R: Wait>(rt: &R, office: &Office, seat: &mut Seat, channel: u64) -> Re
             return reply;
         }
         match office.progress.more_than(rt, done) {
-            Some(more) => done = more,
+            Some(more) => {
+                drop(reply);
+                done = more;
+            }
             None => return reply,
         }
     }
@@ -146,24 +150,6 @@ fn sign<R: Wait>(
 {
     let reply = signed(rt, office, seat, channel);
     settle(reply, inbox)
-}
-
-// The call by which a side takes its oldest message, if there is one. The only error is that memory ran out.
-fn oldest(
-    alloc: Global,
-    channel: u64,
-    inbox: &VecDeque<Message>,
-) -> Result<Option<Call>, AllocError>
-    ensures { IfOk result (λ call. call
-        ≡ option_map (call_of channel) (slice_get inbox.now.items 0)) }
-{
-    match inbox.front() {
-        Some(message) => match call_of(alloc, channel, message) {
-            Ok(call) => Ok(Some(call)),
-            Err(error) => Err(error),
-        },
-        None => Ok(None),
-    }
 }
 
 // Puts the job to keep the penalties of the peer's commitment that was revoked, if there is one.
@@ -204,7 +190,7 @@ fn take<R: Wait>(
     let revoked = revoked_by(&reply);
     match settle(reply, inbox) {
         Ok(true) => {
-            let _taken = me.inbox.pop_front();
+            drop(me.inbox.pop_front());
             put_keep(rt, office, &me.sender, &mut me.pass, channel, revoked);
             Ok(true)
         }
@@ -227,10 +213,12 @@ fn deliver<R: Wait>(
     ensures delivered { IfOk result (IsDelivered channel (slice_get me.old.inbox.items 0) me.old
         me.new inbox.old.items inbox.new.items) }
 {
-    match oldest(alloc, channel, &me.inbox) {
-        Ok(Some(call)) => take(rt, office, me, inbox, channel, call),
-        Ok(None) => Ok(false),
-        Err(error) => Err(error),
+    match me.inbox.front() {
+        Some(message) => match call_of(alloc, channel, message) {
+            Ok(call) => take(rt, office, me, inbox, channel, call),
+            Err(error) => Err(error),
+        },
+        None => Ok(false),
     }
 }
 

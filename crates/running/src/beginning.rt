@@ -16,6 +16,7 @@ use keys::{Base, Key};
 use scenario::Scenario;
 use std::alloc::{AllocError, Global};
 use std::sync::{Mutex, Wait};
+use tx::OutPoint;
 use world::errors::WorldError;
 use world::{BooksAndChain, World};
 
@@ -55,6 +56,26 @@ fn payments_of(alloc: Global, book: &Book) -> Result<Vec<Key>, AllocError>
     Ok(payments)
 }
 
+/// What is read from a side's book before its desk has it.
+#[derive(Drop)]
+struct Told {
+    /// The funding output of each channel.
+    fundings: Vec<OutPoint>,
+    /// The side's payment key in each channel.
+    payments: Vec<Key>,
+}
+
+// What the threads of a side know of its channels. The only error is that memory ran out.
+fn told_by(alloc: Global, book: &Book) -> Result<Told, AllocError>
+    ensures fundings { IfOk result (λ t. t.fundings.items ≡ fundings_of (replay book.now)) }
+    ensures payments { IfOk result (λ t. map (λ k. k.bytes) t.payments.items
+        ≡ payments_in (replay book.now)) }
+{
+    let fundings = book.fundings(alloc)?;
+    let payments = payments_of(alloc, book)?;
+    Ok(Told { fundings, payments })
+}
+
 // A desk over a book, with this number of seats. The only error is that memory ran out.
 fn desk_over<R: Wait>(
     rt: &R,
@@ -78,25 +99,24 @@ fn desk_over<R: Wait>(
     }
 }
 
-/// A side with this number of seats at its desk. The only error is that memory ran out.
-pub(crate) fn open_side<R: Wait>(
+// A side whose book told this. The only error is that memory ran out.
+fn open_with<R: Wait>(
     rt: &R,
     alloc: Global,
     book: Book,
+    told: Told,
     seats: u16,
     workers: u16,
 ) -> Result<Opened, AllocError>
     requires some { 0 < seats }
     requires numbers { first_seat book ≤ 1 }
     ensures opened { IfOk result (IsOpened book seats) }
-    ensures fundings { IfOk result (λ o. o.office.fundings.items ≡ fundings_of (replay book)) }
-    ensures payments { IfOk result (λ o. map (λ k. k.bytes) o.office.payments.items
-        ≡ payments_in (replay book)) }
+    ensures fundings { IfOk result (λ o. o.office.fundings.items ≡ told.fundings.items) }
+    ensures payments { IfOk result (λ o. o.office.payments.items ≡ told.payments.items) }
 {
-    let (sender, taker, pass) = job_queue(alloc)?;
-    let fundings = book.fundings(alloc)?;
-    let payments = payments_of(alloc, &book)?;
+    let Told { fundings, payments } = told;
     let (desk, mut seats) = desk_over(rt, alloc, book, seats)?;
+    let (sender, taker, pass) = job_queue(alloc)?;
     let Some(closer) = seats.pop() else {
         unreachable!()
     };
@@ -118,4 +138,28 @@ pub(crate) fn open_side<R: Wait>(
         closer,
         stock,
     })
+}
+
+/// A side with this number of seats at its desk. The only error is that memory ran out.
+pub(crate) fn open_side<R: Wait>(
+    rt: &R,
+    alloc: Global,
+    book: Book,
+    seats: u16,
+    workers: u16,
+) -> Result<Opened, AllocError>
+    requires some { 0 < seats }
+    requires numbers { first_seat book ≤ 1 }
+    ensures opened { IfOk result (IsOpened book seats) }
+    ensures fundings { IfOk result (λ o. o.office.fundings.items ≡ fundings_of (replay book)) }
+    ensures payments { IfOk result (λ o. map (λ k. k.bytes) o.office.payments.items
+        ≡ payments_in (replay book)) }
+{
+    match told_by(alloc, &book) {
+        Ok(told) => open_with(rt, alloc, book, told, seats, workers),
+        Err(error) => {
+            drop(book);
+            Err(error)
+        }
+    }
 }

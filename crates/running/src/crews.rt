@@ -1,10 +1,11 @@
 //! What all threads have of their own, made before the first of them starts.
 
-ghost use Rattle.std.specs.Prelude.{◌≡◌, ◌+◌, ◌*◌, ◌<◌, ◌≤◌, All, IfOk, OnOk, length, map};
+ghost use Rattle.std.specs.Prelude.{◌≡◌, ◌+◌, ◌*◌, ◌<◌, ◌≤◌, [], All, IfOk, OnOk, length, map};
 ghost use Rattle.std.specs.List.{range_with_len};
 ghost use Rattle.board.specs.Seats as board_seats;
 ghost use Rattle.desk.specs.Seats.{IsSeatOf};
 ghost use Rattle.running.specs.Crews.{IsStock, IsWorker, IsWatcher, IsMember, IsEnd, IsLine, IsPlayer, IsCrew};
+ghost use Rattle.running.specs.Playing.{IsFirst};
 
 use crate::ends::End;
 use crate::houses::{House, Office};
@@ -180,7 +181,7 @@ fn staff_of(
 #[tactic(auto, using(crate::proofs::Queues::puts_with))]
 fn end_of(alloc: Global, office: &Office, stock: &mut Stock) -> Result<End, AllocError>
     requires { IsStock office.now stock.old × (0 < length stock.old.seats.items) }
-    ensures end { IfOk result (IsEnd office.now) }
+    ensures end { IfOk result (λ e. IsEnd office.now e × (e.inbox.items ≡ [])) }
     ensures stock { IsStock office.now stock.new }
     ensures left { OnOk result (length stock.new.seats.items + 1
         ≡ length stock.old.seats.items) }
@@ -206,15 +207,20 @@ fn line_of(
 ) -> Result<Line, AllocError>
     requires a { IsStock house.now.a a.old × (0 < length a.old.seats.items) }
     requires b { IsStock house.now.b b.old × (0 < length b.old.seats.items) }
-    ensures line { IfOk result (λ l. IsLine house.now l × (l.channel ≡ channel)) }
+    ensures line { IfOk result (λ l. IsLine house.now l × (l.channel ≡ channel) × IsFirst l) }
     ensures a { IsStock house.now.a a.new }
     ensures b { IsStock house.now.b b.new }
     ensures a_left { OnOk result (length a.new.seats.items + 1 ≡ length a.old.seats.items) }
     ensures b_left { OnOk result (length b.new.seats.items + 1 ≡ length b.old.seats.items) }
 {
     let a = end_of(alloc, &house.a, a)?;
-    let b = end_of(alloc, &house.b, b)?;
-    Ok(Line { channel, a, b })
+    match end_of(alloc, &house.b, b) {
+        Ok(b) => Ok(Line { channel, a, b }),
+        Err(error) => {
+            drop(a);
+            Err(error)
+        }
+    }
 }
 
 // What the threads of `count` channels have of their own. The only error is that memory ran out.
@@ -228,6 +234,7 @@ fn lines_of(
     requires a { IsStock house.now.a a.old × (count ≤ length a.old.seats.items) }
     requires b { IsStock house.now.b b.old × (count ≤ length b.old.seats.items) }
     ensures lines { IfOk result (λ v. All (IsLine house.now) v.items) }
+    ensures first { IfOk result (λ v. All IsFirst v.items) }
     ensures channels { IfOk result (λ v. map (λ l. l.channel) v.items
         ≡ range_with_len 0 count) }
     ensures a { IsStock house.now.a a.new }
@@ -256,6 +263,39 @@ fn player_of(house: &House, a: &mut Stock, b: &mut Stock, place: board::Seat) ->
     }
 }
 
+// What the threads have of their own, from stocks that are lent.
+fn crew_from(
+    alloc: Global,
+    house: &House,
+    a: &mut Stock,
+    b: &mut Stock,
+    places: &mut Vec<board::Seat>,
+    channels: u16,
+    workers: u16,
+) -> Result<Crew, AllocError>
+    requires a { IsStock house.now.a a.old × (channels + workers + 2 ≤ length a.old.seats.items) }
+    requires b { IsStock house.now.b b.old × (channels + workers + 2 ≤ length b.old.seats.items) }
+    requires places { All (board_seats.IsSeatOf house.now.board) places.old.items
+        × (2 * workers + 3 ≤ length places.old.items) }
+    ensures crew { IfOk result (IsCrew house.now) }
+    ensures first { IfOk result (λ c. All IsFirst c.lines.items) }
+    ensures channels { IfOk result (λ c. map (λ l. l.channel) c.lines.items
+        ≡ range_with_len 0 channels) }
+{
+    let board = &house.board;
+    let staff_a = staff_of(alloc, &house.a, board, a, places, workers)?;
+    let staff_b = staff_of(alloc, &house.b, board, b, places, workers)?;
+    let lines = lines_of(alloc, house, a, b, channels)?;
+    let place = next_place(board, places);
+    let player = player_of(house, a, b, place);
+    Ok(Crew {
+        staff_a,
+        staff_b,
+        lines,
+        player,
+    })
+}
+
 /// What the threads have of their own: a watcher and `workers` workers a side, and a thread for each channel. The only error is that memory ran out.
 pub(crate) fn crew_of(
     alloc: Global,
@@ -271,22 +311,16 @@ pub(crate) fn crew_of(
     requires places { All (board_seats.IsSeatOf house.now.board) places.items
         × (2 * workers + 3 ≤ length places.items) }
     ensures crew { IfOk result (IsCrew house.now) }
+    ensures first { IfOk result (λ c. All IsFirst c.lines.items) }
     ensures channels { IfOk result (λ c. map (λ l. l.channel) c.lines.items
         ≡ range_with_len 0 channels) }
 {
     let mut a = a;
     let mut b = b;
     let mut places = places;
-    let board = &house.board;
-    let staff_a = staff_of(alloc, &house.a, board, &mut a, &mut places, workers)?;
-    let staff_b = staff_of(alloc, &house.b, board, &mut b, &mut places, workers)?;
-    let lines = lines_of(alloc, house, &mut a, &mut b, channels)?;
-    let place = next_place(board, &mut places);
-    let player = player_of(house, &mut a, &mut b, place);
-    Ok(Crew {
-        staff_a,
-        staff_b,
-        lines,
-        player,
-    })
+    let crew = crew_from(alloc, house, &mut a, &mut b, &mut places, channels, workers);
+    drop(a);
+    drop(b);
+    drop(places);
+    crew
 }

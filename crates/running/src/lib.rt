@@ -8,9 +8,9 @@
 //!
 //! The main contract is that of `run_node` (`IsReport` of `specs/Reports.antt`), for whatever the threads do in whatever
 //! order. Each book goes on from the one that was opened for its side. Each call in it was accepted, and no signature
-//! follows a revocation without the penalties kept between the two. Each claim in it is an accepted one. Each update,
-//! signature and delivery of a channel is counted once, as played or as refused. That a call returns, that threads
-//! run at once and that all jobs are done is not proved.
+//! follows a revocation without the penalties kept between the two. Each claim in it is an accepted one. A channel's
+//! updates, signatures and deliveries are played in order, each with the book's own reply, and counted once, as played
+//! or as refused. That a call returns, that threads run at once and that all jobs are done is not proved.
 //!
 //! Where memory is refused a worker tries its job again, and a thread that puts a job puts it again, without a bound. So
 //! `run_node` does not return while memory stays refused there. Elsewhere a thread gives up, and the answer is that

@@ -3,7 +3,8 @@
 ghost use Rattle.std.specs.Prelude.{◌≡◌, ◌+◌, ◌≤◌, IfOk};
 ghost use Rattle.running.specs.Crews.{IsLine};
 ghost use Rattle.running.specs.Acting.{IsTurn, Plays};
-ghost use Rattle.running.specs.Events.{turn_of, turn_in, turns_at, turns_in};
+ghost use Rattle.running.specs.Events.{turn_of, turn_in};
+ghost use Rattle.running.specs.Playing.{PlaysAll, IsPlayed};
 
 use crate::acts::{Act, act_for};
 use crate::counts::Counts;
@@ -24,7 +25,7 @@ pub(crate) struct Line {
 }
 
 /// What an event asks of the thread of a channel.
-#[derive(Clone, Copy, Debug, Drop, PartialEq, Eq)]
+#[derive(Drop)]
 pub(crate) struct Turn {
     pub(crate) side: Side,
     pub(crate) channel: u64,
@@ -117,8 +118,6 @@ fn play_event<R: Wait>(
     requires { IsLine house.now line.old }
     ensures line { IsLine house.now line.new }
     ensures channel { line.new.channel ≡ line.old.channel }
-    ensures counted { IfOk result (λ c. c.played + c.refused
-        ≡ turns_at line.old.channel event.now) }
     ensures few { IfOk result (λ c. c.played + c.refused ≤ 1) }
     ensures plays { IfOk result (Plays (turn_in line.old.channel event.now) line.old line.new) }
 {
@@ -141,8 +140,33 @@ fn play_event<R: Wait>(
     }
 }
 
-/// Plays the events of a channel, in their order. The only error is that memory ran out.
-#[tactic(auto, using(crate::proofs::Counting::next_turn, crate::proofs::Counting::past_turns))]
+// Plays the events of a channel, in their order. The only error is that memory ran out.
+fn play_all<R: Wait>(
+    rt: &R,
+    alloc: Global,
+    house: &House,
+    events: &[Event],
+    line: &mut Line,
+) -> Result<Counts, AllocError>
+    requires { IsLine house.now line.old }
+    ensures { IfOk result (PlaysAll events.now line.old line.new) }
+{
+    let mut counts = Counts {
+        played: 0,
+        refused: 0,
+    };
+    for index in 0..events.len() {
+        let more = play_event(rt, alloc, house, line, &events[index])?;
+        counts = Counts {
+            played: counts.played + more.played,
+            refused: counts.refused + more.refused,
+        };
+    }
+    Ok(counts)
+}
+
+/// The same from a line of its own, which it lets go at the end.
+#[tactic(auto, using(crate::proofs::Playing::played_on))]
 pub(crate) fn play_line<R: Wait>(
     rt: &R,
     alloc: Global,
@@ -151,19 +175,10 @@ pub(crate) fn play_line<R: Wait>(
     mine: Line,
 ) -> Result<Counts, AllocError>
     requires { IsLine house.now mine }
-    ensures { IfOk result (λ c. c.played + c.refused ≡ turns_in mine.channel events.now) }
+    ensures { IfOk result (IsPlayed events.now mine) }
 {
     let mut line = mine;
-    let mut counts = Counts {
-        played: 0,
-        refused: 0,
-    };
-    for index in 0..events.len() {
-        let more = play_event(rt, alloc, house, &mut line, &events[index])?;
-        counts = Counts {
-            played: counts.played + more.played,
-            refused: counts.refused + more.refused,
-        };
-    }
-    Ok(counts)
+    let counts = play_all(rt, alloc, house, events, &mut line);
+    drop(line);
+    counts
 }

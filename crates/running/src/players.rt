@@ -1,6 +1,7 @@
 //! The events of the chain: broadcasts, blocks and reorganisations.
 
-ghost use Rattle.std.specs.Prelude.{IfOk};
+ghost use Rattle.std.specs.Prelude.{◌≡◌, None, IfOk};
+ghost use Rattle.book.specs.declared.errors.KnowError.TheVariants.{NoSuchChannel};
 ghost use Rattle.board.specs.Seats as board_seats;
 ghost use Rattle.desk.specs.Seats.{IsSeatOf, HasSameCalls, number_in, calls_in, last_in};
 ghost use Rattle.desk.specs.Answers.{IsHistoryFor};
@@ -34,7 +35,7 @@ pub(crate) struct Player {
 }
 
 /// Which transaction a side broadcasts.
-#[derive(Clone, Copy, Debug, Drop, PartialEq, Eq)]
+#[derive(Drop)]
 struct Broadcast {
     channel: u64,
     /// The number of its commitment.
@@ -89,7 +90,18 @@ fn tx_by<R: Wait>(
     }
 }
 
+// What is broadcast where nothing is known of the channel.
+fn no_tx(error: KnowError) -> Result<Option<Tx>, AllocError>
+    ensures { IfOk result (λ tx. (tx ≡ None) × (error ≡ NoSuchChannel)) }
+{
+    match error {
+        KnowError::NoSuchChannel => Ok(None),
+        KnowError::NoMemory => Err(AllocError),
+    }
+}
+
 // The transaction to broadcast. `None` if the side does not have it; the only error is that memory ran out.
+#[tactic(auto, using(crate::proofs::Broadcasting::broadcast_known, crate::proofs::Broadcasting::no_broadcast))]
 fn tx_of<R: Wait>(
     rt: &R,
     alloc: Global,
@@ -104,9 +116,12 @@ fn tx_of<R: Wait>(
     ensures tx { IfOk result (IsBroadcast (last_in seat.new) broadcast.now) }
 {
     match office.desk.known(rt, seat, broadcast.channel) {
-        Ok(known) => tx_by(rt, alloc, office, &known, broadcast),
-        Err(KnowError::NoSuchChannel) => Ok(None),
-        Err(KnowError::NoMemory) => Err(AllocError),
+        Ok(known) => {
+            let tx = tx_by(rt, alloc, office, &known, broadcast);
+            drop(known);
+            tx
+        }
+        Err(error) => no_tx(error),
     }
 }
 

@@ -1,18 +1,19 @@
 //! A whole run of a node.
 
-ghost use Rattle.std.specs.Prelude.{◌≡◌, ◌+◌, ◌<◌, ◌≤◌, IfOk, All, length, map};
+ghost use Rattle.std.specs.Prelude.{◌≡◌, ◌+◌, ◌*◌, ◌<◌, ◌≤◌, IfOk, All, length, map};
 ghost use Rattle.std.specs.List.{AllByRecursion};
 ghost use Rattle.claim.specs.Claims.{IsWhole};
+ghost use Rattle.board.specs.Seats as board_seats;
 ghost use Rattle.desk.specs.Seats.{IsSeatOf, last_in};
 ghost use Rattle.running.specs.Beginning.{AreReady};
-ghost use Rattle.running.specs.Crews.{IsMember, IsLine, IsPlayer, IsCrew};
-ghost use Rattle.running.specs.Events.{turns_in, all_turns};
-ghost use Rattle.running.specs.Reports.{HasWholeClaims, IsLeft, IsReport, total_of};
+ghost use Rattle.running.specs.Crews.{IsStock, IsMember, IsLine, IsPlayer, IsCrew};
+ghost use Rattle.running.specs.Playing.{IsPlayed, ArePlayed, AreAllPlayed};
+ghost use Rattle.running.specs.Reports.{HasWholeClaims, IsLeft, IsReport};
 ghost use Rattle.book.specs.Accepted.{claims_by};
 
 use crate::beginning::{Opened, begin, open_side};
 use crate::counts::Counts;
-use crate::crews::{Crew, crew_of};
+use crate::crews::{Crew, Stock, crew_of};
 use crate::houses::{House, Office};
 use crate::lines::{Line, play_line};
 use crate::players::{Player, play_chain};
@@ -20,7 +21,7 @@ use crate::staff::{Member, beside};
 use crate::stages::Stage;
 use board::Board;
 use book::{Book, Call, Entry};
-use chain::{Coins, Index};
+use chain::Index;
 use claim::Claim;
 use desk::Seat;
 use node::Gate;
@@ -112,15 +113,14 @@ fn play_lines<R: Threads + Wait + Sync>(
     lines: Vec<Line>,
 ) -> Result<Vec<Counts>, AllocError>
     requires { All (IsLine house.now) lines.items }
-    ensures { IfOk result (λ v. map total_of v.items
-        ≡ map (λ l. turns_in l.channel events.now) lines.items) }
+    ensures { IfOk result (λ v. ArePlayed events.now lines.items v.items) }
 {
     let played = thread::map_vec(
         rt,
         lines,
         &|line: Line| -> Result<Counts, AllocError>
             requires { IsLine house.now line }
-            ensures { IfOk result (λ c. total_of c ≡ turns_in line.channel events.entry.now) }
+            ensures { IfOk result (IsPlayed events.entry.now line) }
         { play_line(rt, alloc, house, events, line) },
     )?;
     counts_in(alloc, played)
@@ -137,8 +137,7 @@ fn play_events<R: Threads + Wait + Sync>(
 ) -> Result<Vec<Counts>, AllocError>
     requires lines { All (IsLine house.now) lines.items }
     requires player { IsPlayer house.now player }
-    ensures { IfOk result (λ v. map total_of v.items
-        ≡ map (λ l. turns_in l.channel events.now) lines.items) }
+    ensures { IfOk result (λ v. ArePlayed events.now lines.items v.items) }
 {
     let mut player = player;
     let counts = play_lines(rt, alloc, house, events, lines)?;
@@ -160,8 +159,7 @@ fn play_beside_b<R: Threads + Wait + Sync, G: Gate + Sync>(
     requires staff { All (IsMember house.now.b house.now.board) staff.items }
     requires lines { All (IsLine house.now) lines.items }
     requires player { IsPlayer house.now player }
-    ensures { IfOk result (λ v. map total_of v.items
-        ≡ map (λ l. turns_in l.channel events.now) lines.items) }
+    ensures { IfOk result (λ v. ArePlayed events.now lines.items v.items) }
 {
     beside(
         rt,
@@ -172,8 +170,7 @@ fn play_beside_b<R: Threads + Wait + Sync, G: Gate + Sync>(
         staff,
         move || -> Result<Vec<Counts>, AllocError>
             requires { All (IsLine house.now) lines.items × IsPlayer house.now player }
-            ensures { IfOk result (λ v. map total_of v.items
-                ≡ map (λ l. turns_in l.channel events.entry.now) lines.items) }
+            ensures { IfOk result (λ v. ArePlayed events.entry.now lines.items v.items) }
         { play_events(rt, alloc, house, events, lines, player) },
     )?
 }
@@ -188,8 +185,7 @@ fn run_crew<R: Threads + Wait + Sync, G: Gate + Sync>(
     crew: Crew,
 ) -> Result<Vec<Counts>, AllocError>
     requires { IsCrew house.now crew }
-    ensures { IfOk result (λ v. map total_of v.items
-        ≡ map (λ l. turns_in l.channel events.now) crew.lines.items) }
+    ensures { IfOk result (λ v. ArePlayed events.now crew.lines.items v.items) }
 {
     let Crew {
         staff_a,
@@ -207,10 +203,33 @@ fn run_crew<R: Threads + Wait + Sync, G: Gate + Sync>(
         move || -> Result<Vec<Counts>, AllocError>
             requires { All (IsMember house.now.b house.now.board) staff_b.items
                 × All (IsLine house.now) lines.items × IsPlayer house.now player }
-            ensures { IfOk result (λ v. map total_of v.items
-                ≡ map (λ l. turns_in l.channel events.entry.now) lines.items) }
+            ensures { IfOk result (λ v. ArePlayed events.entry.now lines.items v.items) }
         { play_beside_b(rt, alloc, house, events, gate, staff_b, lines, player) },
     )?
+}
+
+// Equips all threads of a house, and runs them. The error is that memory ran out, or that a thread could not be started.
+fn run_house<R: Threads + Wait + Sync, G: Gate + Sync>(
+    rt: &R,
+    alloc: Global,
+    house: &House,
+    events: &[Event],
+    channels: u16,
+    workers: u16,
+    gate: &G,
+    a: Stock,
+    b: Stock,
+    places: Vec<board::Seat>,
+) -> Result<Vec<Counts>, AllocError>
+    requires few { (channels ≤ 8) × (workers ≤ 16) }
+    requires a { IsStock house.now.a a × (channels + workers + 2 ≤ length a.seats.items) }
+    requires b { IsStock house.now.b b × (channels + workers + 2 ≤ length b.seats.items) }
+    requires places { All (board_seats.IsSeatOf house.now.board) places.items
+        × (2 * workers + 3 ≤ length places.items) }
+    ensures { IfOk result (λ v. AreAllPlayed channels events.now v.items) }
+{
+    let crew = crew_of(alloc, house, a, b, places, channels, workers)?;
+    run_crew(rt, alloc, house, events, gate, crew)
 }
 
 // ---- the whole
@@ -230,11 +249,14 @@ fn report_of<R: Wait>(
     ensures channels { IfOk result (λ r. r.channels.items ≡ channels.items) }
 {
     if house.stage.has_failed() {
+        drop(house);
+        drop(closer_a);
+        drop(closer_b);
+        drop(channels);
         return Err(AllocError);
     }
     let House { a, b, stage, .. } = house;
-    let pool = stage.into_pool();
-    let height = pool.chain.height();
+    let height = stage.into_height();
     Ok(Report {
         a: closed(rt, a, closer_a),
         b: closed(rt, b, closer_b),
@@ -244,6 +266,7 @@ fn report_of<R: Wait>(
 }
 
 // Runs a node whose sides are opened. The error is that memory ran out, or that a thread could not be started.
+#[tactic(auto, using(crate::proofs::Reported::all_kept))]
 fn run_sides<R: Threads + Wait + Sync, G: Gate + Sync>(
     rt: &R,
     alloc: Global,
@@ -260,29 +283,45 @@ fn run_sides<R: Threads + Wait + Sync, G: Gate + Sync>(
     requires b { AreReady b × (channels + workers + 2 ≤ length b.stock.seats.items) }
     ensures a { IfOk result (λ r. IsLeft (last_in a.closer) r.a) }
     ensures b { IfOk result (λ r. IsLeft (last_in b.closer) r.b) }
-    ensures counted { IfOk result (λ r. map total_of r.channels.items
-        ≡ all_turns channels events.now) }
+    ensures played { IfOk result (λ r. AreAllPlayed channels events.now r.channels.items) }
 {
-    let (board, places) = Board::new(alloc, 2 * workers + 3)?;
-    let Opened {
-        office: office_a,
-        closer: closer_a,
-        stock: stock_a,
-    } = a;
-    let Opened {
-        office: office_b,
-        closer: closer_b,
-        stock: stock_b,
-    } = b;
-    let house = House {
-        a: office_a,
-        b: office_b,
-        board,
-        stage: Stage::new(alloc, chain),
-    };
-    let crew = crew_of(alloc, &house, stock_a, stock_b, places, channels, workers)?;
-    let counts = run_crew(rt, alloc, &house, events, gate, crew)?;
-    report_of(rt, house, closer_a, closer_b, counts)
+    match Board::new(alloc, 2 * workers + 3) {
+        Ok((board, places)) => {
+            let Opened {
+                office: office_a,
+                closer: closer_a,
+                stock: stock_a,
+            } = a;
+            let Opened {
+                office: office_b,
+                closer: closer_b,
+                stock: stock_b,
+            } = b;
+            let house = House {
+                a: office_a,
+                b: office_b,
+                board,
+                stage: Stage::new(alloc, chain),
+            };
+            match run_house(
+                rt, alloc, &house, events, channels, workers, gate, stock_a, stock_b, places,
+            ) {
+                Ok(counts) => report_of(rt, house, closer_a, closer_b, counts),
+                Err(error) => {
+                    drop(house);
+                    drop(closer_a);
+                    drop(closer_b);
+                    Err(error)
+                }
+            }
+        }
+        Err(error) => {
+            drop(a);
+            drop(b);
+            drop(chain);
+            Err(error)
+        }
+    }
 }
 
 /// Plays a scenario in threads: one for each channel, a watcher and `workers` workers for each side, and one for the events of the chain.
@@ -293,7 +332,6 @@ fn run_sides<R: Threads + Wait + Sync, G: Gate + Sync>(
 ///
 /// The error is that memory ran out, or that a thread could not be started. All threads have ended when it returns. A worker that is refused memory tries its job again, and a
 /// thread that puts a job puts it again, without a bound: while memory stays refused there, the call does not return.
-#[tactic(auto, using(crate::proofs::Reported::reported))]
 pub fn run_node<R: Threads + Wait + Sync, G: Gate + Sync>(
     rt: &R,
     alloc: Global,
@@ -308,8 +346,20 @@ pub fn run_node<R: Threads + Wait + Sync, G: Gate + Sync>(
     let channels = scenario.channels.len() as u16;
     let seats = channels + workers + 3;
     let BooksAndChain { a, b, chain } = begin(alloc, scenario)?;
-    let a = open_side(rt, alloc, a, seats, workers)?;
-    let b = open_side(rt, alloc, b, seats, workers)?;
     let events = scenario.events.values();
-    run_sides(rt, alloc, events, channels, workers, gate, a, b, chain)
+    match open_side(rt, alloc, a, seats, workers) {
+        Ok(a) => match open_side(rt, alloc, b, seats, workers) {
+            Ok(b) => run_sides(rt, alloc, events, channels, workers, gate, a, b, chain),
+            Err(error) => {
+                drop(a);
+                drop(chain);
+                Err(error)
+            }
+        },
+        Err(error) => {
+            drop(b);
+            drop(chain);
+            Err(error)
+        }
+    }
 }

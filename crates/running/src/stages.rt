@@ -1,6 +1,6 @@
 //! The chain that all threads share.
 
-use chain::Index;
+use chain::{Coins, Index};
 use node::Pool;
 use std::alloc::Global;
 use std::sync::atomic::{AtomicBool, Ordering};
@@ -55,9 +55,12 @@ impl Stage {
         self.has_failed.load(Ordering::SeqCst)
     }
 
-    /// The chain and its pool. All threads must have ended.
-    pub(crate) fn into_pool(self) -> Pool {
+    /// The height of the chain. All threads must have ended.
+    pub(crate) fn into_height(self) -> u64 {
         let Stage { pool, .. } = self;
-        pool.into_inner()
+        let pool = pool.into_inner();
+        let height = pool.chain.height();
+        drop(pool);
+        height
     }
 }

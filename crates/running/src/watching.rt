@@ -20,6 +20,7 @@ use side::{DueClaim, ReadParts, Reader};
 use std::alloc::{AllocError, Global};
 use std::collections::VecDeque;
 use std::sync::Wait;
+use tx::OutPoint;
 use watch::Watch;
 
 /// What a watcher's thread has of its own.
@@ -76,7 +77,10 @@ fn read_next(
 {
     let channels = match follower.reader.to_ask(alloc, block) {
         Ok(channels) => channels,
-        Err(error) => return Err(error),
+        Err(error) => {
+            drop(follower);
+            return Err(error);
+        }
     };
     if !channels.is_empty() {
         return Ok(Sight::Asks(follower, channels));
@@ -152,21 +156,20 @@ fn answer_each<R: Wait>(
     rt: &R,
     office: &Office,
     seat: &mut Seat,
-    before: Reader,
+    reader: &mut Reader,
     channels: &[u64],
-) -> Result<Reader, AllocError>
+) -> Result<(), AllocError>
     requires seat { IsSeatOf office.now.desk seat.old }
-    requires channels { All (λ c. c < length before.seen) channels.now }
+    requires channels { All (λ c. c < length reader.old.seen) channels.now }
     ensures seat { HasSameCalls office.now.desk seat.old seat.new }
-    ensures reader { IfOk result (λ r. length r.seen ≡ length before.seen) }
-    ensures asked { IfOk result (AreAnswered (last_in seat.old) (last_in seat.new) channels.now
-        before) }
+    ensures reader { OnOk result (length reader.new.seen ≡ length reader.old.seen) }
+    ensures asked { OnOk result (AreAnswered (last_in seat.old) (last_in seat.new) channels.now
+        reader.old reader.new) }
 {
-    let mut reader = before;
     for channel in channels {
-        answer(rt, office, seat, &mut reader, *channel)?;
+        answer(rt, office, seat, reader, *channel)?;
     }
-    Ok(reader)
+    Ok(())
 }
 
 // The same for a follower. The only error is that memory ran out.
@@ -185,18 +188,23 @@ fn answered<R: Wait>(
         before) }
 {
     let Follower {
-        reader,
+        mut reader,
         round,
         height,
         is_done,
     } = before;
-    let reader = answer_each(rt, office, seat, reader, channels)?;
-    Ok(Follower {
-        reader,
-        round,
-        height,
-        is_done,
-    })
+    match answer_each(rt, office, seat, &mut reader, channels) {
+        Ok(()) => Ok(Follower {
+            reader,
+            round,
+            height,
+            is_done,
+        }),
+        Err(error) => {
+            drop(reader);
+            Err(error)
+        }
+    }
 }
 
 // ---- what fell due
@@ -229,6 +237,24 @@ fn teach<R: Wait>(
     Ok(())
 }
 
+// Shows the side's other threads what was learnt, and forgets what watches saw above a height. Returns the side's funding outputs; the only error is that memory ran out.
+fn taught<R: Wait>(
+    rt: &R,
+    alloc: Global,
+    office: &Office,
+    watches: &mut [Watch],
+    learnt: &[[u8; 32]],
+    height: u64,
+) -> Result<Vec<OutPoint>, AllocError>
+    ensures watches { OnOk result (watches.new ≡ map (seen_up_to height) watches.old) }
+    ensures fundings { IfOk result (λ v. v.items ≡ office.now.fundings.items) }
+{
+    teach(rt, alloc, office, learnt)?;
+    back_all(watches, height);
+    let fundings = Vec::from_slice(alloc, &office.fundings)?;
+    Ok(fundings)
+}
+
 // A reader with what these watches saw up to a height. The only error is that memory ran out.
 fn reader_from<R: Wait>(
     rt: &R,
@@ -243,10 +269,14 @@ fn reader_from<R: Wait>(
         (map (seen_up_to height) watches.items) learnt.items) }
 {
     let mut watches = watches;
-    teach(rt, alloc, office, &learnt)?;
-    back_all(&mut watches, height);
-    let fundings = Vec::from_slice(alloc, &office.fundings)?;
-    Reader::new(alloc, fundings, watches, learnt)
+    match taught(rt, alloc, office, &mut watches, &learnt, height) {
+        Ok(fundings) => Reader::new(alloc, fundings, watches, learnt),
+        Err(error) => {
+            drop(watches);
+            drop(learnt);
+            Err(error)
+        }
+    }
 }
 
 // Puts claims as a job, if there are any.
@@ -455,6 +485,7 @@ fn follow<R: Wait>(
     for _ in rt.forever() {
         follower = step(rt, alloc, house, office, watcher, follower)?;
         if follower.is_done {
+            drop(follower);
             return Ok(());
         }
     }
@@ -477,6 +508,14 @@ pub(crate) fn watch<R: Wait>(
     if follow(rt, alloc, house, office, &mut watcher).is_err() {
         house.stage.fail();
     }
-    let Watcher { seat, .. } = watcher;
+    let Watcher {
+        seat,
+        place,
+        sender,
+        pass,
+    } = watcher;
+    drop(place);
+    drop(sender);
+    drop(pass);
     seat
 }

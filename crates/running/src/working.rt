@@ -77,5 +77,6 @@ pub(crate) fn work<R: Wait, G: Gate>(
         progress: _,
         jobs: _,
     } = counted;
+    drop(taker);
     (done, hands)
 }

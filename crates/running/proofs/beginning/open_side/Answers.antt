@@ -1,19 +1,16 @@
-use Rattle.std.proofs.Common.{Some, arith}
-use Rattle.std.proofs.lemmas.List.Elements.{All-pop, All-weaker}
-use Rattle.desk.specs.Seats.{IsSeatOf, IsNewSeatOf}
+use Rattle.std.proofs.Common.{◌≡◌, List, map, ap, ◌∙◌}
+use Rattle.std.proofs.lemmas.Result.{IfOk-weaker}
+use Rattle.keys.specs.declared.compressed.Key.{Key}
+use Rattle.book.specs.Books.{replay, fundings_of}
+use Rattle.running.specs.Beginning.{payments_in}
 use Rattle.running.proofs.beginning.open_side.Goals as goal
 
-pub returns-clause-opened : goal.returns-clause-opened
-returns-clause-opened g c =
-    let desk = c.in_ok-desk.desk in
-    let seats = c.in_ok-desk.ensures in
-    let apart = All-pop (IsNewSeatOf desk c.args.book) c.in_ok-desk.seats.items c.pop.new.self.items (Some c.in-Some.closer) c.in-Some.ensures.items seats.each in
-    record {
-      closer = apart.1;
-      stock = record {
-        seats = All-weaker (IsNewSeatOf desk c.args.book) (IsSeatOf desk) (λ s is. is.seat_of) c.pop.new.self.items apart.0;
-        queue = c.in_ok-sender.ensures.0;
-        pass = c.in_ok-sender.ensures.1;
-      };
-      many = omega (arith, seats.many, c.in-Some.ensures.len);
-    }
+pub returns-in-Ok-clause-fundings : goal.returns-in-Ok-clause-fundings
+returns-in-Ok-clause-fundings g c =
+    IfOk-weaker c.open_with.result (λ o. o.office.fundings.items ≡ c.in-Ok.told.fundings.items) (λ o. o.office.fundings.items ≡ fundings_of (replay c.args.book))
+    (λ o is. is ∙ c.in-Ok.ensures.fundings) c.open_with.ensures.fundings
+
+pub returns-in-Ok-clause-payments : goal.returns-in-Ok-clause-payments
+returns-in-Ok-clause-payments g c =
+    IfOk-weaker c.open_with.result (λ o. o.office.payments.items ≡ c.in-Ok.told.payments.items) (λ o. map (λ k. k.bytes) o.office.payments.items ≡ payments_in (replay c.args.book))
+    (λ o is. ap (λ (ks : List Key). map (λ k. k.bytes) ks) is ∙ c.in-Ok.ensures.payments) c.open_with.ensures.payments

@@ -1,0 +1,21 @@
+use Rattle.std.proofs.Common.{refl, arith}
+use Rattle.running.specs.Playing.{sum_of}
+use Rattle.running.proofs.Playing.{played_first, played_next, all_played}
+use Rattle.running.proofs.lines.play_all.Goals as goal
+
+pub loop-index-init : goal.loop-index-init
+loop-index-init g c = record { line = c.requires; few = omega arith; plays = played_first c.args.events.now c.args.line.now }
+
+pub loop-index-preserved : goal.loop-index-preserved
+loop-index-preserved g c =
+    let was = c.loop-index.invariant in
+    let is = c.in_ok-more.ensures in
+    record {
+      line = is.line;
+      few = omega (arith, was.few, is.few);
+      plays = played_next c.args.events.now c.loop-index.index _ _ c.args.line.now c.loop-index.line c.play_event.new.line c.loop-index.counts c.in_ok-more.more (sum_of c.loop-index.counts c.in_ok-more.more)
+          (omega arith) refl is.channel is.plays refl was.plays;
+    }
+
+pub returns : goal.returns
+returns g c = all_played c.args.events.now c.loop-index.index c.args.line.now c.loop-index.line c.loop-index.counts (omega arith) c.loop-index.invariant.plays

@@ -1,0 +1,38 @@
+-- How the events of all channels are played.
+use Rattle.std.specs.Prelude.{◌≡◌, ℕ, ◌+◌, List, [], ◌∷◌, map, All}
+use Rattle.std.specs.List.{range_with_len}
+use Rattle.scenario.specs.declared.events.Event.{Event}
+use Rattle.running.specs.declared.lines.Line.{Line}
+use Rattle.running.specs.declared.counts.Counts.{Counts}
+use Rattle.running.specs.Events.{turn_in}
+use Rattle.running.specs.Acting.{no_counts, Plays}
+
+abbrev pub sum_of : Counts → Counts → Counts
+sum_of k more = record { played = k.played + more.played; refused = k.refused + more.refused }
+
+-- the events of a channel were played in order, each from what the one before it left, and their counts are added up
+pub data PlaysAll : List Event → Line → Line → Counts → Type 0 where
+  none_left : (line : Line) → PlaysAll [] line line no_counts
+  played : (e : Event) (es : List Event) (before between after : Line) (counts more : Counts) → between.channel ≡ before.channel → Plays (turn_in before.channel e) before between counts
+      → PlaysAll es between after more → PlaysAll (e ∷ es) before after (sum_of counts more)
+
+-- a channel's events were played from this line on, to these counts
+abbrev pub IsPlayed : List Event → Line → Counts → Type 0
+IsPlayed events line counts = (after : Line) × PlaysAll events line after counts
+
+-- the same for each channel
+pub data ArePlayed (events : List Event) : List Line → List Counts → Type 0 where
+  no_more : ArePlayed events [] []
+  one_more : (l : Line) (ls : List Line) (k : Counts) (ks : List Counts) → IsPlayed events l k → ArePlayed events ls ks → ArePlayed events (l ∷ ls) (k ∷ ks)
+
+-- no message is on its way
+pub record IsFirst (l : Line) : Type 0 where
+  pub a : l.a.inbox.items ≡ []
+  pub b : l.b.inbox.items ≡ []
+
+-- the events of all channels below a number were played, each channel's from where no message is on its way
+pub record AreAllPlayed (channels : ℕ) (events : List Event) (counts : List Counts) : Type 0 where
+  pub lines : List Line
+  pub numbers : map (λ l. l.channel) lines ≡ range_with_len 0 channels
+  pub first : All IsFirst lines
+  pub played : ArePlayed events lines counts
