@@ -14,7 +14,8 @@
 //! The program's whole output is tested in `enforce_tests`.
 #![tactic(auto)]
 
-ghost use Rattle.std.specs.Prelude.{◌≡◌, ◌≤◌, ◌⊎◌};
+ghost use Rattle.std.specs.Prelude.{◌≡◌, ◌≤◌, ◌⊎◌, MatchResult};
+ghost use Rattle.std.specs.Io.KnownBytes.{Appends};
 
 mod answers;
 mod endings;
@@ -49,9 +50,12 @@ pub fn run_words<R: Read, W: Write, E: Write>(
     finish(alloc, out, answer(alloc, &command, input))
 }
 
-/// Writes the text of a word, or why its input is refused, and returns the status: 0 when done, 1 for refused input or a failed write.
+/// Writes the text of a word, or why its input is refused, and returns the status: 0 when the whole text is written, 1 for refused input or a failed write.
 pub fn finish<W: Write>(alloc: Global, out: &mut W, text: Result<String, CommandError>) -> u8
-    ensures { result ≤ 2 }
+    ensures { MatchResult text
+        (λ t. (result ≡ 1) ⊎ ((result ≡ 0)
+        × Appends (W.contents out.old) (W.contents out.new) t.bytes.items))
+        (λ _. result ≡ 1) }
 {
     match text {
         Ok(text) => written(out, text.as_str(), 0),
@@ -62,23 +66,26 @@ pub fn finish<W: Write>(alloc: Global, out: &mut W, text: Result<String, Command
     }
 }
 
-/// Handles wrong words.
+/// Handles wrong words: writes the usage, and returns 2, or 1 if the write fails.
 pub fn refuse_words<E: Write>(err: &mut E) -> u8
-    ensures { result ≤ 2 }
+    ensures { (result ≡ 2) ⊎ (result ≡ 1) }
 {
     written(err, USAGE, 2)
 }
 
 /// Reports that memory ran out.
 pub fn refuse_memory<W: Write>(out: &mut W) -> u8
-    ensures { result ≤ 2 }
+    ensures { result ≡ 1 }
 {
     written(out, "refused NoMemory\n", 1)
 }
 
 // Writes a text, and returns the status, or 1 if the write fails.
+#[tactic(auto, using(crate::proofs::Writing::appended))]
 fn written<W: Write>(out: &mut W, text: &str, status: u8) -> u8
-    ensures { (result ≡ status) ⊎ (result ≡ 1) }
+    ensures status { (result ≡ status) ⊎ (result ≡ 1) }
+    ensures text { (result ≡ 1) ⊎ ((result ≡ status)
+        × Appends (W.contents out.old) (W.contents out.new) text.now) }
 {
     match out.write_all(text.as_bytes()) {
         Ok(()) => match out.flush() {

@@ -81,7 +81,7 @@ pub fn run_word<R: Threads + Wait + Sync, I: Read, W: Write>(
 ) -> u8
     requires some { 0 < workers }
     requires few { workers ≤ 16 }
-    ensures { result ≤ 2 }
+    ensures { result ≤ 1 }
 {
     let text = answer(rt, alloc, workers, input);
     finish(alloc, out, text)
