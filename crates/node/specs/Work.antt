@@ -53,6 +53,11 @@ IsTurn payments job before after Finished = IsFinished payments job before after
 IsTurn payments job before after (Stopped ticket) = IsStopped ticket before after
 IsTurn payments job before after Spent = IsSpent before after
 
+-- what is true of the ticket at which a worker is stopped
+abbrev pub IfStopped : (ℕ → Type 0) → Turn → Type 0
+IfStopped P (Stopped ticket) = P ticket
+IfStopped P turn = Unit {0}
+
 -- ---- all jobs
 
 -- why a worker ends, with the jobs that it dropped and the tickets that it drew: at an empty queue, where it dropped none; stopped at its last ticket, where it dropped the job of that

@@ -9,8 +9,8 @@
 //! The main contract is that of `worker` (`IsWork` of `specs/Work.antt`). The jobs that its pass took are those that it
 //! finished, and at most one that it dropped. It drew a ticket for each of them. The calls of its seat are for
 //! finished jobs alone, in their order, each for one thing that a job asks for: a keep for a revoked commitment, a
-//! release for a claim. So no worker signs. That a job is done, that a call returns and that workers run at once is
-//! not proved.
+//! release for a claim. So no worker signs. It is stopped only where its gate may stop it. That a job is done, that a call
+//! returns and that workers run at once is not proved.
 //!
 //! Where memory is refused a worker tries its job again, without a bound. So it does not return while memory stays
 //! refused.

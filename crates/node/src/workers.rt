@@ -1,11 +1,11 @@
 //! Workers: what each does with the jobs that it takes.
 
-ghost use Rattle.std.specs.Prelude.{◌≡◌};
+ghost use Rattle.std.specs.Prelude.{◌≡◌, IfSome};
 ghost use Rattle.desk.specs.Seats.{IsSeatOf, number_in, calls_in};
 ghost use Rattle.node.specs.Tasks.{tasks_of};
 ghost use Rattle.node.specs.Entering.{Adds};
 ghost use Rattle.node.specs.Ready.{IsReady};
-ghost use Rattle.node.specs.Work.{IsTurn, IsWork};
+ghost use Rattle.node.specs.Work.{IsTurn, IsWork, IfStopped};
 
 use crate::gates::Gate;
 use crate::hands::{Hands, Shared};
@@ -64,6 +64,7 @@ fn take_turn<R: Wait, G: Gate>(
     requires { IsReady shared.now taker.now hands.old }
     ensures ready { IsReady shared.now taker.now hands.new }
     ensures turn { IsTurn shared.now.payments.now job.now hands.old hands.new result }
+    ensures stopped { IfStopped (G.stops gate.now) result }
 {
     let _taker = taker;
     let Ok(ticket) = shared.board.draw(&mut hands.place) else {
@@ -95,6 +96,7 @@ pub fn worker<R: Wait, G: Gate>(
     requires { IsReady shared.now taker.now hands.old }
     ensures ready { IsReady shared.now taker.now hands.new }
     ensures work { IsWork shared.now.payments.now hands.old hands.new result }
+    ensures stopped { IfSome result.stopped (G.stops gate.now) }
 {
     let mut jobs: u64 = 0;
     for _ in rt.forever() {

@@ -8,6 +8,8 @@ use std::sync::Wait;
 pub(crate) struct Open;
 
 impl Gate for Open {
+    ghost stops = { λ _ _. ⊥ };
+
     #[tactic(auto, using(running::proofs::Same::same_calls))]
     fn before<R: Wait>(&self, _rt: &R, _ticket: u64, _desk: &Desk, seat: &mut Seat) {
         let _seat = &*seat;

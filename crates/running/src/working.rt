@@ -1,5 +1,6 @@
 //! The threads of workers.
 
+ghost use Rattle.std.specs.Prelude.{IfSome};
 ghost use Rattle.node.specs.Work.{IsWork};
 ghost use Rattle.running.specs.Crews.{IsWorker};
 
@@ -27,6 +28,8 @@ struct Counted<'a, G> {
 }
 
 impl<G: Gate> Gate for Counted<'_, G> {
+    ghost stops = { λ counted. G.stops counted.gate.now };
+
     fn before<R: Wait>(&self, rt: &R, ticket: u64, desk: &Desk, seat: &mut Seat) {
         self.gate.before(rt, ticket, desk, seat);
     }
@@ -52,7 +55,8 @@ pub(crate) fn work<R: Wait, G: Gate>(
     mine: Worker,
 ) -> (Done, Hands)
     requires { IsWorker office.now house.now.board mine }
-    ensures { IsWork office.now.payments.items mine.hands result.1 result.0 }
+    ensures work { IsWork office.now.payments.items mine.hands result.1 result.0 }
+    ensures stopped { IfSome result.0.stopped (G.stops gate.now) }
 {
     let Worker { taker, mut hands } = mine;
     let shared = Shared {
