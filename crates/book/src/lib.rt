@@ -21,8 +21,8 @@
 //! assert!(rt; a.sign(0, 0).is_ok());
 //! ```
 //!
-//! The test `signs_once_penalties_are_kept` of `book_tests` has
-//! these lines. There, an update comes before the first signature.
+//! The test `signs_once_penalties_are_kept` of `book_tests` makes these calls. There, an update comes before the
+//! first signature.
 #![tactic(auto)]
 
 pub mod calling;

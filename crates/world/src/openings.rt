@@ -15,7 +15,7 @@
 //! let both = open_both(alloc, &SEEDS, 0, outpoint, &terms).expect(rt, "memory");
 //! ```
 //!
-//! The test `opens_the_first_channel` of `world_tests` has these lines.
+//! The test `opens_the_first_channel` of `world_tests` makes these calls.
 
 mod funding;
 mod opening;
