@@ -11,7 +11,8 @@ use Rattle.std.proofs.lemmas.List.{map-append}
 use Rattle.std.proofs.lemmas.Option.{none-some, same_Some}
 use Rattle.tx.specs.Parts.{Output}
 use Rattle.tx.specs.declared.input.OutPoint.{OutPoint}
-use Rattle.chain.specs.Blocks.{Contents, Standing, grants_in, grant_outpoint}
+use Rattle.tx.specs.Fields.{Transaction}
+use Rattle.chain.specs.Blocks.{Contents, Standing, grants_in, grant_outpoint, transactions_of}
 use Rattle.chain.specs.Connecting.{with_grant, is_program}
 use Rattle.terms.specs.declared.sides.Side.{Side}
 use Rattle.terms.specs.declared.sides.Side.TheVariants.{A, B}
@@ -33,6 +34,7 @@ use Rattle.world.specs.Pairing.{ArePaired}
 use Rattle.world.specs.Beginning.{empty_world, with_opened, granted, Begins, AllBegin, HasBegun}
 use Rattle.world.proofs.Fillings.{called_grows, fillings_grow}
 use Rattle.world.proofs.Turns.{opened_more}
+use Rattle.world.proofs.Sides.{no_side, side_opened}
 
 -- nothing is left past the end
 drop-nil : {X : Type 0} (n : ℕ) → drop {A = X} n [] ≡ []
@@ -52,6 +54,11 @@ more_grants (b ∷ older) o some = omega arith
 as_many : (blocks : List Contents) (o : Output) → length (with_grant blocks o) ≡ length blocks
 as_many [] o = refl
 as_many (b ∷ older) o = refl
+
+-- a grant is no transaction
+as_few : (blocks : List Contents) (o : Output) (others : List Transaction) → transactions_of (with_grant blocks o) ++ others ≡ transactions_of blocks ++ others
+as_few [] o others = refl
+as_few (b ∷ older) o others = refl
 
 -- one more channel, with no message on its way
 more_inboxes : (n : Node) → inboxes (with_line n) ≡ inboxes n ++ [] ∷ []
@@ -98,6 +105,9 @@ after paired taken seeds c plain w both few begun are =
           (opened_more A (opened_by both.a) (opened_by both.b) (replay w.a.history) (replay w.b.history) (inboxes w.a) (inboxes w.b)
           (paired seeds c are.terms A both.a both.b are.by_a are.by_b) begun.agree);
       released = fillings_grow w.a.history (with_opened both.a w.a).history w.b.history (with_opened both.b w.b).history w.released (called_grows w.a (Open both.a)) (called_grows w.b (Open both.b)) begun.released;
+      a_side = side_opened w.a both.a (suc c) begun.a_side a.stands few;
+      b_side = side_opened w.b both.b (suc c) begun.b_side b.stands few;
+      no_transaction = as_few w.chain.blocks (funding_output seeds c plain) (w.pool ++ w.released) ∙ begun.no_transaction;
     }
 
 pub has_begun : OpeningsArePaired → OpeningsAreTaken → (seeds : Seeds) (c : ℕ) (plain : ProposedTerms) (w v : World) → c < 8 → HasBegun c w → Begins seeds c plain w v → HasBegun (c + 1) v
@@ -105,7 +115,7 @@ has_begun paired taken seeds c plain w v few begun b =
     subst (λ n. HasBegun n v) (next c) (subst (HasBegun (suc c)) (sym b.after) (after paired taken seeds c plain w b.both few begun b.openings))
 
 pub nothing_begun : HasBegun 0 empty_world
-nothing_begun = record { a_stands = refl; b_stands = refl; grants = refl; some_block = omega arith; a_called = no_call; b_called = no_call; agree = tt; released = tt }
+nothing_begun = record { a_stands = refl; b_stands = refl; grants = refl; some_block = omega arith; a_called = no_call; b_called = no_call; agree = tt; released = tt; a_side = no_side; b_side = no_side; no_transaction = refl }
 
 -- ---- channels in order
 

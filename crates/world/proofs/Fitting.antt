@@ -18,11 +18,10 @@ use Rattle.book.specs.Books.{at_index, replay}
 use Rattle.book.specs.Accepted.{IsHistory}
 use Rattle.book.specs.Replies.{stepped, signed, reply_of, history_after}
 use Rattle.world.specs.declared.limits.TheConstants.{SEAT}
-use Rattle.world.specs.Worlds.{World, Node, IsNode, node_of, with_node, with_nodes, inboxes}
+use Rattle.world.specs.Worlds.{World, Node, node_of, with_node, with_nodes, inboxes}
 use Rattle.side.specs.Acts.{messages_in}
 use Rattle.world.specs.Refusing.{refusal_in}
 use Rattle.world.specs.Pairing.{AgreeBy}
-use Rattle.world.specs.Releasing.{AreFillings}
 use Rattle.world.specs.Theorem.{IsWorld}
 use Rattle.world.proofs.Turns.{seen_by_peer}
 use Rattle.world.proofs.Calls.{made, signed_once}
@@ -34,9 +33,6 @@ pub record AreFitting (a b : Node) : Type 0 where
 
 pub fitting_world : (w : World) → IsWorld w → AreFitting w.a w.b
 fitting_world w is = record { a_called = is.a_called; b_called = is.b_called; agree = is.agree }
-
-pub is_world : (w : World) → IsNode w.a → IsNode w.b → AreFitting w.a w.b → AreFillings w.a.history w.b.history w.released → IsWorld w
-is_world w a b fit released = record { a = a; b = b; a_called = fit.a_called; b_called = fit.b_called; agree = fit.agree; released = released }
 
 -- ---- from either side
 

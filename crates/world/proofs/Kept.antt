@@ -34,7 +34,10 @@ use Rattle.world.specs.Theorem.{StepsKeep}
 use Rattle.world.proofs.Inboxes.{inboxes_sent, inboxes_received, got_of_map, inboxes_read, inboxes_back}
 use Rattle.world.proofs.Calls.{received, filed, released_by}
 use Rattle.world.proofs.Fillings.{released_after}
-use Rattle.world.proofs.Fitting.{AreFitting, fitting_world, is_world, history_of, agree_from, both_fit, one_fits, as_before, Sends, own_sends, sign_sends}
+use Rattle.world.proofs.Growing.{are_later}
+use Rattle.world.proofs.Sourced.{sources_after}
+use Rattle.world.proofs.Sides.{sides_after}
+use Rattle.world.proofs.Fitting.{AreFitting, fitting_world, history_of, agree_from, both_fit, one_fits, as_before, Sends, own_sends, sign_sends}
 
 -- ---- refusals
 
@@ -155,4 +158,19 @@ fitting_after w v e o fit (refuses some) = fit
 fitting_after w v e o fit runs_out = fit
 
 pub steps_keep : StepsKeep
-steps_keep w v e o is step a b = is_world v a b (fitting_after w v e o (fitting_world w is) step) (released_after w v e o is.released step)
+steps_keep w v e o is step a b tested =
+    let fit = fitting_after w v e o (fitting_world w is) step in
+    let released = released_after w v e o is.released step in
+    let sides = sides_after w v e o (record { of_a = is.a_side; of_b = is.b_side }) step in
+    record {
+      a = a;
+      b = b;
+      a_called = fit.a_called;
+      b_called = fit.b_called;
+      agree = fit.agree;
+      released = released;
+      a_side = sides.of_a;
+      b_side = sides.of_b;
+      sources = sources_after w v e o (are_later w v e o step) released is.sources step;
+      tested = tested;
+    }

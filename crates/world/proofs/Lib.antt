@@ -9,6 +9,12 @@ pub mod Whole
 mod Inboxes
 mod Fitting
 mod Fillings
+mod Growing
+mod Unmade
+mod Sourced
+mod Recorded
+mod Found
+mod Sides
 pub mod Kept
 pub mod Moments
 pub mod Plays

@@ -23,6 +23,7 @@ use Rattle.world.specs.declared.errors.WorldError.{WorldError}
 use Rattle.world.specs.declared.errors.WorldError.TheVariants.{NoMemory as no_memory, OverLimit, BadTerms}
 use Rattle.world.specs.Worlds.{World, Node, inboxes, answer_to, after_call, with_line}
 use Rattle.world.specs.Releasing.{AreFillings}
+use Rattle.world.specs.Sources.{IsSide, transactions_in}
 use Rattle.world.specs.Pairing.{AgreeBy}
 
 -- the book accepts the opening, and the side has a line for the channel; or the side is as before, and the book refuses or memory ran out
@@ -86,3 +87,6 @@ pub record HasBegun (c : ℕ) (w : World) : Type 0 where
   pub b_called : IsHistory peer_tokens w.b.history
   pub agree : AgreeBy A w.a.history w.b.history (inboxes w.a) (inboxes w.b)
   pub released : AreFillings w.a.history w.b.history w.released
+  pub a_side : IsSide w.a
+  pub b_side : IsSide w.b
+  pub no_transaction : transactions_in w ≡ []

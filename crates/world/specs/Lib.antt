@@ -1,4 +1,5 @@
 pub mod Theorem
+pub mod Sources
 pub mod Steps
 pub mod Enforcement
 pub mod Worlds

@@ -12,6 +12,7 @@ use Rattle.tx.specs.Fields.{Transaction}
 use Rattle.terms.specs.declared.sides.Side.{Side}
 use Rattle.terms.specs.declared.sides.Side.TheVariants.{A}
 use Rattle.claim.specs.Claims.{ClaimParts, IsWhole}
+use Rattle.chain.specs.Checked.{is_checked}
 use Rattle.penalty.specs.declared.states.RevokedState.{RevokedState}
 use Rattle.channel.specs.declared.messages.Message.{Message}
 use Rattle.channel.specs.Tokens.{peer_tokens}
@@ -32,6 +33,7 @@ use Rattle.world.specs.Worlds.{World, Node, IsNode, node_of, channel_of, inboxes
 use Rattle.side.specs.Acts.{call_of}
 use Rattle.world.specs.Pairing.{AgreeBy, AreEnds}
 use Rattle.world.specs.Releasing.{AreFillings}
+use Rattle.world.specs.Sources.{IsSide, IsFrom, transactions_in}
 use Rattle.world.specs.Enforcement.{IsDue, Passes}
 use Rattle.world.specs.Steps.{receipt_refusal, WorldSteps, Runs}
 
@@ -73,7 +75,8 @@ pub record IsPlay (w : World) (es : List Event) (os : List Outcome) (end : World
 
 -- ---- why it holds
 
--- what each event keeps: the histories are those of calls, the books hold the two ends of the same channels, with the messages on their way, and what was released is of these histories
+-- What each event keeps. The histories are those of calls. The books hold the two ends of the same channels, with the messages on their way. What was released is of these histories. Each side's
+-- claims are on what its recorded commitments let it claim. Each transaction on the chain, in the pool and among those released comes from a side. The chain's transactions passed its tests
 pub record IsWorld (w : World) : Type 0 where
   pub a : IsNode w.a
   pub b : IsNode w.b
@@ -81,9 +84,13 @@ pub record IsWorld (w : World) : Type 0 where
   pub b_called : IsHistory peer_tokens w.b.history
   pub agree : AgreeBy A w.a.history w.b.history (inboxes w.a) (inboxes w.b)
   pub released : AreFillings w.a.history w.b.history w.released
+  pub a_side : IsSide w.a
+  pub b_side : IsSide w.b
+  pub sources : AllByRecursion (IsFrom w) (transactions_in w)
+  pub tested : is_checked w.chain.blocks ≡ true
 
 abbrev pub StepsKeep : Type 0
-StepsKeep = (w v : World) (e : Event) (o : Outcome) → IsWorld w → WorldSteps w e v o → IsNode v.a → IsNode v.b → IsWorld v
+StepsKeep = (w v : World) (e : Event) (o : Outcome) → IsWorld w → WorldSteps w e v o → IsNode v.a → IsNode v.b → is_checked v.chain.blocks ≡ true → IsWorld v
 
 abbrev pub WorldsHold : Type 0
 WorldsHold = (w : World) → IsWorld w → HoldsAt w

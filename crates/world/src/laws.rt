@@ -30,7 +30,8 @@ pub fn deliveries_are_taken()
 }
 
 /// Each event keeps the invariant of a world: the histories of both books are those of calls, and the books agree, with the messages on their way. What was released are fillings of
-/// these histories.
+/// these histories. Each claim of a side is on what a recorded commitment lets the side claim. Each transaction on the chain, in the pool and among those released comes from a side. The
+/// chain's transactions passed its tests.
 pub fn steps_keep()
     ensures { StepsKeep }
 {}

@@ -93,20 +93,23 @@ fn release(
 }
 
 impl Parts {
-    ghost use Rattle.std.specs.Prelude.{◌≡◌, ◌≤◌, ◌-◌, None, MatchResult};
+    ghost use Rattle.std.specs.Prelude.{◌≡◌, ◌≤◌, ◌-◌, true, None, MatchResult};
     ghost use Rattle.chain.specs.Blocks.{height_of};
+    ghost use Rattle.chain.specs.Checked.{is_checked};
     ghost use Rattle.mempool.specs.Mining.{Mined as MinedParts};
     ghost use Rattle.world.specs.declared.errors.EventError.TheVariants.{NoMemory};
     ghost use Rattle.world.specs.Worlds.{IsNode, node_of};
     ghost use Rattle.world.specs.Steps.{with_waiting, with_mined, blocks_outcome, both_back, IsPlayed, WorldSteps};
 
-    /// Tells the proof what is true of both sides.
+    /// Tells the proof what is true of both sides, and that the chain's transactions passed its tests.
     pub(crate) fn hold_both(&self)
         ensures a { IsNode self.now.a }
         ensures b { IsNode self.now.b }
+        ensures tested { is_checked self.now.chain.blocks ≡ true }
     {
         self.a.holds();
         self.b.holds();
+        self.chain.passed_tests();
     }
 
     /// The books of both sides, and the chain. All else is dropped.
