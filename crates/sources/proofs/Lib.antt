@@ -1,0 +1,16 @@
+pub mod Ids
+pub mod Recorded
+pub mod Waiting
+pub mod Places
+pub mod Outputs
+pub mod Scripts
+pub mod Seeds
+pub mod Takers
+pub mod Taken
+pub mod Samples
+pub mod IdExamples
+pub mod CommitmentExamples
+pub mod WaitingExamples
+pub mod PlaceExamples
+pub mod SeedExamples
+pub mod TakerExamples
