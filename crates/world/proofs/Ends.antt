@@ -26,13 +26,13 @@ lived_step : (tokens_of : Signing) (w v : Pair) → Steps tokens_of w v → IsLi
 lived_step tokens_of w v (by_a {me = me} {sent = sent} {rest = rest} acts) l = (lived_act tokens_of w.a me w.to_a sent rest acts l.0, l.1)
 lived_step tokens_of w v (by_b {me = me} {sent = sent} {rest = rest} acts) l = (l.0, lived_act tokens_of w.b me w.to_b sent rest acts l.1)
 
-lived_both : (tokens_of : Signing) (terms : Terms) (seed_a seed_b : List ℕ) (w : Pair) → IsReached tokens_of terms seed_a seed_b w → IsLived tokens_of w.a × IsLived tokens_of w.b
+pub lived_both : (tokens_of : Signing) (terms : Terms) (seed_a seed_b : List ℕ) (w : Pair) → IsReached tokens_of terms seed_a seed_b w → IsLived tokens_of w.a × IsLived tokens_of w.b
 lived_both tokens_of terms seed_a seed_b w at_opening = (starts terms A seed_a (point_at seed_b 0) (point_at seed_b 1), starts terms B seed_b (point_at seed_a 0) (point_at seed_a 1))
 lived_both tokens_of terms seed_a seed_b w (then {w = v} r s) = lived_step tokens_of v w s (lived_both tokens_of terms seed_a seed_b v r)
 
 -- ---- they agree
 
-ends_of : PeersAgree → SidesNumber → (x y : State) (p q : List Message) → IsPaired peer_tokens (placed A x y p q) → AreEnds x y
+pub ends_of : PeersAgree → SidesNumber → (x y : State) (p q : List Message) → IsPaired peer_tokens (placed A x y p q) → AreEnds x y
 ends_of agrees numbers x y p q paired =
     let pair : Pair = placed A x y p q in
     let both = agrees peer_tokens paired.terms paired.seed_a paired.seed_b pair paired.reached in

@@ -30,3 +30,8 @@ pub mod Opened
 pub mod Keyed
 mod OpeningExamples
 mod EndsExamples
+mod Revealed
+mod TwoEnds
+mod Recordings
+mod FromRecords
+mod Takes

@@ -172,7 +172,7 @@ pub no_side : IsSide nothing_yet
 no_side = record { opened = λ c ch at. absurd (none-some ch at); jobs = tt; due = no_side_due }
 
 -- an element of a list with one more at its end
-pushed_at : {X : Type 0} (xs : List X) (o : X) (i : ℕ) (p : X) → slice_get (xs ++ o ∷ []) i ≡ Some p → (slice_get xs i ≡ Some p) ⊎ ((i ≡ length xs) × (o ≡ p))
+pub pushed_at : {X : Type 0} (xs : List X) (o : X) (i : ℕ) (p : X) → slice_get (xs ++ o ∷ []) i ≡ Some p → (slice_get xs i ≡ Some p) ⊎ ((i ≡ length xs) × (o ≡ p))
 pushed_at [] o zero p at = inr (refl, same_Some o p at)
 pushed_at [] o (suc i) p at = absurd (none-some p at)
 pushed_at (x ∷ xs) o zero p at = inl at

@@ -30,7 +30,7 @@ use Rattle.world.proofs.Fillings.{AreReleased}
 
 -- ---- what is recorded can be broadcast later
 
-not_found : (t : Transaction) → found None ≡ Ok t → ⊥
+pub not_found : (t : Transaction) → found None ≡ Ok t → ⊥
 not_found t e = absurd cc
 
 -- a commitment with both signatures, and an HTLC transaction of it
@@ -56,7 +56,7 @@ htlc_tx_stays old new g n k preimages t is = go (slice_get old.mine n) refl is
     go (Some c) at is =
         ap (λ (o : Option CommitmentState). found (second_of k preimages new.held.terms o)) (g.mine n c at) ∙ ap (λ (terms : Terms). found (second_of k preimages terms (Some c))) g.terms ∙ is
 
-no_channel : {X : Type 0} (e : EventError) (x : X) → Err e ≡ Ok x → ⊥
+pub no_channel : {X : Type 0} (e : EventError) (x : X) → Err e ≡ Ok x → ⊥
 no_channel e x is = absurd cc
 
 commitment_in_later : (old new : List Entry) → IsGrown old new → (c n : ℕ) (t : Transaction) → commitment_in n (slice_get (replay old) c) ≡ Ok t → commitment_in n (slice_get (replay new) c) ≡ Ok t

@@ -5,6 +5,7 @@ pub mod Enforcement
 pub mod Worlds
 pub mod Refusing
 pub mod Releasing
+pub mod Taken
 pub mod Acts
 pub mod Opening
 pub mod Agreeing

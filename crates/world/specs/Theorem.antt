@@ -4,7 +4,8 @@
 -- Over every interleaving of channel steps, blocks, reorganisations, broadcasts, looks and releases, two things hold. First, take any filling of an accepted claim whose output is unspent, and whose
 -- height and age are reached. It passes the chain's test of its input and runs to one true value, within 201 counted opcodes and 1,000 entries. No operand is missing, no check fails, and no branch
 -- stays open. Second, after a received revocation no commitment is signed until verified penalties for every claimable output are kept. Besides, what is kept is exactly what can be claimed, what
--- was released fits its claims, and the two sides agree. And whoever makes the next block, nobody else takes what a revoked commitment lets a side claim, except in the ways of `Fate`.
+-- was released fits its claims, and the two sides agree. Whatever stands on the chain, and whoever makes the next block, nobody else takes what a revoked commitment lets a side claim, except in the
+-- ways of `IsTaker` and of `Fate`.
 use Rattle.std.specs.Prelude.{◌≡◌, ◌⊎◌, ℕ, true, List, ◌∷◌, ◌++◌, length, map, Contains, Some, slice_get}
 use Rattle.std.specs.List.{AllByRecursion, flat_map}
 use Rattle.tx.specs.declared.input.TxIn.{TxIn}
@@ -34,6 +35,7 @@ use Rattle.side.specs.Acts.{call_of}
 use Rattle.world.specs.Pairing.{AgreeBy, AreEnds}
 use Rattle.world.specs.Releasing.{AreFillings}
 use Rattle.world.specs.Sources.{IsSide, IsFrom, transactions_in}
+use Rattle.world.specs.Taken.{SeedsDiffer, OutputsAreTaken}
 use Rattle.world.specs.Enforcement.{IsDue, Passes}
 use Rattle.world.specs.Steps.{receipt_refusal, WorldSteps, Runs}
 
@@ -61,6 +63,9 @@ pub record HoldsAt (w : World) : Type 0 where
   -- whoever makes the next block: an input in it that takes an output which a revoked commitment lets its owner's peer claim has one of the fates of `Fate`, as far as the peer's tokens in it are over
   -- what the peer signed
   pub others : (state : RevokedState) → NothingEscapesAbove w.chain.blocks (length w.chain.blocks) state
+  -- each transaction on the chain that takes an output which a revoked commitment lets a side claim is a filling of the side's. Or it is the HTLC's own transaction, or, on to_local's form alone, a
+  -- filling of the owner's after the delay. Or named strings collide
+  pub taken : SeedsDiffer w → OutputsAreTaken w
   -- the two sides hold the two ends of each channel
   pub agree : (c : ℕ) (x y : ChannelBook) → channel_of w.a c ≡ Some x → channel_of w.b c ≡ Some y → AreEnds x.state y.state
   -- a side's book takes the oldest message on its way to it; so, barring out-of-memory, a delivery is refused only without a channel or a message

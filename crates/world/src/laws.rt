@@ -8,7 +8,8 @@ ghost use Rattle.world.specs.Theorem.{StepsKeep, WorldsHold};
 use book::laws::{accepted_is_called, kept_are_exact, releases_fit, signing_is_guarded};
 use channel::laws::{peers_agree, sides_are_sound};
 use claim::laws::accepted_claims_spend;
-use safety::laws::nothing_escapes;
+use safety::laws::{inputs_have_passed, nothing_escapes};
+use sources::laws::taken;
 
 /// The first half of the Enforcement theorem, at any moment of any chain. An input that fits an accepted claim passes the chain's test and runs clean. The premises: the output that
 /// it spends is unspent, with the value and program of the claim's place, and the transaction's lock time and the claim's age are reached. They are reached exactly if the block is
@@ -39,18 +40,21 @@ pub fn steps_keep()
 /// The Enforcement theorem at a moment, in any world that events lead to. Each call in both books was accepted. No signature follows a revocation without the penalties kept
 /// between the two. What is kept is exactly the accepted claims on all that is claimable. Every claim of a side is an accepted one. An input that fits an accepted claim passes and
 /// runs clean once it is due. Whoever makes the next block, nothing in it takes what a revoked commitment lets its owner's peer claim, except as `nothing_escapes` of `safety`
-/// says. What was released are fillings of the two histories, whose inputs fit their claims. The two sides hold the two ends of each channel. No delivery is refused for its
-/// message.
+/// says. On the chain, what takes such an output is a filling of that peer's, the HTLC's own transaction, or after the delay a filling of the owner's of an output in to_local's form;
+/// or named byte strings collide. The two seeds of each channel have to differ. What was released are fillings of the two histories, whose inputs fit their claims. The two sides
+/// hold the two ends of each channel. No delivery is refused for its message.
 pub fn worlds_hold()
     ensures { WorldsHold }
 {
-    // By these laws the proof knows what holds for histories, for claims, for what a revoked commitment pays, and for books that agree.
+    // By these laws the proof knows what holds for histories, for claims, for what a revoked commitment pays, for what takes it, and for books that agree.
     accepted_is_called();
     signing_is_guarded();
     kept_are_exact();
     releases_fit();
     claims_spend();
     nothing_escapes();
+    inputs_have_passed();
+    taken();
     peers_agree();
     sides_are_sound();
     deliveries_are_taken();
