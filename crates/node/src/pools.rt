@@ -137,7 +137,8 @@ impl Pool {
 
     /// Whether the chain has this height after this number of reorganisations.
     pub fn is_at(&self, round: u64, height: u64) -> bool
-        ensures { result ≡ (length self.now.forks.items == round && height_of self.now.chain.blocks == height) }
+        ensures { result
+            ≡ (length self.now.forks.items == round && height_of self.now.chain.blocks == height) }
     {
         self.round() == round && self.chain.height() == height
     }

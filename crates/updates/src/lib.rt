@@ -3,7 +3,7 @@
 //!
 //! [`OwnUpdate`] is what a side decides: it offers, fulfils or fails an HTLC, or sets the feerate. [`Update`] is what
 //! it tells its peer. A [`Ledger`] holds both sides' updates as one side knows them. Barring out-of-memory, each call
-//! names the first refusal that holds, in the stated order, and each view is exactly that of the updates in a
+//! names the first refusal that holds, in the order that it states, and each view is exactly that of the updates in a
 //! commitment. Whatever the peer sends, in each view no balance is below 0, and balances and HTLCs sum to the
 //! capacity. The time of a call grows with the number of pending HTLCs, not with the number that there ever were; no
 //! clause says so.

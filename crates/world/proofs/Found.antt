@@ -1,5 +1,5 @@
 -- The claims that a side finds in blocks are on what its book records.
-use Rattle.std.proofs.Common.{ℕ, ◌+◌, List, ◌++◌, sym, subst}
+use Rattle.std.proofs.Common.{ℕ, List, ◌++◌, sym, subst}
 use Rattle.std.specs.List.{AllByRecursion, filter_map}
 use Rattle.tx.specs.Fields.{Transaction}
 use Rattle.chain.specs.Blocks.{Contents}

@@ -1,8 +1,7 @@
--- Each transaction of a world comes from what is recorded of its channels.
-use Rattle.std.proofs.Common.{◌≡◌, ℕ, zero, suc, List, [], ◌∷◌, ◌++◌, Contains, Option, Some, None, Result, Ok, Err, refl, sym, ap, ◌∙◌, subst, ⊎_elim, inl, inr}
-use Rattle.std.specs.Prelude.{◌⊎◌, slice_get, option_map, option_and_then}
-use Rattle.std.specs.List.{AllByRecursion, flat_map}
-use Rattle.std.proofs.lemmas.List.Elements.{Contains-append_left, Contains-append_right, Contains-append_cases}
+-- Each transaction of a world, and each claim that is due, comes from what is recorded of a channel.
+use Rattle.std.proofs.Common.{◌≡◌, ℕ, zero, suc, List, [], ◌∷◌, ◌++◌, Contains, Option, Some, None, Ok, refl, sym, ap, ◌∙◌, subst, ⊎_elim}
+use Rattle.std.specs.Prelude.{slice_get, option_map, option_and_then}
+use Rattle.std.specs.List.{AllByRecursion}
 use Rattle.std.proofs.lemmas.Option.{none-some, same_Some, slice_get_within, get_or_from_slice_get}
 use Rattle.tx.specs.Fields.{Transaction, transaction_with_witness, unsigned_transaction}
 use Rattle.terms.specs.declared.sides.Side.{Side}
@@ -23,23 +22,21 @@ use Rattle.channel.specs.Agreeing.{FirstOf}
 use Rattle.channel.specs.States.{State}
 use Rattle.channel.specs.Tokens.{contents_of}
 use Rattle.book.specs.declared.calls.Batch.{Batch}
-use Rattle.book.specs.declared.calls.Call.{Call}
 use Rattle.book.specs.declared.calls.Call.TheVariants as calls
-use Rattle.book.specs.declared.calls.Entry.{Entry}
 use Rattle.book.specs.Books.{ChannelBook}
 use Rattle.book.specs.Calling.{filling_by}
 use Rattle.book.specs.Penalties.{revoked_contents, claimable_in, claimable_at}
-use Rattle.sources.specs.Taken.{IsIn, IsDueTo, of_own as due_on_own, of_peers as due_on_peers, of_revoked as due_on_revoked, IsFilledBy, Fillings, AreFilled, IsFrom as IsFromRecords, from_commitment, from_htlc, from_filling}
+use Rattle.sources.specs.Taken.{IsIn, ChannelRecords, IsDueTo, of_own as due_on_own, of_peers as due_on_peers, of_revoked as due_on_revoked}
 use Rattle.world.specs.Publishing.{found, commitment_in, htlc_tx_in}
 use Rattle.world.specs.Releasing.{IsFillingIn}
-use Rattle.world.specs.Sources.{IsFrom, a_commitment, an_htlc_tx, a_filling, IsDueOf, of_own, of_peers, of_revoked, IsDueIn, IsSide}
+use Rattle.world.specs.Sources.{IsFrom, a_commitment, an_htlc_tx, a_filling, IsDueOf, of_own, of_peers, of_revoked, IsSide}
 use Rattle.world.specs.Worlds.{World, node_of, channel_of}
 use Rattle.world.specs.Theorem.{IsWorld}
 use Rattle.world.proofs.Growing.{Stays}
-use Rattle.world.proofs.Recorded.{none_in, later_in, first_in, cases_in}
+use Rattle.world.proofs.Recorded.{none_in, cases_in}
 use Rattle.world.proofs.Sourced.{not_found, no_channel}
 use Rattle.world.proofs.TwoEnds.{end_of, AreBoth, Laws, found_at}
-use Rattle.world.proofs.Recordings.{recorded, records_of, recorded_there, twice}
+use Rattle.world.proofs.Recordings.{recorded, twice}
 
 -- ---- lists
 
@@ -57,49 +54,6 @@ standing_in xs n x e = (n, slice_get_within xs n x e, get_or_from_slice_get xs n
 pub all_in : {X : Type 0} (P : X → Type 0) (xs : List X) (x : X) → AllByRecursion P xs → Contains xs x → P x
 all_in P [] x a c = absurd (none_in x c)
 all_in P (y ∷ ys) x a c = ⊎_elim {C = P x} (λ (e : y ≡ x). subst P e a.0) (λ (h : Contains ys x). all_in P ys x a.1 h) (cases_in y ys x c)
-
-inside : {X Y : Type 0} (f : X → List Y) (xs : List X) (y : Y) → Contains (flat_map f xs) y → (x : X) × Contains xs x × Contains (f x) y
-inside f [] y c = absurd (none_in y c)
-inside {X} {Y} f (x ∷ xs) y c =
-    ⊎_elim {C = (z : X) × Contains (x ∷ xs) z × Contains (f z) y} (λ (h : Contains (f x) y). (x, first_in x xs, h))
-    (λ (h : Contains (flat_map f xs) y). let r = inside f xs y h in (r.0, later_in x xs r.0 r.1, r.2)) (Contains-append_cases (f x) (flat_map f xs) y c)
-
-pub among : {X Y : Type 0} (f : X → List Y) (xs : List X) (x : X) (y : Y) → Contains xs x → Contains (f x) y → Contains (flat_map f xs) y
-among f [] x y c d = absurd (none_in x c)
-among f (z ∷ xs) x y c d =
-    ⊎_elim {C = Contains (flat_map f (z ∷ xs)) y} (λ (e : z ≡ x). Contains-append_left (f z) (flat_map f xs) y (subst (λ v. Contains (f v) y) (sym e) d))
-    (λ (h : Contains xs x). Contains-append_right (f z) (flat_map f xs) y (among f xs x y h d)) (cases_in z xs x c)
-
--- ---- the fillings of each side
-
-abbrev filled_by_call : Call → List Transaction
-filled_by_call (calls.Release c batch) = (filling_by batch).tx ∷ []
-filled_by_call call = []
-
-abbrev fillings_in : List Entry → List Transaction
-fillings_in history = flat_map (λ e. filled_by_call e.call) history
-
-abbrev pub fillings_of : World → Fillings
-fillings_of w s = fillings_in (node_of s w).history
-
-only_one : {X : Type 0} (x y : X) → Contains (x ∷ []) y → x ≡ y
-only_one x y c = ⊎_elim {C = x ≡ y} (λ (e : x ≡ y). e) (λ (h : Contains [] y). absurd (none_in y h)) (cases_in x [] y c)
-
-by_entry : (history : List Entry) (t : Transaction) (seat : ℕ) (call : Call) → Contains history (record { seat = seat; call = call }) → Contains (filled_by_call call) t → IsFillingIn history t
-by_entry history t seat (calls.Release c batch) noted within = record { seat = seat; channel = c; batch = batch; noted = noted; filled = sym (only_one (filling_by batch).tx t within) }
-by_entry history t seat (calls.Open o) noted within = absurd (none_in t within)
-by_entry history t seat (calls.Step c step) noted within = absurd (none_in t within)
-by_entry history t seat (calls.Sign c) noted within = absurd (none_in t within)
-by_entry history t seat (calls.Revoke c secret point) noted within = absurd (none_in t within)
-by_entry history t seat (calls.Keep c n claims) noted within = absurd (none_in t within)
-
-pub is_filling : (history : List Entry) (t : Transaction) → Contains (fillings_in history) t → IsFillingIn history t
-is_filling history t c = let i = inside (λ (e : Entry). filled_by_call e.call) history t c in by_entry history t i.0.seat i.0.call i.1 i.2
-
-a_filling_of : (history : List Entry) (t : Transaction) → IsFillingIn history t → Contains (fillings_in history) t
-a_filling_of history t f =
-    among (λ (e : Entry). filled_by_call e.call) history (record { seat = f.seat; call = calls.Release f.channel f.batch }) t f.noted
-    (subst (λ (u : Transaction). Contains ((filling_by f.batch).tx ∷ []) u) (sym f.filled) (first_in (filling_by f.batch).tx []))
 
 -- ---- recorded commitments
 
@@ -148,40 +102,37 @@ pub claims_of_contents : (c d : Contents) (o : Claimable) → c ≡ d → Contai
 unfolding claimable_in
 claims_of_contents c d o e h = subst (λ (v : Contents). Contains (claims_from v 0 v.outputs) o) e h
 
-due_of : (w : World) (c : ℕ) (x y : ChannelBook) → AreBoth w c x y → (s : Side) (p : ClaimParts) → IsDueOf (end_of s x y).state p → IsDueTo (records_of w) s p
-due_of w c x y b s p (of_own n k preimages at h) =
-    due_on_own c (recorded x y) (recorded_there w c x y b) k (own_in w c x y b s n k at) preimages
-    (subst (λ (t : Terms). Contains (owners_due preimages (contents_of t k)) (claimed_by p)) (b.terms s) h)
-due_of w c x y b s p (of_peers n k preimages at h) =
-    due_on_peers c (recorded x y) (recorded_there w c x y b) k (signed_in x y s n k at) preimages
-    (subst (λ (t : Terms). Contains (peers_due preimages (contents_of t k)) (claimed_by p)) (b.terms s) h)
-due_of w c x y b s p (of_revoked n os e h) =
+-- a claim is due on a commitment that is recorded, one's own or the peer's
+pub data IsOn (w : World) (c : ℕ) (x y : ChannelBook) (s : Side) (p : ClaimParts) : Type 0 where
+  on_own : (k : CommitmentState) → IsIn (recorded x y) s k → (preimages : List (List ℕ)) → Contains (owners_due preimages (contents_of x.state.held.terms k)) (claimed_by p) → IsOn w c x y s p
+  on_peers : (k : CommitmentState) → IsIn (recorded x y) (other s) k → (preimages : List (List ℕ)) → Contains (peers_due preimages (contents_of x.state.held.terms k)) (claimed_by p) → IsOn w c x y s p
+  on_revoked : (k : CommitmentState) → IsIn (recorded x y) (other s) k
+      → Contains (claims_from (contents_of x.state.held.terms k) 0 (contents_of x.state.held.terms k).outputs) (claimed_by p) → IsOn w c x y s p
+
+pub is_on : (w : World) (c : ℕ) (x y : ChannelBook) → AreBoth w c x y → (s : Side) (p : ClaimParts) → IsDueOf (end_of s x y).state p → IsOn w c x y s p
+is_on w c x y b s p (of_own n k preimages at h) =
+    on_own k (own_in w c x y b s n k at) preimages (subst (λ (t : Terms). Contains (owners_due preimages (contents_of t k)) (claimed_by p)) (b.terms s) h)
+is_on w c x y b s p (of_peers n k preimages at h) =
+    on_peers k (signed_in x y s n k at) preimages (subst (λ (t : Terms). Contains (peers_due preimages (contents_of t k)) (claimed_by p)) (b.terms s) h)
+is_on w c x y b s p (of_revoked n os e h) =
     let i = revoked_at (end_of s x y).state n os e in
-    due_on_revoked c (recorded x y) (recorded_there w c x y b) i.k (signed_in x y s n i.k i.signed)
+    on_revoked i.k (signed_in x y s n i.k i.signed)
     (claims_of_contents (revoked_contents (end_of s x y).state i.k i.secret) (contents_of x.state.held.terms i.k) (claimed_by p) (revoked_is w c x y b s n i.k i.secret i.signed i.told)
     (subst (λ (v : List Claimable). Contains v (claimed_by p)) i.is h))
 
-due_to : Laws → (w : World) → IsWorld w → (s : Side) (c : ℕ) (p : ClaimParts) → IsDueIn (node_of s w).history c p → IsDueTo (records_of w) s p
-due_to laws w is s c p d =
-    let f = found_at laws w is s c d.ch d.there in
-    due_of w c f.x f.y f.both s p (subst (λ (ch : ChannelBook). IsDueOf ch.state p) (sym f.is) d.due)
+pub due_to : (w : World) (c : ℕ) (x y : ChannelBook) (s : Side) (p : ClaimParts) (channels : ChannelRecords) → channels c ≡ Some (recorded x y) → IsOn w c x y s p → IsDueTo channels s p
+due_to w c x y s p channels there (on_own k i preimages h) = due_on_own c (recorded x y) there k i preimages h
+due_to w c x y s p channels there (on_peers k i preimages h) = due_on_peers c (recorded x y) there k i preimages h
+due_to w c x y s p channels there (on_revoked k i h) = due_on_revoked c (recorded x y) there k i h
 
-side_of : (w : World) → IsWorld w → (s : Side) → IsSide (node_of s w)
+pub side_of : (w : World) → IsWorld w → (s : Side) → IsSide (node_of s w)
 side_of w is A = is.a_side
 side_of w is B = is.b_side
 
 -- each input of a released filling fits its claim
 abbrev pub AllOfThemFit : World → Type 0
-AllOfThemFit w = (s : Side) (seat c : ℕ) (batch : Batch) → Contains (node_of s w).history (record { seat = seat; call = calls.Release c batch }) → AllFit (filling_by batch).tx batch.claims (filling_by batch).tx.inputs
-
-pub are_filled : Laws → (w : World) → IsWorld w → AllOfThemFit w → AreFilled (records_of w) (fillings_of w)
-are_filled laws w is fits s t c =
-    let f = is_filling (node_of s w).history t c in
-    record {
-      claims = f.batch.claims;
-      fits = subst (λ (u : Transaction). AllFit u f.batch.claims u.inputs) (sym f.filled) (fits s f.seat f.channel f.batch f.noted);
-      due = λ p h. due_to laws w is s f.channel p (all_in (IsDueIn (node_of s w).history f.channel) f.batch.claims p ((side_of w is s).due f.seat f.channel f.batch f.noted) h);
-    }
+AllOfThemFit w = (s : Side) (seat c : ℕ) (batch : Batch) → Contains (node_of s w).history (record { seat = seat; call = calls.Release c batch })
+    → AllFit (filling_by batch).tx batch.claims (filling_by batch).tx.inputs
 
 -- ---- transactions
 
@@ -193,60 +144,68 @@ unsigned_second : (c : Contents) (h : HtlcOutput) (items : List (List ℕ)) → 
 unfolding second_stage_of
 unsigned_second c h items = refl
 
+-- whose transaction it is, whatever its witnesses: a recorded commitment, an HTLC transaction of one, or a filling
+pub data IsMade (w : World) (t : Transaction) : Type 0 where
+  commits : (c : ℕ) (x y : ChannelBook) → AreBoth w c x y → (s : Side) (k : CommitmentState) → IsIn (recorded x y) s k
+      → unsigned_transaction t ≡ transaction_of (contents_of x.state.held.terms k) → IsMade w t
+  stages : (c : ℕ) (x y : ChannelBook) → AreBoth w c x y → (s : Side) (k : CommitmentState) → IsIn (recorded x y) s k
+      → (h : HtlcOutput) → Contains (htlcs_of (contents_of x.state.held.terms k)) h → unsigned_transaction t ≡ second_stage_of (contents_of x.state.held.terms k) h → IsMade w t
+  fills : (s : Side) → IsFillingIn (node_of s w).history t → IsMade w t
+
 found_is : (t u : Transaction) → found (Some t) ≡ Ok u → t ≡ u
 found_is t u e = cc
 
-commitment_from : (w : World) (c : ℕ) (x y : ChannelBook) → AreBoth w c x y → (s : Side) (n : ℕ) (t : Transaction) → found (signed_commitment_of (end_of s x y).state n) ≡ Ok t → IsFromRecords (records_of w) (fillings_of w) t
+commitment_from : (w : World) (c : ℕ) (x y : ChannelBook) → AreBoth w c x y → (s : Side) (n : ℕ) (t : Transaction) → found (signed_commitment_of (end_of s x y).state n) ≡ Ok t → IsMade w t
 commitment_from w c x y b s n t is = go (slice_get me.mine n) refl is
   where
     me : State
     me = (end_of s x y).state
 
-    go : (o : Option CommitmentState) → slice_get me.mine n ≡ o → found (option_map (λ k. signed_transaction me.held.terms (contents_of me.held.terms k)) o) ≡ Ok t → IsFromRecords (records_of w) (fillings_of w) t
+    go : (o : Option CommitmentState) → slice_get me.mine n ≡ o → found (option_map (λ k. signed_transaction me.held.terms (contents_of me.held.terms k)) o) ≡ Ok t → IsMade w t
     go None at is = absurd (not_found t is)
     go (Some k) at is =
-        from_commitment c (recorded x y) (recorded_there w c x y b) s k (own_in w c x y b s n k at)
+        commits c x y b s k (own_in w c x y b s n k at)
         (ap unsigned_transaction (sym (found_is (signed_transaction me.held.terms (contents_of me.held.terms k)) t is)) ∙ unsigned_commitment (contents_of me.held.terms k) _
         ∙ ap (λ (v : Terms). transaction_of (contents_of v k)) (b.terms s))
 
 htlc_from : (w : World) (c : ℕ) (x y : ChannelBook) → AreBoth w c x y → (s : Side) (n j : ℕ) (preimages : List (List ℕ)) (t : Transaction) → found (signed_htlc_tx_of (end_of s x y).state n j preimages) ≡ Ok t
-    → IsFromRecords (records_of w) (fillings_of w) t
+    → IsMade w t
 htlc_from w c x y b s n j preimages t is = go (slice_get me.mine n) refl is
   where
     me : State
     me = (end_of s x y).state
 
     made : (k : CommitmentState) → slice_get me.mine n ≡ Some k → (h : HtlcOutput) → slice_get (htlcs_of (contents_of me.held.terms k)) j ≡ Some h → (o : Option (List ℕ))
-        → found (option_map (signed_second_stage (contents_of me.held.terms k) h) o) ≡ Ok t → IsFromRecords (records_of w) (fillings_of w) t
+        → found (option_map (signed_second_stage (contents_of me.held.terms k) h) o) ≡ Ok t → IsMade w t
     made k at h within None is = absurd (not_found t is)
     made k at h within (Some item) is =
-        from_htlc c (recorded x y) (recorded_there w c x y b) s k (own_in w c x y b s n k at) h
+        stages c x y b s k (own_in w c x y b s n k at) h
         (subst (λ (v : Terms). Contains (htlcs_of (contents_of v k)) h) (b.terms s) (standing_in (htlcs_of (contents_of me.held.terms k)) j h within))
         (ap unsigned_transaction (sym (found_is (signed_second_stage (contents_of me.held.terms k) h item) t is)) ∙ unsigned_second (contents_of me.held.terms k) h _
         ∙ ap (λ (v : Terms). second_stage_of (contents_of v k) h) (b.terms s))
 
     of_one : (k : CommitmentState) → slice_get me.mine n ≡ Some k → (o : Option HtlcOutput) → slice_get (htlcs_of (contents_of me.held.terms k)) j ≡ o
-        → found (option_and_then (λ h. option_map (signed_second_stage (contents_of me.held.terms k) h) (branch_item preimages h.direction h.htlc)) o) ≡ Ok t → IsFromRecords (records_of w) (fillings_of w) t
+        → found (option_and_then (λ h. option_map (signed_second_stage (contents_of me.held.terms k) h) (branch_item preimages h.direction h.htlc)) o) ≡ Ok t → IsMade w t
     of_one k at None within is = absurd (not_found t is)
     of_one k at (Some h) within is = made k at h within (branch_item preimages h.direction h.htlc) is
 
-    go : (o : Option CommitmentState) → slice_get me.mine n ≡ o → found (option_and_then (λ k. signed_htlc_of (contents_of me.held.terms k) j preimages) o) ≡ Ok t → IsFromRecords (records_of w) (fillings_of w) t
+    go : (o : Option CommitmentState) → slice_get me.mine n ≡ o → found (option_and_then (λ k. signed_htlc_of (contents_of me.held.terms k) j preimages) o) ≡ Ok t → IsMade w t
     go None at is = absurd (not_found t is)
     go (Some k) at is = of_one k at (slice_get (htlcs_of (contents_of me.held.terms k)) j) refl is
 
-pub from_records : Laws → (w : World) → IsWorld w → (t : Transaction) → IsFrom w t → IsFromRecords (records_of w) (fillings_of w) t
-from_records laws w is t (a_commitment s c n made) = go (channel_of (node_of s w) c) refl made
+pub is_made : Laws → (w : World) → IsWorld w → (t : Transaction) → IsFrom w t → IsMade w t
+is_made laws w is t (a_commitment s c n made) = go (channel_of (node_of s w) c) refl made
   where
-    go : (o : Option ChannelBook) → channel_of (node_of s w) c ≡ o → commitment_in n o ≡ Ok t → IsFromRecords (records_of w) (fillings_of w) t
+    go : (o : Option ChannelBook) → channel_of (node_of s w) c ≡ o → commitment_in n o ≡ Ok t → IsMade w t
     go None there made = absurd (no_channel _ t made)
     go (Some ch) there made =
         let f = found_at laws w is s c ch there in
         commitment_from w c f.x f.y f.both s n t (subst (λ (v : ChannelBook). found (signed_commitment_of v.state n) ≡ Ok t) (sym f.is) made)
-from_records laws w is t (an_htlc_tx s c n k preimages made) = go (channel_of (node_of s w) c) refl made
+is_made laws w is t (an_htlc_tx s c n k preimages made) = go (channel_of (node_of s w) c) refl made
   where
-    go : (o : Option ChannelBook) → channel_of (node_of s w) c ≡ o → htlc_tx_in n k preimages o ≡ Ok t → IsFromRecords (records_of w) (fillings_of w) t
+    go : (o : Option ChannelBook) → channel_of (node_of s w) c ≡ o → htlc_tx_in n k preimages o ≡ Ok t → IsMade w t
     go None there made = absurd (no_channel _ t made)
     go (Some ch) there made =
         let f = found_at laws w is s c ch there in
         htlc_from w c f.x f.y f.both s n k preimages t (subst (λ (v : ChannelBook). found (signed_htlc_tx_of v.state n k preimages) ≡ Ok t) (sym f.is) made)
-from_records laws w is t (a_filling s f) = from_filling s (a_filling_of (node_of s w).history t f)
+is_made laws w is t (a_filling s f) = fills s f

@@ -8,11 +8,9 @@ use Rattle.terms.specs.Sides.{other}
 use Rattle.penalty.specs.declared.states.RevokedState.{RevokedState}
 use Rattle.chain.specs.Blocks.{Contents}
 use Rattle.safety.specs.Fates.{NothingEscapesAbove}
-use Rattle.safety.specs.Standing.{HavePassed}
-use Rattle.sources.specs.Taken.{Taken}
 use Rattle.channel.specs.declared.messages.Message.{Message}
 use Rattle.channel.specs.Tokens.{peer_tokens}
-use Rattle.channel.specs.Recording.{SidesRecord, SidesNumber}
+use Rattle.channel.specs.Recording.{SidesNumber}
 use Rattle.channel.specs.Agreeing.{PeersAgree}
 use Rattle.book.specs.Books.{replay}
 use Rattle.book.specs.Accepted.{all_accepted, AcceptedMeans}
@@ -75,14 +73,13 @@ nodes_of w is A = is.a
 nodes_of w is B = is.b
 
 pub worlds_hold : AcceptedMeans → AcceptedIsGuarded → KeptAreExact → ReleasesFit → ClaimsSpend → ((blocks : List Contents) (height : ℕ) (state : RevokedState) → NothingEscapesAbove blocks height state) → PeersAgree
-    → SidesNumber → SidesRecord → HavePassed → Taken → DeliveriesAreTaken → WorldsHold
-worlds_hold means gate exact releasing opening escapes peers numbers records passed taken deliveries w is =
+    → SidesNumber → Laws → DeliveriesAreTaken → WorldsHold
+worlds_hold means gate exact releasing opening escapes peers numbers laws deliveries w is =
     let fit = fitting_world w is in
     let accepted : (s : Side) → all_accepted peer_tokens (node_of s w).history ≡ true = λ s. (means.accepted_exactly peer_tokens (node_of s w).history).0 (history_of s w fit) in
     let takes : (s : Side) (c : ℕ) (m : Message) (rest : List Message) → slice_get (inboxes (node_of s w)) c ≡ Some (m ∷ rest) → is_accepted (answer_to (node_of s w) (call_of c m)) ≡ true
     = λ s c m rest queue. deliveries s (node_of s w).history (node_of (other s) w).history (inboxes (node_of s w)) (inboxes (node_of (other s) w)) c m rest (agree_from s w fit) queue in
     let fits : AllOfThemFit w = λ s seat c batch there. releasing peer_tokens (node_of s w).history seat c batch (accepted s) (nodes_of w is s).claims_are_whole there in
-    let laws : Laws = record { agree = peers; record_all = records; number_all = numbers } in
     record {
       accepted = accepted;
       guarded = λ s. gate peer_tokens (node_of s w).history (accepted s);
@@ -92,7 +89,7 @@ worlds_hold means gate exact releasing opening escapes peers numbers records pas
       released = is.released;
       fits = fits;
       others = λ state. escapes w.chain.blocks _ state;
-      taken = λ differ. outputs_are_taken laws passed taken w is fits differ;
+      taken = outputs_are_taken laws w is fits;
       agree = λ c x y here there. ends_at peers numbers c (replay w.a.history) (replay w.b.history) (inboxes w.a) (inboxes w.b) x y is.agree here there;
       takes = takes;
       delivers = λ s c r refused. line_is c (node_of s w) (node_of (other s) w) (slice_get (node_of s w).lines c) r

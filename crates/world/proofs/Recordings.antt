@@ -1,14 +1,11 @@
--- What is recorded of the channels of a world, for the law on what takes their outputs.
-use Rattle.std.proofs.Common.{◌≡◌, ◌≢◌, ℕ, zero, suc, ◌+◌, ◌≤◌, ◌<◌, ◌^◌, ◌==◌, Bool, true, false, ◌||◌, List, [], ◌∷◌, ◌++◌, length, Option, Some, None, refl, sym, ap, ◌∙◌, subst, arith, inl, inr, ⊎_elim, eq-eqb}
-use Rattle.std.specs.Prelude.{◌⊎◌, slice_get}
+-- What is recorded of a channel of a world, for the law on what takes its outputs.
+use Rattle.std.proofs.Common.{◌≡◌, ◌≢◌, ℕ, zero, suc, ◌+◌, ◌≤◌, ◌<◌, ◌^◌, Bool, true, false, eqb, List, [], ◌∷◌, length, Some, None, refl, sym, ap, ◌∙◌, subst, arith, inl, inr, ⊎_elim, eq-eqb}
+use Rattle.std.specs.Prelude.{◌⊎◌, if◌then◌else◌, slice_get}
 use Rattle.std.specs.List.{list_any}
-use Rattle.std.specs.Str.{bytes_eq}
-use Rattle.std.proofs.lemmas.Bool.{false≢true, or_parts}
+use Rattle.std.proofs.lemmas.Bool.{false≢true, or_parts, eqb-true}
 use Rattle.std.proofs.lemmas.List.Folds.{list_any-append}
 use Rattle.std.proofs.lemmas.Option.{none-some, same_Some, slice_get_within}
 use Rattle.std.proofs.lemmas.Slice.Eq.{bytes_eq-Decides}
-use Rattle.sha2.specs.Sha256.{sha256}
-use Rattle.sha2.proofs.Facts256.{length-sha256}
 use Rattle.tx.specs.declared.input.OutPoint.{OutPoint}
 use Rattle.terms.specs.declared.sides.Side.{Side}
 use Rattle.terms.specs.declared.sides.Side.TheVariants.{A, B}
@@ -17,65 +14,48 @@ use Rattle.terms.specs.declared.agreement.BaseKeys.{BaseKeys}
 use Rattle.terms.specs.Agreement.{party}
 use Rattle.terms.specs.Bases.{IsSeedOf}
 use Rattle.terms.specs.Sides.{other}
-use Rattle.chain.specs.Blocks.{grant_id, grant_outpoint}
-use Rattle.scenario.specs.Limits.{max_channels}
-use Rattle.penalty.specs.Paying.{CanPay}
+use Rattle.chain.specs.Blocks.{grant_outpoint}
 use Rattle.safety.specs.Owning.{AreOfSeed}
-use Rattle.publish.proofs.Kept.{state_pays}
 use Rattle.channel.specs.declared.commitments.CommitmentState.{CommitmentState}
 use Rattle.channel.specs.declared.limits.TheConstants.{LAST_NUMBER}
 use Rattle.channel.specs.Keeping.{one_if}
-use Rattle.channel.specs.States.{State}
+use Rattle.channel.specs.Numbered.{IsNumbered}
 use Rattle.book.specs.Books.{ChannelBook}
 use Rattle.book.specs.Penalties.{same_outpoint}
-use Rattle.sources.specs.Recorded.{IsOutPoint, IsPayable}
+use Rattle.sources.specs.Recorded.{IsOutPoint}
 use Rattle.sources.specs.Taken.{ChannelRecord, IsOwn, IsSound, ChannelRecords, AreSound}
 use Rattle.world.specs.Agreeing.{first_grants}
-use Rattle.world.specs.Worlds.{World, node_of, channel_of}
-use Rattle.world.specs.Taken.{SeedsDiffer}
-use Rattle.world.specs.Theorem.{IsWorld}
+use Rattle.world.specs.Worlds.{World, channel_of}
 use Rattle.world.proofs.Grants.{apart}
-use Rattle.world.proofs.TwoEnds.{IsSeeded, end_of, AreBoth, Laws, both_at}
+use Rattle.world.proofs.TwoEnds.{end_of, AreBoth, Laws}
 
--- ---- the records
+-- ---- the record of a channel
 
 abbrev pub recorded : ChannelBook → ChannelBook → ChannelRecord
 recorded x y = record { terms = x.state.held.terms; seed = λ s. (end_of s x y).state.seed; own = λ s. (end_of (other s) x y).state.signed }
 
-abbrev recorded_if : Option ChannelBook → Option ChannelBook → Option ChannelRecord
-recorded_if None o = None
-recorded_if (Some x) None = None
-recorded_if (Some x) (Some y) = Some (recorded x y)
+-- the ends of a channel have one record
+pub same_record : (w : World) (c d : ℕ) (x y v z : ChannelBook) → AreBoth w c x y → AreBoth w d v z → d ≡ c → recorded x y ≡ recorded v z
+same_record w c d x y v z a b e =
+    let first : x ≡ v = same_Some x v (sym (a.there A) ∙ ap (λ n. channel_of w.a n) (sym e) ∙ b.there A) in
+    let second : y ≡ z = same_Some y z (sym (a.there B) ∙ ap (λ n. channel_of w.b n) (sym e) ∙ b.there B) in
+    ap (λ (u : ChannelBook). recorded u y) first ∙ ap (λ (u : ChannelBook). recorded v u) second
 
-abbrev pub records_of : World → ChannelRecords
-records_of w c = recorded_if (channel_of w.a c) (channel_of w.b c)
+-- the record of one channel alone
+abbrev pub only : ℕ → ChannelRecord → ChannelRecords
+only c r d = if eqb d c then Some r else None
 
-pub recorded_there : (w : World) (c : ℕ) (x y : ChannelBook) → AreBoth w c x y → records_of w c ≡ Some (recorded x y)
-recorded_there w c x y b = ap (λ (o : Option ChannelBook). recorded_if o (channel_of w.b c)) (b.there A) ∙ ap (λ (o : Option ChannelBook). recorded_if (Some x) o) (b.there B)
-
--- a record is that of the two ends of a channel
-pub record IsRecordOf (w : World) (c : ℕ) (r : ChannelRecord) : Type 0 where
-  pub x : ChannelBook
-  pub y : ChannelBook
-  pub both : AreBoth w c x y
-  pub is : recorded x y ≡ r
-
-pub record_is : Laws → (w : World) → IsWorld w → (c : ℕ) (r : ChannelRecord) → records_of w c ≡ Some r → IsRecordOf w c r
-record_is laws w is c r e = go (channel_of w.a c) (channel_of w.b c) refl refl e
+pub only_is : (c d : ℕ) (r q : ChannelRecord) → only c r d ≡ Some q → (d ≡ c) × (r ≡ q)
+only_is c d r q e = go (eqb d c) refl e
   where
-    go : (o p : Option ChannelBook) → channel_of w.a c ≡ o → channel_of w.b c ≡ p → recorded_if o p ≡ Some r → IsRecordOf w c r
-    go None p here there e = absurd (none-some r e)
-    go (Some x) None here there e = absurd (none-some r e)
-    go (Some x) (Some y) here there e = record { x = x; y = y; both = both_at laws w is c x y here there; is = same_Some (recorded x y) r e }
+    go : (b : Bool) → eqb d c ≡ b → (if b then Some r else None) ≡ Some q → (d ≡ c) × (r ≡ q)
+    go true t e = (eqb-true d c t, same_Some r q e)
+    go false t e = absurd (none-some q e)
+
+pub only_there : (c d : ℕ) (r q : ChannelRecord) → d ≡ c → r ≡ q → only c r d ≡ Some q
+only_there c d r q e same = ap (λ (b : Bool). if b then Some r else None) (eq-eqb d c e) ∙ ap Some same
 
 -- ---- the outpoints of grants
-
-grant_long : (g : ℕ) → length (grant_id g) ≡ 32
-unfolding grant_id
-grant_long g = length-sha256 (sha256 _)
-
-is_grant : (c : ℕ) → IsOutPoint (grant_outpoint c)
-is_grant c = record { txid = grant_long c; index = omega arith }
 
 -- no earlier grant has the outpoint of one of the first eight
 or_below : (d n : ℕ) → d < suc n → (d ≡ n) ⊎ (d < n)
@@ -123,23 +103,16 @@ twice B = refl
 numbers_fit : (n many awaiting peer : ℕ) → n < many → many ≡ peer + 1 + awaiting → peer + awaiting ≤ LAST_NUMBER → n < 2 ^ 48
 numbers_fit n many awaiting peer l e b = omega (arith, l, e, b)
 
-own_at : (w : World) (c : ℕ) (x y : ChannelBook) → AreBoth w c x y → (side : Side) (n : ℕ) (k : CommitmentState) → slice_get (end_of (other side) x y).state.signed n ≡ Some k
+pub own_at : Laws → (w : World) (c : ℕ) (x y : ChannelBook) → AreBoth w c x y → (side : Side) (n : ℕ) (k : CommitmentState) → slice_get (end_of (other side) x y).state.signed n ≡ Some k
     → IsOwn (recorded x y) side n k
-own_at w c x y b side n k at =
+own_at laws w c x y b side n k at =
     let me = (end_of (other side) x y).state in
     let end = b.ends (other side) in
     let numbered = end.numbered.signed in
-    let one = numbered.each n k at in
-    let pays : CanPay x.state.held.terms k.view = subst (λ (t : Terms). CanPay t k.view) (b.terms (other side)) (state_pays me.held.terms (other me.held.side) _ n me.signed k numbered at) in
-    record {
-      payable = record {
-        funding = subst IsOutPoint (sym b.granted.1) (is_grant c);
-        view = pays;
-        number = subst (λ m. m < 2 ^ 48) (sym one.number) (numbers_fit n (length me.signed) (one_if me.awaiting) me.peer_number (slice_get_within me.signed n k at) numbered.count end.limited.bound);
-      };
-      owner = one.owner ∙ ap other end.side_is ∙ twice side;
-      number = one.number;
-    }
+    let below = numbers_fit n (length me.signed) (one_if me.awaiting) me.peer_number (slice_get_within me.signed n k at) numbered.count end.limited.bound in
+    laws.own (recorded x y) side n k (subst IsOutPoint (sym b.granted.1) (laws.grants c)) below
+    (subst (λ (v : Side). IsNumbered x.state.held.terms v n k) (ap other end.side_is ∙ twice side)
+    (subst (λ (t : Terms). IsNumbered t (other me.held.side) n k) (b.terms (other side)) (numbered.each n k at)))
 
 of_seed : (seed : List ℕ) (bases : BaseKeys) → IsSeedOf seed bases → AreOfSeed seed bases
 of_seed seed bases is = record { payment = is.payment; htlc = is.htlc; revocation = is.revocation }
@@ -150,21 +123,18 @@ seed_at w c x y b side =
     of_seed me.seed (party side x.state.held.terms).bases
     (subst (λ (t : Terms). IsSeedOf me.seed (party side t).bases) (b.terms side) (subst (λ (s : Side). IsSeedOf me.seed (party s me.held.terms).bases) (b.ends side).side_is (b.seeds side)))
 
-seeds_apart : (x y : ChannelBook) → x.state.seed ≢ y.state.seed → (side : Side) → (end_of side x y).state.seed ≢ (end_of (other side) x y).state.seed
-seeds_apart x y differ A e = differ e
-seeds_apart x y differ B e = differ (sym e)
+seeds_apart : (s : Side) (x y : ChannelBook) → (end_of s x y).state.seed ≢ (end_of (other s) x y).state.seed → (side : Side) → (end_of side x y).state.seed ≢ (end_of (other side) x y).state.seed
+seeds_apart A x y differ A e = differ e
+seeds_apart A x y differ B e = differ (sym e)
+seeds_apart B x y differ A e = differ (sym e)
+seeds_apart B x y differ B e = differ e
 
-sound_one : (w : World) → SeedsDiffer w → (c : ℕ) (x y : ChannelBook) → AreBoth w c x y → IsSound (recorded x y)
-sound_one w differ c x y b = record { each = own_at w c x y b; seeds = seed_at w c x y b; apart = seeds_apart x y (differ c x y (b.there A) (b.there B)) }
-
-pub are_sound : Laws → (w : World) → IsWorld w → SeedsDiffer w → AreSound (records_of w)
-are_sound laws w is differ = record {
-  each = λ c r e. let i = record_is laws w is c r e in subst IsSound i.is (sound_one w differ c i.x i.y i.both);
-  granted = λ c r e. let i = record_is laws w is c r e in ap (λ (q : ChannelRecord). q.terms.funding) (sym i.is) ∙ i.both.granted.1;
-  apart = λ c d r q e f unlike same.
-      let i = record_is laws w is c r e in
-      let j = record_is laws w is d q f in
-      let left = ap (λ (p : ChannelRecord). p.terms.funding) (sym i.is) ∙ i.both.granted.1 in
-      let right = ap (λ (p : ChannelRecord). p.terms.funding) (sym j.is) ∙ j.both.granted.1 in
-      grants_differ c d i.both.granted.0 j.both.granted.0 unlike (sym left ∙ same ∙ right);
-}
+pub is_sound : Laws → (w : World) (c : ℕ) (x y : ChannelBook) → AreBoth w c x y → (s : Side) → (end_of s x y).state.seed ≢ (end_of (other s) x y).state.seed → AreSound (only c (recorded x y))
+is_sound laws w c x y b s differ =
+    let r = recorded x y in
+    let sound : IsSound r = record { each = own_at laws w c x y b; seeds = seed_at w c x y b; apart = seeds_apart s x y differ } in
+    record {
+      each = λ d q e. subst IsSound (only_is c d r q e).1 sound;
+      granted = λ d q e. let i = only_is c d r q e in ap (λ (p : ChannelRecord). p.terms.funding) (sym i.1) ∙ b.granted.1 ∙ ap grant_outpoint (sym i.0);
+      apart = λ d n q p e f unlike same. unlike ((only_is c d r q e).0 ∙ sym (only_is c n r p f).0);
+    }

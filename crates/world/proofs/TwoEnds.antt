@@ -1,5 +1,5 @@
 -- The two ends of each channel of a world.
-use Rattle.std.proofs.Common.{◌≡◌, ℕ, zero, suc, ◌<◌, List, [], ◌∷◌, reverse, Option, Some, None, refl, sym, ap, ◌∙◌, subst}
+use Rattle.std.proofs.Common.{◌≡◌, ℕ, zero, suc, ◌<◌, List, [], ◌∷◌, reverse, Some, refl, sym, subst}
 use Rattle.std.specs.Prelude.{slice_get}
 use Rattle.std.specs.List.{AllByRecursion}
 use Rattle.std.proofs.lemmas.Option.{none-some, same_Some}
@@ -8,11 +8,15 @@ use Rattle.terms.specs.declared.sides.Side.TheVariants.{A, B}
 use Rattle.terms.specs.Agreement.{party}
 use Rattle.terms.specs.Bases.{IsSeedOf}
 use Rattle.terms.specs.Sides.{other}
-use Rattle.keys.specs.declared.compressed.Key.{Key}
 use Rattle.chain.specs.Blocks.{grant_outpoint}
 use Rattle.scenario.specs.Limits.{max_channels}
+use Rattle.safety.specs.Standing.{HavePassed}
+use Rattle.sources.specs.Waiting.{EachInputFits}
+use Rattle.sources.specs.Places.{OwnersPlaces, PeersPlaces, RevokedPlaces}
+use Rattle.sources.specs.Takers.{CommitmentsSpendFundings, HtlcTransactionsSpendOutputs, ChannelsAreApart, GrantsAreApart}
+use Rattle.sources.specs.Taken.{NumberedAreOwn, GrantsAreOutPoints, Taken}
 use Rattle.channel.specs.declared.messages.Message.{Message}
-use Rattle.channel.specs.declared.messages.Message.TheVariants.{Updated as UpdatedMessage, CommitmentSigned, RevokeAndAck}
+use Rattle.channel.specs.declared.messages.Message.TheVariants.{RevokeAndAck}
 use Rattle.channel.specs.Tokens.{peer_tokens}
 use Rattle.channel.specs.States.{State, after_sign, after}
 use Rattle.channel.specs.Peers.{World as Pair}
@@ -25,7 +29,7 @@ use Rattle.book.specs.declared.calls.Call.{Call}
 use Rattle.book.specs.declared.calls.Call.TheVariants as calls
 use Rattle.book.specs.declared.calls.Entry.{Entry}
 use Rattle.book.specs.Books.{ChannelBook, Channels, at_index, stepped, with_state, with_kept, opened_by, channels_after, replayed, replay}
-use Rattle.world.specs.Pairing.{ArePaired, AreEnds}
+use Rattle.world.specs.Pairing.{ArePaired}
 use Rattle.world.specs.Worlds.{World, node_of, channel_of, inboxes}
 use Rattle.world.specs.Theorem.{IsWorld}
 use Rattle.world.proofs.Whole.{all_append}
@@ -38,7 +42,8 @@ abbrev pub IsSeeded : ChannelBook → Type 0
 IsSeeded ch = IsSeedOf ch.state.seed (party ch.state.held.side ch.state.held.terms).bases
 
 -- a change of one channel keeps it
-changed_seeded : (f : ChannelBook → ChannelBook) → ((ch : ChannelBook) → IsSeeded ch → IsSeeded (f ch)) → (c : ℕ) (chs : Channels) → AllByRecursion IsSeeded chs → AllByRecursion IsSeeded (at_index f c chs)
+changed_seeded : (f : ChannelBook → ChannelBook) → ((ch : ChannelBook) → IsSeeded ch → IsSeeded (f ch)) → (c : ℕ) (chs : Channels) → AllByRecursion IsSeeded chs
+    → AllByRecursion IsSeeded (at_index f c chs)
 changed_seeded f keeps c [] a = tt
 changed_seeded f keeps zero (x ∷ xs) a = (keeps x a.0, a.1)
 changed_seeded f keeps (suc c) (x ∷ xs) a = (a.0, changed_seeded f keeps c xs a.1)
@@ -125,6 +130,18 @@ pub record Laws : Type 0 where
   pub agree : PeersAgree
   pub record_all : SidesRecord
   pub number_all : SidesNumber
+  pub pass : HavePassed
+  pub own : NumberedAreOwn
+  pub grants : GrantsAreOutPoints
+  pub taken : Taken
+  pub inputs : EachInputFits
+  pub owners : OwnersPlaces
+  pub peers : PeersPlaces
+  pub revoked : RevokedPlaces
+  pub fundings : CommitmentsSpendFundings
+  pub outputs : HtlcTransactionsSpendOutputs
+  pub channels_apart : ChannelsAreApart
+  pub grants_apart : GrantsAreApart
 
 by_side : (P : Side → Type 0) → P A → P B → (s : Side) → P s
 by_side P a b A = a

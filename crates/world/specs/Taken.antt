@@ -2,8 +2,7 @@
 use Rattle.std.specs.Prelude.{◌≡◌, ◌≢◌, ℕ, ◌<◌, List, Contains, Some, slice_get}
 use Rattle.tx.specs.declared.input.TxIn.{TxIn}
 use Rattle.tx.specs.Fields.{Transaction}
-use Rattle.chain.specs.Blocks.{Coin, coin_at}
-use Rattle.chain.specs.Blocks.{Contents as Block}
+use Rattle.chain.specs.Blocks.{Contents as Block, Coin, coin_at}
 use Rattle.terms.specs.declared.sides.Side.{Side}
 use Rattle.terms.specs.Sides.{other}
 use Rattle.commit.specs.Commitments.{Contents}
@@ -18,7 +17,7 @@ use Rattle.book.specs.Penalties.{revoked_contents, claimable_in}
 use Rattle.world.specs.Worlds.{World, node_of, channel_of}
 use Rattle.world.specs.Releasing.{IsFillingIn}
 
--- a commitment of the other side's, which this side signed, is revoked to this side
+-- a commitment of the other side's, which this side signed, is revoked to this side. The two seeds of the channel differ
 pub record IsRevokedTo (w : World) (s : Side) (c : Contents) : Type 0 where
   pub channel : ℕ
   pub number : ℕ
@@ -28,6 +27,9 @@ pub record IsRevokedTo (w : World) (s : Side) (c : Contents) : Type 0 where
   pub there : channel_of (node_of s w) channel ≡ Some ch
   pub signed : slice_get ch.state.signed number ≡ Some commitment
   pub revealed : slice_get ch.state.secrets number ≡ Some secret
+  pub peers : ChannelBook
+  pub peers_there : channel_of (node_of (other s) w) channel ≡ Some peers
+  pub apart : ch.state.seed ≢ peers.state.seed
   pub is : c ≡ revoked_contents ch.state commitment secret
 
 -- the output has the form of to_local, and the block is at least the commitment's delay above the output's. With a delay of 0 nobody waits
@@ -38,24 +40,20 @@ pub record IsLate (blocks : List Block) (c : Contents) (o : Claimable) (height :
 
 -- what is hashed for commitments that a side signed, for the seeds, and for the grants that fund channels
 pub data IsHashedIn (w : World) (bytes : List ℕ) : Type 0 where
-  of_commitment : (s : Side) (c n : ℕ) (ch : ChannelBook) (k : CommitmentState) → channel_of (node_of s w) c ≡ Some ch → slice_get ch.state.signed n ≡ Some k → IsHashedFor ch.state.held.terms k bytes
-      → IsHashedIn w bytes
+  of_commitment : (s : Side) (c n : ℕ) (ch : ChannelBook) (k : CommitmentState) → channel_of (node_of s w) c ≡ Some ch → slice_get ch.state.signed n ≡ Some k
+      → IsHashedFor ch.state.held.terms k bytes → IsHashedIn w bytes
   of_seed : (s : Side) (c : ℕ) (ch : ChannelBook) → channel_of (node_of s w) c ≡ Some ch → IsHashedOf ch.state.seed bytes → IsHashedIn w bytes
   of_grant : (c : ℕ) → c < max_channels → IsHashedForGrant c bytes → IsHashedIn w bytes
 
--- A transaction at a height takes an output that the side can claim. It is a filling that the side released. Or it is the HTLC transaction of the HTLC whose output this is. Or it is a filling that the owner
--- of the commitment released, after the delay, of an output in the form of to_local. Or two of these strings collide
+-- A transaction in a block of a height takes an output that the side can claim. It is a filling that the side released. Or it is the HTLC transaction of the HTLC whose output this
+-- is. Or it is a filling that the owner of the commitment released, after the delay, and the output has the form of to_local. Or two of these strings collide
 pub data IsTaker (w : World) (s : Side) (c : Contents) (o : Claimable) (height : ℕ) (t : Transaction) : Type 0 where
   by_the_side : IsFillingIn (node_of s w).history t → IsTaker w s c o height t
   by_the_htlc_transaction : IsHtlcTransactionAt c o.place.outpoint height t → IsTaker w s c o height t
   by_the_owner : IsFillingIn (node_of (other s) w).history t → IsLate w.chain.blocks c o height → IsTaker w s c o height t
   by_collision : StringsCollide (IsHashedIn w) (IsHashedIn w) → IsTaker w s c o height t
 
--- the two seeds of each channel differ
-abbrev pub SeedsDiffer : World → Type 0
-SeedsDiffer w = (c : ℕ) (x y : ChannelBook) → channel_of w.a c ≡ Some x → channel_of w.b c ≡ Some y → x.state.seed ≢ y.state.seed
-
--- so each transaction on the chain takes it whose input names an output that a revoked commitment, or an HTLC transaction of it, lets a side claim
+-- Each input on the chain that names an output which a revoked commitment, or an HTLC transaction of it, lets a side claim stands in such a transaction
 abbrev pub OutputsAreTaken : World → Type 0
 OutputsAreTaken w =
     (s : Side) (c : Contents) (o : Claimable) (height : ℕ) (t : Transaction) (input : TxIn) → IsRevokedTo w s c → Contains (claimable_in c) o

@@ -35,7 +35,7 @@ use Rattle.side.specs.Acts.{call_of}
 use Rattle.world.specs.Pairing.{AgreeBy, AreEnds}
 use Rattle.world.specs.Releasing.{AreFillings}
 use Rattle.world.specs.Sources.{IsSide, IsFrom, transactions_in}
-use Rattle.world.specs.Taken.{SeedsDiffer, OutputsAreTaken}
+use Rattle.world.specs.Taken.{OutputsAreTaken}
 use Rattle.world.specs.Enforcement.{IsDue, Passes}
 use Rattle.world.specs.Steps.{receipt_refusal, WorldSteps, Runs}
 
@@ -63,9 +63,9 @@ pub record HoldsAt (w : World) : Type 0 where
   -- whoever makes the next block: an input in it that takes an output which a revoked commitment lets its owner's peer claim has one of the fates of `Fate`, as far as the peer's tokens in it are over
   -- what the peer signed
   pub others : (state : RevokedState) → NothingEscapesAbove w.chain.blocks (length w.chain.blocks) state
-  -- each transaction on the chain that takes an output which a revoked commitment lets a side claim is a filling of the side's. Or it is the HTLC's own transaction, or, on to_local's form alone, a
-  -- filling of the owner's after the delay. Or named strings collide
-  pub taken : SeedsDiffer w → OutputsAreTaken w
+  -- in a channel whose two seeds differ, each transaction on the chain that takes an output which a revoked commitment lets a side claim is a filling of the side's. Or it is the HTLC's own
+  -- transaction, or, on to_local's form alone, a filling of the owner's after the delay. Or named strings collide
+  pub taken : OutputsAreTaken w
   -- the two sides hold the two ends of each channel
   pub agree : (c : ℕ) (x y : ChannelBook) → channel_of w.a c ≡ Some x → channel_of w.b c ≡ Some y → AreEnds x.state y.state
   -- a side's book takes the oldest message on its way to it; so, barring out-of-memory, a delivery is refused only without a channel or a message

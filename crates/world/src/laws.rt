@@ -9,7 +9,9 @@ use book::laws::{accepted_is_called, kept_are_exact, releases_fit, signing_is_gu
 use channel::laws::{peers_agree, sides_are_sound};
 use claim::laws::accepted_claims_spend;
 use safety::laws::{inputs_have_passed, nothing_escapes};
-use sources::laws::taken;
+use sources::laws::{
+    delayed_claims_wait, due_places, taken, what_commitments_spend, what_is_recorded, who_takes,
+};
 
 /// The first half of the Enforcement theorem, at any moment of any chain. An input that fits an accepted claim passes the chain's test and runs clean. The premises: the output that
 /// it spends is unspent, with the value and program of the claim's place, and the transaction's lock time and the claim's age are reached. They are reached exactly if the block is
@@ -41,7 +43,7 @@ pub fn steps_keep()
 /// between the two. What is kept is exactly the accepted claims on all that is claimable. Every claim of a side is an accepted one. An input that fits an accepted claim passes and
 /// runs clean once it is due. Whoever makes the next block, nothing in it takes what a revoked commitment lets its owner's peer claim, except as `nothing_escapes` of `safety`
 /// says. On the chain, what takes such an output is a filling of that peer's, the HTLC's own transaction, or after the delay a filling of the owner's of an output in to_local's form;
-/// or named byte strings collide. The two seeds of each channel have to differ. What was released are fillings of the two histories, whose inputs fit their claims. The two sides
+/// or named byte strings collide. The two seeds of the channel have to differ. What was released are fillings of the two histories, whose inputs fit their claims. The two sides
 /// hold the two ends of each channel. No delivery is refused for its message.
 pub fn worlds_hold()
     ensures { WorldsHold }
@@ -54,6 +56,11 @@ pub fn worlds_hold()
     claims_spend();
     nothing_escapes();
     inputs_have_passed();
+    what_is_recorded();
+    due_places();
+    delayed_claims_wait();
+    what_commitments_spend();
+    who_takes();
     taken();
     peers_agree();
     sides_are_sound();
