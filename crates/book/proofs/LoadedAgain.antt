@@ -46,7 +46,8 @@ use Rattle.book.specs.Dumping.{plain_party, plain_terms, plain_opening, plain_st
 use Rattle.book.specs.Loaded.{with_entry, history_after_plain, loaded}
 use Rattle.book.specs.Again.{IsWhole, HasWholeClaims, HasStepTokens, HasTokens, ComesBack, ClaimsComeBack, OpeningsComeBack, EntriesComeBack}
 use Rattle.book.proofs.OpcodesRead.{reads}
-use Rattle.book.proofs.SameOpenings.{same_bases, same_terms, same_opening, agrees, batch_is, within_batch}
+use Rattle.terms.proofs.Agreed.{same_terms}
+use Rattle.book.proofs.SameOpenings.{same_bases, same_opening, agrees, batch_is, within_batch}
 use Rattle.book.proofs.Accepted.{accepted_means}
 use Rattle.book.proofs.PeerTokens.{each_token}
 

@@ -12,11 +12,10 @@ use Rattle.tx.specs.Limits.{max_value, max_inputs, max_outputs}
 use Rattle.tx.specs.Parts.{Output}
 use Rattle.keys.specs.declared.compressed.Key.{Key}
 use Rattle.terms.specs.declared.amounts.TheConstants.{MSAT_PER_SAT}
-use Rattle.terms.specs.declared.sides.Side.{Side}
 use Rattle.terms.specs.declared.sides.Side.TheVariants.{A, B}
 use Rattle.terms.specs.declared.agreement.BaseKeys.{BaseKeys}
 use Rattle.terms.specs.declared.agreement.Terms.{Terms}
-use Rattle.terms.specs.Agreement.{CanAgree, HasFields, party}
+use Rattle.terms.specs.Agreement.{CanAgree, party}
 use Rattle.claim.specs.Claims.{ClaimParts}
 use Rattle.texts.specs.declared.calls.PlainOpening.{PlainOpening}
 use Rattle.terms.specs.declared.proposals.ProposedTerms.{ProposedTerms}
@@ -41,21 +40,6 @@ same_bases seed b h =
       delayed = same_key b.delayed (bases_of seed).delayed h.delayed i;
       htlc = same_key b.htlc (bases_of seed).htlc h.htlc i;
       revocation = same_key b.revocation (bases_of seed).revocation h.revocation i;
-    }
-
-pub same_terms : (t u : Terms) → HasFields t u.funding u.capacity u.opener u.feerate u.a u.b → t ≡ u
-same_terms t u h =
-    λ i. record {
-      funding = h.funding_is i;
-      capacity = h.capacity_is i;
-      opener = h.opener_is i;
-      feerate = h.feerate_is i;
-      a = h.a_is i;
-      b = h.b_is i;
-      limited = is_prop→PathP (λ j. h.capacity_is j ≤ max_value) (λ j. le_prop) t.limited u.limited i;
-      whole = is_prop→PathP (λ j. (h.a_is j).start + (h.b_is j).start ≡ MSAT_PER_SAT * h.capacity_is j) (λ j. ℕ_set _ _) t.whole u.whole i;
-      short_a = is_prop→PathP (λ j. (h.a_is j).delay < 2 ^ 16) (λ j. le_prop) t.short_a u.short_a i;
-      short_b = is_prop→PathP (λ j. (h.b_is j).delay < 2 ^ 16) (λ j. le_prop) t.short_b u.short_b i;
     }
 
 seed_prop : (seed : List ℕ) (bases : BaseKeys) → IsProp (IsSeedOf seed bases)

@@ -1,5 +1,5 @@
 -- What a channel refuses, message by message, and in which order; the secrets are those of BOLT 3, "Storage Tests".
-use Rattle.std.proofs.Common.{◌≡◌, ℕ, true, false, List, [], ◌∷◌, length, replicate, Some, None, refl, lit≤, lit<}
+use Rattle.std.proofs.Common.{◌≡◌, ℕ, true, false, List, [], ◌∷◌, length, replicate, Some, None, refl}
 use Rattle.std.specs.Int.Count.{count_trailing_zeros}
 use Rattle.sha2.specs.Sha256.{sha256, digest_bytes, hash_after, compress, rounds, schedule, first_words}
 use Rattle.tx.specs.declared.input.OutPoint.{OutPoint}
@@ -14,7 +14,7 @@ use Rattle.updates.specs.declared.errors.ChannelError.TheVariants.{AmountZero, B
 use Rattle.channel.specs.declared.messages.Message.TheVariants.{Updated, CommitmentSigned, RevokeAndAck}
 use Rattle.channel.specs.Points.{index_of, secret_at, point_at, is_foreign}
 use Rattle.channel.specs.States.{State, state_at_opening, update_refusal, sign_refusal, receive_refusal, after_update, after_sign, after, answers}
-use Rattle.channel.proofs.Samples.{key, secret, point_key, tokens_of, tokens}
+use Rattle.channel.proofs.Samples.{key, secret, point_key, tokens_of, tokens, sample_terms}
 
 -- a commitment number's index: the first, the second and the last
 indices : (index_of 0 ≡ 281474976710655) × (index_of 1 ≡ 281474976710654) × (index_of 281474976710655 ≡ 0)
@@ -54,18 +54,7 @@ htlc id amount expiry = record { id = id; amount = amount; hash = []; expiry = e
 
 module _ (funding : OutPoint) (bases : BaseKeys) (seed : List ℕ) where
   abbrev terms : Terms
-  terms = record {
-    funding = funding;
-    capacity = 100000;
-    opener = A;
-    feerate = 1000;
-    a = record { dust = 546; delay = 144; minimum = 1000; start = 80000000; bases = bases };
-    b = record { dust = 546; delay = 144; minimum = 1000; start = 20000000; bases = bases };
-    limited = lit≤ tt;
-    whole = refl;
-    short_a = lit< tt;
-    short_b = lit< tt;
-  }
+  terms = sample_terms funding bases
 
   abbrev a : State
   a = state_at_opening terms A seed point_key (key 1)

@@ -1,5 +1,5 @@
 -- Plays under known terms: an HTLC that is failed, and a change of the feerate; their views were computed by hand.
-use Rattle.std.proofs.Common.{◌≡◌, ℕ, List, [], ◌∷◌, replicate, ap, ◌∙◌, refl, lit≤, lit<}
+use Rattle.std.proofs.Common.{◌≡◌, ℕ, List, [], ◌∷◌, replicate, ap, ◌∙◌, refl}
 use Rattle.tx.specs.declared.input.OutPoint.{OutPoint}
 use Rattle.terms.specs.declared.htlcs.Htlc.{Htlc}
 use Rattle.terms.specs.declared.sides.Side.TheVariants.{A, B}
@@ -17,6 +17,7 @@ use Rattle.channel.specs.declared.plays.Outcome.TheVariants.{Done, Refused, NoMe
 use Rattle.channel.specs.States.{Signing}
 use Rattle.channel.specs.Peers.{World, opened_both}
 use Rattle.channel.specs.Playing.{outcomes_of, world_after}
+use Rattle.channel.proofs.Samples.{sample_terms}
 use Rattle.channel.proofs.Trusting.{outcomes-trusting, world-trusting}
 
 abbrev by_a : Action → PairStep
@@ -70,18 +71,7 @@ views (c ∷ cs) = c.view ∷ views cs
 
 module _ (tokens_of : Signing) (funding : OutPoint) (bases : BaseKeys) (seed_a seed_b : List ℕ) where
   abbrev terms : Terms
-  terms = record {
-    funding = funding;
-    capacity = 100000;
-    opener = A;
-    feerate = 1000;
-    a = record { dust = 546; delay = 144; minimum = 1000; start = 80000000; bases = bases };
-    b = record { dust = 546; delay = 144; minimum = 1000; start = 20000000; bases = bases };
-    limited = lit≤ tt;
-    whole = refl;
-    short_a = lit< tt;
-    short_b = lit< tt;
-  }
+  terms = sample_terms funding bases
 
   abbrev opened : World
   opened = opened_both terms seed_a seed_b

@@ -3,7 +3,9 @@
 //! A [`Page`] remembers whether a piece was lost, so that a program tests it once, at its end. Then nothing but the page is handed from
 //! function to function, and no function of the program can fail. [`Page::print`] prints the whole, or ends the program with an error.
 //!
-//! It stands on `hex` alone. The programs `vectors`, `closing` and `runs` write their output with it.
+//! [`show_parts`] reads an input that comes in parts, and has a program show each.
+//!
+//! It stands on `hex` alone. The programs `vectors`, `plays`, `closing` and `runs` write their output with it.
 //!
 //! ```rust
 //! /// Writes a name and a number in a line.
@@ -17,6 +19,9 @@
 //! The part `== penalties` of `vectors` writes the values of claims this way.
 #![tactic(auto)]
 
+mod parts;
+
+pub use parts::{Parts, show_parts};
 use std::alloc::Global;
 use std::fmt::{Debug, Display, Write as _};
 use std::process::ExitCode;

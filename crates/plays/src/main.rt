@@ -14,30 +14,21 @@
 mod books;
 mod dues;
 
-use page::Page;
+use page::{Page, Parts, show_parts};
 use std::io;
 use std::process::ExitCode;
 
-/// Shows a part, which begins with its name in a line.
-fn show_part(page: &mut Page, part: &str) {
-    let (name, lines) = part.split_once('\n').unwrap_or((part, ""));
-    page.push("== ");
-    page.push(name);
-    page.push("\n");
-    if name == "book" {
-        books::show_all(page, lines);
-    } else if name == "due" {
-        dues::show_all(page);
-    } else {
-        page.fail();
-    }
-}
+/// The parts of the input: a book's calls, and what is due.
+struct Plays;
 
-/// Shows all parts.
-fn show_all(page: &mut Page, input: &str) {
-    for part in input.split("== ") {
-        if !part.is_empty() {
-            show_part(page, part);
+impl Parts for Plays {
+    fn show_lines(&self, page: &mut Page, name: &str, lines: &str) {
+        if name == "book" {
+            books::show_all(page, lines);
+        } else if name == "due" {
+            dues::show_all(page);
+        } else {
+            page.fail();
         }
     }
 }
@@ -45,7 +36,7 @@ fn show_all(page: &mut Page, input: &str) {
 fn main(rt: HostRuntime) -> ExitCode {
     let mut page = Page::new(rt.alloc());
     match io::read_to_string(rt.alloc(), rt.stdin()) {
-        Ok(input) => show_all(&mut page, input.as_str()),
+        Ok(input) => show_parts(&Plays, &mut page, input.as_str()),
         Err(_) => page.fail(),
     }
     page.print(&rt)

@@ -184,7 +184,8 @@ fn take<R: Wait>(
 ) -> Result<bool, AllocError>
     requires { IsEnd office.now me.old }
     ensures end { IsEnd office.now me.new }
-    ensures taken { IfOk result (IsTaken channel call me.old me.new inbox.old.items inbox.new.items) }
+    ensures taken { IfOk result
+        (IsTaken channel call me.old me.new inbox.old.items inbox.new.items) }
 {
     let reply = office.desk.call(rt, &mut me.seat, call);
     let revoked = revoked_by(&reply);

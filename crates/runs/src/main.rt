@@ -8,7 +8,7 @@
 mod chains;
 
 use enforce_words::run_words;
-use page::Page;
+use page::{Page, Parts, show_parts};
 use std::io;
 use std::process::ExitCode;
 
@@ -44,31 +44,17 @@ fn show_run(page: &mut Page, line: &str) {
     }
 }
 
-/// Shows the lines of a part.
-fn show_lines(page: &mut Page, name: &str, lines: &str) {
-    for line in lines.lines() {
-        if name == "chains" {
-            chains::show(page, line);
-        } else {
-            show_run(page, line);
-        }
-    }
-}
+/// The scenarios of each part.
+struct Runs;
 
-/// Shows a part, which begins with its name in a line.
-fn show_part(page: &mut Page, part: &str) {
-    let (name, lines) = part.split_once('\n').unwrap_or((part, ""));
-    page.push("== ");
-    page.push(name);
-    page.push("\n");
-    show_lines(page, name, lines);
-}
-
-/// Shows all parts.
-fn show_all(page: &mut Page, input: &str) {
-    for part in input.split("== ") {
-        if !part.is_empty() {
-            show_part(page, part);
+impl Parts for Runs {
+    fn show_lines(&self, page: &mut Page, name: &str, lines: &str) {
+        for line in lines.lines() {
+            if name == "chains" {
+                chains::show(page, line);
+            } else {
+                show_run(page, line);
+            }
         }
     }
 }
@@ -76,7 +62,7 @@ fn show_all(page: &mut Page, input: &str) {
 fn main(rt: HostRuntime) -> ExitCode {
     let mut page = Page::new(rt.alloc());
     match io::read_to_string(rt.alloc(), rt.stdin()) {
-        Ok(input) => show_all(&mut page, input.as_str()),
+        Ok(input) => show_parts(&Runs, &mut page, input.as_str()),
         Err(_) => page.fail(),
     }
     page.print(&rt)

@@ -17,7 +17,7 @@ use Rattle.terms.specs.Agreement.{CanAgree, HasFields}
 use Rattle.terms.specs.Proposals.{can_agree, party_of, terms_with, terms_if, agreed_terms}
 
 -- what the type of terms keeps has one proof
-same_terms : (t u : Terms) → HasFields t u.funding u.capacity u.opener u.feerate u.a u.b → t ≡ u
+pub same_terms : (t u : Terms) → HasFields t u.funding u.capacity u.opener u.feerate u.a u.b → t ≡ u
 same_terms t u h =
     λ i. record {
       funding = h.funding_is i;

@@ -22,7 +22,7 @@ mod plays;
 mod publishing;
 mod transactions;
 
-use page::Page;
+use page::{Page, Parts, show_parts};
 use std::io;
 use std::process::ExitCode;
 
@@ -39,39 +39,25 @@ fn short_number(word: Option<&str>) -> u32 {
     u32::try_from(number(word)).unwrap_or(0)
 }
 
-/// Shows the lines of a part.
-fn show_lines(page: &mut Page, name: &str, lines: &str) {
-    if name == "tx" {
-        transactions::show_all(page, lines);
-    } else if name == "patterns" {
-        patterns::show_all(page, lines);
-    } else if name == "penalties" {
-        penalty_sets::show_all(page, lines);
-    } else if name == "commitments" {
-        commitments::show_all(page, lines);
-    } else if name == "channel" {
-        plays::show_all(page, lines);
-    } else if name == "publishing" {
-        publishing::show_all(page);
-    } else {
-        page.fail();
-    }
-}
+/// The parts of the vectors.
+struct Vectors;
 
-/// Shows a part, which begins with its name in a line.
-fn show_part(page: &mut Page, part: &str) {
-    let (name, lines) = part.split_once('\n').unwrap_or((part, ""));
-    page.push("== ");
-    page.push(name);
-    page.push("\n");
-    show_lines(page, name, lines);
-}
-
-/// Shows all parts.
-fn show_all(page: &mut Page, input: &str) {
-    for part in input.split("== ") {
-        if !part.is_empty() {
-            show_part(page, part);
+impl Parts for Vectors {
+    fn show_lines(&self, page: &mut Page, name: &str, lines: &str) {
+        if name == "tx" {
+            transactions::show_all(page, lines);
+        } else if name == "patterns" {
+            patterns::show_all(page, lines);
+        } else if name == "penalties" {
+            penalty_sets::show_all(page, lines);
+        } else if name == "commitments" {
+            commitments::show_all(page, lines);
+        } else if name == "channel" {
+            plays::show_all(page, lines);
+        } else if name == "publishing" {
+            publishing::show_all(page);
+        } else {
+            page.fail();
         }
     }
 }
@@ -79,7 +65,7 @@ fn show_all(page: &mut Page, input: &str) {
 fn main(rt: HostRuntime) -> ExitCode {
     let mut page = Page::new(rt.alloc());
     match io::read_to_string(rt.alloc(), rt.stdin()) {
-        Ok(input) => show_all(&mut page, input.as_str()),
+        Ok(input) => show_parts(&Vectors, &mut page, input.as_str()),
         Err(_) => page.fail(),
     }
     page.print(&rt)

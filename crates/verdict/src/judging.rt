@@ -55,7 +55,7 @@ pub fn judge(
         }
         let script = key_hash_script(alloc, &program[2..])?;
         let code = script.as_slice();
-        let judged = judge_code(alloc, tx, cache, index, input, value, code, witness);
+        let judged = judge_code(alloc, tx, cache, index, input, code, witness, value);
         drop(script);
         return judged;
     }
@@ -89,19 +89,19 @@ fn judge_by_hash(
     if sha256(code).as_slice() != hash {
         return Ok(Verdict::Refused(Fault::OtherScript));
     }
-    judge_code(alloc, tx, cache, index, input, value, code, items)
+    judge_code(alloc, tx, cache, index, input, code, items, value)
 }
 
-// Judges an input whose script has these bytes.
+// Judges an input whose script has these bytes, and runs on these items.
 fn judge_code(
     alloc: Global,
     tx: &Tx,
     cache: &SighashCache<'_>,
     index: usize,
     input: &TxIn,
-    value: u64,
     code: &[u8],
     items: &[ByteString],
+    value: u64,
 ) -> Result<Verdict, AllocError>
     requires cached { cache.now ≡ tx.now }
     requires indexed { slice_get tx.now.inputs index ≡ Some input.now }

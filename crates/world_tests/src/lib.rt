@@ -15,4 +15,6 @@ mod plays;
 #[cfg(test)]
 mod refused_batches;
 #[cfg(test)]
+mod takers;
+#[cfg(test)]
 mod worlds;

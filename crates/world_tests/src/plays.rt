@@ -14,39 +14,49 @@ const HASH: [u8; 32] = [
     0x08, 0x97, 0x14, 0x85, 0x6e, 0xe2, 0x33, 0xb3, 0x90, 0x2a, 0x59, 0x1d, 0x0d, 0x5f, 0x29, 0x25,
 ];
 
-const SIGN_A: Event = Event::Sign {
+pub(crate) const OFFER: Event = Event::Own {
+    side: Side::A,
+    channel: 0,
+    update: OwnUpdate::Offer {
+        amount: 10_000_000,
+        hash: HASH,
+        expiry: 5,
+    },
+};
+
+pub(crate) const SIGN_A: Event = Event::Sign {
     side: Side::A,
     channel: 0,
 };
 
-const SIGN_B: Event = Event::Sign {
+pub(crate) const SIGN_B: Event = Event::Sign {
     side: Side::B,
     channel: 0,
 };
 
-const DELIVER_A: Event = Event::Deliver {
+pub(crate) const DELIVER_A: Event = Event::Deliver {
     side: Side::A,
     channel: 0,
 };
 
-const DELIVER_B: Event = Event::Deliver {
+pub(crate) const DELIVER_B: Event = Event::Deliver {
     side: Side::B,
     channel: 0,
 };
 
-const LOOK_A: Event = Event::Look { side: Side::A };
+pub(crate) const LOOK_A: Event = Event::Look { side: Side::A };
 
-const LOOK_B: Event = Event::Look { side: Side::B };
+pub(crate) const LOOK_B: Event = Event::Look { side: Side::B };
 
-const BLOCK: Event = Event::Blocks { count: 1 };
+pub(crate) const BLOCK: Event = Event::Blocks { count: 1 };
 
-const KEEP_A: Event = Event::Keep {
+pub(crate) const KEEP_A: Event = Event::Keep {
     side: Side::A,
     channel: 0,
     number: 0,
 };
 
-const FULFIL: Event = Event::Own {
+pub(crate) const FULFIL: Event = Event::Own {
     side: Side::B,
     channel: 0,
     update: OwnUpdate::Fulfil {
@@ -55,13 +65,13 @@ const FULFIL: Event = Event::Own {
     },
 };
 
-const KEEP_B: Event = Event::Keep {
+pub(crate) const KEEP_B: Event = Event::Keep {
     side: Side::B,
     channel: 0,
     number: 0,
 };
 
-const KEEP_B_NEXT: Event = Event::Keep {
+pub(crate) const KEEP_B_NEXT: Event = Event::Keep {
     side: Side::B,
     channel: 0,
     number: 1,
@@ -75,30 +85,15 @@ const KEEP_B_EARLY: Event = Event::Keep {
 
 // Events that are played in one call, and how each outcome is printed; or the number of entries of both books then.
 #[derive(Clone, Copy)]
-enum Round {
+pub(crate) enum Round {
     Play(&'static [Event], &'static [&'static str]),
     Entries(usize, usize),
 }
 
 // From the offer until both sides have commitments with the HTLC, and revoked the ones before.
-const OFFERED: Round = Round::Play(
+pub(crate) const OFFERED: Round = Round::Play(
     &[
-        Event::Own {
-            side: Side::A,
-            channel: 0,
-            update: OwnUpdate::Offer {
-                amount: 10_000_000,
-                hash: HASH,
-                expiry: 5,
-            },
-        },
-        DELIVER_B,
-        SIGN_A,
-        DELIVER_B,
-        DELIVER_A,
-        SIGN_B,
-        DELIVER_A,
-        DELIVER_B,
+        OFFER, DELIVER_B, SIGN_A, DELIVER_B, DELIVER_A, SIGN_B, DELIVER_A, DELIVER_B,
     ],
     &["ok"; 8],
 );
@@ -147,7 +142,7 @@ fn are_printed(rt: &impl Abort, alloc: Global, outcomes: &[Outcome], texts: &[&s
 }
 
 // Whether a round goes as it says.
-fn goes(rt: &impl Abort, alloc: Global, world: &mut World, round: &Round) -> bool {
+pub(crate) fn goes(rt: &impl Abort, alloc: Global, world: &mut World, round: &Round) -> bool {
     match *round {
         Round::Play(events, texts) => {
             let outcomes = world.play(events).expect(rt, "memory");
