@@ -1,5 +1,5 @@
 -- Terms, keys, a secret with its point, and tokens, for the examples of a channel and of a book.
-use Rattle.std.proofs.Common.{◌≡◌, ℕ, List, [], ◌∷◌, replicate, map, refl, lit≤, lit<}
+use Rattle.std.proofs.Common.{◌≡◌, ◌<◌, ◌^◌, ℕ, List, [], ◌∷◌, replicate, map, refl, lit≤, lit<}
 use Rattle.std.specs.Prelude.{IsTrue}
 use Rattle.sha2.specs.Sha256.{sha256, digest_bytes, hash_after, compress, rounds, schedule, first_words}
 use Rattle.script.specs.Token.{is_key}
@@ -44,6 +44,10 @@ tokens_of terms c = record { commitment = c.number ∷ []; htlcs = map (λ h. h.
 abbrev pub tokens : ℕ → List ℕ → Tokens
 tokens number amounts = record { commitment = number ∷ []; htlcs = map (λ n. n ∷ []) amounts }
 
+-- a delay of 144 blocks is short
+pub short : 144 < 2 ^ 16
+short = lit< tt
+
 -- A opens a channel of 100,000 satoshis, of which 20,000 are B's
 abbrev pub sample_terms : OutPoint → BaseKeys → Terms
 sample_terms funding bases = record {
@@ -53,5 +57,8 @@ sample_terms funding bases = record {
   feerate = 1000;
   a = record { dust = 546; delay = 144; minimum = 1000; start = 80000000; bases = bases };
   b = record { dust = 546; delay = 144; minimum = 1000; start = 20000000; bases = bases };
-  limited = lit≤ tt; whole = refl; short_a = lit< tt; short_b = lit< tt;
+  limited = lit≤ tt;
+  whole = refl;
+  short_a = short;
+  short_b = short;
 }
