@@ -80,8 +80,8 @@ pub fn what_is_recorded()
 /// - the HTLC transaction of the HTLC whose output it is;
 /// - a filling of the side's own, after the delay, on to_local's form.
 ///
-/// Otherwise two named byte strings collide. The two seeds of each channel have to differ. This holds of each input that passes the chain's test of its coin, and so of each input on
-/// a chain that passed its tests.
+/// Otherwise two named byte strings collide. The two seeds of each channel have to differ, and each channel has to be funded by a grant of its own (`AreSound`). This holds of each
+/// input that passes the chain's test of its coin, and so of each input on a chain that passed its tests.
 pub fn taken()
     ensures inputs { Taken }
     ensures chains { TakenOnChains }

@@ -88,7 +88,7 @@ worlds_hold means gate exact releasing opening escapes peers numbers laws delive
       opens = λ x t input whole due. opening w.chain.blocks _ x t input whole due;
       released = is.released;
       fits = fits;
-      others = λ state. escapes w.chain.blocks _ state;
+      others = λ before state. escapes (before ∷ w.chain.blocks) _ state;
       taken = outputs_are_taken laws w is fits;
       agree = λ c x y here there. ends_at peers numbers c (replay w.a.history) (replay w.b.history) (inboxes w.a) (inboxes w.b) x y is.agree here there;
       takes = takes;

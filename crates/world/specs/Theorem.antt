@@ -13,6 +13,7 @@ use Rattle.tx.specs.Fields.{Transaction}
 use Rattle.terms.specs.declared.sides.Side.{Side}
 use Rattle.terms.specs.declared.sides.Side.TheVariants.{A}
 use Rattle.claim.specs.Claims.{ClaimParts, IsWhole}
+use Rattle.chain.specs.Blocks.{Contents as Block}
 use Rattle.chain.specs.Checked.{is_checked}
 use Rattle.penalty.specs.declared.states.RevokedState.{RevokedState}
 use Rattle.channel.specs.declared.messages.Message.{Message}
@@ -60,9 +61,9 @@ pub record HoldsAt (w : World) : Type 0 where
   pub released : AreFillings w.a.history w.b.history w.released
   pub fits : (s : Side) (seat c : ℕ) (batch : Batch) → Contains (node_of s w).history (record { seat = seat; call = Release c batch })
       → AllFit (filling_by batch).tx batch.claims (filling_by batch).tx.inputs
-  -- whoever makes the next block: an input in it that takes an output which a revoked commitment lets its owner's peer claim has one of the fates of `Fate`, as far as the peer's tokens in it are over
-  -- what the peer signed
-  pub others : (state : RevokedState) → NothingEscapesAbove w.chain.blocks (length w.chain.blocks) state
+  -- whoever makes the next block, and whatever it has before: an input in it that takes an output which a revoked commitment lets its owner's peer claim has one of the fates of `Fate`, as far as the
+  -- peer's tokens in it are over what the peer signed
+  pub others : (before : Block) (state : RevokedState) → NothingEscapesAbove (before ∷ w.chain.blocks) (length w.chain.blocks) state
   -- in a channel whose two seeds differ, each transaction on the chain that takes an output which a revoked commitment lets a side claim is a filling of the side's. Or it is the HTLC's own
   -- transaction, or, on to_local's form alone, a filling of the owner's after the delay. Or named strings collide
   pub taken : OutputsAreTaken w

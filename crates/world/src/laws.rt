@@ -33,8 +33,8 @@ pub fn deliveries_are_taken()
 }
 
 /// Each event keeps the invariant of a world: the histories of both books are those of calls, and the books agree, with the messages on their way. What was released are fillings of
-/// these histories. Each claim of a side is on what a recorded commitment lets the side claim. Each transaction on the chain, in the pool and among those released comes from a side. The
-/// chain's transactions passed its tests.
+/// these histories. Each claim of a side is on what a recorded commitment lets the side claim. Each transaction on the chain, in the pool and among those released comes from a side.
+/// That both sides are whole after the event, and that the chain's transactions passed its tests, their own types say.
 pub fn steps_keep()
     ensures { StepsKeep }
 {}
