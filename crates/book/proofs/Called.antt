@@ -16,6 +16,7 @@ use Rattle.std.proofs.lemmas.Bool.{and_from}
 use Rattle.std.proofs.lemmas.Bool.Decides.{nat_tests}
 use Rattle.std.proofs.lemmas.List.{reverse-append}
 use Rattle.tx.specs.declared.input.OutPoint.{OutPoint}
+use Rattle.tx.specs.Fields.{same_outpoint}
 use Rattle.keys.specs.declared.compressed.Key.{Key}
 use Rattle.channel.specs.Tokens.{peer_tokens}
 use Rattle.channel.specs.declared.messages.Message.{Message}
@@ -28,7 +29,6 @@ use Rattle.book.specs.declared.calls.Call.TheVariants.{Open, Step as Stepping, S
 use Rattle.book.specs.declared.calls.Entry.{Entry}
 use Rattle.book.specs.declared.errors.OpenError.{OpenError}
 use Rattle.book.specs.declared.errors.OpenError.TheVariants.{NoMemory as out_of_memory, BookFull, SameFunding, BadSignature}
-use Rattle.book.specs.Penalties.{same_outpoint}
 use Rattle.book.specs.Books.{ChannelBook, Channels, at_index, stepped as state_stepped, with_state, with_kept, opened_by, channels_after, replayed, replay}
 use Rattle.book.specs.Replies.{Reply, opened, stepped, signed, revoked, kept, released, is_accepted, answer_of, reply_of, extended, step_refusal, messages_of, sign_refusal, keep_refusal}
 use Rattle.book.specs.Accepted.{all_accepted, claims_by, AreWhole}

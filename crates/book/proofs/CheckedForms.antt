@@ -7,7 +7,7 @@ use Rattle.sha2.proofs.Facts256.{length-sha256}
 use Rattle.digest.specs.Hash.{hash160}
 use Rattle.digest.specs.Ripemd160.{ripemd160}
 use Rattle.digest.proofs.OutsideVectors.{length-ripemd160}
-use Rattle.script.specs.Limits.{locktime_threshold}
+use Rattle.script.specs.declared.limits.TheConstants.{LOCKTIME_THRESHOLD}
 use Rattle.script.specs.Spelling.{IsOp}
 use Rattle.script.specs.Token.{is_key}
 use Rattle.keys.specs.Derivation.{derived_key, revocation_key}
@@ -106,7 +106,7 @@ are_keys terms owner point = record { revocation = revocation_form _ point; dela
 abbrev AreForms : List Claimable → Type 0
 AreForms os = AllByRecursion (λ o. IsChecked o.form) os
 
-htlc_checked : (k : KeyBytes) → AreKeys k → (d : Direction) (h : Htlc) → h.expiry < locktime_threshold → IsChecked (htlc_form k d h)
+htlc_checked : (k : KeyBytes) → AreKeys k → (d : Direction) (h : Htlc) → h.expiry < LOCKTIME_THRESHOLD → IsChecked (htlc_form k d h)
 htlc_checked k keys Offered h low = offered_checked (hash160 k.revocation) k.remote_htlc k.local_htlc (ripemd160 h.hash) keys.remote_htlc keys.local_htlc (length-ripemd160 _) (length-ripemd160 _)
 htlc_checked k keys Received h low =
     received_checked (hash160 k.revocation) k.remote_htlc k.local_htlc (ripemd160 h.hash) h.expiry (omega (arith, low)) keys.remote_htlc keys.local_htlc (length-ripemd160 _) (length-ripemd160 _)

@@ -4,6 +4,7 @@ use Rattle.std.specs.Prelude.{slice_get}
 use Rattle.std.specs.List.{AllByRecursion}
 use Rattle.std.proofs.lemmas.Bool.{and_parts}
 use Rattle.std.proofs.lemmas.List.Concat.{flat_map-cons}
+use Rattle.std.specs.Option.{option_map_or}
 use Rattle.keys.specs.declared.bases.Base.TheVariants.{Payment, Revocation}
 use Rattle.keys.specs.Derivation.{point_of, revocation_key}
 use Rattle.keys.specs.Rights.{Rights, MaySign, own, derived, revoked}
@@ -27,7 +28,7 @@ use Rattle.channel.specs.declared.commitments.CommitmentState.{CommitmentState}
 use Rattle.channel.specs.States.{State}
 use Rattle.terms.specs.Bases.{IsSeedOf}
 use Rattle.texts.specs.Values.{◌>>=◌}
-use Rattle.book.specs.Penalties.{is_claim_on, are_claims_on, are_on, claimable_in, revoked_contents, is_penalty_set}
+use Rattle.book.specs.Penalties.{is_claim_on, are_claims_on, claimable_in, revoked_contents, is_penalty_set}
 use Rattle.channel.specs.Rights.{rights_of}
 use Rattle.book.specs.Signers.{lack_of, first_lack}
 use Rattle.book.proofs.Deciding.{rights_are_tested}
@@ -91,7 +92,7 @@ unfolding is_penalty_set
 set_fillable s n claims b e = by (slice_get s.signed n) (slice_get s.secrets n) refl e
   where
     by : (signed : Option CommitmentState) (secret : Option (List ℕ)) → slice_get s.secrets n ≡ secret
-        → are_on (signed >>= (λ c. secret >>= (λ k. Some (claimable_in (revoked_contents s c k))))) claims ≡ true → AllByRecursion (CanFillClaim s) claims
+        → option_map_or (λ os. are_claims_on os claims) (signed >>= (λ c. secret >>= (λ k. Some (claimable_in (revoked_contents s c k))))) false ≡ true → AllByRecursion (CanFillClaim s) claims
     by None secret at h = not_so h
     by (Some c) None at h = not_so h
     by (Some c) (Some k) at h = claims_fillable s (claimable_in (revoked_contents s c k)) claims (claimable_fillable s c k b (contains-at s.secrets n k at)) h

@@ -10,7 +10,7 @@ use Rattle.std.proofs.lemmas.List.{map-append, length-map}
 use Rattle.std.proofs.lemmas.Option.{none-some, same_Some}
 use Rattle.indexmap.specs.Layout.{set_value_at}
 use Rattle.tx.specs.declared.input.OutPoint.{OutPoint}
-use Rattle.book.specs.Penalties.{same_outpoint}
+use Rattle.tx.specs.Fields.{same_outpoint}
 use Rattle.channel.specs.Tokens.{peer_tokens}
 use Rattle.book.specs.declared.calls.Entry.{Entry}
 use Rattle.book.specs.Books.{ChannelBook, Channels, at_index, replay, fundings_of}

@@ -2,6 +2,7 @@
 use Rattle.std.proofs.Common.{◌≡◌, ℕ, suc, ◌<◌, ◌==◌, ◌||◌, if◌then◌else◌, Bool, true, false, true≢false, List, [], ◌∷◌, ◌++◌, length, length-append, reverse, Option, Some, None, refl, sym, ap, ◌∙◌, subst, arith, ⊎_elim, inl, inr, ◌⊎◌}
 use Rattle.std.specs.Prelude.{slice_get, option_map, unwrap_or}
 use Rattle.std.proofs.lemmas.Bool.{eqb-true, eqb-false, eq-eqb, and_from, and_parts}
+use Rattle.std.specs.List.{cons_option}
 use Rattle.keys.specs.declared.compressed.Key.{Key}
 use Rattle.claim.specs.Claims.{ClaimParts}
 use Rattle.channel.specs.States.{Signing, State}
@@ -14,7 +15,7 @@ use Rattle.book.specs.Penalties.{is_penalty_set}
 use Rattle.book.specs.Books.{ChannelBook, Channels, stepped, opened_by, with_state, with_kept, channels_after, replayed, is_kept, first_missing}
 use Rattle.book.specs.Replies.{is_accepted, answer_of}
 use Rattle.book.specs.Accepted.{is_taken, are_accepted}
-use Rattle.book.specs.Guarding.{is_revocation, revocations, number_kept, joined, are_answered, is_allowed, all_allowed, AcceptedIsGuarded}
+use Rattle.book.specs.Guarding.{is_revocation, revocations, number_kept, are_answered, is_allowed, all_allowed, AcceptedIsGuarded}
 use Rattle.book.proofs.Lists.{at_here, at_other, unseen, as_before}
 use Rattle.book.proofs.Accepting.{asked_ok, unless_ok, some_none, keeps, none_missing}
 use Rattle.book.proofs.Missing.{all_kept, kept_or_new}
@@ -138,7 +139,7 @@ revokes_alone c n chs (Revoke d secret next_point) e kept = some_none n (sym kep
 revokes_alone c n chs (Keep d m claims) e kept = true≢false (sym e)
 revokes_alone c n chs (Release d batch) e kept = true≢false (sym e)
 
-joins_old : (o : Option ℕ) (later : List ℕ) (n : ℕ) → is_kept later n ≡ true → is_kept (joined o later) n ≡ true
+joins_old : (o : Option ℕ) (later : List ℕ) (n : ℕ) → is_kept later n ≡ true → is_kept (cons_option o later) n ≡ true
 joins_old None later n h = h
 joins_old (Some m) later n h = by (m == n)
   where
@@ -146,12 +147,12 @@ joins_old (Some m) later n h = by (m == n)
     by true = refl
     by false = h
 
-joins_new : (o : Option ℕ) (later : List ℕ) (n : ℕ) → o ≡ Some n → is_kept (joined o later) n ≡ true
+joins_new : (o : Option ℕ) (later : List ℕ) (n : ℕ) → o ≡ Some n → is_kept (cons_option o later) n ≡ true
 joins_new o later n e = rw (e, eq-eqb n n refl) refl
 
 answered : (c : ℕ) (tokens_of : Signing) (later : List ℕ) (es : List Entry) → AreAccepted tokens_of es → AreKept c later es → are_answered c later es ≡ true
 answered c tokens_of later [] ok kept = refl
-answered c tokens_of later (e ∷ es) ok kept = and_from _ _ (here (is_revocation c e.call) refl) (answered c tokens_of (joined (number_kept c (replayed es) e.call) later) es ok.1 before)
+answered c tokens_of later (e ∷ es) ok kept = and_from _ _ (here (is_revocation c e.call) refl) (answered c tokens_of (cons_option (number_kept c (replayed es) e.call) later) es ok.1 before)
   where
     at_once : is_revocation c e.call ≡ true → is_kept later (revocations c es) ≡ true
     at_once e1 = ⊎_elim
@@ -173,7 +174,7 @@ answered c tokens_of later (e ∷ es) ok kept = and_from _ _ (here (is_revocatio
         by true = omega arith
         by false = lt
 
-    before : AreKept c (joined (number_kept c (replayed es) e.call) later) es
+    before : AreKept c (cons_option (number_kept c (replayed es) e.call) later) es
     before n lt = ⊎_elim
         (λ found. inl (joins_old (number_kept c (replayed es) e.call) later n found))
         (λ now. ⊎_elim

@@ -3,6 +3,8 @@ use Rattle.std.proofs.Common.{◌≡◌, ℕ, ◌==◌, ◌&&◌, if◌then◌el
 use Rattle.std.specs.Prelude.{slice_get}
 use Rattle.std.proofs.lemmas.Bool.{and_parts, eqb-true, or_cases}
 use Rattle.std.proofs.lemmas.Option.{none-some, same_Some}
+use Rattle.std.specs.List.{cons_option}
+use Rattle.std.specs.Option.{option_map_or}
 use Rattle.claim.specs.Claims.{ClaimParts}
 use Rattle.penalty.specs.Claimable.{Claimable}
 use Rattle.channel.specs.declared.commitments.CommitmentState.{CommitmentState}
@@ -11,9 +13,9 @@ use Rattle.book.specs.declared.calls.Call.{Call}
 use Rattle.book.specs.declared.calls.Call.TheVariants.{Open, Step, Sign, Revoke, Keep, Release}
 use Rattle.book.specs.declared.calls.Entry.{Entry}
 use Rattle.texts.specs.Values.{◌>>=◌}
-use Rattle.book.specs.Penalties.{revoked_contents, claimable_in, claimable_at, are_claims_on, are_on}
+use Rattle.book.specs.Penalties.{revoked_contents, claimable_in, claimable_at, are_claims_on}
 use Rattle.book.specs.Books.{Channels, replayed, is_kept}
-use Rattle.book.specs.Guarding.{is_revocation, revocations, is_set_in, number_kept, joined, are_answered, is_allowed, all_allowed, is_guarded}
+use Rattle.book.specs.Guarding.{is_revocation, revocations, is_set_in, number_kept, are_answered, is_allowed, all_allowed, is_guarded}
 use Rattle.book.proofs.Sets.{AllOpen, open_from}
 
 not_so : {P : Type 0} → false ≡ true → P
@@ -21,7 +23,7 @@ not_so e = absurd (true≢false (sym e))
 
 -- ---- the test of the claims that a call keeps
 
-pub found_on : (o : Option (List Claimable)) (claims : List ClaimParts) → are_on o claims ≡ true → (os : List Claimable) × (o ≡ Some os) × (are_claims_on os claims ≡ true)
+pub found_on : (o : Option (List Claimable)) (claims : List ClaimParts) → option_map_or (λ os. are_claims_on os claims) o false ≡ true → (os : List Claimable) × (o ≡ Some os) × (are_claims_on os claims ≡ true)
 found_on None claims h = not_so h
 found_on (Some os) claims h = (os, refl, h)
 
@@ -62,7 +64,7 @@ tested_of c n chs (Release d batch) e = absurd (none-some n e)
 -- ---- where it stands
 
 -- a number that is kept after one more is
-kept_by : (o : Option ℕ) (later : List ℕ) (n : ℕ) → is_kept (joined o later) n ≡ true → (is_kept later n ≡ true) ⊎ (o ≡ Some n)
+kept_by : (o : Option ℕ) (later : List ℕ) (n : ℕ) → is_kept (cons_option o later) n ≡ true → (is_kept later n ≡ true) ⊎ (o ≡ Some n)
 kept_by None later n h = inl h
 kept_by (Some m) later n h = ⊎_elim (λ e. inr (ap Some (eqb-true m n e))) (λ old. inl old) (or_cases (m == n) (is_kept later n) h)
 
@@ -87,7 +89,7 @@ answers_one c later (x ∷ xs) earlier revoking is h = ⊎_elim
     (λ new. inr (record { front = []; keeping = x; back = xs; split = refl; kept = tested_of c (revocations c earlier) (replayed (xs ++ revoking ∷ earlier)) x.call new }))
     (kept_by (number_kept c (replayed (xs ++ revoking ∷ earlier)) x.call) later (revocations c earlier) known))
     (λ k. inr (further x k))
-    (answers_one c (joined (number_kept c (replayed (xs ++ revoking ∷ earlier)) x.call) later) xs earlier revoking is (and_parts _ _ h).1)
+    (answers_one c (cons_option (number_kept c (replayed (xs ++ revoking ∷ earlier)) x.call) later) xs earlier revoking is (and_parts _ _ h).1)
 
 -- the call of each entry is allowed
 allowed_at : (later rest : List Entry) (e : Entry) → all_allowed (later ++ e ∷ rest) ≡ true → is_allowed e.call rest ≡ true

@@ -8,7 +8,7 @@ use Rattle.std.proofs.lemmas.Bool.{le-leb, lt-leb, leb-true, ltb-true, lt-ltb, e
 use Rattle.std.proofs.lemmas.List.Elements.{All-head, All-tail, All-cons, All-nil}
 use Rattle.script.specs.declared.opcode.Op.{Op}
 use Rattle.script.specs.declared.opcode.Op.TheVariants.{Push, Number}
-use Rattle.script.specs.Limits.{max_script_size}
+use Rattle.script.specs.declared.limits.TheConstants.{MAX_SCRIPT_SIZE}
 use Rattle.script.specs.Spelling.{code_of, payload_of, spelling, IsOp, Spells, Begins}
 use Rattle.texts.specs.Values.{◌>>=◌}
 use Rattle.book.specs.Opcodes.{with_code, bare_ops, op_at, ops_in, ops_of}
@@ -36,10 +36,10 @@ read_in (suc n) (op ∷ ops) each long =
     let shorter : length (spelling ops) ≤ n = omega (arith, length-append (payload_of op) (spelling ops)) in
     rw (found op (spelling ops) (All-head IsOp op ops each), drop-append_seam (payload_of op) (spelling ops), read_in n ops (All-tail IsOp op ops each) shorter) refl
 
-pub reads : (ops : List Op) (bytes : List ℕ) → Spells ops bytes → length bytes ≤ max_script_size → ops_of bytes ≡ Some ops
+pub reads : (ops : List Op) (bytes : List ℕ) → Spells ops bytes → length bytes ≤ MAX_SCRIPT_SIZE → ops_of bytes ≡ Some ops
 unfolding ops_of
 reads ops bytes s short =
-    rw (le-leb (length bytes) max_script_size short, ← s.same) (read_in (length (spelling ops)) ops s.each (omega arith))
+    rw (le-leb (length bytes) MAX_SCRIPT_SIZE short, ← s.same) (read_in (length (spelling ops)) ops s.each (omega arith))
 
 -- ---- bytes that are read spell what is read
 
@@ -113,12 +113,12 @@ spells_in (suc n) (b ∷ rest) ops e = go (op_at b rest) refl e (spells_in n)
 
 pub record IsRead (ops : List Op) (bytes : List ℕ) : Type 0 where
   pub spells : Spells ops bytes
-  pub short : length bytes ≤ max_script_size
+  pub short : length bytes ≤ MAX_SCRIPT_SIZE
 
 pub is_read : (ops : List Op) (bytes : List ℕ) → ops_of bytes ≡ Some ops → IsRead ops bytes
 unfolding ops_of
-is_read ops bytes e = go (nat_le (length bytes) max_script_size) refl e
+is_read ops bytes e = go (nat_le (length bytes) MAX_SCRIPT_SIZE) refl e
   where
-    go : (t : Bool) → nat_le (length bytes) max_script_size ≡ t → (if t then ops_in (length bytes) bytes else None) ≡ Some ops → IsRead ops bytes
-    go true is e = record { spells = spells_in (length bytes) bytes ops e; short = leb-true (length bytes) max_script_size is }
+    go : (t : Bool) → nat_le (length bytes) MAX_SCRIPT_SIZE ≡ t → (if t then ops_in (length bytes) bytes else None) ≡ Some ops → IsRead ops bytes
+    go true is e = record { spells = spells_in (length bytes) bytes ops e; short = leb-true (length bytes) MAX_SCRIPT_SIZE is }
     go false is e = absurd (cc)

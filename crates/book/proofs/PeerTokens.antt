@@ -5,6 +5,7 @@ use Rattle.std.specs.Str.{bytes_eq}
 use Rattle.std.specs.List.{AllByRecursion, list_any}
 use Rattle.std.proofs.lemmas.Bool.{ne_eqb, and_parts, false≢true}
 use Rattle.std.proofs.lemmas.Slice.Eq.{bytes_eq-Decides}
+use Rattle.tx.specs.Fields.{same_outpoint}
 use Rattle.sha2.proofs.Facts256.{length-sha256}
 use Rattle.script.specs.Token.{token_of, is_key, is_token, is_signature}
 use Rattle.claim.proofs.TokenForms.{token-length, token-signature, key-length}
@@ -33,7 +34,6 @@ use Rattle.book.specs.declared.calls.Call.TheVariants.{Open, Step as Stepping, S
 use Rattle.book.specs.declared.calls.Entry.{Entry}
 use Rattle.book.specs.declared.limits.TheConstants.{MAX_CHANNELS}
 use Rattle.book.specs.declared.errors.OpenError.TheVariants.{BookFull, SameFunding, BadSignature as WrongToken}
-use Rattle.book.specs.Penalties.{same_outpoint}
 use Rattle.book.specs.Books.{Channels, replayed}
 use Rattle.book.specs.Replies.{is_accepted, answer_of, open_refusal, step_refusal}
 use Rattle.book.specs.Accepted.{is_taken, first_refused_after}

@@ -3,6 +3,7 @@ use Rattle.std.proofs.Common.{◌≡◌, ℕ, ◌⊎◌, inl, inr, Bool, true, f
 use Rattle.std.specs.Prelude.{is_some, if◌then◌else◌}
 use Rattle.std.proofs.lemmas.Bool.{false_from_ne_true}
 use Rattle.std.proofs.lemmas.Option.{none-some}
+use Rattle.std.specs.Option.{option_or}
 use Rattle.tx.specs.Parts.{Output}
 use Rattle.keys.specs.Rights.{Rights, MaySign}
 use Rattle.claim.specs.declared.parts.Slot.{Slot}
@@ -12,7 +13,7 @@ use Rattle.filling.specs.declared.errors.FillError.{FillError}
 use Rattle.filling.specs.declared.errors.FillError.TheVariants.{NoMemory, NoRight, NoPreimage, OutputsExceed, MixedShells, SameOutpoint}
 use Rattle.filling.specs.Filling.{preimage_of}
 use Rattle.filling.specs.Refusals.{are_mixed, share_outpoint, do_exceed, all_slots, IsFillable, AreFillable, Lacks, LacksFirst, ArePassed, IsFirstRefusal}
-use Rattle.book.specs.Signers.{may_sign, lack_of, first_of, first_lack, fill_refusal, RefusalsAreFound}
+use Rattle.book.specs.Signers.{may_sign, lack_of, first_lack, fill_refusal, RefusalsAreFound}
 use Rattle.book.proofs.Deciding.{rights_are_tested}
 
 lack_is : (r : Rights) (preimages : List (List ℕ)) (slot : Slot) (e : FillError) → Lacks r preimages slot e → lack_of r preimages slot ≡ Some e
@@ -83,7 +84,7 @@ are_fillable : (r : Rights) (preimages : List (List ℕ)) (slots : List Slot) �
 are_fillable r preimages [] e = tt
 are_fillable r preimages (slot ∷ slots) e = by (lack_of r preimages slot) refl e (are_fillable r preimages slots)
   where
-    by : (o : Option FillError) → lack_of r preimages slot ≡ o → first_of o (first_lack r preimages slots) ≡ None → (first_lack r preimages slots ≡ None → AreFillable r preimages slots)
+    by : (o : Option FillError) → lack_of r preimages slot ≡ o → option_or o (first_lack r preimages slots) ≡ None → (first_lack r preimages slots ≡ None → AreFillable r preimages slots)
         → IsFillable r preimages slot × AreFillable r preimages slots
     by None is e others = (slot_fillable r preimages slot is, others e)
     by (Some x) is e others = absurd (none-some x (sym e))

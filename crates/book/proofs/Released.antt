@@ -1,6 +1,7 @@
 -- What a release says of its signer's rights.
 use Rattle.std.proofs.Common.{◌≡◌, ◌↔◌, ℕ, if◌then◌else◌, Bool, true, false, List, [], ◌∷◌, Option, Some, None, Result, Ok, Err, refl, sym, ap, ◌∙◌, inl, inr, ◌⊎◌}
 use Rattle.std.specs.Prelude.{MatchResult, IfOk}
+use Rattle.std.specs.Option.{option_or}
 use Rattle.tx.specs.Parts.{Output}
 use Rattle.keys.specs.Rights.{Rights, MaySign}
 use Rattle.claim.specs.declared.parts.Slot.{Slot}
@@ -11,7 +12,7 @@ use Rattle.filling.specs.declared.errors.FillError.TheVariants.{NoMemory, NoRigh
 use Rattle.filling.specs.Filled.{Filling, IsFillingOf}
 use Rattle.filling.specs.Refusals.{are_mixed, share_outpoint, do_exceed, all_slots, IsFirstRefusal}
 use Rattle.book.specs.declared.calls.Batch.{Batch}
-use Rattle.book.specs.Signers.{may_sign, lack_of, first_of, first_lack, fill_refusal}
+use Rattle.book.specs.Signers.{may_sign, lack_of, first_lack, fill_refusal}
 use Rattle.book.specs.Calling.{IsFillRefusal, filling_by}
 use Rattle.book.proofs.Deciding.{rights_are_tested}
 use Rattle.book.proofs.Refusing.{refusals_are_found}
@@ -39,7 +40,7 @@ same_lack r s same preimages (Exact b) = refl
 same_lacks : (r s : Rights) → AreSame r s → (preimages : List (List ℕ)) (slots : List Slot) → first_lack r preimages slots ≡ first_lack s preimages slots
 same_lacks r s same preimages [] = refl
 same_lacks r s same preimages (slot ∷ slots) =
-    ap (λ e. first_of e (first_lack r preimages slots)) (same_lack r s same preimages slot) ∙ ap (first_of (lack_of s preimages slot)) (same_lacks r s same preimages slots)
+    ap (λ e. option_or e (first_lack r preimages slots)) (same_lack r s same preimages slot) ∙ ap (option_or (lack_of s preimages slot)) (same_lacks r s same preimages slots)
 
 same_refusal : (claims : List ClaimParts) (outputs : List Output) (r s : Rights) (preimages : List (List ℕ)) → AreSame r s → fill_refusal claims outputs r preimages ≡ fill_refusal claims outputs s preimages
 unfolding fill_refusal

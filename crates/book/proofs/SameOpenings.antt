@@ -8,7 +8,7 @@ use mathlib.Core.HLevel.{is_prop→PathP}
 use mathlib.Core.Bool.{Bool-set}
 use mathlib.Core.List.{is_set as list_set}
 use Rattle.script.specs.Token.{is_key}
-use Rattle.tx.specs.Limits.{max_value, max_inputs, max_outputs}
+use Rattle.tx.specs.declared.limits.TheConstants.{MAX_VALUE, MAX_INPUTS, MAX_OUTPUTS}
 use Rattle.tx.specs.Parts.{Output}
 use Rattle.keys.specs.declared.compressed.Key.{Key}
 use Rattle.terms.specs.declared.amounts.TheConstants.{MSAT_PER_SAT}
@@ -64,8 +64,8 @@ same_batch b c h =
       outputs = h.outputs_is i;
       preimages = h.preimages_is i;
       some = is_prop→PathP (λ j. 1 ≤ length (h.claims_is j)) (λ j. le_prop) b.some c.some i;
-      inputs = is_prop→PathP (λ j. length (h.claims_is j) ≤ max_inputs) (λ j. le_prop) b.inputs c.inputs i;
-      given = is_prop→PathP (λ j. length (h.outputs_is j) ≤ max_outputs) (λ j. le_prop) b.given c.given i;
+      inputs = is_prop→PathP (λ j. length (h.claims_is j) ≤ MAX_INPUTS) (λ j. le_prop) b.inputs c.inputs i;
+      given = is_prop→PathP (λ j. length (h.outputs_is j) ≤ MAX_OUTPUTS) (λ j. le_prop) b.given c.given i;
     }
 
 -- ---- what the constructors return
@@ -74,7 +74,7 @@ pub agrees : (t : ProposedTerms) → CanAgree t.capacity t.a.start t.b.start →
 agrees t h a b =
     and_from _ _
     (and_from _ _
-    (and_from (nat_le t.capacity max_value) _ (le-leb t.capacity max_value h.limited) (eq-eqb (t.a.start + t.b.start) (MSAT_PER_SAT * t.capacity) h.whole))
+    (and_from (nat_le t.capacity MAX_VALUE) _ (le-leb t.capacity MAX_VALUE h.limited) (eq-eqb (t.a.start + t.b.start) (MSAT_PER_SAT * t.capacity) h.whole))
     (lt-ltb t.a.delay (2 ^ 16) a))
     (lt-ltb t.b.delay (2 ^ 16) b)
 
@@ -109,7 +109,7 @@ opening_is o t r terms some parts = go (can_agree o.terms) refl terms r some par
     go false h e r some parts = absurd (cc)
 
 pub within_batch : (b : Batch) → are_within (length b.claims) (length b.outputs) ≡ true
-within_batch b = and_from _ _ (and_from _ _ (lt-ltb 0 (length b.claims) b.some) (le-leb (length b.claims) max_inputs b.inputs)) (le-leb (length b.outputs) max_outputs b.given)
+within_batch b = and_from _ _ (and_from _ _ (lt-ltb 0 (length b.claims) b.some) (le-leb (length b.claims) MAX_INPUTS b.inputs)) (le-leb (length b.outputs) MAX_OUTPUTS b.given)
 
 pub batch_is : (claims : List ClaimParts) (outputs : List Output) (preimages : List (List ℕ)) (r : Option Batch) → IsSome r ↔ CanRelease claims outputs
     → IfSome r (IsBatchOf claims outputs preimages) → r ≡ batch_of claims outputs preimages
@@ -118,13 +118,13 @@ batch_is claims outputs preimages r some parts = go (are_within (length claims) 
   where
     can : are_within (length claims) (length outputs) ≡ true → CanRelease claims outputs
     can h =
-        let all = and_parts (nat_lt 0 (length claims) && nat_le (length claims) max_inputs) (nat_le (length outputs) max_outputs) h in
-        let ends = and_parts (nat_lt 0 (length claims)) (nat_le (length claims) max_inputs) all.0 in
-        record { some = ltb-true 0 (length claims) ends.0; inputs = leb-true (length claims) max_inputs ends.1; given = leb-true (length outputs) max_outputs all.1 }
+        let all = and_parts (nat_lt 0 (length claims) && nat_le (length claims) MAX_INPUTS) (nat_le (length outputs) MAX_OUTPUTS) h in
+        let ends = and_parts (nat_lt 0 (length claims)) (nat_le (length claims) MAX_INPUTS) all.0 in
+        record { some = ltb-true 0 (length claims) ends.0; inputs = leb-true (length claims) MAX_INPUTS ends.1; given = leb-true (length outputs) MAX_OUTPUTS all.1 }
 
     within : CanRelease claims outputs → are_within (length claims) (length outputs) ≡ true
     within h =
-        and_from _ _ (and_from _ _ (lt-ltb 0 (length claims) h.some) (le-leb (length claims) max_inputs h.inputs)) (le-leb (length outputs) max_outputs h.given)
+        and_from _ _ (and_from _ _ (lt-ltb 0 (length claims) h.some) (le-leb (length claims) MAX_INPUTS h.inputs)) (le-leb (length outputs) MAX_OUTPUTS h.given)
 
     go : (b : Bool) (h : are_within (length claims) (length outputs) ≡ b) (r : Option Batch) → IsSome r ↔ CanRelease claims outputs → IfSome r (IsBatchOf claims outputs preimages)
         → r ≡ batch_if claims outputs preimages b h

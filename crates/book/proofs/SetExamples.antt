@@ -2,7 +2,7 @@
 use Rattle.std.proofs.Common.{◌≡◌, ℕ, true, false, List, [], ◌∷◌, length, replicate, None, refl, arith}
 use Rattle.std.proofs.lemmas.Bool.{and_right}
 use Rattle.tx.specs.Parts.{Output}
-use Rattle.tx.specs.Fields.{Transaction}
+use Rattle.tx.specs.Fields.{Transaction, same_outpoint}
 use Rattle.paths.specs.declared.state.Path.{Path}
 use Rattle.sighash.specs.Programs.{script_hash_program}
 use Rattle.claim.specs.declared.parts.Place.{Place}
@@ -14,7 +14,7 @@ use Rattle.terms.specs.Scripts.{key_hash}
 use Rattle.forms.specs.Fillings.{Signature, PreimageOf, Bytes}
 use Rattle.penalty.specs.Claimable.{Claimable}
 use Rattle.book.specs.Bounds.{CanRelease}
-use Rattle.book.specs.Penalties.{same_outpoint, same_place, same_filling, same_fillings, is_claim_on, are_claims_on}
+use Rattle.book.specs.Penalties.{same_place, same_filling, same_fillings, is_claim_on, are_claims_on}
 
 abbrev hash : List ℕ
 hash = replicate 20 9

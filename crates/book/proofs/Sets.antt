@@ -7,6 +7,7 @@ use Rattle.std.proofs.lemmas.List.{drop_all}
 use Rattle.std.proofs.lemmas.List.Elements.{All-from_recursion, All-get_or}
 use Rattle.std.proofs.lemmas.Slice.Eq.{bytes_eq-Decides}
 use Rattle.tx.specs.declared.input.OutPoint.{OutPoint}
+use Rattle.tx.specs.Fields.{same_outpoint}
 use Rattle.script.specs.Spelling.{spelling}
 use Rattle.script.proofs.Unique.{spelling-unique}
 use Rattle.paths.specs.Listing.{CheckedScript, listing}
@@ -25,7 +26,7 @@ use Rattle.penalty.specs.Sets.{claimed_by, IsClaimOn, AreClaimsOn}
 use Rattle.penalty.specs.declared.states.RevokedState.{RevokedState}
 use Rattle.filling.specs.Refusals.{is_fixed}
 use Rattle.filling.proofs.Lists.{split}
-use Rattle.book.specs.Penalties.{same_outpoint, same_place, same_filling, same_fillings, same_claimable, is_claim_on, are_claims_on, claimable_in, IsChecked, PenaltySetsAreExact}
+use Rattle.book.specs.Penalties.{same_place, same_filling, same_fillings, same_claimable, is_claim_on, are_claims_on, claimable_in, IsChecked, PenaltySetsAreExact}
 use Rattle.book.proofs.Alike.{nothing_in}
 use Rattle.book.proofs.CheckedForms.{forms_are_checked}
 

@@ -1,7 +1,7 @@
 -- A claim, an opening and an entry that are dumped come back as the same.
 use Rattle.std.specs.Prelude.{◌≡◌, ◌≤◌, All, Some, Ok, length, ⊤, IsTrue}
 use Rattle.std.specs.List.{AllByRecursion}
-use Rattle.script.specs.Limits.{max_script_size}
+use Rattle.script.specs.declared.limits.TheConstants.{MAX_SCRIPT_SIZE}
 use Rattle.script.specs.Spelling.{IsOp, spelling}
 use Rattle.script.specs.Token.{is_token}
 use Rattle.paths.specs.Listing.{listing}
@@ -23,7 +23,7 @@ use Rattle.book.specs.Dumping.{plain_opening, plain_tokens, plain_entry, history
 -- what is true of an accepted claim
 pub record IsWhole (c : ClaimParts) : Type 0 where
   pub ops : All IsOp c.ways.ops
-  pub short : length (spelling c.ways.ops) ≤ max_script_size
+  pub short : length (spelling c.ways.ops) ≤ MAX_SCRIPT_SIZE
   pub listed : listing c.ways.ops ≡ Ok c.ways.paths
   pub accepted : IsAccepted c
   pub bare : bare_shell c.shell ≡ c.shell

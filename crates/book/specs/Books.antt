@@ -32,20 +32,22 @@ stepped (Updated u) s = after s (UpdateMessage u)
 stepped (Signed tokens) s = after s (CommitmentSigned tokens)
 
 abbrev pub opened_by : Opening → ChannelBook
-opened_by o = record { state = state_at_opening o.terms o.side o.seed o.first_point o.next_point; kept = [] }
+opened_by o =
+    record { state = state_at_opening o.terms o.side o.seed o.first_point o.next_point; kept = [] }
 
 abbrev pub with_state : (State → State) → ChannelBook → ChannelBook
-with_state f ch = record { state = f ch.state; kept = ch.kept }
+with_state f ch = record ch { state = f ch.state }
 
 abbrev pub with_kept : ℕ → ChannelBook → ChannelBook
-with_kept n ch = record { state = ch.state; kept = ch.kept ++ n ∷ [] }
+with_kept n ch = record ch { kept = ch.kept ++ n ∷ [] }
 
 -- the channels after an accepted call
 abbrev pub channels_after : Call → Channels → Channels
 channels_after (Open o) chs = chs ++ opened_by o ∷ []
 channels_after (Stepping c step) chs = at_index (with_state (stepped step)) c chs
 channels_after (Sign c) chs = at_index (with_state after_sign) c chs
-channels_after (Revoke c secret next_point) chs = at_index (with_state (λ s. after s (RevokeAndAck secret next_point))) c chs
+channels_after (Revoke c secret next_point) chs =
+    at_index (with_state (λ s. after s (RevokeAndAck secret next_point))) c chs
 channels_after (Keep c n claims) chs = at_index (with_kept n) c chs
 channels_after (Release c batch) chs = chs
 

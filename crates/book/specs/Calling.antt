@@ -65,4 +65,5 @@ IsFillRefusal first e = first ≡ Some e
 
 -- the transaction of a batch, with the places that it spends
 abbrev pub filling_by : Batch → Filling
-filling_by b = record { tx = filling_of b.claims b.outputs b.preimages; places = map (λ c. c.place) b.claims }
+filling_by b =
+    record { tx = filling_of b.claims b.outputs b.preimages; places = map (λ c. c.place) b.claims }

@@ -1,11 +1,12 @@
 -- That a book signs nothing after a revocation for which it keeps no penalties (BOLT 5, "Revoked Transaction Close Handling").
-use Rattle.std.specs.Prelude.{◌≡◌, ℕ, suc, ◌==◌, Bool, true, false, ◌&&◌, if◌then◌else◌, List, [], ◌∷◌, ◌++◌, reverse, Contains, Option, Some, None, slice_get}
+use Rattle.std.specs.Prelude.{◌≡◌, ℕ, suc, ◌==◌, Bool, true, false, ◌&&◌, if◌then◌else◌, List, [], ◌∷◌, ◌++◌, reverse, Contains, Option, Some, None, slice_get, option_and_then}
+use Rattle.std.specs.List.{cons_option}
 use Rattle.claim.specs.Claims.{ClaimParts}
 use Rattle.penalty.specs.Claimable.{Claimable}
 use Rattle.penalty.specs.Sets.{AreClaimsOn}
 use Rattle.channel.specs.States.{Signing}
 use Rattle.book.specs.declared.calls.Call.{Call}
-use Rattle.book.specs.declared.calls.Call.TheVariants.{Open, Step, Sign, Revoke, Keep, Release}
+use Rattle.book.specs.declared.calls.Call.TheVariants.{Sign, Revoke, Keep}
 use Rattle.book.specs.declared.calls.Entry.{Entry}
 use Rattle.book.specs.Penalties.{claimable_at, is_penalty_set}
 use Rattle.book.specs.Books.{ChannelBook, Channels, is_kept, replayed, replay}
@@ -15,12 +16,8 @@ use Rattle.book.specs.Accepted.{all_accepted, AreWhole}
 
 -- whether a call is a revocation that came in a channel, and whether it signs in that channel
 abbrev pub is_revocation : ℕ → Call → Bool
-is_revocation c (Open o) = false
-is_revocation c (Step d step) = false
-is_revocation c (Sign d) = false
 is_revocation c (Revoke d secret next_point) = d == c
-is_revocation c (Keep d n claims) = false
-is_revocation c (Release d batch) = false
+is_revocation c call = false
 
 -- the number of revocations that came in a channel, which is also the number of the commitment that the next one revokes
 abbrev pub revocations : ℕ → List Entry → ℕ
@@ -29,8 +26,7 @@ revocations c (e ∷ es) = if is_revocation c e.call then suc (revocations c es)
 
 -- what the peer's revoked commitment of a number lets this side claim in a channel
 abbrev pub claimable_by : Option ChannelBook → ℕ → Option (List Claimable)
-claimable_by None n = None
-claimable_by (Some ch) n = claimable_at ch.state n
+claimable_by o n = option_and_then (λ ch. claimable_at ch.state n) o
 
 abbrev pub is_set_in : Option ChannelBook → ℕ → List ClaimParts → Bool
 is_set_in None n claims = false
@@ -38,32 +34,21 @@ is_set_in (Some ch) n claims = is_penalty_set ch.state n claims
 
 -- the number whose penalties a call keeps in a channel, given the channels before the call: its claims are accepted ones, on all that the peer's commitment of this number lets this side claim
 abbrev pub number_kept : ℕ → Channels → Call → Option ℕ
-number_kept c chs (Open o) = None
-number_kept c chs (Step d step) = None
-number_kept c chs (Sign d) = None
-number_kept c chs (Revoke d secret next_point) = None
-number_kept c chs (Keep d n claims) = if d == c && is_set_in (slice_get chs c) n claims then Some n else None
-number_kept c chs (Release d batch) = None
-
-abbrev pub joined : Option ℕ → List ℕ → List ℕ
-joined None ns = ns
-joined (Some n) ns = n ∷ ns
+number_kept c chs (Keep d n claims) =
+    if d == c && is_set_in (slice_get chs c) n claims then Some n else None
+number_kept c chs call = None
 
 -- whether each revocation that came in a channel has its penalties kept after it; `later` are the numbers that are kept after these entries
 abbrev pub are_answered : ℕ → List ℕ → List Entry → Bool
 are_answered c later [] = true
 are_answered c later (e ∷ es) =
     (if is_revocation c e.call then is_kept later (revocations c es) else true)
-    && are_answered c (joined (number_kept c (replayed es) e.call) later) es
+    && are_answered c (cons_option (number_kept c (replayed es) e.call) later) es
 
 -- a signature is allowed if, for each earlier revocation in its channel, the penalties were kept between the two
 abbrev pub is_allowed : Call → List Entry → Bool
-is_allowed (Open o) es = true
-is_allowed (Step d step) es = true
 is_allowed (Sign c) es = are_answered c [] es
-is_allowed (Revoke d secret next_point) es = true
-is_allowed (Keep d n claims) es = true
-is_allowed (Release d batch) es = true
+is_allowed call es = true
 
 abbrev pub all_allowed : List Entry → Bool
 all_allowed [] = true

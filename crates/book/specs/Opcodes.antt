@@ -2,7 +2,7 @@
 use Rattle.std.specs.Prelude.{ℕ, zero, suc, ◌-◌, ◌==◌, ◌&&◌, nat_le, nat_lt, if◌then◌else◌, List, [], ◌∷◌, length, take, drop, Option, Some, None}
 use Rattle.script.specs.declared.opcode.Op.{Op}
 use Rattle.script.specs.declared.opcode.Op.TheVariants.{Push, Number, If, NotIf, Else, EndIf, Drop, Dup, Swap, Size, Equal, EqualVerify, Hash160, CheckSig, CheckMultiSig, CheckLockTimeVerify, CheckSequenceVerify}
-use Rattle.script.specs.Limits.{max_script_size}
+use Rattle.script.specs.declared.limits.TheConstants.{MAX_SCRIPT_SIZE}
 use Rattle.script.specs.Spelling.{code_of, payload_of}
 use Rattle.texts.specs.Values.{◌>>=◌}
 
@@ -35,4 +35,4 @@ ops_in (suc n) (b ∷ rest) = do
 
 -- the opcodes of a script, which has at most 10,000 bytes
 unfoldable pub ops_of : List ℕ → Option (List Op)
-ops_of bytes = if nat_le (length bytes) max_script_size then ops_in (length bytes) bytes else None
+ops_of bytes = if nat_le (length bytes) MAX_SCRIPT_SIZE then ops_in (length bytes) bytes else None

@@ -1,7 +1,7 @@
 -- The openings and batches that plain forms stand for. A side's own base keys derive from its seed.
 use Rattle.std.specs.Prelude.{◌≡◌, ℕ, ◌&&◌, nat_le, nat_lt, Bool, true, false, refl, List, length, Option, Some, None}
 use Rattle.std.proofs.lemmas.Bool.{and_parts, leb-true, ltb-true}
-use Rattle.tx.specs.Limits.{max_inputs, max_outputs}
+use Rattle.tx.specs.declared.limits.TheConstants.{MAX_INPUTS, MAX_OUTPUTS}
 use Rattle.tx.specs.Parts.{Output}
 use Rattle.keys.specs.declared.compressed.Key.{Key}
 use Rattle.keys.specs.declared.bases.Base.{Base}
@@ -66,15 +66,15 @@ opening_of o = opening_if o (can_agree o.terms) refl
 
 abbrev pub batch_if : (claims : List ClaimParts) (outputs : List Output) (preimages : List (List ℕ)) (within : Bool) → are_within (length claims) (length outputs) ≡ within → Option Batch
 batch_if claims outputs preimages true h =
-    let all = and_parts (nat_lt 0 (length claims) && nat_le (length claims) max_inputs) (nat_le (length outputs) max_outputs) h in
-    let ends = and_parts (nat_lt 0 (length claims)) (nat_le (length claims) max_inputs) all.0 in
+    let all = and_parts (nat_lt 0 (length claims) && nat_le (length claims) MAX_INPUTS) (nat_le (length outputs) MAX_OUTPUTS) h in
+    let ends = and_parts (nat_lt 0 (length claims)) (nat_le (length claims) MAX_INPUTS) all.0 in
     Some (record {
       claims = claims;
       outputs = outputs;
       preimages = preimages;
       some = ltb-true 0 (length claims) ends.0;
-      inputs = leb-true (length claims) max_inputs ends.1;
-      given = leb-true (length outputs) max_outputs all.1;
+      inputs = leb-true (length claims) MAX_INPUTS ends.1;
+      given = leb-true (length outputs) MAX_OUTPUTS all.1;
     })
 batch_if claims outputs preimages false h = None
 

@@ -1,9 +1,11 @@
 -- The penalty set of a revoked commitment, as a book tests it.
-use Rattle.std.specs.Prelude.{◌≡◌, ℕ, ◌==◌, Bool, true, false, ◌&&◌, not, Ok, is_ok, All, List, [], ◌∷◌, Option, Some, None, slice_get}
+use Rattle.std.specs.Prelude.{◌≡◌, ℕ, ◌==◌, Bool, true, false, ◌&&◌, not, Ok, is_ok, All, List, Option, Some, slice_get}
 use Rattle.std.specs.List.{AllByRecursion}
 use Rattle.std.specs.Str.{bytes_eq}
+use Rattle.std.specs.Option.{option_map_or}
+use lib.Pointwise.{pointwise}
 use Rattle.script.specs.Spelling.{spelling, IsOp}
-use Rattle.tx.specs.declared.input.OutPoint.{OutPoint}
+use Rattle.tx.specs.Fields.{same_outpoint}
 use Rattle.keys.specs.Derivation.{point_of}
 use Rattle.terms.specs.declared.sides.Side.{Side}
 use Rattle.terms.specs.declared.agreement.Terms.{Terms}
@@ -27,7 +29,8 @@ use Rattle.texts.specs.Values.{◌>>=◌}
 
 -- the peer's commitment of a number, with the point of the secret by which it was revoked
 abbrev pub revoked_contents : State → CommitmentState → List ℕ → Contents
-revoked_contents s c secret = commitment_of s.held.terms c.view (other s.held.side) c.number (point_of secret)
+revoked_contents s c secret =
+    commitment_of s.held.terms c.view (other s.held.side) c.number (point_of secret)
 
 -- what a revoked commitment lets its owner's peer claim
 unfoldable pub claimable_in : Contents → List Claimable
@@ -35,15 +38,14 @@ claimable_in c = claims_from c 0 c.outputs
 
 -- what the peer's commitment of a number lets this side claim, if it is revoked
 abbrev pub claimable_at : State → ℕ → Option (List Claimable)
-claimable_at s n = slice_get s.signed n >>= (λ c. slice_get s.secrets n >>= (λ secret. Some (claimable_in (revoked_contents s c secret))))
+claimable_at s n = slice_get s.signed n >>= λ c. slice_get s.secrets n >>= λ secret.
+    Some (claimable_in (revoked_contents s c secret))
 
 -- ---- whether claims are on these outputs: one claim for each output, in order
 
-abbrev pub same_outpoint : OutPoint → OutPoint → Bool
-same_outpoint a b = bytes_eq a.txid b.txid && a.index == b.index
-
 abbrev pub same_place : Place → Place → Bool
-same_place a b = same_outpoint a.outpoint b.outpoint && a.value == b.value && bytes_eq a.program b.program
+same_place a b = same_outpoint a.outpoint b.outpoint && a.value == b.value
+    && bytes_eq a.program b.program
 
 abbrev pub same_filling : Filling → Filling → Bool
 same_filling (Signature a) (Signature b) = bytes_eq a b
@@ -53,32 +55,28 @@ same_filling a b = false
 
 -- lists of one length, whose elements match pairwise
 abbrev pub all_match : {A B : Type 0} → (A → B → Bool) → List A → List B → Bool
-all_match f [] [] = true
-all_match f (x ∷ xs) (y ∷ ys) = f x y && all_match f xs ys
-all_match f [] (y ∷ ys) = false
-all_match f (x ∷ xs) [] = false
+all_match f xs ys = pointwise f xs ys
 
 abbrev pub same_fillings : List Filling → List Filling → Bool
 same_fillings xs ys = all_match same_filling xs ys
 
 -- two claimable outputs are the same; scripts of equal bytes have equal paths
 abbrev pub same_claimable : Claimable → Claimable → Bool
-same_claimable a b = same_place a.place b.place && bytes_eq (spelling a.form.ops) (spelling b.form.ops) && a.path == b.path && same_fillings a.slots b.slots
+same_claimable a b = same_place a.place b.place
+    && bytes_eq (spelling a.form.ops) (spelling b.form.ops) && a.path == b.path
+    && same_fillings a.slots b.slots
 
 -- a claim on the output, with an open shell, accepted on the output's form
 abbrev pub is_claim_on : Claimable → ClaimParts → Bool
-is_claim_on o c = same_claimable (claimed_by c) o && is_ok (judgement_of o.form c.index c.slots c.place c.shell) && not (is_fixed c.shell)
+is_claim_on o c = same_claimable (claimed_by c) o
+    && is_ok (judgement_of o.form c.index c.slots c.place c.shell) && not (is_fixed c.shell)
 
 unfoldable pub are_claims_on : List Claimable → List ClaimParts → Bool
 are_claims_on os claims = all_match is_claim_on os claims
 
-abbrev pub are_on : Option (List Claimable) → List ClaimParts → Bool
-are_on None claims = false
-are_on (Some os) claims = are_claims_on os claims
-
 -- whether the claims are the penalty set of the peer's commitment of this number
 unfoldable pub is_penalty_set : State → ℕ → List ClaimParts → Bool
-is_penalty_set s n claims = are_on (claimable_at s n) claims
+is_penalty_set s n claims = option_map_or (λ os. are_claims_on os claims) (claimable_at s n) false
 
 -- ---- sets of penalties
 

@@ -3,6 +3,7 @@ use Rattle.std.specs.Prelude.{ℕ, Bool, true, false, not, ◌||◌, nat_lt, nat
 use Rattle.std.specs.List.{list_any}
 use Rattle.std.specs.Str.{bytes_eq}
 use Rattle.tx.specs.Parts.{Output}
+use Rattle.tx.specs.Fields.{same_outpoint}
 use Rattle.updates.specs.declared.errors.ChannelError.{ChannelError}
 use Rattle.updates.specs.Refusals.{covers_nothing}
 use Rattle.claim.specs.Claims.{ClaimParts}
@@ -30,7 +31,7 @@ use Rattle.book.specs.declared.errors.KeepError.{KeepError}
 use Rattle.book.specs.declared.errors.KeepError.TheVariants.{NotRevoked, AlreadyKept, OtherState, NoSuchChannel as NoChannelToKeep}
 use Rattle.book.specs.declared.errors.ReleaseError.{ReleaseError}
 use Rattle.book.specs.declared.errors.ReleaseError.TheVariants.{Unfilled, NoSuchChannel as NoChannelToRelease}
-use Rattle.book.specs.Penalties.{same_outpoint, is_penalty_set}
+use Rattle.book.specs.Penalties.{is_penalty_set}
 use Rattle.book.specs.Books.{ChannelBook, Channels, is_kept, first_missing, replay}
 use Rattle.channel.specs.Rights.{rights_of}
 use Rattle.book.specs.Signers.{fill_refusal}
@@ -69,10 +70,11 @@ asked none (Some ch) answer = answer ch
 
 -- BookFull, SameFunding, BadSignature
 abbrev pub open_refusal : Signing → Channels → Opening → Option OpenError
-open_refusal tokens_of chs o =
-    if_so (nat_le MAX_CHANNELS (length chs)) BookFull
-    (if_so (list_any (λ ch. same_outpoint ch.state.held.terms.funding o.terms.funding) chs) SameFunding
-    (if_so (not (bytes_eq o.token (tokens_of o.terms (first_of o.terms o.side (point_at o.seed 0))).commitment)) BadSignature None))
+open_refusal sign cs o =
+    if_so (nat_le MAX_CHANNELS (length cs)) BookFull
+    (if_so (list_any (λ c. same_outpoint c.state.held.terms.funding o.terms.funding) cs) SameFunding
+    (if_so (not (bytes_eq o.token
+    (sign o.terms (first_of o.terms o.side (point_at o.seed 0))).commitment)) BadSignature None))
 
 -- the channel's refusal
 abbrev pub step_refusal : Signing → State → Step → Option ChannelError
@@ -104,21 +106,25 @@ keep_refusal ch n claims =
     (if_so (is_kept ch.kept n) AlreadyKept
     (if_so (not (is_penalty_set ch.state n claims)) OtherState None))
 
-abbrev pub fill_answer : State → List ClaimParts → List Output → List (List ℕ) → Result Filling ReleaseError
-fill_answer s claims outputs preimages =
-    unless Unfilled (fill_refusal claims outputs (rights_of s) preimages) (record { tx = filling_of claims outputs preimages; places = map (λ c. c.place) claims })
+abbrev pub fill_answer : State → List ClaimParts → List Output → List (List ℕ)
+    → Result Filling ReleaseError
+fill_answer s claims outputs known =
+    unless Unfilled (fill_refusal claims outputs (rights_of s) known)
+    (record { tx = filling_of claims outputs known; places = map (λ c. c.place) claims })
 
 -- the reply to a call, given the channels
 abbrev pub answer_of : Signing → Channels → Call → Reply
-answer_of tokens_of chs (Open o) = opened (unless (λ e. e) (open_refusal tokens_of chs o) (length chs))
-answer_of tokens_of chs (Stepping c step) =
-    stepped (asked NoChannelToStep (slice_get chs c) (λ ch. unless Refused (step_refusal tokens_of ch.state step) (messages_of ch.state step)))
-answer_of tokens_of chs (Sign c) =
-    signed (asked NoChannelToSign (slice_get chs c) (λ ch. unless (λ e. e) (sign_refusal ch) (signature_message tokens_of ch.state)))
-answer_of tokens_of chs (Revoke c secret next_point) =
-    revoked (asked NoChannelToStep (slice_get chs c) (λ ch. unless Refused (receive_refusal tokens_of ch.state (RevokeAndAck secret next_point)) (length ch.state.secrets)))
-answer_of tokens_of chs (Keep c n claims) = kept (asked NoChannelToKeep (slice_get chs c) (λ ch. unless (λ e. e) (keep_refusal ch n claims) tt))
-answer_of tokens_of chs (Release c batch) = released (asked NoChannelToRelease (slice_get chs c) (λ ch. fill_answer ch.state batch.claims batch.outputs batch.preimages))
+answer_of sign chs (Open o) = opened (unless (λ e. e) (open_refusal sign chs o) (length chs))
+answer_of sign chs (Stepping c step) = stepped (asked NoChannelToStep (slice_get chs c) (λ ch.
+    unless Refused (step_refusal sign ch.state step) (messages_of ch.state step)))
+answer_of sign chs (Sign c) = signed (asked NoChannelToSign (slice_get chs c) (λ ch.
+    unless (λ e. e) (sign_refusal ch) (signature_message sign ch.state)))
+answer_of sign chs (Revoke c secret p) = revoked (asked NoChannelToStep (slice_get chs c) (λ k.
+    unless Refused (receive_refusal sign k.state (RevokeAndAck secret p)) (length k.state.secrets)))
+answer_of sign chs (Keep c n claims) = kept (asked NoChannelToKeep (slice_get chs c) (λ ch.
+    unless (λ e. e) (keep_refusal ch n claims) tt))
+answer_of sign chs (Release c batch) = released (asked NoChannelToRelease (slice_get chs c) (λ ch.
+    fill_answer ch.state batch.claims batch.outputs batch.preimages))
 
 -- the reply to a call after a history
 abbrev pub reply_of : Signing → List Entry → Call → Reply

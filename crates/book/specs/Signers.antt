@@ -1,5 +1,6 @@
 -- What a signer may sign for, and whether it can fill claims.
 use Rattle.std.specs.Prelude.{◌≡◌, ◌↔◌, ◌⊎◌, ℕ, Bool, true, ◌||◌, List, [], ◌∷◌, Option, Some, None, is_some, if◌then◌else◌}
+use Rattle.std.specs.Option.{option_or}
 use Rattle.tx.specs.Parts.{Output}
 use Rattle.keys.specs.Keys.{base_keys, learnt_keys, is_among}
 use Rattle.keys.specs.Rights.{Rights, MaySign}
@@ -13,25 +14,22 @@ use Rattle.filling.specs.Refusals.{are_mixed, share_outpoint, do_exceed, all_slo
 
 -- whether a signer may sign for a key: a base key of its own, or a key that derives from what it learnt
 unfoldable pub may_sign : Rights → List ℕ → Bool
-may_sign r key = is_among key (base_keys r.seed) || is_among key (learnt_keys r.seed r.points r.secrets)
+may_sign r k = is_among k (base_keys r.seed) || is_among k (learnt_keys r.seed r.points r.secrets)
 
 -- what a slot lacks
 abbrev pub lack_of : Rights → List (List ℕ) → Slot → Option FillError
-lack_of r preimages (Sig k) = if may_sign r k.bytes then None else Some NoRight
-lack_of r preimages (Preimage h) = if is_some (preimage_of preimages h) then None else Some NoPreimage
-lack_of r preimages (Exact b) = None
-
-abbrev pub first_of : Option FillError → Option FillError → Option FillError
-first_of (Some e) later = Some e
-first_of None later = later
+lack_of r known (Sig k) = if may_sign r k.bytes then None else Some NoRight
+lack_of r known (Preimage h) = if is_some (preimage_of known h) then None else Some NoPreimage
+lack_of r known (Exact b) = None
 
 -- what the first slot that cannot be filled lacks
 abbrev pub first_lack : Rights → List (List ℕ) → List Slot → Option FillError
-first_lack r preimages [] = None
-first_lack r preimages (slot ∷ slots) = first_of (lack_of r preimages slot) (first_lack r preimages slots)
+first_lack r known [] = None
+first_lack r known (slot ∷ slots) = option_or (lack_of r known slot) (first_lack r known slots)
 
 -- why claims are not filled: the first refusal in the order of the tests
-unfoldable pub fill_refusal : List ClaimParts → List Output → Rights → List (List ℕ) → Option FillError
+unfoldable pub fill_refusal : List ClaimParts → List Output → Rights → List (List ℕ)
+    → Option FillError
 fill_refusal claims outputs r preimages =
     if are_mixed claims then Some MixedShells
     else if share_outpoint claims then Some SameOutpoint

@@ -1,7 +1,7 @@
 //! The calls of a book, as its history holds them.
 
 ghost use Rattle.std.specs.Prelude.{◌≤◌, ◌↔◌, length, IsTrue};
-ghost use Rattle.tx.specs.Limits.{max_inputs, max_outputs};
+ghost use Rattle.tx.specs.declared.limits.TheConstants.{MAX_INPUTS as max_inputs, MAX_OUTPUTS as max_outputs};
 ghost use Rattle.terms.specs.Agreement.{party};
 ghost use Rattle.terms.specs.Bases.{IsSeedOf};
 

@@ -2,13 +2,14 @@
 
 ghost use Rattle.std.specs.Prelude.{◌≡◌, ◌↔◌, ◌&&◌, not, map, All, IsTrue};
 ghost use Rattle.std.specs.List.{AllByRecursion};
+ghost use Rattle.tx.specs.Fields.{same_outpoint};
 ghost use Rattle.claim.specs.declared.parts.Shell.TheVariants.{Open};
 ghost use Rattle.claim.specs.Claims.{IsWhole};
 ghost use Rattle.forms.specs.Fillings.{filling_of};
 ghost use Rattle.penalty.specs.Claimable.{claimable_of};
 ghost use Rattle.penalty.specs.Sets.{claimed_by, IsClaimOn, AreClaimsOn};
 ghost use Rattle.filling.specs.Refusals.{is_fixed};
-ghost use Rattle.book.specs.Penalties.{same_outpoint, same_place, same_filling, same_fillings, same_claimable, all_match, is_claim_on, are_claims_on, IsChecked};
+ghost use Rattle.book.specs.Penalties.{same_place, same_filling, same_fillings, same_claimable, all_match, is_claim_on, are_claims_on, IsChecked};
 
 use claim::{Claim, OutPoint, Place, Shell, Slot};
 use paths::Checked;

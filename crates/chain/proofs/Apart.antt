@@ -7,9 +7,9 @@ use Rattle.std.proofs.lemmas.List.Folds.{list_any-append}
 use Rattle.std.proofs.lemmas.Slice.Eq.{bytes_eq-Decides}
 use Rattle.tx.specs.declared.input.OutPoint.{OutPoint}
 use Rattle.tx.specs.Parts.{Output}
-use Rattle.tx.specs.Fields.{Transaction}
+use Rattle.tx.specs.Fields.{Transaction, same_outpoint}
 use Rattle.tx.specs.Spelling.{transaction_id}
-use Rattle.chain.specs.Blocks.{Contents, Creation, same_outpoint, grant_id, grant_outpoint, creations_from, created_by, created_by_all, granted_at, grants_in, created_of, has_id}
+use Rattle.chain.specs.Blocks.{Contents, Creation, grant_id, grant_outpoint, creations_from, created_by, created_by_all, granted_at, grants_in, created_of, has_id}
 use Rattle.chain.specs.Checked.{have_passed, is_checked}
 use Rattle.chain.specs.Conserving.{GrantsAreApart}
 use Rattle.chain.proofs.Noting.{swapped}

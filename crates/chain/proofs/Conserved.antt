@@ -12,9 +12,9 @@ use Rattle.std.proofs.lemmas.Slice.Eq.{bytes_eq-Decides}
 use Rattle.tx.specs.declared.input.OutPoint.{OutPoint}
 use Rattle.tx.specs.declared.input.TxIn.{TxIn}
 use Rattle.tx.specs.Parts.{Output}
-use Rattle.tx.specs.Fields.{Transaction}
+use Rattle.tx.specs.Fields.{Transaction, same_outpoint}
 use Rattle.tx.specs.Spelling.{transaction_id}
-use Rattle.chain.specs.Blocks.{Contents, Standing, Creation, Coin, empty_block, height_of, same_outpoint, grant_outpoint, creations_from, created_by, created_by_all, granted_at, grants_in, created_of, names, is_named, created_at, coin_at, unspent_of, transactions_of, value_at, paid_in, paid_out, fee_of, fees_of, granted_of}
+use Rattle.chain.specs.Blocks.{Contents, Standing, Creation, Coin, empty_block, height_of, grant_outpoint, creations_from, created_by, created_by_all, granted_at, grants_in, created_of, names, is_named, created_at, coin_at, unspent_of, transactions_of, value_at, paid_in, paid_out, fee_of, fees_of, granted_of}
 use Rattle.chain.specs.Checks.{names_twice, transaction_refusal}
 use Rattle.chain.specs.Checked.{have_passed, is_checked}
 use Rattle.chain.specs.Connecting.{with_grant, unless_refused, added}

@@ -9,8 +9,8 @@ use Rattle.std.proofs.lemmas.Grind.{reverse_onto, flat_map-append}
 use Rattle.std.proofs.lemmas.List.Folds.{find-append}
 use Rattle.tx.specs.declared.input.OutPoint.{OutPoint}
 use Rattle.tx.specs.Parts.{Output}
-use Rattle.tx.specs.Fields.{Transaction}
-use Rattle.chain.specs.Blocks.{Contents, Creation, Coin, same_outpoint, creations_from, created_by, created_by_all, granted_at, grant_outpoint, grants_in, created_of, names, is_named, coin_at}
+use Rattle.tx.specs.Fields.{Transaction, same_outpoint}
+use Rattle.chain.specs.Blocks.{Contents, Creation, Coin, creations_from, created_by, created_by_all, granted_at, grant_outpoint, grants_in, created_of, names, is_named, coin_at}
 use Rattle.chain.proofs.Lists.{any_reversed}
 use Rattle.chain.specs.Scanning.{spot_of, found_in, at_height, grants_from, created_from}
 

@@ -13,9 +13,9 @@ use Rattle.std.proofs.lemmas.Map.Text.{is_eq-slice_cmp}
 use Rattle.std.proofs.lemmas.Slice.Eq.{bytes_eq-Decides}
 use Rattle.tx.specs.declared.input.OutPoint.{OutPoint}
 use Rattle.tx.specs.Parts.{Output}
-use Rattle.tx.specs.Fields.{Transaction}
+use Rattle.tx.specs.Fields.{Transaction, same_outpoint}
 use Rattle.tx.specs.Spelling.{transaction_id}
-use Rattle.chain.specs.Blocks.{Contents, Creation, Coin, empty_block, height_of, same_outpoint, grant_outpoint, creations_from, created_by, created_by_all, granted_at, grants_in, created_of, names, is_named, created_at, coin_at, has_id}
+use Rattle.chain.specs.Blocks.{Contents, Creation, Coin, empty_block, height_of, grant_outpoint, creations_from, created_by, created_by_all, granted_at, grants_in, created_of, names, is_named, created_at, coin_at, has_id}
 use Rattle.chain.specs.Connecting.{with_transaction, with_grant}
 use Rattle.chain.specs.Storing.{MayTakeOff}
 use Rattle.chain.specs.Checks.{transaction_refusal}

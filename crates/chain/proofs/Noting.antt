@@ -15,8 +15,9 @@ use Rattle.std.proofs.lemmas.Map.Text.{is_eq-slice_cmp}
 use Rattle.std.proofs.lemmas.Slice.Eq.{bytes_eq-Decides}
 use Rattle.tx.specs.declared.input.OutPoint.{OutPoint}
 use Rattle.tx.specs.Parts.{Output}
+use Rattle.tx.specs.Fields.{same_outpoint}
 use Rattle.chain.specs.declared.coin_map.IndexedCoin.{IndexedCoin}
-use Rattle.chain.specs.Blocks.{Creation, Coin, same_outpoint, creations_from}
+use Rattle.chain.specs.Blocks.{Creation, Coin, creations_from}
 use Rattle.chain.specs.Indexing.{outpoint_cmp, indexed_coin, noted, new_coin, first_new, is_output_below, unless_height, without, marked, with_mark}
 use Rattle.chain.proofs.Finding.{head_left, drop-past}
 

@@ -7,11 +7,11 @@ use Rattle.std.proofs.lemmas.Bool.{false≢true, and_parts, or_cases}
 use Rattle.std.proofs.lemmas.List.Folds.{find-append}
 use Rattle.tx.specs.declared.input.OutPoint.{OutPoint}
 use Rattle.tx.specs.declared.input.TxIn.{TxIn}
-use Rattle.tx.specs.Fields.{Transaction}
+use Rattle.tx.specs.Fields.{Transaction, same_outpoint}
 use Rattle.tx.specs.Spelling.{transaction_id}
 use Rattle.chain.specs.declared.errors.ChainError.{ChainError}
 use Rattle.chain.specs.declared.errors.ChainError.TheVariants.{Spent, Twice, OutputsExceed}
-use Rattle.chain.specs.Blocks.{Contents, Creation, Coin, height_of, same_outpoint, created_by, created_by_all, granted_at, grants_in, created_of, names, is_named, created_at, coin_at, has_id, paid_in, paid_out}
+use Rattle.chain.specs.Blocks.{Contents, Creation, Coin, height_of, created_by, created_by_all, granted_at, grants_in, created_of, names, is_named, created_at, coin_at, has_id, paid_in, paid_out}
 use Rattle.chain.specs.Checks.{required, first_of, coin_refusal, input_refusal, inputs_refusal, names_twice, transaction_refusal}
 use Rattle.chain.specs.Checked.{have_passed, is_checked}
 use Rattle.chain.proofs.Noting.{same_is}

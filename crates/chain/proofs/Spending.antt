@@ -6,12 +6,12 @@ use Rattle.script.specs.Run.{Outcome, Clean, Stopped}
 use Rattle.tx.specs.declared.input.OutPoint.{OutPoint}
 use Rattle.tx.specs.declared.input.TxIn.{TxIn}
 use Rattle.tx.specs.Parts.{Output}
-use Rattle.tx.specs.Fields.{Transaction}
+use Rattle.tx.specs.Fields.{Transaction, same_outpoint}
 use Rattle.tx.specs.Spelling.{transaction_id}
 use Rattle.sighash.specs.Programs.{run_of}
 use Rattle.chain.specs.declared.errors.ChainError.{ChainError}
 use Rattle.chain.specs.declared.errors.ChainError.TheVariants.{NoMemory, Spent, Unknown, NotFinal, TooYoung, Script, BadProgram}
-use Rattle.chain.specs.Blocks.{Contents, Standing, Creation, empty_block, Coin, same_outpoint, creations_from, created_by, created_by_all, granted_at, grant_outpoint, grants_in, created_of, is_named}
+use Rattle.chain.specs.Blocks.{Contents, Standing, Creation, empty_block, Coin, creations_from, created_by, created_by_all, granted_at, grant_outpoint, grants_in, created_of, is_named}
 use Rattle.chain.specs.Locks.{is_final, is_old_enough}
 use Rattle.chain.specs.Refusals.{UnlessMemory, Answers}
 use Rattle.chain.specs.Checks.{required, run_refusal, coin_refusal, input_refusal}

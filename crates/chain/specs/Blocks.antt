@@ -1,13 +1,13 @@
 -- The chain as the list of its blocks, the newest first. The transactions of a block, and the outputs that were granted in it, are
 -- also listed newest first.
-use Rattle.std.specs.Prelude.{ℕ, ◌+◌, ◌-◌, ◌%◌, ◌^◌, Bool, ◌&&◌, not, ◌==◌, List, [], ◌∷◌, ◌++◌, length, filter, sum_by, Option, option_map, unwrap_or}
+use Rattle.std.specs.Prelude.{ℕ, ◌+◌, ◌-◌, ◌%◌, ◌^◌, Bool, not, List, [], ◌∷◌, ◌++◌, length, filter, sum_by, Option, option_map, unwrap_or}
 use Rattle.std.specs.List.{find, list_any, flat_map}
 use Rattle.std.specs.Str.{bytes_eq}
 use Rattle.digest.specs.Hash.{sha256d}
 use Rattle.tx.specs.declared.input.OutPoint.{OutPoint}
 use Rattle.tx.specs.declared.input.TxIn.{TxIn}
 use Rattle.tx.specs.Parts.{Output}
-use Rattle.tx.specs.Fields.{Transaction}
+use Rattle.tx.specs.Fields.{Transaction, same_outpoint}
 use Rattle.tx.specs.Spelling.{number, transaction_id}
 
 -- what a block holds: its transactions, and the outputs that were granted after them
@@ -28,9 +28,6 @@ empty_block = record { transactions = []; granted = [] }
 abbrev pub height_of : List Contents → ℕ
 height_of blocks = length blocks - 1
 
-abbrev pub same_outpoint : OutPoint → OutPoint → Bool
-same_outpoint o p = bytes_eq o.txid p.txid && o.index == p.index
-
 -- the id of the grant after g earlier ones: SHA-256 twice of the ASCII bytes "grant" and g in eight bytes, little-endian
 unfoldable pub grant_id : ℕ → List ℕ
 grant_id g = sha256d ((0x67 ∷ 0x72 ∷ 0x61 ∷ 0x6e ∷ 0x74 ∷ []) ++ number 8 (g % 2 ^ 64))
@@ -48,7 +45,8 @@ pub record Creation : Type 0 where
 abbrev pub creations_from : List ℕ → ℕ → ℕ → List Output → List Creation
 creations_from id height index [] = []
 creations_from id height index (o ∷ os) =
-    record { outpoint = record { txid = id; index = index }; output = o; height = height } ∷ creations_from id height (index + 1) os
+    record { outpoint = record { txid = id; index = index }; output = o; height = height }
+    ∷ creations_from id height (index + 1) os
 
 abbrev pub created_by : ℕ → Transaction → List Creation
 created_by height t = creations_from (transaction_id t) height 0 t.outputs
@@ -60,8 +58,8 @@ created_by_all height (t ∷ ts) = created_by_all height ts ++ created_by height
 -- the outputs granted at a height, after this number of earlier grants
 abbrev pub granted_at : ℕ → ℕ → List Output → List Creation
 granted_at height before [] = []
-granted_at height before (o ∷ os) =
-    granted_at height before os ++ record { outpoint = grant_outpoint (before + length os); output = o; height = height } ∷ []
+granted_at height before (o ∷ os) = granted_at height before os
+    ++ record { outpoint = grant_outpoint (before + length os); output = o; height = height } ∷ []
 
 -- how many outputs were granted
 abbrev pub grants_in : List Contents → ℕ
@@ -71,8 +69,8 @@ grants_in (b ∷ older) = grants_in older + length b.granted
 -- the outputs that transactions and grants created, in the order of the chain
 abbrev pub created_of : List Contents → List Creation
 created_of [] = []
-created_of (b ∷ older) =
-    created_of older ++ (created_by_all (length older) b.transactions ++ granted_at (length older) (grants_in older) b.granted)
+created_of (b ∷ older) = created_of older ++ (created_by_all (length older) b.transactions
+    ++ granted_at (length older) (grants_in older) b.granted)
 
 -- an input of the transaction spends the outpoint
 abbrev pub names : OutPoint → Transaction → Bool
@@ -97,7 +95,9 @@ pub record Coin : Type 0 where
   pub spent : Bool
 
 abbrev pub coin_at : List Contents → OutPoint → Option Coin
-coin_at blocks o = option_map (λ c. record { output = c.output; height = c.height; spent = is_named blocks o }) (created_at blocks o)
+coin_at blocks o =
+    option_map (λ c. record { output = c.output; height = c.height; spent = is_named blocks o })
+    (created_at blocks o)
 
 -- a transaction with this id is on the chain
 abbrev pub has_id : List Contents → List ℕ → Bool

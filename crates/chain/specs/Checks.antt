@@ -1,14 +1,15 @@
 -- What a transaction is checked for, and the first refusal.
 use Rattle.std.specs.Prelude.{ℕ, Bool, true, false, ◌||◌, not, nat_le, List, [], ◌∷◌, Option, Some, None}
 use Rattle.std.specs.List.{list_any}
+use Rattle.std.specs.Option.{option_map_or}
 use Rattle.script.specs.Run.{Outcome, Clean, Stopped}
 use Rattle.tx.specs.declared.input.TxIn.{TxIn}
-use Rattle.tx.specs.Fields.{Transaction}
+use Rattle.tx.specs.Fields.{Transaction, same_outpoint}
 use Rattle.tx.specs.Spelling.{transaction_id}
 use Rattle.sighash.specs.Programs.{run_of}
 use Rattle.chain.specs.declared.errors.ChainError.{ChainError}
 use Rattle.chain.specs.declared.errors.ChainError.TheVariants.{Spent, Unknown, NotFinal, TooYoung, Script, BadProgram, OutputsExceed, Twice}
-use Rattle.chain.specs.Blocks.{Contents, Coin, coin_at, height_of, same_outpoint, has_id, paid_in, paid_out}
+use Rattle.chain.specs.Blocks.{Contents, Coin, coin_at, height_of, has_id, paid_in, paid_out}
 use Rattle.chain.specs.Locks.{is_final, is_old_enough}
 
 -- the refusal if the check fails, else what follows
@@ -31,8 +32,7 @@ run_refusal None = Some BadProgram
 -- it spends
 abbrev pub coin_refusal : ℕ → Transaction → TxIn → Option Coin → Option ChainError
 coin_refusal height t input None = Some Unknown
-coin_refusal height t input (Some coin) =
-    required (not coin.spent) Spent
+coin_refusal height t input (Some coin) = required (not coin.spent) Spent
     (required (is_final height t.lock_time t.inputs) NotFinal
     (required (is_old_enough height t.version input.sequence coin.height) TooYoung
     (run_refusal (run_of t input coin.output))))
@@ -42,8 +42,7 @@ input_refusal blocks height t input = coin_refusal height t input (coin_at block
 
 -- the refusal of the input at an index; an index with no input is Unknown
 abbrev pub indexed_refusal : List Contents → ℕ → Transaction → Option TxIn → Option ChainError
-indexed_refusal blocks height t None = Some Unknown
-indexed_refusal blocks height t (Some input) = input_refusal blocks height t input
+indexed_refusal blocks height t o = option_map_or (input_refusal blocks height t) o (Some Unknown)
 
 -- the first refusal of inputs in their order
 abbrev pub inputs_refusal : List Contents → ℕ → Transaction → List TxIn → Option ChainError

@@ -7,8 +7,9 @@ use Rattle.std.specs.List.{find}
 use Rattle.std.specs.BTreeMap.{BTreeMap, get}
 use Rattle.std.specs.Str.{bytes_eq}
 use Rattle.tx.specs.declared.input.OutPoint.{OutPoint}
+use Rattle.tx.specs.Fields.{same_outpoint}
 use Rattle.chain.specs.declared.coin_map.IndexedCoin.{IndexedCoin}
-use Rattle.chain.specs.Blocks.{Contents, Creation, Coin, same_outpoint, coin_at, has_id}
+use Rattle.chain.specs.Blocks.{Contents, Creation, Coin, coin_at, has_id}
 use Rattle.chain.specs.Checked.{is_checked}
 
 -- the order of outpoints: by their ids, byte by byte, and then by their indices

@@ -4,7 +4,8 @@ use Rattle.std.specs.Borrow.{Bor}
 use Rattle.std.specs.List.{find}
 use Rattle.tx.specs.declared.input.OutPoint.{OutPoint}
 use Rattle.tx.specs.Parts.{Output}
-use Rattle.chain.specs.Blocks.{Contents, Creation, same_outpoint, grant_outpoint, created_by_all, granted_at}
+use Rattle.tx.specs.Fields.{same_outpoint}
+use Rattle.chain.specs.Blocks.{Contents, Creation, grant_outpoint, created_by_all, granted_at}
 
 -- an output and the height of its block
 abbrev pub spot_of : Creation → Output × ℕ

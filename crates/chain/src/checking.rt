@@ -3,9 +3,9 @@
 ghost use Rattle.std.specs.Prelude.{◌≡◌, ◌≤◌, ◌*◌, ◌||◌, length, Some, None, slice_get, sum_by, IfOk};
 ghost use Rattle.std.specs.List.{list_any};
 ghost use Rattle.tx.specs.Spelling.{transaction_id};
-ghost use Rattle.tx.specs.Fields.{AreInputs, AreOutputs};
-ghost use Rattle.tx.specs.Limits.{max_outputs};
-ghost use Rattle.chain.specs.Blocks.{Standing, height_of, same_outpoint, value_at, paid_in, paid_out};
+ghost use Rattle.tx.specs.Fields.{AreInputs, AreOutputs, same_outpoint};
+ghost use Rattle.tx.specs.declared.limits.TheConstants.{MAX_OUTPUTS as max_outputs};
+ghost use Rattle.chain.specs.Blocks.{Standing, height_of, value_at, paid_in, paid_out};
 ghost use Rattle.chain.specs.Refusals.{Answers};
 ghost use Rattle.chain.specs.Storing.{found_coin};
 ghost use Rattle.chain.specs.Checks.{coin_refusal, input_refusal, indexed_refusal, inputs_refusal, names_twice, transaction_refusal};

@@ -4,9 +4,10 @@ ghost use Rattle.std.specs.Prelude.{◌≡◌, ◌<◌, ◌≤◌, ◌==◌, [],
 ghost use Rattle.std.specs.List.{list_any};
 ghost use Rattle.std.specs.Option.{option_or};
 ghost use Rattle.tx.specs.declared.input.OutPoint.{OutPoint};
-ghost use Rattle.tx.specs.Limits.{max_outputs};
+ghost use Rattle.tx.specs.declared.limits.TheConstants.{MAX_OUTPUTS as max_outputs};
 ghost use Rattle.tx.specs.Spelling.{transaction_id};
-ghost use Rattle.chain.specs.Blocks.{created_by, same_outpoint};
+ghost use Rattle.tx.specs.Fields.{same_outpoint};
+ghost use Rattle.chain.specs.Blocks.{created_by};
 ghost use Rattle.chain.specs.Indexing.{noted, first_new, is_output_below, without, with_mark};
 
 use crate::blocks::Confirmed;

@@ -2,7 +2,7 @@
 
 ghost use Rattle.std.specs.Prelude.{◌≡◌, ℕ, ◌++◌, ◌≤◌, ◌%◌, ◌^◌, length, map, sum, IfOk, OnOk};
 ghost use Rattle.std.specs.List.{flat_map};
-ghost use Rattle.tx.specs.Limits.{max_value, max_inputs};
+ghost use Rattle.tx.specs.declared.limits.TheConstants.{MAX_VALUE as max_value, MAX_INPUTS as max_inputs};
 ghost use Rattle.chain.specs.Blocks.{created_by, fee_of, fees_of, paid_in, value_at};
 ghost use Rattle.chain.specs.Totals.{IsUnspent, unspent_value, unspent_values};
 ghost use Rattle.chain.specs.Scanning.{grants_from};

@@ -24,6 +24,7 @@ pub record IsNumbered (terms : Terms) (side : Side) (n : ℕ) (c : CommitmentSta
   pub shares : SharesOut terms c.view
 
 -- this many commitments of a side, by number
-pub record AreNumbered (terms : Terms) (side : Side) (many : ℕ) (cs : List CommitmentState) : Type 0 where
+pub record AreNumbered (terms : Terms) (side : Side) (many : ℕ)
+    (cs : List CommitmentState) : Type 0 where
   pub count : length cs ≡ many
   pub each : (n : ℕ) (c : CommitmentState) → slice_get cs n ≡ Some c → IsNumbered terms side n c

@@ -30,14 +30,13 @@ point_at seed n = point_key (secret_at seed n)
 -- whether a secret of index i is consistent with one of index j (BOLT 3, "Efficient Per-commitment Secret Storage"). If j begins with the leading
 -- bits of i, those above its trailing zeros, the secret of j has to derive from that of i
 abbrev pub leads_to_one : List ℕ → ℕ → List ℕ → ℕ → Bool
-leads_to_one secret i other j =
-    let b = count_trailing_zeros 48 i in
+leads_to_one secret i other j = let b = count_trailing_zeros 48 i in
     not (j / 2 ^ b == i / 2 ^ b) || bytes_eq other (derived_secret secret b j)
 
 -- whether it is consistent with each secret of a list: the first has the index j, the second j - 1, and so on
 abbrev pub leads_to : List ℕ → ℕ → List (List ℕ) → ℕ → Bool
 leads_to secret i [] j = true
-leads_to secret i (other ∷ others) j = leads_to_one secret i other j && leads_to secret i others (j - 1)
+leads_to secret i (other ∷ rest) j = leads_to_one secret i other j && leads_to secret i rest (j - 1)
 
 -- whether a secret is of another seed than the secrets before it, which stand by number
 unfoldable pub is_foreign : List (List ℕ) → List ℕ → Bool

@@ -38,7 +38,8 @@ SidesRecord = (tokens_of : Signing) (s : State) → IsLived tokens_of s → IsRe
 -- the commitments of both sides stand by number, and the view of each shares out the capacity
 pub record AreByNumber (s : State) : Type 0 where
   pub mine : AreNumbered s.held.terms s.held.side (s.number + 1) s.mine
-  pub signed : AreNumbered s.held.terms (other s.held.side) (s.peer_number + 1 + one_if s.awaiting) s.signed
+  pub signed : AreNumbered s.held.terms (other s.held.side)
+      (s.peer_number + 1 + one_if s.awaiting) s.signed
 
 -- they do so, whatever the peer sends
 abbrev pub SidesNumber : Type 0

@@ -8,6 +8,7 @@ use Rattle.channel.specs.States.{State}
 abbrev pub rights_of : State → Rights
 rights_of s = record {
   seed = s.seed;
-  points = (point_at s.seed (s.number + 1)).bytes ∷ s.next_point.bytes ∷ (map (λ c. c.point.bytes) s.mine ++ map (λ c. c.point.bytes) s.signed);
+  points = (point_at s.seed (s.number + 1)).bytes ∷ s.next_point.bytes
+      ∷ (map (λ c. c.point.bytes) s.mine ++ map (λ c. c.point.bytes) s.signed);
   secrets = s.secrets;
 }

@@ -1,6 +1,7 @@
 -- The state of one side of a channel, its refusals in their order, and the state after its calls and received messages (BOLT 2, "Normal Operation").
 use Rattle.std.specs.Prelude.{ℕ, ◌+◌, Bool, true, false, not, ◌&&◌, ◌||◌, nat_le, List, [], ◌∷◌, ◌++◌, Option}
 use Rattle.std.specs.Str.{bytes_eq}
+use lib.Pointwise.{pointwise}
 use Rattle.keys.specs.declared.compressed.Key.{Key}
 use Rattle.keys.specs.Derivation.{point_of}
 use Rattle.terms.specs.declared.sides.Side.{Side}
@@ -42,7 +43,8 @@ pub record State : Type 0 where
 
 -- commitment 0, which pays the balances at the start
 abbrev pub first_of : Terms → Side → Key → CommitmentState
-first_of terms owner point = record { view = view_by terms owner [] []; owner = owner; number = 0; point = point }
+first_of terms owner point =
+    record { view = view_by terms owner [] []; owner = owner; number = 0; point = point }
 
 -- a side of a new channel, with the peer's points for 0 and 1
 abbrev pub state_at_opening : Terms → Side → List ℕ → Key → Key → State
@@ -61,21 +63,21 @@ state_at_opening terms side seed point next_point = record {
 
 -- the commitment that a signature of `by` is for: it has all of the signer's updates, and those of the other side that the signer's revocation acknowledged
 abbrev pub next_commitment : Terms → Side → Stages → Stages → ℕ → Key → CommitmentState
-next_commitment terms by sender others number point = record { view = view_by terms by sender.known others.past_receiver; owner = other by; number = number; point = point }
+next_commitment t by s o n p =
+    record { view = view_by t by s.known o.past_receiver; owner = other by; number = n; point = p }
 
 -- the peer's next commitment, as this side signs it
 abbrev pub peers_next : State → CommitmentState
-peers_next s = next_commitment s.held.terms s.held.side s.held.own s.held.theirs (s.peer_number + 1) s.next_point
+peers_next s = next_commitment s.held.terms s.held.side s.held.own s.held.theirs
+    (s.peer_number + 1) s.next_point
 
 -- one's own next commitment, which the peer's signature has to be for
 abbrev pub own_next : State → CommitmentState
-own_next s = next_commitment s.held.terms (other s.held.side) s.held.theirs s.held.own (s.number + 1) (point_at s.seed (s.number + 1))
+own_next s = next_commitment s.held.terms (other s.held.side) s.held.theirs s.held.own
+    (s.number + 1) (point_at s.seed (s.number + 1))
 
 abbrev pub all_eq : List (List ℕ) → List (List ℕ) → Bool
-all_eq [] [] = true
-all_eq (x ∷ xs) (y ∷ ys) = bytes_eq x y && all_eq xs ys
-all_eq [] (y ∷ ys) = false
-all_eq (x ∷ xs) [] = false
+all_eq xs ys = pointwise bytes_eq xs ys
 
 -- the same token for the commitment, and the same number of tokens for HTLC transactions, the same ones in order
 abbrev pub same_tokens : Tokens → Tokens → Bool
@@ -87,13 +89,12 @@ sign_tests s = (s.awaiting || nat_le LAST_NUMBER s.peer_number, NotYourTurn) ∷
 
 abbrev pub receive_tests : Signing → State → Message → List Test
 receive_tests tokens_of s (Updated u) = their_tests s.held u
-receive_tests tokens_of s (CommitmentSigned tokens) =
-    (nat_le LAST_NUMBER s.number, NotYourTurn)
+receive_tests tokens_of s (CommitmentSigned tokens) = (nat_le LAST_NUMBER s.number, NotYourTurn)
     ∷ (covers_nothing s.held.theirs s.held.own, NoUpdates)
-    ∷ (not (same_tokens tokens (tokens_of s.held.terms (own_next s))), BadSignature)
-    ∷ []
+    ∷ (not (same_tokens tokens (tokens_of s.held.terms (own_next s))), BadSignature) ∷ []
 receive_tests tokens_of s (RevokeAndAck secret next_point) =
-    (not s.awaiting, NotYourTurn) ∷ (not (bytes_eq (point_of secret) s.point.bytes), WrongSecret) ∷ (is_foreign s.secrets secret, WrongSecret) ∷ []
+    (not s.awaiting, NotYourTurn) ∷ (not (bytes_eq (point_of secret) s.point.bytes), WrongSecret)
+    ∷ (is_foreign s.secrets secret, WrongSecret) ∷ []
 
 -- the refusals of an update of one's own, of a signature to be given out, and of a received message
 abbrev pub update_refusal : State → Update → Option ChannelError
@@ -118,11 +119,19 @@ abbrev pub after_update : Update → State → State
 after_update u s = record s { held = holding_made u s.held }
 
 abbrev pub after_sign : State → State
-after_sign s = record s { held = holding_signed s.held; awaiting = true; signed = s.signed ++ peers_next s ∷ [] }
+after_sign s = record s {
+  held = holding_signed s.held;
+  awaiting = true;
+  signed = s.signed ++ peers_next s ∷ [];
+}
 
 abbrev pub after : State → Message → State
 after s (Updated u) = record s { held = holding_update u s.held }
-after s (CommitmentSigned tokens) = record s { held = holding_signature s.held; number = s.number + 1; mine = s.mine ++ own_next s ∷ [] }
+after s (CommitmentSigned tokens) = record s {
+  held = holding_signature s.held;
+  number = s.number + 1;
+  mine = s.mine ++ own_next s ∷ [];
+}
 after s (RevokeAndAck secret next_point) = record s {
   held = holding_revocation s.held;
   awaiting = false;
@@ -139,6 +148,6 @@ signature_message tokens_of s = CommitmentSigned (tokens_of s.held.terms (peers_
 -- the messages that answer a received one: a signature is answered by the secret of the commitment that it replaces, and the point for the number after the
 -- next
 abbrev pub answers : State → Message → List Message
-answers s (Updated u) = []
-answers s (CommitmentSigned tokens) = RevokeAndAck (secret_at s.seed s.number) (point_at s.seed (s.number + 2)) ∷ []
-answers s (RevokeAndAck secret next_point) = []
+answers s (CommitmentSigned tokens) =
+    RevokeAndAck (secret_at s.seed s.number) (point_at s.seed (s.number + 2)) ∷ []
+answers s m = []

@@ -1,6 +1,6 @@
 -- What slots show of items that fill them.
 use Rattle.std.proofs.Common.{◌≡◌, ℕ, Bool, List, [], ◌∷◌, length, map, Option, Some, None, zero, suc, ap, ◌∙◌, refl}
-use Rattle.std.specs.Prelude.{slice_get}
+use Rattle.std.specs.Prelude.{slice_get, option_and_then}
 use Rattle.std.specs.Str.{bytes_eq}
 use Rattle.script.specs.Token.{token_of, assigned}
 use Rattle.script.specs.Step.{Elements}
@@ -10,12 +10,12 @@ use Rattle.facts.specs.declared.symbols.KeySourceOver.TheVariants.{Const as Fixe
 use Rattle.facts.specs.Meaning.{slot_of, key_of}
 use Rattle.claim.specs.declared.parts.Slot.{Slot}
 use Rattle.claim.specs.declared.parts.Slot.TheVariants.{Sig, Preimage, Exact}
-use Rattle.claim.specs.Evidence.{slot_token_evidence, at_slot, known_bytes, known_key, token_evidence, assigned_evidence}
+use Rattle.claim.specs.Evidence.{slot_token_evidence, known_bytes, known_key, token_evidence, assigned_evidence}
 use Rattle.claim.specs.Fitting.{FillsSlot, FillsSlots}
 use Rattle.claim.proofs.Telling.{Tells, Known, token-tells}
 use Rattle.claim.proofs.Choosing.{choice-tells, choice-assigned}
 
-pub slot-tells : (spend : Spend) (show : Slot → Option Bool) (t : List ℕ → Bool) → ((slot : Slot) (x : List ℕ) → FillsSlot spend slot x → Tells (show slot) (t x)) → (slots : List Slot) (w : Elements) → FillsSlots spend slots w → (i : ℕ) → Tells (at_slot show (slice_get slots i)) (t (slot_of w i))
+pub slot-tells : (spend : Spend) (show : Slot → Option Bool) (t : List ℕ → Bool) → ((slot : Slot) (x : List ℕ) → FillsSlot spend slot x → Tells (show slot) (t x)) → (slots : List Slot) (w : Elements) → FillsSlots spend slots w → (i : ℕ) → Tells (option_and_then show (slice_get slots i)) (t (slot_of w i))
 slot-tells spend show t h [] w f i = tt
 slot-tells spend show t h (slot ∷ slots) [] f i = absurd f
 slot-tells spend show t h (slot ∷ slots) (x ∷ w) f zero = h slot x f.0

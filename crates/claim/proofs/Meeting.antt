@@ -1,6 +1,6 @@
 -- Whatever fits a claim that was accepted meets its path.
 use Rattle.std.proofs.Common.{◌≡◌, ℕ, ◌<◌, ◌≤◌, Bool, true, false, ◌||◌, not, eqb, List, [], ◌∷◌, length, reverse, Option, Some, None, sym, ap, subst, ◌∙◌, refl, arith}
-use Rattle.std.specs.Prelude.{slice_get, if◌then◌else◌, unwrap_or, Result, Ok, Err, All}
+use Rattle.std.specs.Prelude.{slice_get, if◌then◌else◌, unwrap_or, Result, Ok, Err, All, ok_or}
 use Rattle.std.specs.Str.{bytes_eq}
 use Rattle.std.specs.List.{list_any}
 use Rattle.std.proofs.lemmas.Bool.{or_from, le-ltb, eqb-true, false≢true}
@@ -32,10 +32,10 @@ use Rattle.tx.specs.Fields.{Transaction}
 use Rattle.sha2.proofs.Facts256.{length-sha256}
 use Rattle.sighash.specs.Programs.{spend_of, given_of, script_ops, run_of}
 use Rattle.claim.specs.declared.errors.AcceptError.{AcceptError}
-use Rattle.claim.specs.declared.errors.AcceptError.TheVariants.{WrongArity, Unmet, Contradiction, WrongProgram, WrongShell}
+use Rattle.claim.specs.declared.errors.AcceptError.TheVariants.{WrongArity, Unmet, Contradiction, WrongProgram, WrongShell, NoSuchPath}
 use Rattle.claim.specs.Evidence.{hash_evidence, size_evidence, truth_evidence, bytes_evidence, form_evidence, key_form_evidence, evidence_of}
 use Rattle.claim.specs.Fitting.{FillsSlot, FillsSlots, Fits, output_at, Spends}
-use Rattle.claim.specs.Judgement.{has_polarity, is_met, first_unmet_or, path_or_refusal, is_program, is_shell, known_digest, judgement_of_path, judgement_of}
+use Rattle.claim.specs.Judgement.{has_polarity, is_met, first_unmet_or, is_program, is_shell, known_digest, judgement_of_path, judgement_of}
 use Rattle.claim.proofs.Shells.{round_of}
 use Rattle.sighash.proofs.Parsing.{parsed_spelling}
 use Rattle.claim.proofs.KeyHash.{key_items}
@@ -160,7 +160,7 @@ judgement_of-at ways index slots place shell p q at e =
     let same = met-same (known_digest (spelling ways.ops) place shell) slots p.facts p q c.1 in
     subst (IsJudged ways index slots place shell) same (record { at = at; arity = eqb-true _ _ n.0; program = w.0; stands = r.0; met = c.1 ∙ ap Ok (sym same) })
 
-judged_by : (ways : CheckedScript) (index : ℕ) (slots : List Slot) (place : Place) (shell : Shell) (o : Option Path) (q : Path) → slice_get ways.paths index ≡ o → (path_or_refusal o >>= judgement_of_path (spelling ways.ops) slots place shell) ≡ Ok q → IsJudged ways index slots place shell q
+judged_by : (ways : CheckedScript) (index : ℕ) (slots : List Slot) (place : Place) (shell : Shell) (o : Option Path) (q : Path) → slice_get ways.paths index ≡ o → (ok_or o NoSuchPath >>= judgement_of_path (spelling ways.ops) slots place shell) ≡ Ok q → IsJudged ways index slots place shell q
 judged_by ways index slots place shell None q at e = absurd (cc)
 judged_by ways index slots place shell (Some p) q at e = judgement_of-at ways index slots place shell p q at e
 

@@ -1,6 +1,6 @@
 -- What a claim is, by its parts.
 use Rattle.std.specs.Prelude.{◌≡◌, ℕ, ◌≤◌, List, length, slice_get, Option, option_map, unwrap_or, Ok, is_ok, IsTrue, All}
-use Rattle.script.specs.Limits.{max_script_size}
+use Rattle.script.specs.declared.limits.TheConstants.{MAX_SCRIPT_SIZE}
 use Rattle.script.specs.Spelling.{IsOp, spelling}
 use Rattle.tx.specs.declared.input.TxIn.{TxIn}
 use Rattle.tx.specs.Fields.{Transaction}
@@ -63,7 +63,7 @@ IsSpending c = (p : Path) → TakesPath c p → Spends c.ways.ops p c.slots c.pl
 -- its shell is bare
 pub record IsWhole (c : ClaimParts) : Type 0 where
   pub ops : All IsOp c.ways.ops
-  pub short : length (spelling c.ways.ops) ≤ max_script_size
+  pub short : length (spelling c.ways.ops) ≤ MAX_SCRIPT_SIZE
   pub listed : listing c.ways.ops ≡ Ok c.ways.paths
   pub accepted : IsAccepted c
   pub bare : bare_shell c.shell ≡ c.shell

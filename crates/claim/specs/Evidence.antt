@@ -1,13 +1,14 @@
 -- What slots show of a fact: that it holds (Some true), that it does not (Some false), or neither (None). Where the transaction is fixed, the digest
 -- is known, and a signature slot counts as the exact bytes of its token. Without the digest, what is shown of a signature slot holds for each token
 -- of its key.
-use Rattle.std.specs.Prelude.{ℕ, ◌+◌, Bool, true, false, ◌&&◌, ◌||◌, not, ◌==◌, nat_lt, if◌then◌else◌, List, [], ◌∷◌, length, take, Option, Some, None, is_some, slice_get, slice_index}
+use Rattle.std.specs.Prelude.{ℕ, ◌+◌, Bool, true, false, ◌&&◌, ◌||◌, not, ◌==◌, nat_lt, if◌then◌else◌, List, [], ◌∷◌, length, take, Option, Some, None, is_some, slice_get, slice_index, option_and_then, unwrap_or}
 use Rattle.std.specs.Str.{bytes_eq}
 use Rattle.std.specs.List.{list_any, list_all}
+use Rattle.std.specs.Option.{option_map_or}
 use Rattle.sha2.specs.Sha256.{sha256}
 use Rattle.digest.specs.Ripemd160.{ripemd160}
 use Rattle.digest.specs.Hash.{hash160}
-use Rattle.script.specs.Limits.{locktime_threshold}
+use Rattle.script.specs.declared.limits.TheConstants.{LOCKTIME_THRESHOLD}
 use Rattle.script.specs.Token.{token_of, is_key, is_signature}
 use Rattle.script.specs.Step.{truth, bit_at}
 use Rattle.facts.specs.Symbols.{KeySource}
@@ -19,7 +20,8 @@ use Rattle.claim.specs.declared.parts.Slot.TheVariants.{Sig, Preimage, Exact}
 
 -- these bytes are a key, 32 bytes and the hash type ALL
 abbrev pub is_token_with : List ℕ → List ℕ → Bool
-is_token_with key b = length b == length key + 33 && bytes_eq (take (length key) b) key && slice_index b (length key + 32) == 1
+is_token_with key b = length b == length key + 33 && bytes_eq (take (length key) b) key
+    && slice_index b (length key + 32) == 1
 
 -- HASH160 of the slot is these bytes: the preimage of a SHA-256 has the RIPEMD-160 of it
 abbrev pub hash_evidence : Option (List ℕ) → List ℕ → Slot → Option Bool
@@ -42,8 +44,7 @@ truth_evidence (Exact b) = Some (truth b.item)
 
 -- Some false if a test fails, else None
 abbrev pub no_unless : Bool → Option Bool
-no_unless true = None
-no_unless false = Some false
+no_unless passes = if passes then None else Some false
 
 -- these are 32 bytes with this SHA-256
 abbrev pub is_preimage : List ℕ → List ℕ → Bool
@@ -91,46 +92,40 @@ slot_token_evidence known (Some key) slot = token_of_evidence known key slot
 slot_token_evidence known None (Preimage ph) = Some false
 slot_token_evidence known None slot = None
 
--- what a slot shows, where it is there
-abbrev pub at_slot : (Slot → Option Bool) → Option Slot → Option Bool
-at_slot shows None = None
-at_slot shows (Some slot) = shows slot
-
 -- what the slots show of the token of a key in a slot
 abbrev pub token_evidence : Option (List ℕ) → List Slot → ℕ → KeySource → Option Bool
-token_evidence known slots i key = at_slot (slot_token_evidence known (known_key known slots key)) (slice_get slots i)
+token_evidence known slots i key =
+    option_and_then (slot_token_evidence known (known_key known slots key)) (slice_get slots i)
 
 abbrev pub is_yes : Option Bool → Bool
-is_yes (Some b) = b
-is_yes None = false
+is_yes o = unwrap_or o false
 
 abbrev pub is_no : Option Bool → Bool
-is_no (Some b) = not b
-is_no None = false
+is_no o = option_map_or not o false
 
 -- whether an increasing choice of keys exists that a test passes, one for each slot
 abbrev pub exists_choice : (ℕ → KeySource → Bool) → List ℕ → List KeySource → Bool
-exists_choice fits [] keys = true
-exists_choice fits (i ∷ is) [] = false
-exists_choice fits (i ∷ is) (key ∷ keys) = (fits i key && exists_choice fits is keys) || exists_choice fits (i ∷ is) keys
+exists_choice f [] ks = true
+exists_choice f (i ∷ is) [] = false
+exists_choice f (i ∷ is) (k ∷ ks) = (f i k && exists_choice f is ks) || exists_choice f (i ∷ is) ks
 
 -- whether a choice of keys is shown to exist; that there is none is shown where a slot has no key, or where every token is decided
 abbrev pub assigned_evidence : Option (List ℕ) → List Slot → List ℕ → List KeySource → Option Bool
 assigned_evidence known slots is keys =
-    if exists_choice (λ i key. is_yes (token_evidence known slots i key)) is keys
-    then Some true
-    else (if list_any (λ i. list_all (λ key. is_no (token_evidence known slots i key)) keys) is || list_all (λ i. list_all (λ key. is_some (token_evidence known slots i key)) keys) is
-    then Some false else None)
+    if exists_choice (λ i key. is_yes (token_evidence known slots i key)) is keys then Some true
+    else if list_any (λ i. list_all (λ key. is_no (token_evidence known slots i key)) keys) is
+    || list_all (λ i. list_all (λ key. is_some (token_evidence known slots i key)) keys) is
+    then Some false else None
 
 -- what the slots show of a fact, under the digest if it is known
 abbrev pub evidence_of : Option (List ℕ) → List Slot → Fact → Option Bool
-evidence_of known slots (Hash i h) = at_slot (hash_evidence known h) (slice_get slots i)
-evidence_of known slots (Size i n) = at_slot (size_evidence n) (slice_get slots i)
-evidence_of known slots (Truth i) = at_slot truth_evidence (slice_get slots i)
-evidence_of known slots (Is i c) = at_slot (bytes_evidence known c) (slice_get slots i)
-evidence_of known slots (KeyForm i) = at_slot key_form_evidence (slice_get slots i)
-evidence_of known slots (Form i) = at_slot form_evidence (slice_get slots i)
+evidence_of known slots (Hash i h) = option_and_then (hash_evidence known h) (slice_get slots i)
+evidence_of known slots (Size i n) = option_and_then (size_evidence n) (slice_get slots i)
+evidence_of known slots (Truth i) = option_and_then truth_evidence (slice_get slots i)
+evidence_of known slots (Is i c) = option_and_then (bytes_evidence known c) (slice_get slots i)
+evidence_of known slots (KeyForm i) = option_and_then key_form_evidence (slice_get slots i)
+evidence_of known slots (Form i) = option_and_then form_evidence (slice_get slots i)
 evidence_of known slots (Token i key) = token_evidence known slots i key
 evidence_of known slots (Assigned is keys) = assigned_evidence known slots is keys
-evidence_of known slots (Lock n) = if nat_lt n locktime_threshold then Some true else None
+evidence_of known slots (Lock n) = if nat_lt n LOCKTIME_THRESHOLD then Some true else None
 evidence_of known slots (Age n) = if bit_at 22 n then None else Some true

@@ -3,7 +3,7 @@ use Rattle.std.specs.Prelude.{◌≡◌, ℕ, ◌≤◌, ◌<◌, if◌then◌el
 use Rattle.sha2.specs.Sha256.{sha256}
 use Rattle.script.specs.declared.opcode.Op.{Op}
 use Rattle.script.specs.declared.spending.Spend.{Spend}
-use Rattle.script.specs.Limits.{locktime_threshold, max_ops, max_stack_size}
+use Rattle.script.specs.declared.limits.TheConstants.{LOCKTIME_THRESHOLD, MAX_OPS_PER_SCRIPT, MAX_STACK_SIZE}
 use Rattle.script.specs.Token.{token_of}
 use Rattle.script.specs.Spelling.{spelling}
 use Rattle.script.specs.Step.{Elements}
@@ -38,16 +38,18 @@ FillsSlots spend slots xs = ⊥
 -- a transaction may stand round a claim on a path. In an open shell it is any of version 2 whose lock time is a height that the path allows.
 -- In a fixed shell it is the fixed transaction, whatever its witness
 abbrev pub StandsRound : Path → Shell → Transaction → Type 0
-StandsRound p Open t = (t.version ≡ 2) × (height_of p ≤ t.lock_time) × (t.lock_time < locktime_threshold)
+StandsRound p Open t =
+    (t.version ≡ 2) × (height_of p ≤ t.lock_time) × (t.lock_time < LOCKTIME_THRESHOLD)
 StandsRound p (Fixed fixed) t = unsigned_transaction t ≡ unsigned_transaction fixed
 
 -- the witness of items: where the program is the hash of a script, the script comes last (BIP 141)
 abbrev pub witness_for : List ℕ → List ℕ → List (List ℕ) → List (List ℕ)
-witness_for program script items = if is_script_hash_program program then items ++ script ∷ [] else items
+witness_for p script items = if is_script_hash_program p then items ++ script ∷ [] else items
 
 -- an input of a transaction fits a claim on a path of a script. It spends the place's outpoint with the path's age as its sequence, and the
 -- transaction may stand round the claim. The items of its witness, the last of which is the top, fill the slots
-pub record Fits (script : List ℕ) (p : Path) (slots : List Slot) (place : Place) (shell : Shell) (t : Transaction) (input : TxIn) : Type 0 where
+pub record Fits (script : List ℕ) (p : Path) (slots : List Slot) (place : Place) (shell : Shell)
+    (t : Transaction) (input : TxIn) : Type 0 where
   pub among : Contains t.inputs input
   pub outpoint : input.outpoint ≡ place.outpoint
   pub sequence : input.sequence ≡ age_of p
@@ -65,9 +67,9 @@ output_at place = record { value = place.value; script = place.program }
 pub record Spends (ops : List Op) (p : Path) (slots : List Slot) (place : Place) (shell : Shell) : Type 0 where
   pub meets : (t : Transaction) (input : TxIn) (fits : Fits (spelling ops) p slots place shell t input) → Meets (spend_of t input (spelling ops) place.value) fits.items p.arity p.facts
   pub clean : (t : Transaction) (input : TxIn) → Fits (spelling ops) p slots place shell t input → run_of t input (output_at place) ≡ Some (Clean p.ops p.height)
-  pub short : (t : Transaction) (input : TxIn) (fits : Fits (spelling ops) p slots place shell t input) → length fits.items ≤ max_stack_size
-  pub few : p.ops ≤ max_ops
-  pub low : p.height ≤ max_stack_size
+  pub short : (t : Transaction) (input : TxIn) (fits : Fits (spelling ops) p slots place shell t input) → length fits.items ≤ MAX_STACK_SIZE
+  pub few : p.ops ≤ MAX_OPS_PER_SCRIPT
+  pub low : p.height ≤ MAX_STACK_SIZE
 
 -- a fact is not met
 abbrev pub IsUnmet : Result Path AcceptError → Type 0

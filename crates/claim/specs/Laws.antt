@@ -1,6 +1,6 @@
 -- What holds of whatever fits an accepted claim.
 use Rattle.std.specs.Prelude.{◌≡◌, ◌≤◌, ◌<◌, ◌^◌}
-use Rattle.script.specs.Limits.{locktime_threshold}
+use Rattle.script.specs.declared.limits.TheConstants.{LOCKTIME_THRESHOLD}
 use Rattle.script.specs.Spelling.{spelling}
 use Rattle.script.specs.Clean.{IsClean}
 use Rattle.tx.specs.declared.input.TxIn.{TxIn}
@@ -24,7 +24,7 @@ pub record IsTimed (c : ClaimParts) (t : Transaction) (input : TxIn) : Type 0 wh
   pub sequence : input.sequence ≡ sequence_of c
   pub age : sequence_of c < 2 ^ 16
   pub reached : lock_time_of c ≤ t.lock_time
-  pub height : t.lock_time < locktime_threshold
+  pub height : t.lock_time < LOCKTIME_THRESHOLD
 
 abbrev pub FittingIsTimed : Type 0
 FittingIsTimed = (c : ClaimParts) (t : Transaction) (input : TxIn) → IsWhole c → FitsClaim c t input → IsTimed c t input

@@ -1,7 +1,7 @@
 // What a claim is made of.
 
 ghost use Rattle.std.specs.Prelude.{◌≡◌, ◌≤◌, ◌<◌, length, MatchResult};
-ghost use Rattle.script.specs.Limits.{max_element_size};
+ghost use Rattle.script.specs.declared.limits.TheConstants.{MAX_SCRIPT_ELEMENT_SIZE as max_element_size};
 
 use keys::Key;
 use lists::ByteString;

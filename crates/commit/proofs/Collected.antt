@@ -9,7 +9,7 @@ use Rattle.sha2.specs.Sha256.{sha256}
 use Rattle.sha2.proofs.Facts256.{length-sha256}
 use Rattle.digest.specs.Hash.{hash160}
 use Rattle.digest.proofs.OutsideVectors.{length-ripemd160}
-use Rattle.tx.specs.Limits.{max_value, max_outputs, max_bytes}
+use Rattle.tx.specs.declared.limits.TheConstants.{MAX_VALUE, MAX_OUTPUTS, MAX_BYTES}
 use Rattle.terms.specs.declared.htlcs.Htlc.{Htlc}
 use Rattle.commit.specs.declared.fees.Direction.{Direction}
 use Rattle.commit.specs.declared.fees.Direction.TheVariants.{Offered, Received}
@@ -27,14 +27,14 @@ use Rattle.commit.specs.Building.{refusal_of}
 use Rattle.commit.proofs.Ordered.{there_is_one}
 
 pub record IsCollected (k : KeyBytes) (o : CommitmentOutput) : Type 0 where
-  pub program : length o.program ≤ max_bytes
+  pub program : length o.program ≤ MAX_BYTES
   pub htlc : IsHtlcOf k o o.kind
 
-pub short_script_program : (script : List ℕ) → length (script_hash_program script) ≤ max_bytes
+pub short_script_program : (script : List ℕ) → length (script_hash_program script) ≤ MAX_BYTES
 unfolding script_hash_program
 short_script_program script = let l : length (sha256 script) ≡ 32 = length-sha256 script in omega arith
 
-short_key_program : (key : List ℕ) → length (key_hash_program key) ≤ max_bytes
+short_key_program : (key : List ℕ) → length (key_hash_program key) ≤ MAX_BYTES
 unfolding key_hash_program
 short_key_program key = let l : length (hash160 key) ≡ 20 = length-ripemd160 _ in omega arith
 
@@ -68,9 +68,9 @@ in_order_too delay k a = All-permutation (IsCollected k) _ _ (there_is_one (outp
 some_none : {A : Type 0} (x : A) → Some x ≡ None → ⊥
 some_none x e = cc
 
-low : (os : List CommitmentOutput) → list_any (λ o. ltb max_value o.value) os ≡ false → All (λ o. o.value ≤ max_value) os
-low [] e = All-nil (λ (o : CommitmentOutput). o.value ≤ max_value)
-low (o ∷ os) e = All-cons (λ (o : CommitmentOutput). o.value ≤ max_value) _ _ (ltb-false max_value o.value (neither (ltb max_value o.value) _ e).0) (low os (neither (ltb max_value o.value) _ e).1)
+low : (os : List CommitmentOutput) → list_any (λ o. ltb MAX_VALUE o.value) os ≡ false → All (λ o. o.value ≤ MAX_VALUE) os
+low [] e = All-nil (λ (o : CommitmentOutput). o.value ≤ MAX_VALUE)
+low (o ∷ os) e = All-cons (λ (o : CommitmentOutput). o.value ≤ MAX_VALUE) _ _ (ltb-false MAX_VALUE o.value (neither (ltb MAX_VALUE o.value) _ e).0) (low os (neither (ltb MAX_VALUE o.value) _ e).1)
   where
     neither : (a b : Bool) → (a || b) ≡ false → (a ≡ false) × (b ≡ false)
     neither true b e = absurd (true≢false e)
@@ -82,13 +82,13 @@ passed true low e = absurd (some_none TooManyOutputs e)
 passed false true e = absurd (some_none ValueTooLarge e)
 passed false false e = (refl, refl)
 
-pub few_outputs : (os : List CommitmentOutput) → refusal_of os ≡ None → length os ≤ max_outputs
+pub few_outputs : (os : List CommitmentOutput) → refusal_of os ≡ None → length os ≤ MAX_OUTPUTS
 unfolding refusal_of
-few_outputs os e = ltb-false max_outputs (length os) (passed (ltb max_outputs (length os)) (list_any (λ o. ltb max_value o.value) os) e).0
+few_outputs os e = ltb-false MAX_OUTPUTS (length os) (passed (ltb MAX_OUTPUTS (length os)) (list_any (λ o. ltb MAX_VALUE o.value) os) e).0
 
-low_values : (os : List CommitmentOutput) → refusal_of os ≡ None → All (λ o. o.value ≤ max_value) os
+low_values : (os : List CommitmentOutput) → refusal_of os ≡ None → All (λ o. o.value ≤ MAX_VALUE) os
 unfolding refusal_of
-low_values os e = low os (passed (ltb max_outputs (length os)) (list_any (λ o. ltb max_value o.value) os) e).1
+low_values os e = low os (passed (ltb MAX_OUTPUTS (length os)) (list_any (λ o. ltb MAX_VALUE o.value) os) e).1
 
 pub each_output : (delay : ℕ) (k : KeyBytes) (a : Amounts) → refusal_of (in_order (outputs_of delay k a)) ≡ None → All (λ o. IsOutputOf k o) (in_order (outputs_of delay k a))
 each_output delay k a e i d l =

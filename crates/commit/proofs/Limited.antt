@@ -6,7 +6,7 @@ use Rattle.std.proofs.lemmas.Bool.{le-leb, le-ltb, false≢true, true≢false}
 use Rattle.std.proofs.lemmas.List.Elements.{All-nil, All-cons, All-head, All-tail}
 use Rattle.std.proofs.lemmas.List.{drop_all}
 use Rattle.std.proofs.lemmas.List.{length-map}
-use Rattle.tx.specs.Limits.{max_value, max_outputs, max_bytes}
+use Rattle.tx.specs.declared.limits.TheConstants.{MAX_VALUE, MAX_BYTES}
 use Rattle.tx.specs.Parts.{Output}
 use Rattle.tx.specs.Fields.{Transaction}
 use Rattle.terms.specs.declared.htlcs.Htlc.{Htlc}
@@ -31,15 +31,15 @@ no_refusal r n limit x e f l k h = let t : leb n limit ≡ true = le-leb n limit
     by false t h = absurd (false≢true t)
 
 -- what a value and a script within their limits make
-pub taken : {A E : Type 0} (r : Result A E) (v n : ℕ) (x : A) (f g : E) → v ≤ max_value → n ≤ max_bytes → r ≡ cond (ltb max_value v) (Err f) (cond (ltb max_bytes n) (Err g) (Ok x)) → r ≡ Ok x
-taken r v n x f g l m h = by (ltb max_value v) (ltb max_bytes n) (le-ltb max_value v l) (le-ltb max_bytes n m) h
+pub taken : {A E : Type 0} (r : Result A E) (v n : ℕ) (x : A) (f g : E) → v ≤ MAX_VALUE → n ≤ MAX_BYTES → r ≡ cond (ltb MAX_VALUE v) (Err f) (cond (ltb MAX_BYTES n) (Err g) (Ok x)) → r ≡ Ok x
+taken r v n x f g l m h = by (ltb MAX_VALUE v) (ltb MAX_BYTES n) (le-ltb MAX_VALUE v l) (le-ltb MAX_BYTES n m) h
   where
     by : (a b : Bool) → a ≡ false → b ≡ false → r ≡ cond a (Err f) (cond b (Err g) (Ok x)) → r ≡ Ok x
     by true b s t h = absurd (true≢false s)
     by false true s t h = absurd (true≢false t)
     by false false s t h = h
 
-pub no_fault : {A E : Type 0} (r : Result A E) (v n : ℕ) (x : A) (e f g : E) → v ≤ max_value → n ≤ max_bytes → r ≡ Err e → r ≡ cond (ltb max_value v) (Err f) (cond (ltb max_bytes n) (Err g) (Ok x)) → ⊥
+pub no_fault : {A E : Type 0} (r : Result A E) (v n : ℕ) (x : A) (e f g : E) → v ≤ MAX_VALUE → n ≤ MAX_BYTES → r ≡ Err e → r ≡ cond (ltb MAX_VALUE v) (Err f) (cond (ltb MAX_BYTES n) (Err g) (Ok x)) → ⊥
 no_fault r v n x e f g l m k h = err_ok e x r k (taken r v n x f g l m h)
 
 pub same_ok : {A E : Type 0} (x y : A) (r : Result A E) → r ≡ Ok x → r ≡ Ok y → x ≡ y
@@ -55,18 +55,18 @@ unfolding transaction_of
 transaction_is c t outputs e f = e ∙ ap (λ os. spending c.funding c.hidden.sequence os c.hidden.lock_time) f
 
 -- the HTLCs of outputs within the limits
-pub low_htlcs : (k : KeyBytes) (i : ℕ) (os : List CommitmentOutput) → All (λ o. IsOutputOf k o) os → All (λ h. satoshis_of h.htlc.amount ≤ max_value) (htlcs_from i os)
+pub low_htlcs : (k : KeyBytes) (i : ℕ) (os : List CommitmentOutput) → All (λ o. IsOutputOf k o) os → All (λ h. satoshis_of h.htlc.amount ≤ MAX_VALUE) (htlcs_from i os)
 unfolding htlcs_from
-low_htlcs k i [] a = All-nil (λ (h : HtlcOutput). satoshis_of h.htlc.amount ≤ max_value)
+low_htlcs k i [] a = All-nil (λ (h : HtlcOutput). satoshis_of h.htlc.amount ≤ MAX_VALUE)
 low_htlcs k i (o ∷ os) a =
     let first : IsOutputOf k o = All-head (λ o. IsOutputOf k o) o os a in
     by o.kind first.limits.value first.htlc (low_htlcs k (i + 1) os (All-tail (λ o. IsOutputOf k o) o os a))
   where
-    by : (kind : OutputKind) → o.value ≤ max_value → IsHtlcOf k o kind → All (λ h. satoshis_of h.htlc.amount ≤ max_value) (htlcs_from (i + 1) os)
-        → All (λ h. satoshis_of h.htlc.amount ≤ max_value) (cons_option (htlc_at i kind) (htlcs_from (i + 1) os))
+    by : (kind : OutputKind) → o.value ≤ MAX_VALUE → IsHtlcOf k o kind → All (λ h. satoshis_of h.htlc.amount ≤ MAX_VALUE) (htlcs_from (i + 1) os)
+        → All (λ h. satoshis_of h.htlc.amount ≤ MAX_VALUE) (cons_option (htlc_at i kind) (htlcs_from (i + 1) os))
     by ToLocal l h rest = rest
     by ToRemote l h rest = rest
-    by (ToHtlc direction htlc) l h rest = All-cons (λ (h : HtlcOutput). satoshis_of h.htlc.amount ≤ max_value) _ _ (subst (λ v. v ≤ max_value) h.0 l) rest
+    by (ToHtlc direction htlc) l h rest = All-cons (λ (h : HtlcOutput). satoshis_of h.htlc.amount ≤ MAX_VALUE) _ _ (subst (λ v. v ≤ MAX_VALUE) h.0 l) rest
 
 pub second_stage_is : (c : Contents) (h : HtlcOutput) (id program : List ℕ) (value lock_time : ℕ) (outputs : List Output)
     → id ≡ id_of c → program ≡ script_hash_program (to_local_script c.delay c.keys) → value ≡ satoshis_of h.htlc.amount - fee_of (htlc_weight h.direction) c.feerate

@@ -1,6 +1,6 @@
 -- The order of outputs at each of its keys, and the limits at both sides.
 use Rattle.std.proofs.Common.{◌≡◌, ℕ, ◌+◌, List, [], ◌∷◌, map, Option, Some, None, refl}
-use Rattle.tx.specs.Limits.{max_value}
+use Rattle.tx.specs.declared.limits.TheConstants.{MAX_VALUE}
 use Rattle.commit.specs.declared.fees.Direction.TheVariants.{Offered, Received}
 use Rattle.commit.specs.declared.outputs.OutputKind.{OutputKind}
 use Rattle.commit.specs.declared.outputs.OutputKind.TheVariants.{ToLocal, ToRemote, ToHtlc}
@@ -35,6 +35,6 @@ waits : map (λ d. lock_time_of d (record { id = 0; amount = 0; hash = []; expir
 waits = refl
 
 -- a value at the limit is taken, one above is refused
-limits : map (λ v. refusal_of (output 1 [] ToRemote ∷ output v [] ToLocal ∷ [])) (max_value ∷ 2100000000000001 ∷ []) ≡ None ∷ Some ValueTooLarge ∷ []
+limits : map (λ v. refusal_of (output 1 [] ToRemote ∷ output v [] ToLocal ∷ [])) (MAX_VALUE ∷ 2100000000000001 ∷ []) ≡ None ∷ Some ValueTooLarge ∷ []
 unfolding refusal_of
 limits = refl

@@ -7,7 +7,7 @@ use Rattle.std.proofs.lemmas.List.Elements.{All-nil, All-cons}
 use Rattle.std.proofs.lemmas.List.Folds.{list_any_none}
 use Rattle.std.proofs.lemmas.List.Sums.{sum_by-cons}
 use Rattle.std.proofs.lemmas.List.Sorted.{All-permutation, length_permutation}
-use Rattle.tx.specs.Limits.{max_value, max_outputs}
+use Rattle.tx.specs.declared.limits.TheConstants.{MAX_VALUE, MAX_OUTPUTS}
 use Rattle.terms.specs.declared.htlcs.Htlc.{Htlc}
 use Rattle.terms.specs.declared.sides.Side.{Side}
 use Rattle.terms.specs.declared.sides.Side.TheVariants.{A, B}
@@ -37,11 +37,11 @@ each_below (x ∷ xs) top l =
     let s = sum_by-cons (λ (o : Output). o.value) x xs in
     All-cons (λ (o : Output). o.value ≤ top) x xs (omega (arith, s)) (each_below xs top (omega (arith, s)))
 
-not_above : (v : ℕ) → v ≤ max_value → ltb max_value v ≡ false
-not_above v l = le-ltb max_value v l
+not_above : (v : ℕ) → v ≤ MAX_VALUE → ltb MAX_VALUE v ≡ false
+not_above v l = le-ltb MAX_VALUE v l
 
-none_above : (xs : List Output) → All (λ o. o.value ≤ max_value) xs → list_any (λ o. ltb max_value o.value) xs ≡ false
-none_above xs a = list_any_none (λ (o : Output). ltb max_value o.value) xs (λ i d l. not_above _ (a i d l))
+none_above : (xs : List Output) → All (λ o. o.value ≤ MAX_VALUE) xs → list_any (λ o. ltb MAX_VALUE o.value) xs ≡ false
+none_above xs a = list_any_none (λ (o : Output). ltb MAX_VALUE o.value) xs (λ i d l. not_above _ (a i d l))
 
 -- the number of HTLCs that are kept
 kept_fewer : (p : Htlc → Bool) (hs : List Htlc) → length (filter p hs) ≤ length hs
@@ -85,9 +85,9 @@ both terms view B =
 passed : (m l : Bool) → m ≡ false → l ≡ false → cond m (Some TooManyOutputs) (cond l (Some ValueTooLarge) None) ≡ None
 passed m l e f = rw (e, f) refl
 
-not_refused : (os : List Output) → length os ≤ max_outputs → All (λ o. o.value ≤ max_value) os → refusal_of os ≡ None
+not_refused : (os : List Output) → length os ≤ MAX_OUTPUTS → All (λ o. o.value ≤ MAX_VALUE) os → refusal_of os ≡ None
 unfolding refusal_of
-not_refused os l a = passed _ _ (le-ltb max_outputs (length os) l) (none_above os a)
+not_refused os l a = passed _ _ (le-ltb MAX_OUTPUTS (length os) l) (none_above os a)
 
 pub shared : SharedViewsHaveCommitments
 unfolding commitment_of
@@ -99,9 +99,9 @@ shared terms view owner n point whole count =
     let p : values os ≡ paid_out a = of_all (party owner terms).delay k a in
     let c : paid_out a + fee_paid terms view owner ≤ terms.capacity = nothing_is_created terms view owner whole in
     let m = terms.limited in
-    let v : values os ≤ max_value = omega (arith, p, c, m) in
+    let v : values os ≤ MAX_VALUE = omega (arith, p, c, m) in
     let f : length os ≤ length a.offered + length a.received + 2 = few (party owner terms).delay k a in
     let b : length a.offered + length a.received ≤ length view.a.offered + length view.b.offered = both terms view owner in
     let same : length (in_order os) ≡ length os = length_permutation os (in_order os) perm in
-    let l : length (in_order os) ≤ max_outputs = omega (arith, f, b, same, count) in
-    not_refused (in_order os) l (All-permutation (λ o. o.value ≤ max_value) os (in_order os) perm (each_below os max_value v))
+    let l : length (in_order os) ≤ MAX_OUTPUTS = omega (arith, f, b, same, count) in
+    not_refused (in_order os) l (All-permutation (λ o. o.value ≤ MAX_VALUE) os (in_order os) perm (each_below os MAX_VALUE v))

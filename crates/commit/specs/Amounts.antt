@@ -16,14 +16,13 @@ use Rattle.commit.specs.Fees.{satoshis_of, fee_of, commitment_weight, is_trimmed
 
 -- the HTLCs that have an output on the owner's commitment
 abbrev pub untrimmed : ℕ → ℕ → Direction → List Htlc → List Htlc
-untrimmed dust feerate direction htlcs = filter (λ htlc. not (is_trimmed_by dust feerate direction htlc)) htlcs
+untrimmed dust rate direction htlcs = filter (λ h. not (is_trimmed_by dust rate direction h)) htlcs
 
 -- what a side owes of a fee: the opener pays all of it
 abbrev pub owed_by : Side → Side → ℕ → ℕ
 owed_by A A fee = fee
 owed_by B B fee = fee
-owed_by A B fee = 0
-owed_by B A fee = 0
+owed_by side opener fee = 0
 
 -- a side's balance in satoshis, less what it owes of the fee; 0 if it owes more than that
 abbrev pub left_to : Side → Side → ℕ → View → ℕ
@@ -44,16 +43,15 @@ amounts_with terms view owner offered received fee = record {
 }
 
 abbrev pub fee_with : ℕ → List Htlc → List Htlc → ℕ
-fee_with feerate offered received = fee_of (commitment_weight (length offered + length received)) feerate
+fee_with rate offered received = fee_of (commitment_weight (length offered + length received)) rate
 
 abbrev pub offered_of : Terms → View → Side → List Htlc
-offered_of terms view owner = untrimmed (party owner terms).dust view.feerate Offered (share owner view).offered
+offered_of t v by = untrimmed (party by t).dust v.feerate Offered (share by v).offered
 
 abbrev pub received_of : Terms → View → Side → List Htlc
-received_of terms view owner = untrimmed (party owner terms).dust view.feerate Received (share (other owner) view).offered
+received_of t v by = untrimmed (party by t).dust v.feerate Received (share (other by) v).offered
 
 -- the amounts of the owner's commitment of a view
 abbrev pub amounts_of : Terms → View → Side → Amounts
-amounts_of terms view owner =
-    amounts_with terms view owner (offered_of terms view owner) (received_of terms view owner)
-    (fee_with view.feerate (offered_of terms view owner) (received_of terms view owner))
+amounts_of t v by = amounts_with t v by (offered_of t v by) (received_of t v by)
+    (fee_with v.feerate (offered_of t v by) (received_of t v by))

@@ -1,7 +1,7 @@
 -- Which views have a commitment whose transaction keeps the limits, and what `build` answers.
 use Rattle.std.specs.Prelude.{◌≡◌, ℕ, ◌+◌, ◌*◌, ◌≤◌, nat_lt, if◌then◌else◌, List, [], ◌∷◌, length, Option, Some, None, Result, Ok, Err}
 use Rattle.std.specs.List.{list_any}
-use Rattle.tx.specs.Limits.{max_value, max_outputs}
+use Rattle.tx.specs.declared.limits.TheConstants.{MAX_VALUE, MAX_OUTPUTS}
 use Rattle.terms.specs.declared.sides.Side.{Side}
 use Rattle.terms.specs.declared.agreement.Terms.{Terms}
 use Rattle.terms.specs.declared.views.View.{View}
@@ -21,8 +21,8 @@ refusal_number ValueTooLarge = 2
 -- why outputs make no transaction: the first refusal that holds, barring out-of-memory
 unfoldable pub refusal_of : List CommitmentOutput → Option BuildError
 refusal_of outputs =
-    if nat_lt max_outputs (length outputs) then Some TooManyOutputs
-    else if list_any (λ o. nat_lt max_value o.value) outputs then Some ValueTooLarge
+    if nat_lt MAX_OUTPUTS (length outputs) then Some TooManyOutputs
+    else if list_any (λ o. nat_lt MAX_VALUE o.value) outputs then Some ValueTooLarge
     else None
 
 -- an answer gives the contents, or their refusal

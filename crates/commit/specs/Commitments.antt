@@ -3,9 +3,9 @@ use Rattle.std.specs.Prelude.{◌≡◌, ℕ, ◌+◌, ◌-◌, ◌≤◌, List,
 use Rattle.std.specs.List.{All, cons_option}
 use Rattle.tx.specs.declared.input.OutPoint.{OutPoint}
 use Rattle.tx.specs.declared.input.TxIn.{TxIn}
-use Rattle.tx.specs.Limits.{max_value, max_outputs, max_bytes}
+use Rattle.tx.specs.declared.limits.TheConstants.{MAX_VALUE, MAX_OUTPUTS, MAX_BYTES}
 use Rattle.tx.specs.Parts.{Output}
-use Rattle.tx.specs.Fields.{Transaction}
+use Rattle.tx.specs.Fields.{Transaction, version_two}
 use Rattle.tx.specs.Spelling.{transaction_id}
 use Rattle.terms.specs.declared.htlcs.Htlc.{Htlc}
 use Rattle.terms.specs.declared.numbers.Obscured.{Obscured}
@@ -48,17 +48,14 @@ commitment_of terms view owner n point = record {
   keys = keys_of terms owner point;
   delay = (party owner terms).delay;
   feerate = view.feerate;
-  outputs = in_order (outputs_of (party owner terms).delay (keys_of terms owner point) (amounts_of terms view owner));
+  outputs = in_order (outputs_of (party owner terms).delay (keys_of terms owner point)
+      (amounts_of terms view owner));
 }
 
 -- an unsigned transaction of version 2 with one input
 abbrev pub spending : OutPoint → ℕ → List Output → ℕ → Transaction
-spending outpoint sequence outputs lock_time = record {
-  version = 2;
-  inputs = record { outpoint = outpoint; sequence = sequence; witness = [] } ∷ [];
-  outputs = outputs;
-  lock_time = lock_time;
-}
+spending outpoint sequence outputs lock_time = version_two
+    (record { outpoint = outpoint; sequence = sequence; witness = [] } ∷ []) outputs lock_time
 
 abbrev pub tx_output : CommitmentOutput → Output
 tx_output o = record { value = o.value; script = o.program }
@@ -72,9 +69,8 @@ id_of c = transaction_id (transaction_of c)
 
 -- the HTLC outputs, with their indices
 abbrev pub htlc_at : ℕ → OutputKind → Option HtlcOutput
-htlc_at index ToLocal = None
-htlc_at index ToRemote = None
-htlc_at index (ToHtlc direction h) = Some (record { index = index; direction = direction; htlc = h })
+htlc_at index (ToHtlc d h) = Some (record { index = index; direction = d; htlc = h })
+htlc_at index kind = None
 
 unfoldable pub htlcs_from : ℕ → List CommitmentOutput → List HtlcOutput
 htlcs_from index [] = []
@@ -97,7 +93,8 @@ second_stage_output c h = record {
 
 -- the HTLC transaction of an HTLC's output
 unfoldable pub second_stage_of : Contents → HtlcOutput → Transaction
-second_stage_of c h = spending (record { txid = id_of c; index = h.index }) 0 (second_stage_output c h ∷ []) (lock_time_of h.direction h.htlc)
+second_stage_of c h = spending (record { txid = id_of c; index = h.index }) 0
+    (second_stage_output c h ∷ []) (lock_time_of h.direction h.htlc)
 
 -- the HTLC transaction of the k-th untrimmed HTLC in the order of outputs, from 0, if there is one
 unfoldable pub htlc_transaction_of : Contents → ℕ → Option Transaction
@@ -111,8 +108,8 @@ IsHtlcOf k o (ToHtlc direction h) = (o.value ≡ satoshis_of h.amount) × (o.scr
 
 -- an output keeps the limits of a transaction's
 pub record IsTxOutput (o : CommitmentOutput) : Type 0 where
-  pub value : o.value ≤ max_value
-  pub program : length o.program ≤ max_bytes
+  pub value : o.value ≤ MAX_VALUE
+  pub program : length o.program ≤ MAX_BYTES
 
 pub record IsOutputOf (k : KeyBytes) (o : CommitmentOutput) : Type 0 where
   pub limits : IsTxOutput o
@@ -124,5 +121,5 @@ pub record Keeps (c : Contents) (transaction : Transaction) (id : List ℕ) (htl
   pub id_is : id ≡ id_of c
   pub htlcs_are : htlcs ≡ htlcs_of c
   pub program_is : second_stage_program ≡ script_hash_program (to_local_script c.delay c.keys)
-  pub few : length c.outputs ≤ max_outputs
+  pub few : length c.outputs ≤ MAX_OUTPUTS
   pub outputs_are : All (λ o. IsOutputOf c.keys o) c.outputs

@@ -25,4 +25,4 @@ htlc_weight Received = 703
 
 -- an HTLC is trimmed if it is worth less than the dust limit and the fee of its second-stage transaction together
 abbrev pub is_trimmed_by : ℕ → ℕ → Direction → Htlc → Bool
-is_trimmed_by dust feerate direction htlc = nat_lt (satoshis_of htlc.amount) (dust + fee_of (htlc_weight direction) feerate)
+is_trimmed_by dust rate d h = nat_lt (satoshis_of h.amount) (dust + fee_of (htlc_weight d) rate)

@@ -5,18 +5,18 @@ use Rattle.std.specs.Ordering.{nat_cmp, is_lt, on, then_cmp}
 use Rattle.std.specs.declared.cmp.Ordering.{Ordering}
 use Rattle.std.specs.Cmp.Lexicographic.{slice_cmp}
 use Rattle.commit.specs.declared.outputs.OutputKind.{OutputKind}
-use Rattle.commit.specs.declared.outputs.OutputKind.TheVariants.{ToLocal, ToRemote, ToHtlc}
+use Rattle.commit.specs.declared.outputs.OutputKind.TheVariants.{ToHtlc}
 use Rattle.commit.specs.declared.outputs.CommitmentOutput.{CommitmentOutput}
 
 -- the expiry by which outputs of equal value and program are sorted
 abbrev pub expiry_of : OutputKind → ℕ
-expiry_of ToLocal = 0
-expiry_of ToRemote = 0
 expiry_of (ToHtlc direction h) = h.expiry
+expiry_of kind = 0
 
 -- by value, then by the bytes of the program (BIP 69), then by expiry
 unfoldable pub output_cmp : CommitmentOutput → CommitmentOutput → Ordering
-output_cmp = then_cmp (on (λ o. o.value) nat_cmp) (then_cmp (on (λ o. o.program) (slice_cmp nat_cmp)) (on (λ o. expiry_of o.kind) nat_cmp))
+output_cmp = then_cmp (on (λ o. o.value) nat_cmp)
+    (then_cmp (on (λ o. o.program) (slice_cmp nat_cmp)) (on (λ o. expiry_of o.kind) nat_cmp))
 
 abbrev pub stands_before : CommitmentOutput → CommitmentOutput → Bool
 stands_before x y = is_lt (output_cmp x y)

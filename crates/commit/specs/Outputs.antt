@@ -27,21 +27,25 @@ abbrev pub htlc_start : List ℕ → List ℕ → List ℕ
 htlc_start revocation_hash remote = 0x76 ∷ 0xa9 ∷ 0x14 ∷ (revocation_hash ++ 0x87 ∷ 0x63 ∷ 0xac ∷ 0x67 ∷ 0x21 ∷ (remote ++ 0x7c ∷ 0x82 ∷ 0x01 ∷ 0x20 ∷ 0x87 ∷ []))
 
 unfoldable pub htlc_script : KeyBytes → Direction → Htlc → List ℕ
-htlc_script k Offered h = spelling (offered (hash160 k.revocation) k.remote_htlc k.local_htlc (ripemd160 h.hash))
-htlc_script k Received h = spelling (received (hash160 k.revocation) k.remote_htlc k.local_htlc (ripemd160 h.hash) h.expiry)
+htlc_script k Offered h =
+    spelling (offered (hash160 k.revocation) k.remote_htlc k.local_htlc (ripemd160 h.hash))
+htlc_script k Received h = spelling (received (hash160 k.revocation) k.remote_htlc k.local_htlc
+    (ripemd160 h.hash) h.expiry)
 
 -- the output with a script
 abbrev pub script_output : ℕ → List ℕ → OutputKind → CommitmentOutput
-script_output value script kind = record { value = value; script = script; program = script_hash_program script; kind = kind }
+script_output value script kind =
+    record { value = value; script = script; program = script_hash_program script; kind = kind }
 
 abbrev pub to_local_output : ℕ → KeyBytes → ℕ → CommitmentOutput
 to_local_output delay k value = script_output value (to_local_script delay k) ToLocal
 
 abbrev pub to_remote_output : KeyBytes → ℕ → CommitmentOutput
-to_remote_output k value = record { value = value; script = to_remote_script k; program = key_hash_program k.remote; kind = ToRemote }
+to_remote_output k v =
+    record (script_output v (to_remote_script k) ToRemote) { program = key_hash_program k.remote }
 
 abbrev pub htlc_output : KeyBytes → Direction → Htlc → CommitmentOutput
-htlc_output k direction h = script_output (satoshis_of h.amount) (htlc_script k direction h) (ToHtlc direction h)
+htlc_output k d h = script_output (satoshis_of h.amount) (htlc_script k d h) (ToHtlc d h)
 
 -- an output, if there is one
 abbrev pub where_paid : (ℕ → CommitmentOutput) → Option ℕ → List CommitmentOutput
@@ -50,6 +54,6 @@ where_paid output (Some value) = output value ∷ []
 
 -- the outputs of amounts, not sorted yet: the HTLCs of each direction in the view's order, to_local and to_remote
 unfoldable pub outputs_of : ℕ → KeyBytes → Amounts → List CommitmentOutput
-outputs_of delay k a =
-    map (htlc_output k Offered) a.offered ++ map (htlc_output k Received) a.received
-    ++ where_paid (to_local_output delay k) a.to_local ++ where_paid (to_remote_output k) a.to_remote
+outputs_of delay k a = map (htlc_output k Offered) a.offered
+    ++ map (htlc_output k Received) a.received ++ where_paid (to_local_output delay k) a.to_local
+    ++ where_paid (to_remote_output k) a.to_remote

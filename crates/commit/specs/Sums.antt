@@ -20,7 +20,8 @@ abbrev pub millisatoshis_of : List Htlc → ℕ
 millisatoshis_of htlcs = sum_by (λ htlc. htlc.amount) htlcs
 
 abbrev pub total_of : View → ℕ
-total_of view = view.a.balance + millisatoshis_of view.a.offered + (view.b.balance + millisatoshis_of view.b.offered)
+total_of view = view.a.balance + millisatoshis_of view.a.offered
+    + (view.b.balance + millisatoshis_of view.b.offered)
 
 -- the satoshis of HTLCs, each rounded down
 abbrev pub worth_of : List Htlc → ℕ

@@ -2,7 +2,7 @@
 
 ghost use Rattle.std.specs.Prelude.{◌≡◌, nat_lt, IfOk};
 ghost use Rattle.std.specs.List.{list_any};
-ghost use Rattle.tx.specs.Limits.{max_value};
+ghost use Rattle.tx.specs.declared.limits.TheConstants.{MAX_VALUE as max_value};
 ghost use Rattle.terms.specs.Agreement.{party};
 ghost use Rattle.commit.specs.Amounts.{amounts_of};
 ghost use Rattle.commit.specs.Keys.{bytes_of};

@@ -2,7 +2,7 @@
 
 ghost use Rattle.std.specs.Prelude.{◌≡◌, ◌≤◌, ◌++◌, [], map, length, IfOk, OnOk};
 ghost use Rattle.std.specs.List.{All, cons_option};
-ghost use Rattle.tx.specs.Limits.{max_outputs};
+ghost use Rattle.tx.specs.declared.limits.TheConstants.{MAX_OUTPUTS as max_outputs};
 ghost use Rattle.commit.specs.Keys.{bytes_of};
 ghost use Rattle.sighash.specs.Programs.{script_hash_program as script_hash_program_of};
 ghost use Rattle.commit.specs.Outputs.{to_local_script as to_local_script_of};
@@ -194,7 +194,7 @@ fn copied_outputs(
 impl Commitment {
     ghost use Rattle.std.specs.Prelude.{◌≡◌, ◌≤◌, IfOk, length};
     ghost use Rattle.std.specs.List.{All};
-    ghost use Rattle.tx.specs.Limits.{max_value, max_outputs};
+    ghost use Rattle.tx.specs.declared.limits.TheConstants.{MAX_VALUE as max_value, MAX_OUTPUTS as max_outputs};
     ghost use Rattle.commit.specs.Commitments.{Contents, IsOutputOf, transaction_of, id_of, htlcs_of, second_stage_of};
     ghost use Rattle.commit.specs.Keys.{bytes_of};
     ghost use Rattle.commit.specs.Fees.{satoshis_of};

@@ -2,7 +2,7 @@
 
 ghost use Rattle.std.specs.Prelude.{◌≡◌, ◌≤◌, ◌++◌, [], map, IfOk, OnOk};
 ghost use Rattle.std.specs.List.{cons_option};
-ghost use Rattle.tx.specs.Limits.{max_value};
+ghost use Rattle.tx.specs.declared.limits.TheConstants.{MAX_VALUE as max_value};
 ghost use Rattle.commit.specs.Fees.{satoshis_of};
 ghost use Rattle.commit.specs.Outputs.{htlc_script};
 ghost use Rattle.commit.specs.Commitments.{IsOutputOf, htlc_at};

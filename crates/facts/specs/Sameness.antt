@@ -1,7 +1,8 @@
 -- Whether two facts are the same.
-use Rattle.std.specs.Prelude.{Bool, true, false, ◌&&◌, ◌||◌, not, ◌==◌, if◌then◌else◌, List, [], ◌∷◌}
+use Rattle.std.specs.Prelude.{Bool, false, ◌&&◌, ◌||◌, not, ◌==◌, if◌then◌else◌, List, [], ◌∷◌}
 use Rattle.std.specs.Str.{bytes_eq}
 use Rattle.std.specs.List.{list_any}
+use lib.Pointwise.{pointwise}
 use Rattle.facts.specs.Symbols.{KeySource}
 use Rattle.facts.specs.declared.symbols.KeySourceOver.TheVariants.{Const as FixedKey, Slot as SlotKey}
 use Rattle.facts.specs.Symbols.{Fact}
@@ -14,9 +15,7 @@ same_key (SlotKey i) (SlotKey j) = i == j
 same_key a b = false
 
 abbrev pub same_keys : List KeySource → List KeySource → Bool
-same_keys [] [] = true
-same_keys (a ∷ as') (b ∷ bs) = same_key a b && same_keys as' bs
-same_keys as' bs = false
+same_keys ks ls = pointwise same_key ks ls
 
 -- two facts are the same
 abbrev pub same_fact : Fact → Fact → Bool
@@ -34,7 +33,8 @@ same_fact f g = false
 
 -- the list has the fact with the other polarity
 abbrev pub is_denied : Stated → List Stated → Bool
-is_denied s facts = list_any (λ t. same_fact s.fact t.fact && (if s.holds then not t.holds else t.holds)) facts
+is_denied s facts =
+    list_any (λ t. same_fact s.fact t.fact && (if s.holds then not t.holds else t.holds)) facts
 
 -- the list has some fact with both polarities
 abbrev pub contradicts : List Stated → Bool

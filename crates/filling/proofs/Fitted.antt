@@ -4,6 +4,7 @@ use Rattle.std.specs.Prelude.{slice_get, option_map, unwrap_or, if◌then◌else
 use Rattle.std.proofs.lemmas.Bool.{and_parts, eqb-true, false≢true}
 use Rattle.std.proofs.lemmas.Slice.Eq.{bytes_eq-Decides}
 use Rattle.std.proofs.lemmas.List.{reverse-reverse, length-reverse}
+use Rattle.std.specs.Option.{option_or}
 use Rattle.digest.specs.Hash.{sha256d}
 use Rattle.script.specs.Token.{token_of}
 use Rattle.script.specs.declared.spending.Spend.{Spend}
@@ -20,7 +21,7 @@ use Rattle.claim.specs.Evidence.{is_preimage}
 use Rattle.claim.specs.Judgement.{age_of}
 use Rattle.claim.specs.Fitting.{FillsSlot, FillsSlots, Fits, witness_for}
 use Rattle.claim.specs.Claims.{ClaimParts, path_of}
-use Rattle.filling.specs.Filling.{script_of, unsigned_input, preimage_of, first_some, digest_for, item_for, items_for, filled_input, signed_transaction}
+use Rattle.filling.specs.Filling.{script_of, unsigned_input, preimage_of, digest_for, item_for, items_for, filled_input, signed_transaction}
 use Rattle.filling.specs.Refusals.{IsFillable, AreFillable, LacksFirst, all_slots}
 use Rattle.filling.specs.declared.errors.FillError.{FillError}
 use Rattle.filling.specs.Standing.{Stands, AllStand, IsUnsigned, CanSpend, AllCanSpend}
@@ -54,7 +55,7 @@ lacks-later r ps [] others e f l = l
 lacks-later r ps (slot ∷ slots) others e f l = inr (f.0, lacks-later r ps slots others e f.1 l)
 
 -- a preimage that is found is one of the hash
-found_by : (o : Option (List ℕ)) (x h : List ℕ) (b : Bool) → is_preimage x h ≡ b → (is_some o ≡ true → is_preimage (unwrap_or o []) h ≡ true) → is_some (first_some o (if b then Some x else None)) ≡ true → is_preimage (unwrap_or (first_some o (if b then Some x else None)) []) h ≡ true
+found_by : (o : Option (List ℕ)) (x h : List ℕ) (b : Bool) → is_preimage x h ≡ b → (is_some o ≡ true → is_preimage (unwrap_or o []) h ≡ true) → is_some (option_or o (if b then Some x else None)) ≡ true → is_preimage (unwrap_or (option_or o (if b then Some x else None)) []) h ≡ true
 found_by (Some y) x h b e k i = k refl
 found_by None x h true e k i = e
 found_by None x h false e k i = absurd (false≢true i)

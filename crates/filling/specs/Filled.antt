@@ -1,7 +1,7 @@
 -- What a filling is, and what holds of it.
 use Rattle.std.specs.Prelude.{◌≡◌, ℕ, ◌≤◌, List, [], ◌∷◌, map, Some}
 use Rattle.std.specs.List.{AllByRecursion}
-use Rattle.script.specs.Limits.{max_ops, max_stack_size}
+use Rattle.script.specs.declared.limits.TheConstants.{MAX_OPS_PER_SCRIPT, MAX_STACK_SIZE}
 use Rattle.script.specs.Run.{Clean}
 use Rattle.tx.specs.declared.input.TxIn.{TxIn}
 use Rattle.tx.specs.Parts.{Output}
@@ -25,8 +25,8 @@ pub record RunsClean (t : Transaction) (input : TxIn) (place : Place) : Type 0 w
   pub counted : ℕ
   pub height : ℕ
   pub clean : run_of t input (output_at place) ≡ Some (Clean counted height)
-  pub few : counted ≤ max_ops
-  pub low : height ≤ max_stack_size
+  pub few : counted ≤ MAX_OPS_PER_SCRIPT
+  pub low : height ≤ MAX_STACK_SIZE
 
 -- so does each input, at its place
 abbrev pub AllRunClean : Transaction → List TxIn → List Place → Type 0

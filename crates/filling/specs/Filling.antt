@@ -1,11 +1,12 @@
 -- The transaction that fills claims.
 use Rattle.std.specs.Prelude.{ℕ, max, if◌then◌else◌, List, [], ◌∷◌, map, reverse, Option, Some, None, unwrap_or}
+use Rattle.std.specs.Option.{option_or}
 use Rattle.digest.specs.Hash.{sha256d}
 use Rattle.script.specs.Token.{token_of}
 use Rattle.script.specs.Spelling.{spelling}
 use Rattle.tx.specs.declared.input.TxIn.{TxIn}
 use Rattle.tx.specs.Parts.{Output}
-use Rattle.tx.specs.Fields.{Transaction, unsigned_transaction}
+use Rattle.tx.specs.Fields.{Transaction, unsigned_transaction, version_two, signed_input}
 use Rattle.sighash.specs.Signing.{signed_list}
 use Rattle.claim.specs.declared.parts.Slot.{Slot}
 use Rattle.claim.specs.declared.parts.Slot.TheVariants.{Sig, Preimage, Exact}
@@ -30,7 +31,8 @@ greatest_of (n ∷ ns) = max n (greatest_of ns)
 -- the transaction of open claims, without witnesses: version 2, the claims' inputs in their order, the outputs, and the greatest lock time that a
 -- claim needs
 abbrev pub open_transaction : List ClaimParts → List Output → Transaction
-open_transaction claims outputs = record { version = 2; inputs = map unsigned_input claims; outputs = outputs; lock_time = greatest_of (map lock_time_of claims) }
+open_transaction claims outputs =
+    version_two (map unsigned_input claims) outputs (greatest_of (map lock_time_of claims))
 
 -- the transaction of a single claim: the fixed one, or that of an open claim
 abbrev pub lone_transaction : ClaimParts → Shell → List Output → Transaction
@@ -42,14 +44,10 @@ abbrev pub transaction_for : List ClaimParts → List Output → Transaction
 transaction_for (c ∷ []) outputs = lone_transaction c c.shell outputs
 transaction_for claims outputs = open_transaction claims outputs
 
-abbrev pub first_some : Option (List ℕ) → Option (List ℕ) → Option (List ℕ)
-first_some None other = other
-first_some (Some x) other = Some x
-
 -- the preimage of a hash, the last one if several are given
 abbrev pub preimage_of : List (List ℕ) → List ℕ → Option (List ℕ)
 preimage_of [] h = None
-preimage_of (x ∷ xs) h = first_some (preimage_of xs h) (if is_preimage x h then Some x else None)
+preimage_of (x ∷ xs) h = option_or (preimage_of xs h) (if is_preimage x h then Some x else None)
 
 -- the digest that a claim's signatures are over (BIP 143)
 abbrev pub digest_for : Transaction → ClaimParts → List ℕ
@@ -67,11 +65,12 @@ items_for t preimages c = reverse (map (item_for (digest_for t c) preimages) c.s
 
 -- the input of a claim with its witness, in this transaction
 abbrev pub filled_input : Transaction → List (List ℕ) → ClaimParts → TxIn
-filled_input t preimages c = record { outpoint = c.place.outpoint; sequence = sequence_of c; witness = witness_for c.place.program (script_of c) (items_for t preimages c) }
+filled_input t known c = signed_input (unsigned_input c)
+    (witness_for c.place.program (script_of c) (items_for t known c))
 
 -- the transaction with the witnesses of all claims
 abbrev pub signed_transaction : Transaction → List (List ℕ) → List ClaimParts → Transaction
 signed_transaction t preimages claims = record t { inputs = map (filled_input t preimages) claims }
 
 abbrev pub filling_of : List ClaimParts → List Output → List (List ℕ) → Transaction
-filling_of claims outputs preimages = signed_transaction (transaction_for claims outputs) preimages claims
+filling_of claims outputs known = signed_transaction (transaction_for claims outputs) known claims

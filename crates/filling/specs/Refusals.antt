@@ -51,7 +51,7 @@ total_claimed claims = sum_by (λ c. c.place.value) claims
 
 -- the outputs of open claims are worth more than the claimed outputs; a fixed transaction has its own outputs
 abbrev pub do_exceed : List ClaimParts → List Output → Bool
-do_exceed claims outputs = not (has_fixed claims) && nat_lt (total_claimed claims) (total_value outputs)
+do_exceed claims os = not (has_fixed claims) && nat_lt (total_claimed claims) (total_value os)
 
 -- a slot can be filled: the signer has a right to its key, or a preimage of its hash is given
 abbrev pub IsFillable : Rights → List (List ℕ) → Slot → Type 0

@@ -1,7 +1,7 @@
 // The call that fills claims.
 
 ghost use Rattle.std.specs.Prelude.{◌≡◌, ◌≤◌, ◌<◌, map, length, IfOk, MatchResult};
-ghost use Rattle.tx.specs.Limits.{max_inputs, max_outputs};
+ghost use Rattle.tx.specs.declared.limits.TheConstants.{MAX_INPUTS as max_inputs, MAX_OUTPUTS as max_outputs};
 ghost use Rattle.filling.specs.Filled.{AllRunClean, IsFillingOf};
 ghost use Rattle.filling.specs.Refusals.{IsFirstRefusal};
 

@@ -1,7 +1,7 @@
 // The transaction of claims, without witnesses.
 
 ghost use Rattle.std.specs.Prelude.{◌≡◌, ◌≤◌, ◌<◌, map, false, length, IfOk};
-ghost use Rattle.tx.specs.Limits.{max_inputs, max_outputs};
+ghost use Rattle.tx.specs.declared.limits.TheConstants.{MAX_INPUTS as max_inputs, MAX_OUTPUTS as max_outputs};
 ghost use Rattle.claim.specs.Claims.{lock_time_of};
 ghost use Rattle.filling.specs.Filling.{unsigned_input, greatest_of, open_transaction, transaction_for};
 ghost use Rattle.filling.specs.Refusals.{are_mixed};

@@ -1,8 +1,8 @@
 // The witnesses of a filling.
 
 ghost use Rattle.std.specs.Prelude.{◌≡◌, ◌≤◌, nat_le, true, Some, map, reverse, slice_get, length, IfOk, MatchResult};
-ghost use Rattle.script.specs.Limits.{max_stack_size};
-ghost use Rattle.tx.specs.Limits.{max_inputs, max_bytes};
+ghost use Rattle.script.specs.declared.limits.TheConstants.{MAX_STACK_SIZE as max_stack_size};
+ghost use Rattle.tx.specs.declared.limits.TheConstants.{MAX_INPUTS as max_inputs, MAX_BYTES as max_bytes};
 ghost use Rattle.std.specs.List.{list_all};
 ghost use Rattle.filling.specs.Filling.{item_for, unsigned_input, filled_input, script_of};
 ghost use Rattle.filling.specs.Refusals.{IsFillable, AreFillable, Lacks, LacksFirst, UnlessMemory, all_slots};

@@ -7,7 +7,7 @@ use Rattle.digest.specs.Ripemd160.{ripemd160}
 use Rattle.digest.proofs.OutsideVectors.{length-ripemd160}
 use Rattle.script.specs.declared.opcode.Op.{Op}
 use Rattle.script.specs.declared.opcode.Op.TheVariants.{Push}
-use Rattle.script.specs.Limits.{locktime_threshold}
+use Rattle.script.specs.declared.limits.TheConstants.{LOCKTIME_THRESHOLD}
 use Rattle.script.specs.Number.{number_of, minimal_bytes_of, digits}
 use Rattle.script.specs.Token.{is_key, is_signature, is_token}
 use Rattle.paths.specs.declared.state.Path.{Path}
@@ -77,8 +77,8 @@ size_pushed : number_push 32 ≡ Push (32 ∷ [])
 unfolding number_push minimal_bytes_of digits
 size_pushed = refl
 
-low : (n : ℕ) → n < locktime_threshold → nat_lt n locktime_threshold ≡ true
-low n h = lt-ltb n locktime_threshold h
+low : (n : ℕ) → n < LOCKTIME_THRESHOLD → nat_lt n LOCKTIME_THRESHOLD ≡ true
+low n h = lt-ltb n LOCKTIME_THRESHOLD h
 
 pub to_local_filled : (revocation : List ℕ) (delay : ℕ) (delayed : List ℕ) → delay < 2 ^ 16 → key revocation → key delayed → IsFilledTo to_local_pieces (Key revocation ∷ Num delay ∷ Key delayed ∷ []) (to_local_form revocation delay delayed)
 unfolding fits
@@ -98,7 +98,7 @@ offered_filled r remote local p m n k l = record {
   ways = offered-listed r remote local p k l (key_length remote k) (key_length local l) m n;
 }
 
-received_filled : (r remote local p : List ℕ) (expiry : ℕ) → hash r → hash p → key remote → key local → expiry < locktime_threshold → IsFilledTo received_pieces (Hash r ∷ Key remote ∷ Hash p ∷ Key local ∷ Num expiry ∷ []) (received_form r remote local p expiry)
+received_filled : (r remote local p : List ℕ) (expiry : ℕ) → hash r → hash p → key remote → key local → expiry < LOCKTIME_THRESHOLD → IsFilledTo received_pieces (Hash r ∷ Key remote ∷ Hash p ∷ Key local ∷ Num expiry ∷ []) (received_form r remote local p expiry)
 unfolding fits
 received_filled r remote local p expiry m n k l h = record {
   ops = let s = size_pushed in let o = low expiry h in let q = pushed_alike expiry in rw (m, k, n, l, o, q, s) refl;
@@ -116,7 +116,7 @@ offered_at r revocation remote local p payment e f k l =
     subst (λ y. IsFilledTo offered_pieces (Hash (hash160 revocation) ∷ Key remote ∷ Key local ∷ Hash y ∷ []) form) (sym f) (
     offered_filled (hash160 revocation) remote local (ripemd160 payment) (length-ripemd160 _) (length-ripemd160 _) k l))
 
-pub received_at : (r revocation remote local p payment : List ℕ) (expiry : ℕ) → r ≡ hash160 revocation → p ≡ ripemd160 payment → key remote → key local → expiry < locktime_threshold → IsFilledTo received_pieces (Hash r ∷ Key remote ∷ Hash p ∷ Key local ∷ Num expiry ∷ []) (received_form (hash160 revocation) remote local (ripemd160 payment) expiry)
+pub received_at : (r revocation remote local p payment : List ℕ) (expiry : ℕ) → r ≡ hash160 revocation → p ≡ ripemd160 payment → key remote → key local → expiry < LOCKTIME_THRESHOLD → IsFilledTo received_pieces (Hash r ∷ Key remote ∷ Hash p ∷ Key local ∷ Num expiry ∷ []) (received_form (hash160 revocation) remote local (ripemd160 payment) expiry)
 received_at r revocation remote local p payment expiry e f k l h =
     let form = received_form (hash160 revocation) remote local (ripemd160 payment) expiry in
     subst (λ x. IsFilledTo received_pieces (Hash x ∷ Key remote ∷ Hash p ∷ Key local ∷ Num expiry ∷ []) form) (sym e) (

@@ -2,7 +2,7 @@
 use Rattle.std.specs.Prelude.{◌≡◌, ◌≢◌, ℕ, ◌<◌, ◌^◌, true, List, [], Some, slice_get, Ok, Err}
 use Rattle.digest.specs.Hash.{hash160}
 use Rattle.digest.specs.Ripemd160.{ripemd160}
-use Rattle.script.specs.Limits.{locktime_threshold}
+use Rattle.script.specs.declared.limits.TheConstants.{LOCKTIME_THRESHOLD}
 use Rattle.script.specs.Spelling.{spelling}
 use Rattle.keys.specs.declared.compressed.Key.{Key}
 use Rattle.tx.specs.Fields.{Transaction}
@@ -37,7 +37,7 @@ pub data Claims : ClaimKind → CheckedScript → ℕ → Place → Shell → Ty
       → Claims (HtlcPenalty revocation) (received_form (hash160 revocation.bytes) remote local payment_hash expiry) 0 place Open
   of_preimage : (revocation_hash : List ℕ) (remote : Key) (local payment_hash : List ℕ) (place : Place) → ripemd160 payment_hash ≢ revocation_hash
       → Claims (DirectPreimage payment_hash remote) (offered_form revocation_hash remote.bytes local (ripemd160 payment_hash)) 2 place Open
-  of_timeout : (revocation_hash : List ℕ) (remote : Key) (local payment_hash : List ℕ) (expiry : ℕ) (place : Place) → expiry < locktime_threshold → hash160 [] ≢ revocation_hash
+  of_timeout : (revocation_hash : List ℕ) (remote : Key) (local payment_hash : List ℕ) (expiry : ℕ) (place : Place) → expiry < LOCKTIME_THRESHOLD → hash160 [] ≢ revocation_hash
       → Claims (DirectTimeout remote) (received_form revocation_hash remote.bytes local payment_hash expiry) 2 place Open
   of_key : (key : Key) (place : Place)
       → Claims (KeyHash key) (key_hash_form (hash160 key.bytes)) 0 place Open

@@ -14,18 +14,20 @@ abbrev pub funding_form : List ℕ → List ℕ → CheckedScript
 funding_form key other = record { ops = funding key other; paths = funding_ways key other }
 
 abbrev pub to_local_form : (revocation : List ℕ) (delay : ℕ) (delayed : List ℕ) → CheckedScript
-to_local_form revocation delay delayed = record { ops = to_local revocation delay delayed; paths = to_local_ways revocation delay delayed }
+to_local_form key delay delayed =
+    record { ops = to_local key delay delayed; paths = to_local_ways key delay delayed }
 
 abbrev pub key_hash_form : List ℕ → CheckedScript
 key_hash_form hash = record { ops = key_hash hash; paths = key_hash_ways hash }
 
-abbrev pub offered_form : (revocation_hash remote local payment_hash : List ℕ) → CheckedScript
-offered_form revocation_hash remote local payment_hash =
-    record { ops = offered revocation_hash remote local payment_hash; paths = offered_ways revocation_hash remote local payment_hash }
+-- an HTLC's form, with the hash of the revocation key and that of the preimage
+abbrev pub offered_form : (revocation remote local payment : List ℕ) → CheckedScript
+offered_form h remote local p =
+    record { ops = offered h remote local p; paths = offered_ways h remote local p }
 
-abbrev pub received_form : (revocation_hash remote local payment_hash : List ℕ) (expiry : ℕ) → CheckedScript
-received_form revocation_hash remote local payment_hash expiry =
-    record { ops = received revocation_hash remote local payment_hash expiry; paths = received_ways revocation_hash remote local payment_hash expiry }
+abbrev pub received_form : (revocation remote local payment : List ℕ) (expiry : ℕ) → CheckedScript
+received_form h remote local p t =
+    record { ops = received h remote local p t; paths = received_ways h remote local p t }
 
 -- the forms of an HTLC. The script has the HASH160 of the revocation key and the RIPEMD-160 of the payment hash. The payment hash is a SHA-256, so the
 -- latter is the HASH160 of the preimage

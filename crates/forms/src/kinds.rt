@@ -1,7 +1,7 @@
 // The kinds of claims on the forms, and what fills their slots.
 
 ghost use Rattle.std.specs.Prelude.{◌≡◌, ℕ, ◌≤◌, [], ◌∷◌, map, length, IfOk};
-ghost use Rattle.script.specs.Limits.{max_element_size};
+ghost use Rattle.script.specs.declared.limits.TheConstants.{MAX_SCRIPT_ELEMENT_SIZE as max_element_size};
 ghost use Rattle.forms.specs.Fillings.{Signature, Bytes, filling_of, fillings_of};
 ghost use Rattle.paths.specs.Listing.{CheckedScript};
 ghost use Rattle.claim.specs.declared.parts.Place.{Place};

@@ -1,7 +1,7 @@
 // What the scripts are made of.
 
 ghost use Rattle.std.specs.Prelude.{◌≡◌, ◌<◌, ◌≤◌, IfSome, IfNone};
-ghost use Rattle.script.specs.Limits.{locktime_threshold};
+ghost use Rattle.script.specs.declared.limits.TheConstants.{LOCKTIME_THRESHOLD as locktime_threshold};
 
 use keys::Key;
 use script::limits::LOCKTIME_THRESHOLD;

@@ -1,6 +1,6 @@
 -- The keys that a signer keeps for its answers.
-use Rattle.std.specs.Prelude.{ℕ, Bool, false, ◌||◌, List, [], ◌∷◌, ◌++◌}
-use Rattle.std.specs.List.{flat_map}
+use Rattle.std.specs.Prelude.{ℕ, Bool, List, [], ◌∷◌, ◌++◌}
+use Rattle.std.specs.List.{flat_map, list_any}
 use Rattle.std.specs.Str.{bytes_eq}
 use Rattle.keys.specs.declared.bases.Base.{Base}
 use Rattle.keys.specs.declared.bases.Base.TheVariants.{Funding, Payment, Delayed, Htlc, Revocation}
@@ -21,9 +21,9 @@ revocations_at seed point = at_each (λ b. revocation_key (base_key seed b) poin
 
 -- the keys that the signer may sign for because of what it learnt
 unfoldable pub learnt_keys : List ℕ → List (List ℕ) → List (List ℕ) → List (List ℕ)
-learnt_keys seed points secrets = flat_map (keys_at seed) points ++ flat_map (λ s. revocations_at seed (point_of s)) secrets
+learnt_keys seed points secrets = flat_map (keys_at seed) points
+    ++ flat_map (λ s. revocations_at seed (point_of s)) secrets
 
 -- whether a key is in a list
 abbrev pub is_among : List ℕ → List (List ℕ) → Bool
-is_among key [] = false
-is_among key (k ∷ ks) = bytes_eq k key || is_among key ks
+is_among key keys = list_any (λ k. bytes_eq k key) keys

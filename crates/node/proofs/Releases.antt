@@ -4,7 +4,7 @@ use Rattle.std.specs.Prelude.{nat_lt, not, slice_get}
 use Rattle.std.proofs.lemmas.Bool.Decides.{nat_tests}
 use Rattle.std.proofs.lemmas.Option.{none-some}
 use Rattle.tx.specs.Fields.{Transaction}
-use Rattle.tx.specs.Limits.{max_value}
+use Rattle.tx.specs.declared.limits.TheConstants.{MAX_VALUE}
 use Rattle.channel.specs.Tokens.{peer_tokens}
 use Rattle.channel.specs.Rights.{rights_of}
 use Rattle.filling.specs.declared.errors.FillError.{FillError}
@@ -99,12 +99,12 @@ is_unfilled n channel batch before after seen last answer e told is =
 
 -- ---- a claim by itself
 
-small_enough : (v : ℕ) → nat_lt max_value v ≡ false → v ≤ max_value
+small_enough : (v : ℕ) → nat_lt MAX_VALUE v ≡ false → v ≤ MAX_VALUE
 small_enough v little = grind (arith, nat_tests)
 
 -- a claim that can be released is not worth too much
-pub little_enough : (due : DueClaim) → batch_refusal due.channel (due ∷ []) ≡ None → value_of (due ∷ []) ≤ max_value
-little_enough due fits = small_enough (value_of (due ∷ [])) (go (are_of due.channel (due ∷ [])) (nat_lt max_value (value_of (due ∷ []))) fits)
+pub little_enough : (due : DueClaim) → batch_refusal due.channel (due ∷ []) ≡ None → value_of (due ∷ []) ≤ MAX_VALUE
+little_enough due fits = small_enough (value_of (due ∷ [])) (go (are_of due.channel (due ∷ [])) (nat_lt MAX_VALUE (value_of (due ∷ []))) fits)
   where
     go : (a b : Bool) → if_so (not a) MixedChannels (if_so b OverValue None) ≡ None → b ≡ false
     go true false e = refl

@@ -1,7 +1,7 @@
 //! The claims that a worker releases.
 
 ghost use Rattle.std.specs.Prelude.{◌≡◌, ◌≤◌, [], ◌∷◌, map, Some, IfSome, OnErr, MatchResult};
-ghost use Rattle.tx.specs.Limits.{max_value};
+ghost use Rattle.tx.specs.declared.limits.TheConstants.{MAX_VALUE as max_value};
 ghost use Rattle.book.specs.Calling.{filling_by};
 ghost use Rattle.desk.specs.Seats.{IsSeatOf, number_in, calls_in};
 ghost use Rattle.side.specs.Batches.{value_of};

@@ -2,7 +2,7 @@
 use Rattle.std.proofs.Common.{◌≡◌, ℕ, ◌+◌, true, false, List, [], ◌∷◌, map, Option, Result, Ok, Err, subst, refl, inl}
 use Rattle.std.specs.Prelude.{nat_le}
 use Rattle.script.specs.declared.opcode.Op.{Op}
-use Rattle.script.specs.Limits.{max_ops}
+use Rattle.script.specs.declared.limits.TheConstants.{MAX_OPS_PER_SCRIPT}
 use Rattle.script.specs.Run.{counted_in}
 use Rattle.paths.specs.declared.errors.CheckError.{CheckError}
 use Rattle.paths.specs.declared.errors.CheckError.TheVariants.{NoMemory, OpenBranch, TooManyOps, Undecided, TooManyPaths, TooTall}
@@ -46,14 +46,14 @@ known_listing : (ops : List Op) → Follows true (map known_path) (listing ops) 
 unfolding listing pattern_listing
 known_listing ops =
     follows_if true (map known_path) (is_balanced ops []) (is_balanced ops []) _ _ _ refl (
-    follows_if true (map known_path) (nat_le (counted_in ops) max_ops) (nat_le (counted_in ops) max_ops) _ _ _ refl (
+    follows_if true (map known_path) (nat_le (counted_in ops) MAX_OPS_PER_SCRIPT) (nat_le (counted_in ops) MAX_OPS_PER_SCRIPT) _ _ _ refl (
     walk_all-follows true knowing known_path plain_guide (hole_guide []) (counted_in ops) (known_ends (counted_in ops)) ops ops (known_alike (counted_in ops) 0 ops)))
 
 filled_listing : (ops : List Op) → Follows false (filled_paths ops) (pattern_listing [] ops) (listing ops)
 unfolding listing pattern_listing
 filled_listing ops =
     follows_if false (filled_paths ops) (is_balanced ops []) (is_balanced ops []) _ _ _ refl (
-    follows_if false (filled_paths ops) (nat_le (counted_in ops) max_ops) (nat_le (counted_in ops) max_ops) _ _ _ refl (
+    follows_if false (filled_paths ops) (nat_le (counted_in ops) MAX_OPS_PER_SCRIPT) (nat_le (counted_in ops) MAX_OPS_PER_SCRIPT) _ _ _ refl (
     walk_all-follows false (filling ops) (filled_path ops) (hole_guide []) plain_guide (counted_in ops) (filled_ends ops [] (counted_in ops)) ops ops (filled_alike ops (counted_in ops) 0 ops)))
 
 pub known_listed : (ops : List Op) (paths : List PatternPath) → pattern_listing [] ops ≡ Ok paths → listing ops ≡ Ok (filled_paths ops paths)

@@ -6,7 +6,7 @@ use Rattle.std.proofs.lemmas.List.Elements.{All-nil, All-cons}
 use Rattle.script.specs.declared.opcode.Op.{Op}
 use Rattle.script.specs.declared.opcode.Op.TheVariants.{Push, Number as SmallNumber}
 use Rattle.script.specs.declared.stops.Cause.{Cause}
-use Rattle.script.specs.Limits.{max_ops, max_script_size}
+use Rattle.script.specs.declared.limits.TheConstants.{MAX_OPS_PER_SCRIPT, MAX_SCRIPT_SIZE}
 use Rattle.script.specs.Number.{minimal_bytes_of}
 use Rattle.script.specs.Spelling.{IsOp, payload_of, spelling}
 use Rattle.script.specs.Step.{result_if, ◌>>=◌}
@@ -212,7 +212,7 @@ filled_listing pieces fills ops paths h e =
     let count : counted_in bare ≡ counted_in ops = counted_alike holes ops n 0 bare ops a in
     let follows : Follows false (filled_paths ops) (pattern_listing holes bare) (listing ops) =
     follows_if false (filled_paths ops) (is_balanced bare []) (is_balanced ops []) _ _ _ (balanced_alike holes ops n 0 bare ops a []) (
-    follows_if false (filled_paths ops) (nat_le (counted_in bare) max_ops) (nat_le (counted_in ops) max_ops) _ _ _ (ap (λ k. nat_le k max_ops) count) (
+    follows_if false (filled_paths ops) (nat_le (counted_in bare) MAX_OPS_PER_SCRIPT) (nat_le (counted_in ops) MAX_OPS_PER_SCRIPT) _ _ _ (ap (λ k. nat_le k MAX_OPS_PER_SCRIPT) count) (
     subst (λ k. Follows false (filled_paths ops) (walk_all (hole_guide holes) n bare) (walk_all plain_guide k ops)) count (
     walk_all-follows false (filling ops) (filled_path ops) (hole_guide holes) plain_guide n (filled_ends ops holes n) bare ops a))) in
     subst (λ r. Follows false (filled_paths ops) r (listing ops)) h follows
@@ -279,30 +279,30 @@ filled_spelt (NumHole ∷ pieces) fills rest t e = spelt_hole NumHole ForNumber 
 record Patterned (pieces : List Piece) (paths : List PatternPath) : Type 0 where
   ops : all_ops pieces ≡ true
   listed : pattern_listing (map hole_of pieces) (map op_of pieces) ≡ Ok paths
-  short : nat_le (longest pieces) max_script_size ≡ true
+  short : nat_le (longest pieces) MAX_SCRIPT_SIZE ≡ true
 
 patterned : (pieces : List Piece) (paths : List PatternPath) → pattern_of pieces ≡ Ok paths → Patterned pieces paths
 patterned pieces paths e = first (all_ops pieces) refl e
   where
-    last : (b : Bool) (ps : List PatternPath) → all_ops pieces ≡ true → pattern_listing (map hole_of pieces) (map op_of pieces) ≡ Ok ps → nat_le (longest pieces) max_script_size ≡ b → result_if b TooLong (Ok ps) ≡ Ok paths → Patterned pieces paths
+    last : (b : Bool) (ps : List PatternPath) → all_ops pieces ≡ true → pattern_listing (map hole_of pieces) (map op_of pieces) ≡ Ok ps → nat_le (longest pieces) MAX_SCRIPT_SIZE ≡ b → result_if b TooLong (Ok ps) ≡ Ok paths → Patterned pieces paths
     last true ps t l s h = let same : ps ≡ paths = cc in record { ops = t; listed = l ∙ ap Ok same; short = s }
     last false ps t l s h = absurd (cc)
 
-    then_listed : (r : Result (List PatternPath) CheckError) → all_ops pieces ≡ true → pattern_listing (map hole_of pieces) (map op_of pieces) ≡ r → (as_pattern r >>= λ ps. result_if (nat_le (longest pieces) max_script_size) TooLong (Ok ps)) ≡ Ok paths → Patterned pieces paths
-    then_listed (Ok ps) t l h = last (nat_le (longest pieces) max_script_size) ps t l refl h
+    then_listed : (r : Result (List PatternPath) CheckError) → all_ops pieces ≡ true → pattern_listing (map hole_of pieces) (map op_of pieces) ≡ r → (as_pattern r >>= λ ps. result_if (nat_le (longest pieces) MAX_SCRIPT_SIZE) TooLong (Ok ps)) ≡ Ok paths → Patterned pieces paths
+    then_listed (Ok ps) t l h = last (nat_le (longest pieces) MAX_SCRIPT_SIZE) ps t l refl h
     then_listed (Err c) t l h = absurd (cc)
 
-    first : (b : Bool) → all_ops pieces ≡ b → result_if b BadOpcode (as_pattern (pattern_listing (map hole_of pieces) (map op_of pieces)) >>= λ ps. result_if (nat_le (longest pieces) max_script_size) TooLong (Ok ps)) ≡ Ok paths → Patterned pieces paths
+    first : (b : Bool) → all_ops pieces ≡ b → result_if b BadOpcode (as_pattern (pattern_listing (map hole_of pieces) (map op_of pieces)) >>= λ ps. result_if (nat_le (longest pieces) MAX_SCRIPT_SIZE) TooLong (Ok ps)) ≡ Ok paths → Patterned pieces paths
     first true t h = then_listed (pattern_listing (map hole_of pieces) (map op_of pieces)) t refl h
     first false t h = absurd (cc)
 
 pub filled_valid : (pieces : List Piece) (paths : List PatternPath) (fills : List Fill) (ops : List Op) → pattern_of pieces ≡ Ok paths → filled pieces fills ≡ Some ops → All IsOp ops
 filled_valid pieces paths fills ops h e = (filled_spelt pieces fills ops (patterned pieces paths h).ops e).valid
 
-pub filled_short : (pieces : List Piece) (paths : List PatternPath) (fills : List Fill) (ops : List Op) → pattern_of pieces ≡ Ok paths → filled pieces fills ≡ Some ops → length (spelling ops) ≤ max_script_size
+pub filled_short : (pieces : List Piece) (paths : List PatternPath) (fills : List Fill) (ops : List Op) → pattern_of pieces ≡ Ok paths → filled pieces fills ≡ Some ops → length (spelling ops) ≤ MAX_SCRIPT_SIZE
 filled_short pieces paths fills ops h e =
     let p = patterned pieces paths h in
-    let most : longest pieces ≤ max_script_size = fits_in (longest pieces) max_script_size p.short in
+    let most : longest pieces ≤ MAX_SCRIPT_SIZE = fits_in (longest pieces) MAX_SCRIPT_SIZE p.short in
     omega (arith, (filled_spelt pieces fills ops p.ops e).short, most)
   where
     fits_in : (a b : ℕ) → nat_le a b ≡ true → a ≤ b
@@ -313,17 +313,17 @@ filled_listed pieces paths fills ops h e = filled_listing pieces fills ops paths
 
 -- a pattern's listing, by its parts
 pub bad_pattern : (pieces : List Piece) → all_ops pieces ≡ false → pattern_of pieces ≡ Err BadOpcode
-bad_pattern pieces t = ap (λ b. result_if b BadOpcode (as_pattern (pattern_listing (map hole_of pieces) (map op_of pieces)) >>= λ ps. result_if (nat_le (longest pieces) max_script_size) TooLong (Ok ps))) t
+bad_pattern pieces t = ap (λ b. result_if b BadOpcode (as_pattern (pattern_listing (map hole_of pieces) (map op_of pieces)) >>= λ ps. result_if (nat_le (longest pieces) MAX_SCRIPT_SIZE) TooLong (Ok ps))) t
 
-part : (pieces : List Piece) (r : Result (List PatternPath) CheckError) → all_ops pieces ≡ true → pattern_listing (map hole_of pieces) (map op_of pieces) ≡ r → pattern_of pieces ≡ (as_pattern r >>= λ ps. result_if (nat_le (longest pieces) max_script_size) TooLong (Ok ps))
+part : (pieces : List Piece) (r : Result (List PatternPath) CheckError) → all_ops pieces ≡ true → pattern_listing (map hole_of pieces) (map op_of pieces) ≡ r → pattern_of pieces ≡ (as_pattern r >>= λ ps. result_if (nat_le (longest pieces) MAX_SCRIPT_SIZE) TooLong (Ok ps))
 part pieces r t l =
-    ap (λ b. result_if b BadOpcode (as_pattern (pattern_listing (map hole_of pieces) (map op_of pieces)) >>= λ ps. result_if (nat_le (longest pieces) max_script_size) TooLong (Ok ps))) t
-    ∙ ap (λ x. as_pattern x >>= λ ps. result_if (nat_le (longest pieces) max_script_size) TooLong (Ok ps)) l
+    ap (λ b. result_if b BadOpcode (as_pattern (pattern_listing (map hole_of pieces) (map op_of pieces)) >>= λ ps. result_if (nat_le (longest pieces) MAX_SCRIPT_SIZE) TooLong (Ok ps))) t
+    ∙ ap (λ x. as_pattern x >>= λ ps. result_if (nat_le (longest pieces) MAX_SCRIPT_SIZE) TooLong (Ok ps)) l
 
-pub long_pattern : (pieces : List Piece) (paths : List PatternPath) → all_ops pieces ≡ true → pattern_listing (map hole_of pieces) (map op_of pieces) ≡ Ok paths → nat_le (longest pieces) max_script_size ≡ false → pattern_of pieces ≡ Err TooLong
+pub long_pattern : (pieces : List Piece) (paths : List PatternPath) → all_ops pieces ≡ true → pattern_listing (map hole_of pieces) (map op_of pieces) ≡ Ok paths → nat_le (longest pieces) MAX_SCRIPT_SIZE ≡ false → pattern_of pieces ≡ Err TooLong
 long_pattern pieces paths t l s = part pieces (Ok paths) t l ∙ ap (λ b. result_if b TooLong (Ok paths)) s
 
-pub listed_pattern : (pieces : List Piece) (paths : List PatternPath) → all_ops pieces ≡ true → pattern_listing (map hole_of pieces) (map op_of pieces) ≡ Ok paths → nat_le (longest pieces) max_script_size ≡ true → pattern_of pieces ≡ Ok paths
+pub listed_pattern : (pieces : List Piece) (paths : List PatternPath) → all_ops pieces ≡ true → pattern_listing (map hole_of pieces) (map op_of pieces) ≡ Ok paths → nat_le (longest pieces) MAX_SCRIPT_SIZE ≡ true → pattern_of pieces ≡ Ok paths
 listed_pattern pieces paths t l s = part pieces (Ok paths) t l ∙ ap (λ b. result_if b TooLong (Ok paths)) s
 
 pub refused_pattern : (pieces : List Piece) (e : CheckError) → all_ops pieces ≡ true → IfRefused e (pattern_listing (map hole_of pieces) (map op_of pieces) ≡ Err e) → IsPatternRefusal pieces (Check e)

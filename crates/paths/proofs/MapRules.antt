@@ -5,7 +5,7 @@ use Rattle.std.specs.List.{list_any}
 use Rattle.std.proofs.lemmas.List.{map-append}
 use Rattle.script.specs.declared.opcode.Op.{Op}
 use Rattle.script.specs.declared.opcode.Op.TheVariants.{Push, Number as SmallNumber, If, NotIf, Else, EndIf, Drop, Dup, Swap, Size, Equal, EqualVerify, Hash160, CheckSig, CheckMultiSig, CheckLockTimeVerify, CheckSequenceVerify}
-use Rattle.script.specs.Limits.{max_keys, max_ops}
+use Rattle.script.specs.declared.limits.TheConstants.{MAX_PUBKEYS_PER_MULTISIG, MAX_OPS_PER_SCRIPT}
 use Rattle.script.specs.Step.{◌>>=◌, result_if, flag}
 use Rattle.facts.specs.declared.symbols.KeySourceOver.{KeySourceOver}
 use Rattle.facts.specs.declared.symbols.KeySourceOver.TheVariants.{Const as FixedKey, Slot as SlotKey}
@@ -260,18 +260,18 @@ module _ {C L A C' L' A' : Type 0} (exact : Bool) (m : Replacing C L A C' L' A')
       subst (λ (p : List (SymOver C' L' A') × StateOver C' L' A'). Agrees exact (in_state m) (check_sigs w (reverse keys) (reverse (pops k second.1).0) (pop (pops k second.1).1).0 (pop (pops k second.1).1).1) (check_sigs v (reverse (map (in_sym m) keys)) (reverse p.0) (pop p.1).0 (pop p.1).1)) (sym (pops-replaced m k second.1)) (pulled keys (pops k second.1)))
 
   abbrev keyed : {X Y Z : Type 0} → Words X Y Z → ℕ → ℕ → List (SymOver X Y Z) × StateOver X Y Z → Result (StateOver X Y Z) Halt
-  keyed u counted n keys = result_if (nat_le (counted + keys.1.keys) max_ops) TooManyOps (Ok (pop keys.1)) >>= λ second. signed u n keys.0 second
+  keyed u counted n keys = result_if (nat_le (counted + keys.1.keys) MAX_OPS_PER_SCRIPT) TooManyOps (Ok (pop keys.1)) >>= λ second. signed u n keys.0 second
 
   keyed_agrees : (counted n : ℕ) (keys : List (SymOver C L A) × StateOver C L A) → Agrees exact (in_state m) (keyed w counted n keys) (keyed v counted n (in_pairs m keys))
   keyed_agrees counted n keys =
-      agrees_then exact (in_pair m) (in_state m) (result_if (nat_le (counted + keys.1.keys) max_ops) TooManyOps (Ok (pop keys.1))) (result_if (nat_le (counted + keys.1.keys) max_ops) TooManyOps (Ok (pop (in_state m keys.1)))) _ _
-      (agrees_if exact (in_pair m) (nat_le (counted + keys.1.keys) max_ops) (nat_le (counted + keys.1.keys) max_ops) TooManyOps (Ok (pop keys.1)) (Ok (pop (in_state m keys.1))) refl (ap {B = Result (SymOver C' L' A' × StateOver C' L' A') Halt} Ok (pop-replaced m keys.1)))
+      agrees_then exact (in_pair m) (in_state m) (result_if (nat_le (counted + keys.1.keys) MAX_OPS_PER_SCRIPT) TooManyOps (Ok (pop keys.1))) (result_if (nat_le (counted + keys.1.keys) MAX_OPS_PER_SCRIPT) TooManyOps (Ok (pop (in_state m keys.1)))) _ _
+      (agrees_if exact (in_pair m) (nat_le (counted + keys.1.keys) MAX_OPS_PER_SCRIPT) (nat_le (counted + keys.1.keys) MAX_OPS_PER_SCRIPT) TooManyOps (Ok (pop keys.1)) (Ok (pop (in_state m keys.1))) refl (ap {B = Result (SymOver C' L' A' × StateOver C' L' A') Halt} Ok (pop-replaced m keys.1)))
       (λ second. signed_agrees n keys.0 second)
 
   multi_sig_agrees : (counted : ℕ) (s : StateOver C L A) → Agrees exact (in_state m) (check_multi_sig w counted s) (check_multi_sig v counted (in_state m s))
   multi_sig_agrees counted s =
-      popped m (λ x t. Agrees exact (in_state m) (check_multi_sig w counted s) (count_of v max_keys x >>= λ n. keyed v counted n (pops n (record t { keys = t.keys + n })))) s (
-      agrees_then exact (λ n. n) (in_state m) (count_of w max_keys (pop s).0) (count_of v max_keys (in_sym m (pop s).0)) (λ n. keyed w counted n (pops n (record (pop s).1 { keys = (pop s).1.keys + n }))) (λ n. keyed v counted n (pops n (record (in_state m (pop s).1) { keys = (in_state m (pop s).1).keys + n }))) (count_agrees max_keys (pop s).0) (λ n.
+      popped m (λ x t. Agrees exact (in_state m) (check_multi_sig w counted s) (count_of v MAX_PUBKEYS_PER_MULTISIG x >>= λ n. keyed v counted n (pops n (record t { keys = t.keys + n })))) s (
+      agrees_then exact (λ n. n) (in_state m) (count_of w MAX_PUBKEYS_PER_MULTISIG (pop s).0) (count_of v MAX_PUBKEYS_PER_MULTISIG (in_sym m (pop s).0)) (λ n. keyed w counted n (pops n (record (pop s).1 { keys = (pop s).1.keys + n }))) (λ n. keyed v counted n (pops n (record (in_state m (pop s).1) { keys = (in_state m (pop s).1).keys + n }))) (count_agrees MAX_PUBKEYS_PER_MULTISIG (pop s).0) (λ n.
       subst (λ (p : List (SymOver C' L' A') × StateOver C' L' A'). Agrees exact (in_state m) (keyed w counted n (pops n (record (pop s).1 { keys = (pop s).1.keys + n }))) (keyed v counted n p)) (sym (pops-replaced m n (record (pop s).1 { keys = (pop s).1.keys + n }))) (keyed_agrees counted n (pops n (record (pop s).1 { keys = (pop s).1.keys + n })))))
 
   -- the rules

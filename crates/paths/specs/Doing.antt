@@ -1,6 +1,6 @@
 -- What the helper functions of the table of opcodes do.
 use Rattle.std.specs.Prelude.{◌≡◌, ℕ, ◌+◌, ◌≤◌, nat_le, Result, Ok}
-use Rattle.script.specs.Limits.{max_ops}
+use Rattle.script.specs.declared.limits.TheConstants.{MAX_OPS_PER_SCRIPT}
 use Rattle.script.specs.Step.{result_if}
 use Rattle.paths.specs.Holes.{State}
 use Rattle.paths.specs.declared.state.Halt.{Halt}
@@ -13,4 +13,4 @@ pub record IsNear (more : ℕ) (old : State) (new : State) : Type 0 where
 
 -- more keys are counted, if the count stays at most 201
 abbrev pub count_keys : ℕ → ℕ → State → Result State Halt
-count_keys counted more s = result_if (nat_le (counted + (s.keys + more)) max_ops) TooManyOps (Ok (record s { keys = s.keys + more }))
+count_keys counted more s = result_if (nat_le (counted + (s.keys + more)) MAX_OPS_PER_SCRIPT) TooManyOps (Ok (record s { keys = s.keys + more }))

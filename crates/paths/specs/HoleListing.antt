@@ -1,7 +1,7 @@
 -- The ways through a pattern of a script, by the rules where constants may be holes.
 use Rattle.std.specs.Prelude.{ℕ, ◌+◌, Bool, nat_le, List, [], Option, Some, None, Result, slice_index_or}
 use Rattle.script.specs.declared.opcode.Op.{Op}
-use Rattle.script.specs.Limits.{max_ops}
+use Rattle.script.specs.declared.limits.TheConstants.{MAX_OPS_PER_SCRIPT}
 use Rattle.script.specs.Step.{result_if}
 use Rattle.script.specs.Run.{counted_in}
 use Rattle.facts.specs.declared.symbols.SymOver.TheVariants.{Const}
@@ -82,4 +82,4 @@ beginning = way.beginning
 
 -- the paths of a pattern, with an empty push in the place of each hole
 unfoldable pub pattern_listing : List (Option HoleKind) → List Op → Result (List PatternPath) CheckError
-pattern_listing holes ops = result_if (is_balanced ops []) OpenBranch (result_if (nat_le (counted_in ops) max_ops) TooMany (way.walk_all (guide holes) (counted_in ops) ops))
+pattern_listing holes ops = result_if (is_balanced ops []) OpenBranch (result_if (nat_le (counted_in ops) MAX_OPS_PER_SCRIPT) TooMany (way.walk_all (guide holes) (counted_in ops) ops))

@@ -3,7 +3,7 @@ use Rattle.std.specs.Prelude.{ℕ, Bool, true, false, ◌&&◌, not, nat_lt, ◌
 use Rattle.script.specs.declared.opcode.Op.{Op}
 use Rattle.script.specs.declared.opcode.Op.TheVariants.{Push, Number as SmallNumber}
 use Rattle.script.specs.declared.num.Number.{Number as Signed}
-use Rattle.script.specs.Limits.{locktime_threshold}
+use Rattle.script.specs.declared.limits.TheConstants.{LOCKTIME_THRESHOLD}
 use Rattle.script.specs.Number.{number_of, minimal_bytes_of}
 use Rattle.script.specs.Token.{is_key}
 use Rattle.script.specs.Step.{◌>>=◌}
@@ -158,7 +158,7 @@ pushed_by op = []
 -- a number from 0 to 499,999,999
 abbrev pub is_low_number : Option Signed → Bool
 is_low_number None = false
-is_low_number (Some z) = not z.negative && nat_lt z.magnitude locktime_threshold
+is_low_number (Some z) = not z.negative && nat_lt z.magnitude LOCKTIME_THRESHOLD
 
 -- a hole takes these bytes
 unfoldable pub fits : HoleKind → List ℕ → Bool

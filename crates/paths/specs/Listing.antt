@@ -2,8 +2,8 @@
 use Rattle.std.specs.Prelude.{ℕ, ◌+◌, ◌%◌, ◌^◌, max, Bool, true, false, nat_le, if◌then◌else◌, List, [], ◌∷◌, Option, Some, None, Result, Ok, Err}
 use Rattle.script.specs.declared.opcode.Op.{Op}
 use Rattle.script.specs.declared.stops.Cause.{Cause}
-use Rattle.script.specs.Limits.{max_ops}
-use Rattle.script.specs.Step.{◌>>=◌, result_if, bit_at}
+use Rattle.script.specs.declared.limits.TheConstants.{MAX_OPS_PER_SCRIPT}
+use Rattle.script.specs.Step.{result_if, bit_at}
 use Rattle.script.specs.Run.{open_ifs_after, counted_in}
 use Rattle.facts.specs.Symbols.{Fact, Stated, Sym}
 use Rattle.facts.specs.declared.symbols.FactOver.TheVariants.{Lock, Age}
@@ -12,7 +12,8 @@ use Rattle.paths.specs.declared.errors.CheckError.TheVariants.{OpenBranch, TooMa
 use Rattle.paths.specs.declared.state.Halt.{Halt}
 use Rattle.paths.specs.declared.state.Path.{Path}
 use Rattle.paths.specs.Plain.{State, SymbolicJump, Listed}
-use Rattle.paths.specs.Rules.{condition_of, rule_of}
+use Rattle.paths.specs.Table as table
+use Rattle.paths.specs.Rules.{plain, rule_of}
 use Rattle.paths.specs.Walk.{Guide}
 use Rattle.paths.specs.Walk as way
 
@@ -54,13 +55,20 @@ abbrev pub greatest_age_in : List Stated → Option ℕ
 greatest_age_in [] = None
 greatest_age_in (s ∷ facts) = with_age s.fact (greatest_age_in facts)
 
+-- the path with these parts
+abbrev pub path_with : ℕ → List Stated → ℕ → ℕ → Option ℕ → Option ℕ → Path
+path_with arity facts ops height lock age =
+    record { arity = arity; facts = facts; ops = ops; height = height; lock = lock; age = age }
+
 -- the path of a state at the end of the script
 abbrev pub path_of : ℕ → State → Path
-path_of counted s = record { arity = s.slots; facts = s.facts; ops = counted + s.keys; height = s.slots + s.excess; lock = greatest_lock_in s.facts; age = greatest_age_in s.facts }
+path_of counted s = path_with s.slots s.facts (counted + s.keys) (s.slots + s.excess)
+    (greatest_lock_in s.facts) (greatest_age_in s.facts)
 
 -- what a walk needs where all constants are known
 abbrev pub guide : Guide (List ℕ) ℕ ℕ Path
-guide = record { rule = λ counted at op s. rule_of counted op s; condition = condition_of; path = path_of }
+guide =
+    record { rule = λ n _ o s. rule_of n o s; condition = table.condition_of plain; path = path_of }
 
 abbrev pub refusal_at : {A : Type 0} → ℕ → A → Halt → Result A CheckError
 refusal_at at none h = way.refusal_at at none h
@@ -109,5 +117,6 @@ beginning = way.beginning
 
 -- the paths of a script
 unfoldable pub listing : List Op → Result (List Path) CheckError
-listing ops =
-    result_if (is_balanced ops []) OpenBranch (result_if (nat_le (counted_in ops) max_ops) TooMany (walk (counted_in ops) 0 ops beginning (record { begun = 1; paths = [] }) >>= λ l. Ok l.paths))
+listing ops = result_if (is_balanced ops []) OpenBranch
+    (result_if (nat_le (counted_in ops) MAX_OPS_PER_SCRIPT) TooMany
+    (way.walk_all guide (counted_in ops) ops))

@@ -3,7 +3,7 @@ use Rattle.std.specs.Prelude.{◌≡◌, ℕ, ◌+◌, Bool, true, false, ◌&&�
 use Rattle.std.specs.List.{list_all}
 use Rattle.script.specs.declared.opcode.Op.{Op}
 use Rattle.script.specs.declared.opcode.Op.TheVariants.{Push, Number as SmallNumber}
-use Rattle.script.specs.Limits.{locktime_threshold, max_script_size}
+use Rattle.script.specs.declared.limits.TheConstants.{LOCKTIME_THRESHOLD, MAX_SCRIPT_SIZE}
 use Rattle.script.specs.Number.{minimal_bytes_of}
 use Rattle.script.specs.Spelling.{payload_of}
 use Rattle.script.specs.Step.{◌>>=◌, result_if}
@@ -68,13 +68,13 @@ all_ops pieces = list_all is_op (map op_of pieces)
 -- the paths of a pattern
 abbrev pub pattern_of : List Piece → Result (List PatternPath) PatternError
 pattern_of pieces =
-    result_if (all_ops pieces) BadOpcode (as_pattern (pattern_listing (map hole_of pieces) (map op_of pieces)) >>= λ paths. result_if (nat_le (longest pieces) max_script_size) TooLong (Ok paths))
+    result_if (all_ops pieces) BadOpcode (as_pattern (pattern_listing (map hole_of pieces) (map op_of pieces)) >>= λ paths. result_if (nat_le (longest pieces) MAX_SCRIPT_SIZE) TooLong (Ok paths))
 
 -- a hole takes a fill of its kind: a key, 20 bytes, or a number from 0 to 499,999,999
 abbrev pub takes : HoleKind → Fill → Bool
 takes ForKey (Key k) = fits ForKey k
 takes ForHash (Hash h) = fits ForHash h
-takes ForNumber (Num n) = nat_lt n locktime_threshold
+takes ForNumber (Num n) = nat_lt n LOCKTIME_THRESHOLD
 takes kind fill = false
 
 -- a number from 1 to 16 has an opcode of its own

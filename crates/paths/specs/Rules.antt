@@ -1,37 +1,37 @@
 -- The table of rules where all constants are known.
-use Rattle.std.specs.Prelude.{ℕ, ◌+◌, ◌*◌, ◌/◌, ◌%◌, ◌^◌, Bool, true, false, ◌&&◌, not, nat_le, ◌==◌, if◌then◌else◌, List, [], ◌∷◌, length, Option, Some, None, Result, Ok, Err}
+use Rattle.std.specs.Prelude.{ℕ, ◌+◌, ◌*◌, ◌/◌, ◌%◌, ◌^◌, Bool, true, false, ◌&&◌, not, ◌==◌, if◌then◌else◌, List, [], ◌∷◌, length, Option, Some, None, Result, Ok, ok_or}
 use Rattle.std.specs.Str.{bytes_eq}
 use Rattle.digest.specs.Hash.{hash160}
 use Rattle.script.specs.declared.opcode.Op.{Op}
 use Rattle.script.specs.declared.num.Number.{Number as Signed}
-use Rattle.script.specs.Limits.{max_element_size}
+use Rattle.script.specs.declared.limits.TheConstants.{MAX_SCRIPT_ELEMENT_SIZE}
 use Rattle.script.specs.Number.{number_of, minimal_bytes_of}
 use Rattle.script.specs.Token.{is_key, is_signature}
-use Rattle.script.specs.Step.{result_if, truth, flag, bit_at}
+use Rattle.script.specs.Step.{◌>>=◌, result_if, truth, flag, bit_at, is_count}
 use Rattle.facts.specs.Symbols.{KeySource, Fact, Sym}
 use Rattle.paths.specs.declared.state.Halt.{Halt}
 use Rattle.paths.specs.declared.state.Halt.TheVariants.{Dead}
 use Rattle.paths.specs.Plain.{State, SymbolicJump, Condition}
-use Rattle.paths.specs.Table.{Words}
+use Rattle.paths.specs.Table.{Words, StepOver}
 use Rattle.paths.specs.Table as table
 
 -- the number from 0 to 520 whose minimal encoding these bytes are
 abbrev pub named_size : List ℕ → Option Signed → Option ℕ
 named_size b None = None
-named_size b (Some z) = if not z.negative && nat_le z.magnitude max_element_size && bytes_eq (minimal_bytes_of z.magnitude) b then Some z.magnitude else None
+named_size b (Some z) =
+    if is_count MAX_SCRIPT_ELEMENT_SIZE z && bytes_eq (minimal_bytes_of z.magnitude) b
+    then Some z.magnitude else None
 
 -- the count from 0 to a limit that bytes encode
 abbrev pub count_by : ℕ → Option Signed → Result ℕ Halt
-count_by limit None = Err Dead
-count_by limit (Some z) = result_if (not z.negative && nat_le z.magnitude limit) Dead (Ok z.magnitude)
+count_by limit o = ok_or o Dead >>= λ z. result_if (is_count limit z) Dead (Ok z.magnitude)
 
 abbrev pub count_bytes : ℕ → List ℕ → Result ℕ Halt
 count_bytes limit b = count_by limit (number_of 4 b)
 
 -- the number of a lock that bytes encode
 abbrev pub lock_by : Option Signed → Result ℕ Halt
-lock_by None = Err Dead
-lock_by (Some z) = result_if (not z.negative) Dead (Ok z.magnitude)
+lock_by o = ok_or o Dead >>= λ z. result_if (not z.negative) Dead (Ok z.magnitude)
 
 -- the bits of a relative lock that its check reads: those of the mask 0x40ffff (BIP 112)
 abbrev pub age_bits : ℕ → ℕ
@@ -160,5 +160,5 @@ lock_of = table.lock_of plain
 abbrev pub ask_age : ℕ → State → State
 ask_age = table.ask_age plain
 
-unfoldable pub rule_of : ℕ → Op → State → Result (SymbolicJump × State) Halt
+unfoldable pub rule_of : ℕ → Op → State → StepOver (List ℕ) ℕ ℕ
 rule_of = table.rule_of plain

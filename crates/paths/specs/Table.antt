@@ -4,7 +4,7 @@ use Rattle.std.specs.Prelude.{ℕ, zero, suc, ◌+◌, Bool, true, false, ◌||�
 use Rattle.std.specs.List.{list_any}
 use Rattle.script.specs.declared.opcode.Op.{Op}
 use Rattle.script.specs.declared.opcode.Op.TheVariants.{Push, Number as SmallNumber, If, NotIf, Else, EndIf, Drop, Dup, Swap, Size, Equal, EqualVerify, Hash160, CheckSig, CheckMultiSig, CheckLockTimeVerify, CheckSequenceVerify}
-use Rattle.script.specs.Limits.{max_keys, max_ops}
+use Rattle.script.specs.declared.limits.TheConstants.{MAX_PUBKEYS_PER_MULTISIG, MAX_OPS_PER_SCRIPT}
 use Rattle.script.specs.Number.{minimal_bytes_of}
 use Rattle.script.specs.Step.{◌>>=◌, result_if, flag}
 use Rattle.facts.specs.declared.symbols.KeySourceOver.{KeySourceOver}
@@ -49,6 +49,14 @@ pub record Words (C L A : Type 0) : Type 0 where
   pub is_off : L → Bool
   pub age_bits : L → A
 
+-- what an opcode leaves of a path: a jump and a state, or a halt
+abbrev pub StepOver : (C L A : Type 0) → Type 0
+StepOver C L A = Result (SymbolicJumpOver C L A × StateOver C L A) Halt
+
+-- the state after, or a halt
+abbrev pub AfterOver : (C L A : Type 0) → Type 0
+AfterOver C L A = Result (StateOver C L A) Halt
+
 module _ {C L A : Type 0} where
   -- the top symbol, or the next slot if there is none, and the state after
   abbrev pub pop_of : List (SymOver C L A) → StateOver C L A → SymOver C L A × StateOver C L A
@@ -70,16 +78,16 @@ module _ {C L A : Type 0} where
   abbrev pub ask : FactOver C L A → Bool → StateOver C L A → StateOver C L A
   ask fact holds s = record s { facts = s.facts ++ record { fact = fact; holds = holds } ∷ [] }
 
-  abbrev pub goes_on : StateOver C L A → Result (SymbolicJumpOver C L A × StateOver C L A) Halt
+  abbrev pub goes_on : StateOver C L A → StepOver C L A
   goes_on s = Ok (Next, s)
 
   -- the condition has to hold
-  abbrev pub insist : ConditionOver C L A → StateOver C L A → Result (StateOver C L A) Halt
+  abbrev pub insist : ConditionOver C L A → StateOver C L A → AfterOver C L A
   insist (Known b) s = result_if b Dead (Ok s)
   insist (Asked fact) s = Ok (ask fact true s)
 
   -- IF (run where the condition is true) and NOTIF (where it is false)
-  abbrev pub branch : Bool → ConditionOver C L A → StateOver C L A → Result (SymbolicJumpOver C L A × StateOver C L A) Halt
+  abbrev pub branch : Bool → ConditionOver C L A → StateOver C L A → StepOver C L A
   branch runs (Known b) s = Ok (if (if b then runs else not runs) then Next else AfterElse, s)
   branch runs (Asked fact) s = Ok (Splits fact runs, s)
 
@@ -172,14 +180,16 @@ module _ {C L A : Type 0} (w : Words C L A) where
   is_bad_extra x = false
 
   -- CHECKSIG, with the key known
-  abbrev pub signature_rule : KeySourceOver C → SymOver C L A → StateOver C L A → Result (StateOver C L A) Halt
-  signature_rule key (Slot i) s = Ok (push (Holds (Token i key)) (ask (Form i) true (ask_key key s)))
-  signature_rule key (Const c) s = result_if (w.is_no_signature c) Undecided (Ok (push (Const (w.known [])) (ask_key key s)))
-  signature_rule key x s = Err Undecided
+  abbrev pub signature_rule : KeySourceOver C → SymOver C L A → StateOver C L A → AfterOver C L A
+  signature_rule k (Slot i) s = Ok (push (Holds (Token i k)) (ask (Form i) true (ask_key k s)))
+  signature_rule k (Const c) s =
+      result_if (w.is_no_signature c) Undecided (Ok (push (Const (w.known [])) (ask_key k s)))
+  signature_rule k x s = Err Undecided
 
   -- CHECKSIG
-  abbrev pub check_sig : SymOver C L A → SymOver C L A → StateOver C L A → Result (StateOver C L A) Halt
-  check_sig key sig s = result_if (not (is_bad_key key || is_bad_signature sig)) Dead (source_of key >>= λ source. signature_rule source sig s)
+  abbrev pub check_sig : SymOver C L A → SymOver C L A → StateOver C L A → AfterOver C L A
+  check_sig key sig s = result_if (not (is_bad_key key || is_bad_signature sig)) Dead
+      (source_of key >>= λ source. signature_rule source sig s)
 
   -- a count of keys or signatures, from 0 to a limit
   abbrev pub count_of : ℕ → SymOver C L A → Result ℕ Halt
@@ -187,7 +197,7 @@ module _ {C L A : Type 0} (w : Words C L A) where
   count_of limit x = Err Undecided
 
   -- the extra item has to be empty
-  abbrev pub ask_extra : SymOver C L A → StateOver C L A → Result (StateOver C L A) Halt
+  abbrev pub ask_extra : SymOver C L A → StateOver C L A → AfterOver C L A
   ask_extra (Const c) s = result_if (w.is_clear_extra c) Undecided (Ok s)
   ask_extra (Slot i) s = Ok (ask (Is i (w.known [])) true s)
   ask_extra x s = Err Undecided
@@ -198,20 +208,21 @@ module _ {C L A : Type 0} (w : Words C L A) where
   answer_of (i ∷ slots) keys = Holds (Assigned (i ∷ slots) keys)
 
   -- CHECKMULTISIG, given keys and signatures, the deepest first, and the extra item
-  abbrev pub check_sigs : List (SymOver C L A) → List (SymOver C L A) → SymOver C L A → StateOver C L A → Result (StateOver C L A) Halt
-  check_sigs keys sigs extra s = result_if (not (list_any is_bad_key keys || is_bad_extra extra)) Dead (do
+  abbrev pub check_sigs : List (SymOver C L A) → List (SymOver C L A) → SymOver C L A
+      → StateOver C L A → AfterOver C L A
+  check_sigs keys sigs x s = result_if (not (list_any is_bad_key keys || is_bad_extra x)) Dead (do
     slots ← slots_of sigs
     sources ← sources_of keys
-    s' ← ask_extra extra (ask_keys sources (ask_forms slots s))
+    s' ← ask_extra x (ask_keys sources (ask_forms slots s))
     Ok (push (answer_of slots sources) s'))
 
-  -- CHECKMULTISIG, in a script with `counted` counted opcodes
-  abbrev pub check_multi_sig : ℕ → StateOver C L A → Result (StateOver C L A) Halt
-  check_multi_sig counted s = do
+  -- CHECKMULTISIG, in a script with so many counted opcodes
+  abbrev pub check_multi_sig : ℕ → StateOver C L A → AfterOver C L A
+  check_multi_sig many s = do
     let top = pop s
-    n ← count_of max_keys top.0
+    n ← count_of MAX_PUBKEYS_PER_MULTISIG top.0
     let keys = pops n (record top.1 { keys = top.1.keys + n })
-    second ← result_if (nat_le (counted + keys.1.keys) max_ops) TooManyOps (Ok (pop keys.1))
+    second ← result_if (nat_le (many + keys.1.keys) MAX_OPS_PER_SCRIPT) TooManyOps (Ok (pop keys.1))
     m ← count_of n second.0
     let sigs = pops m second.1
     let extra = pop sigs.1
@@ -226,7 +237,7 @@ module _ {C L A : Type 0} (w : Words C L A) where
   ask_age n s = if w.is_off n then s else ask (Age (w.age_bits n)) true s
 
   -- what an opcode does to a path, in a script with `counted` counted opcodes
-  abbrev pub rule_of : ℕ → Op → StateOver C L A → Result (SymbolicJumpOver C L A × StateOver C L A) Halt
+  abbrev pub rule_of : ℕ → Op → StateOver C L A → StepOver C L A
   rule_of counted (Push item) s = goes_on (push (Const (w.known item)) s)
   rule_of counted (SmallNumber n) s = goes_on (push (Const (w.known (n ∷ []))) s)
   rule_of counted If s = condition_of (pop s).0 >>= λ c. branch true c (pop s).1
@@ -237,14 +248,14 @@ module _ {C L A : Type 0} (w : Words C L A) where
   rule_of counted Dup s = goes_on (push (pop s).0 (push (pop s).0 (pop s).1))
   rule_of counted Swap s = goes_on (push (pop (pop s).1).0 (push (pop s).0 (pop (pop s).1).1))
   rule_of counted Size s = size_of (pop s).0 >>= λ x. goes_on (push x (push (pop s).0 (pop s).1))
-  rule_of counted Equal s = equal_of (pop s).0 (pop (pop s).1).0 >>= λ x. goes_on (push x (pop (pop s).1).1)
-  rule_of counted EqualVerify s = do
-    x ← equal_of (pop s).0 (pop (pop s).1).0
-    c ← condition_of x
-    s' ← insist c (pop (pop s).1).1
-    goes_on s'
+  rule_of counted Equal s =
+      equal_of (pop s).0 (pop (pop s).1).0 >>= λ x. goes_on (push x (pop (pop s).1).1)
+  rule_of counted EqualVerify s = equal_of (pop s).0 (pop (pop s).1).0 >>= λ x.
+      condition_of x >>= λ c. insist c (pop (pop s).1).1 >>= goes_on
   rule_of counted Hash160 s = hash_of (pop s).0 >>= λ x. goes_on (push x (pop s).1)
   rule_of counted CheckSig s = check_sig (pop s).0 (pop (pop s).1).0 (pop (pop s).1).1 >>= goes_on
   rule_of counted CheckMultiSig s = check_multi_sig counted s >>= goes_on
-  rule_of counted CheckLockTimeVerify s = lock_of (pop s).0 >>= λ n. goes_on (push (pop s).0 (ask (Lock n) true (pop s).1))
-  rule_of counted CheckSequenceVerify s = lock_of (pop s).0 >>= λ n. goes_on (push (pop s).0 (ask_age n (pop s).1))
+  rule_of counted CheckLockTimeVerify s =
+      lock_of (pop s).0 >>= λ n. goes_on (push (pop s).0 (ask (Lock n) true (pop s).1))
+  rule_of counted CheckSequenceVerify s =
+      lock_of (pop s).0 >>= λ n. goes_on (push (pop s).0 (ask_age n (pop s).1))

@@ -1,7 +1,7 @@
 -- What the functions return that walk the ways through a script.
 use Rattle.std.specs.Prelude.{◌≡◌, ℕ, ◌+◌, ◌≤◌, Bool, true, false, List, [], ◌∷◌, drop, Option, Some, None, Result, Ok, Err}
 use Rattle.script.specs.declared.opcode.Op.{Op}
-use Rattle.script.specs.Limits.{max_ops, max_stack_size}
+use Rattle.script.specs.declared.limits.TheConstants.{MAX_OPS_PER_SCRIPT, MAX_STACK_SIZE}
 use Rattle.script.specs.Step.{◌>>=◌}
 use Rattle.script.specs.Run.{skip_length}
 use Rattle.paths.specs.declared.errors.CheckError.{CheckError}
@@ -37,8 +37,8 @@ AreStates rule rest s (Err e) = IfRefused e (rule ≡ Err e)
 
 -- a state's numbers are within their limits
 pub record IsKept (counted : ℕ) (s : State) : Type 0 where
-  pub low : s.slots + s.excess ≤ max_stack_size
-  pub few : counted + s.keys ≤ max_ops
+  pub low : s.slots + s.excess ≤ MAX_STACK_SIZE
+  pub few : counted + s.keys ≤ MAX_OPS_PER_SCRIPT
 
 abbrev pub AreKept : ℕ → State → Successors → Type 0
 AreKept counted s Dies = Unit {0}

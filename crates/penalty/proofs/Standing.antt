@@ -4,7 +4,7 @@ use Rattle.std.specs.List.{All}
 use Rattle.std.proofs.lemmas.Bool.{and_parts, ltb-true}
 use Rattle.std.proofs.lemmas.List.Elements.{All-nil, All-cons, All-append, All-filter, All-map}
 use Rattle.std.proofs.lemmas.List.Sorted.{All-permutation}
-use Rattle.script.specs.Limits.{locktime_threshold}
+use Rattle.script.specs.declared.limits.TheConstants.{LOCKTIME_THRESHOLD}
 use Rattle.terms.specs.declared.htlcs.Htlc.{Htlc}
 use Rattle.terms.specs.declared.sides.Side.{Side}
 use Rattle.terms.specs.declared.sides.Side.TheVariants.{A, B}
@@ -34,13 +34,13 @@ use Rattle.penalty.specs.Claimable.{commitment_in}
 use Rattle.penalty.specs.Outputs.{IsOutput, AreOutputs}
 
 abbrev ExpiresLow : Htlc → Type 0
-ExpiresLow h = h.expiry < locktime_threshold
+ExpiresLow h = h.expiry < LOCKTIME_THRESHOLD
 
 low_heights : (hs : List Htlc) → expire_at_heights hs ≡ true → All ExpiresLow hs
 low_heights [] e = All-nil ExpiresLow
 low_heights (h ∷ hs) e =
     let p = and_parts _ _ e in
-    All-cons ExpiresLow h hs (ltb-true h.expiry locktime_threshold p.0) (low_heights hs p.1)
+    All-cons ExpiresLow h hs (ltb-true h.expiry LOCKTIME_THRESHOLD p.0) (low_heights hs p.1)
 
 of_side : (side : Side) (view : View) → has_heights view ≡ true → All ExpiresLow (share side view).offered
 of_side A view e = low_heights view.a.offered (and_parts _ _ e).0

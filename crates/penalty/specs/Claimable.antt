@@ -4,7 +4,7 @@ use Rattle.digest.specs.Hash.{hash160}
 use Rattle.digest.specs.Ripemd160.{ripemd160}
 use Rattle.tx.specs.Parts.{Output}
 use Rattle.tx.specs.Fields.{Transaction}
-use Rattle.tx.specs.Spelling.{transaction_id}
+use Rattle.tx.specs.Spelling.{outpoint_at}
 use Rattle.keys.specs.Derivation.{point_of}
 use Rattle.terms.specs.declared.htlcs.Htlc.{Htlc}
 use Rattle.paths.specs.Listing.{CheckedScript}
@@ -32,44 +32,36 @@ pub record Claimable : Type 0 where
   pub slots : List Filling
   pub shell : Shell
 
+-- the output with these parts
+abbrev pub claimable_with : Place → CheckedScript → ℕ → List Filling → Shell → Claimable
+claimable_with place form path slots shell =
+    record { place = place; form = form; path = path; slots = slots; shell = shell }
+
 -- the place of an output of a transaction
 abbrev pub place_in : Transaction → ℕ → Output → Place
-place_in t index o = record { outpoint = record { txid = transaction_id t; index = index }; value = o.value; program = o.script }
+place_in t index o = record { outpoint = outpoint_at t index; value = o.value; program = o.script }
 
 -- a penalty on to_local, or on the output of an HTLC transaction: by the revocation key
 abbrev pub penalty_on : Contents → Place → Claimable
-penalty_on c place = record {
-  place = place;
-  form = to_local_form c.keys.revocation c.delay c.keys.delayed;
-  path = 0;
-  slots = Bytes (1 ∷ []) ∷ Signature c.keys.revocation ∷ [];
-  shell = Open;
-}
+penalty_on c place = claimable_with place (to_local_form c.keys.revocation c.delay c.keys.delayed) 0
+    (Bytes (1 ∷ []) ∷ Signature c.keys.revocation ∷ []) Open
 
 -- to_remote: by the peer's payment key
 abbrev pub payment_on : Contents → Place → Claimable
-payment_on c place = record {
-  place = place;
-  form = key_hash_form (hash160 c.keys.remote);
-  path = 0;
-  slots = Bytes c.keys.remote ∷ Signature c.keys.remote ∷ [];
-  shell = Open;
-}
+payment_on c place = claimable_with place (key_hash_form (hash160 c.keys.remote)) 0
+    (Bytes c.keys.remote ∷ Signature c.keys.remote ∷ []) Open
 
 -- the form of an HTLC's output
 abbrev pub htlc_form : KeyBytes → Direction → Htlc → CheckedScript
-htlc_form k Offered h = offered_form (hash160 k.revocation) k.remote_htlc k.local_htlc (ripemd160 h.hash)
-htlc_form k Received h = received_form (hash160 k.revocation) k.remote_htlc k.local_htlc (ripemd160 h.hash) h.expiry
+htlc_form k Offered h =
+    offered_form (hash160 k.revocation) k.remote_htlc k.local_htlc (ripemd160 h.hash)
+htlc_form k Received h =
+    received_form (hash160 k.revocation) k.remote_htlc k.local_htlc (ripemd160 h.hash) h.expiry
 
 -- a penalty on an HTLC's output: by the revocation key
 abbrev pub htlc_penalty_on : Contents → Direction → Htlc → Place → Claimable
-htlc_penalty_on c direction h place = record {
-  place = place;
-  form = htlc_form c.keys direction h;
-  path = 0;
-  slots = Bytes c.keys.revocation ∷ Signature c.keys.revocation ∷ [];
-  shell = Open;
-}
+htlc_penalty_on c direction h place = claimable_with place (htlc_form c.keys direction h) 0
+    (Bytes c.keys.revocation ∷ Signature c.keys.revocation ∷ []) Open
 
 -- the output of the one HTLC transaction that the peer signed for an HTLC: HTLC-timeout where the owner offered it, else HTLC-success
 abbrev pub second_stage_penalty : Contents → HtlcOutput → Claimable
@@ -79,22 +71,22 @@ second_stage_penalty c h = penalty_on c (place_in (second_stage_of c h) 0 (secon
 abbrev pub claims_on : Contents → ℕ → Place → OutputKind → List Claimable
 claims_on c index place ToLocal = penalty_on c place ∷ []
 claims_on c index place ToRemote = payment_on c place ∷ []
-claims_on c index place (ToHtlc direction h) =
-    htlc_penalty_on c direction h place
-    ∷ second_stage_penalty c (record { index = index; direction = direction; htlc = h })
-    ∷ []
+claims_on c index place (ToHtlc direction h) = htlc_penalty_on c direction h place
+    ∷ second_stage_penalty c (record { index = index; direction = direction; htlc = h }) ∷ []
 
 -- what the outputs from an index on let the peer claim, by a rule for one output at an index and a place
-unfoldable pub claims_by : (ℕ → Place → OutputKind → List Claimable) → Contents → ℕ → List CommitmentOutput → List Claimable
+unfoldable pub claims_by : (ℕ → Place → OutputKind → List Claimable) → Contents → ℕ
+    → List CommitmentOutput → List Claimable
 claims_by on c index [] = []
-claims_by on c index (o ∷ os) = on index (place_in (transaction_of c) index (tx_output o)) o.kind ++ claims_by on c (index + 1) os
+claims_by on c index (o ∷ os) = on index (place_in (transaction_of c) index (tx_output o)) o.kind
+    ++ claims_by on c (index + 1) os
 
 abbrev pub claims_from : Contents → ℕ → List CommitmentOutput → List Claimable
 claims_from c = claims_by (claims_on c) c
 
 -- the revoked commitment, with the point of the secret
 abbrev pub commitment_in : RevokedState → Contents
-commitment_in state = commitment_of state.terms state.view state.owner state.number (point_of state.secret)
+commitment_in s = commitment_of s.terms s.view s.owner s.number (point_of s.secret)
 
 -- what a revoked state lets the owner's peer claim, in the order of outputs, each HTLC followed by the output of its HTLC transaction
 unfoldable pub claimable_of : RevokedState → List Claimable

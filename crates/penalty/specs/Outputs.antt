@@ -1,8 +1,8 @@
 -- What a claim on an output of a commitment needs.
 use Rattle.std.specs.Prelude.{◌≡◌, ℕ, ◌≤◌, ◌<◌, true, List, length, Some, slice_get}
 use Rattle.std.specs.List.{All}
-use Rattle.script.specs.Limits.{locktime_threshold}
-use Rattle.tx.specs.Limits.{max_outputs}
+use Rattle.script.specs.declared.limits.TheConstants.{LOCKTIME_THRESHOLD}
+use Rattle.tx.specs.declared.limits.TheConstants.{MAX_OUTPUTS}
 use Rattle.paths.specs.declared.state.Path.{Path}
 use Rattle.paths.specs.Listing.{CheckedScript}
 use Rattle.claim.specs.declared.parts.Place.{Place}
@@ -26,14 +26,14 @@ program_of delay k (ToHtlc direction h) = script_hash_program (htlc_script k dir
 abbrev pub HasHeight : OutputKind → Type 0
 HasHeight ToLocal = Unit {0}
 HasHeight ToRemote = Unit {0}
-HasHeight (ToHtlc direction h) = h.expiry < locktime_threshold
+HasHeight (ToHtlc direction h) = h.expiry < LOCKTIME_THRESHOLD
 
 pub record IsOutput (delay : ℕ) (k : KeyBytes) (o : CommitmentOutput) : Type 0 where
   pub program : o.program ≡ program_of delay k o.kind
   pub height : HasHeight o.kind
 
 pub record AreOutputs (c : Contents) : Type 0 where
-  pub few : length c.outputs ≤ max_outputs
+  pub few : length c.outputs ≤ MAX_OUTPUTS
   pub each : All (λ o. IsOutput c.delay c.keys o) c.outputs
 
 -- a form has the path at an index, and the transaction may stand round it

@@ -3,11 +3,11 @@ use Rattle.std.specs.Prelude.{◌≡◌, List, [], ◌∷◌, map}
 use Rattle.claim.specs.Claims.{ClaimParts, IsAccepted}
 use Rattle.forms.specs.Fillings.{filling_of}
 use Rattle.penalty.specs.declared.states.RevokedState.{RevokedState}
-use Rattle.penalty.specs.Claimable.{Claimable}
+use Rattle.penalty.specs.Claimable.{Claimable, claimable_with}
 
 -- what a claim claims
 abbrev pub claimed_by : ClaimParts → Claimable
-claimed_by c = record { place = c.place; form = c.ways; path = c.index; slots = map filling_of c.slots; shell = c.shell }
+claimed_by c = claimable_with c.place c.ways c.index (map filling_of c.slots) c.shell
 
 -- an accepted claim on an output
 pub record IsClaimOn (output : Claimable) (c : ClaimParts) : Type 0 where

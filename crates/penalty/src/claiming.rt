@@ -1,7 +1,7 @@
 //! Claims on the outputs of a commitment.
 
 ghost use Rattle.std.specs.Prelude.{◌≡◌, ◌<◌, true, IfOk};
-ghost use Rattle.script.specs.Limits.{locktime_threshold};
+ghost use Rattle.script.specs.declared.limits.TheConstants.{LOCKTIME_THRESHOLD as locktime_threshold};
 ghost use Rattle.script.specs.Spelling.{spelling};
 ghost use Rattle.claim.specs.Judgement.{is_program, bare_shell};
 ghost use Rattle.sighash.specs.Programs.{script_hash_program, key_hash_program};

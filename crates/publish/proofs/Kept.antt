@@ -5,7 +5,7 @@ use Rattle.std.specs.List.{All, cons_option}
 use Rattle.std.proofs.lemmas.Bool.{and_from}
 use Rattle.std.proofs.lemmas.Option.{same_Some, slice_get-map, slice_get_within, get_or_from_slice_get}
 use Rattle.std.proofs.lemmas.List.Elements.{All-head, All-tail, Contains-append_left, Contains-append_right}
-use Rattle.script.specs.Limits.{locktime_threshold}
+use Rattle.script.specs.declared.limits.TheConstants.{LOCKTIME_THRESHOLD}
 use Rattle.script.specs.Token.{token_of}
 use Rattle.keys.specs.declared.bases.Base.TheVariants.{Funding, Htlc as HtlcBase}
 use Rattle.keys.specs.Derivation.{derived_key}
@@ -56,20 +56,20 @@ may_sign_htlc s n c h own found =
     (ap (λ o. derived_key (party o s.held.terms).bases.htlc.bytes point) own ∙ ap (λ k. derived_key k point) h.htlc)
 
 -- an HTLC of a commitment expires at a height
-low_from : (delay : ℕ) (b : KeyBytes) (i : ℕ) (os : List CommitmentOutput) (k : ℕ) (h : HtlcOutput) → All (λ o. IsOutput delay b o) os → slice_get (htlcs_from i os) k ≡ Some h → h.htlc.expiry < locktime_threshold
+low_from : (delay : ℕ) (b : KeyBytes) (i : ℕ) (os : List CommitmentOutput) (k : ℕ) (h : HtlcOutput) → All (λ o. IsOutput delay b o) os → slice_get (htlcs_from i os) k ≡ Some h → h.htlc.expiry < LOCKTIME_THRESHOLD
 unfolding htlcs_from
 low_from delay b i [] k h a e = absurd (cc)
 low_from delay b i (o ∷ os) k h a e =
     by_kind o.kind k (All-head (λ x. IsOutput delay b x) o os a).height (λ j f. low_from delay b (i + 1) os j h (All-tail (λ x. IsOutput delay b x) o os a) f) e
   where
-    by_kind : (kind : OutputKind) (k : ℕ) → HasHeight kind → ((j : ℕ) → slice_get (htlcs_from (i + 1) os) j ≡ Some h → h.htlc.expiry < locktime_threshold)
-        → slice_get (cons_option (htlc_at i kind) (htlcs_from (i + 1) os)) k ≡ Some h → h.htlc.expiry < locktime_threshold
+    by_kind : (kind : OutputKind) (k : ℕ) → HasHeight kind → ((j : ℕ) → slice_get (htlcs_from (i + 1) os) j ≡ Some h → h.htlc.expiry < LOCKTIME_THRESHOLD)
+        → slice_get (cons_option (htlc_at i kind) (htlcs_from (i + 1) os)) k ≡ Some h → h.htlc.expiry < LOCKTIME_THRESHOLD
     by_kind ToLocal k low rest e = rest k e
     by_kind ToRemote k low rest e = rest k e
-    by_kind (ToHtlc d x) zero low rest e = subst (λ (y : HtlcOutput). y.htlc.expiry < locktime_threshold) (same_Some _ h e) low
+    by_kind (ToHtlc d x) zero low rest e = subst (λ (y : HtlcOutput). y.htlc.expiry < LOCKTIME_THRESHOLD) (same_Some _ h e) low
     by_kind (ToHtlc d x) (suc k) low rest e = rest k e
 
-pub low_expiry : (c : Contents) (k : ℕ) (h : HtlcOutput) → AreOutputs c → slice_get (htlcs_of c) k ≡ Some h → h.htlc.expiry < locktime_threshold
+pub low_expiry : (c : Contents) (k : ℕ) (h : HtlcOutput) → AreOutputs c → slice_get (htlcs_of c) k ≡ Some h → h.htlc.expiry < LOCKTIME_THRESHOLD
 low_expiry c k h a e = low_from c.delay c.keys 0 c.outputs k h a.each e
 
 -- what stands for the k-th HTLC among its commitment's digests, and among the peer's tokens

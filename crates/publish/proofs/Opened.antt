@@ -12,7 +12,7 @@ use Rattle.sha2.proofs.Facts256.{length-sha256}
 use Rattle.digest.specs.Hash.{hash160, sha256d}
 use Rattle.digest.specs.Ripemd160.{ripemd160}
 use Rattle.digest.proofs.OutsideVectors.{length-ripemd160}
-use Rattle.script.specs.Limits.{locktime_threshold}
+use Rattle.script.specs.declared.limits.TheConstants.{LOCKTIME_THRESHOLD}
 use Rattle.script.specs.Spelling.{spelling}
 use Rattle.script.specs.Token.{token_of, is_key}
 use Rattle.script.specs.Run.{Clean}
@@ -197,7 +197,7 @@ derived_form : (base point : List ℕ) → is_key (derived_key base point) ≡ t
 unfolding derived_key is_key
 derived_form base point = let h = length-sha256 (codes "derive" ++ base ++ point) in cc
 
-second_final : (d : Direction) (x : Htlc) (height : ℕ) (inputs : List TxIn) → x.expiry < locktime_threshold → lock_time_of d x < height → is_final height (lock_time_of d x) inputs ≡ true
+second_final : (d : Direction) (x : Htlc) (height : ℕ) (inputs : List TxIn) → x.expiry < LOCKTIME_THRESHOLD → lock_time_of d x < height → is_final height (lock_time_of d x) inputs ≡ true
 second_final Offered x height inputs low reached = rw (lt-ltb x.expiry 500000000 low, lt-ltb x.expiry height reached) refl
 second_final Received x height inputs low reached = rw (lt-ltb 0 height reached) refl
 
@@ -205,7 +205,7 @@ second_old : (height coin : ℕ) → coin ≤ height → is_old_enough height 2 
 second_old height coin l = le-leb (coin + 0) height (omega arith)
 
 second_taken : (terms : Terms) (state : CommitmentState) (h : HtlcOutput) (preimages : List (List ℕ)) (item : List ℕ) (blocks : List Block) (height : ℕ)
-    → branch_item preimages h.direction h.htlc ≡ Some item → All (λ p. length p ≡ 32) preimages → h.htlc.expiry < locktime_threshold
+    → branch_item preimages h.direction h.htlc ≡ Some item → All (λ p. length p ≡ 32) preimages → h.htlc.expiry < LOCKTIME_THRESHOLD
     → bytes_eq (hash160 item) (hash160 (contents_of terms state).keys.revocation) ≡ false
     → (here : HasUnspent blocks (outpoint_of (contents_of terms state) h) (output_of (contents_of terms state) h)) → here.coin.height ≤ height → lock_time_of h.direction h.htlc < height
     → IsTaken blocks height (signed_second_stage (contents_of terms state) h item)

@@ -3,7 +3,7 @@ use Rattle.std.specs.Prelude.{◌≡◌, ℕ, ◌<◌, ◌≤◌, false, List, l
 use Rattle.std.specs.List.{All}
 use Rattle.std.specs.Str.{bytes_eq}
 use Rattle.digest.specs.Hash.{hash160}
-use Rattle.script.specs.Limits.{locktime_threshold}
+use Rattle.script.specs.declared.limits.TheConstants.{LOCKTIME_THRESHOLD}
 use Rattle.tx.specs.declared.input.OutPoint.{OutPoint}
 use Rattle.tx.specs.Parts.{Output}
 use Rattle.tx.specs.Fields.{Transaction}
@@ -62,6 +62,6 @@ pub record IsHtlcTx (s : State) (n k : ℕ) (preimages : List (List ℕ)) (c : C
 abbrev pub HtlcTxsSpend : Type 0
 HtlcTxsSpend =
     (s : State) (n k : ℕ) (preimages : List (List ℕ)) (c : Contents) (h : HtlcOutput) (item : List ℕ) (t : Transaction) (blocks : List Block) (height : ℕ)
-    → IsHtlcTx s n k preimages c h item t → All (λ p. length p ≡ 32) preimages → h.htlc.expiry < locktime_threshold
+    → IsHtlcTx s n k preimages c h item t → All (λ p. length p ≡ 32) preimages → h.htlc.expiry < LOCKTIME_THRESHOLD
     → bytes_eq (hash160 item) (hash160 c.keys.revocation) ≡ false
     → (here : HasUnspent blocks (outpoint_of c h) (output_of c h)) → here.coin.height ≤ height → lock_time_of h.direction h.htlc < height → IsTaken blocks height t

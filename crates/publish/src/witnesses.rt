@@ -1,8 +1,8 @@
 // The witnesses that spend outputs for which both sides sign.
 
 ghost use Rattle.std.specs.Prelude.{◌≡◌, ◌<◌, ◌≤◌, [], ◌∷◌, ◌++◌, length, IfOk};
-ghost use Rattle.script.specs.Limits.{locktime_threshold};
-ghost use Rattle.tx.specs.Limits.{max_bytes};
+ghost use Rattle.script.specs.declared.limits.TheConstants.{LOCKTIME_THRESHOLD as locktime_threshold};
+ghost use Rattle.tx.specs.declared.limits.TheConstants.{MAX_BYTES as max_bytes};
 ghost use Rattle.forms.specs.Forms.{funding_form};
 ghost use Rattle.commit.specs.Keys.{bytes_of};
 ghost use Rattle.commit.specs.Signing.{funding_script};

@@ -6,7 +6,7 @@ use Rattle.std.proofs.lemmas.Bool.{false≢true}
 use Rattle.std.proofs.lemmas.Slice.Eq.{bytes_eq-Decides}
 use Rattle.digest.specs.Hash.{hash160}
 use Rattle.digest.specs.Ripemd160.{ripemd160}
-use Rattle.script.specs.Limits.{locktime_threshold}
+use Rattle.script.specs.declared.limits.TheConstants.{LOCKTIME_THRESHOLD}
 use Rattle.script.specs.Spelling.{spelling}
 use Rattle.script.specs.Token.{token_of}
 use Rattle.sighash.specs.Signing.{sighash}
@@ -58,12 +58,12 @@ as_delayed c k delay checked place claim e d f i =
 differs : (a b : List ℕ) → not (bytes_eq a b) ≡ true → b ≢ a
 differs a b t e = false≢true (sym (ap not ((bytes_eq-Decides a b).1 (sym e))) ∙ t)
 
-claims_direct_at : (k : CommitmentKeys) (direction : Direction) (h : Htlc) (place : Place) → h.expiry < locktime_threshold → IsDirect (bytes_of k) direction h
+claims_direct_at : (k : CommitmentKeys) (direction : Direction) (h : Htlc) (place : Place) → h.expiry < LOCKTIME_THRESHOLD → IsDirect (bytes_of k) direction h
     → Claims (direct_kind_of k direction h) (htlc_form (bytes_of k) direction h) (path_taken_by (direct_kind_of k direction h)) place Open
 claims_direct_at k Offered h place l o = of_preimage (hash160 k.revocation.bytes) k.remote_htlc k.local_htlc.bytes h.hash place (differs (hash160 k.revocation.bytes) (ripemd160 h.hash) o)
 claims_direct_at k Received h place l o = of_timeout (hash160 k.revocation.bytes) k.remote_htlc k.local_htlc.bytes (ripemd160 h.hash) h.expiry place l (differs (hash160 k.revocation.bytes) (hash160 []) o)
 
-pub claims_direct : (c : Contents) (k : CommitmentKeys) (direction : Direction) (h : Htlc) (checked : CheckedScript) (place : Place) → bytes_of k ≡ c.keys → h.expiry < locktime_threshold
+pub claims_direct : (c : Contents) (k : CommitmentKeys) (direction : Direction) (h : Htlc) (checked : CheckedScript) (place : Place) → bytes_of k ≡ c.keys → h.expiry < LOCKTIME_THRESHOLD
     → IsDirect c.keys direction h → checked ≡ htlc_form (bytes_of k) direction h → Claims (direct_kind_of k direction h) checked (path_taken_by (direct_kind_of k direction h)) place Open
 claims_direct c k direction h checked place b l o e =
     subst (λ x. Claims (direct_kind_of k direction h) x (path_taken_by (direct_kind_of k direction h)) place Open) (sym e)

@@ -22,7 +22,7 @@ use Rattle.commit.specs.Signing.{htlc_digest, htlc_digests}
 use Rattle.penalty.specs.Claimable.{Claimable, place_in, claims_by}
 use Rattle.penalty.specs.Sets.{IsClaimOn, AreClaimsOn}
 use Rattle.penalty.specs.Outputs.{HasHeight, program_of, IsOutput}
-use Rattle.script.specs.Limits.{locktime_threshold}
+use Rattle.script.specs.declared.limits.TheConstants.{LOCKTIME_THRESHOLD}
 use Rattle.resolve.specs.Due.{can_time_out, can_pay, is_known, is_owners, is_peers, direct_on, second_stage_on, delayed_second_stage, owners_on, peers_on, owners_due, peers_due}
 use Rattle.resolve.specs.Kinds.{IsDirect, IsSecondStage, IsHtlcPlace}
 use Rattle.resolve.specs.Signed.{AreHtlcTokens}
@@ -53,7 +53,7 @@ htlc_place c index o direction h place k i l e = record {
   program = ap (λ (p : Place). p.program) e ∙ i.program ∙ ap (program_of c.delay c.keys) k;
 }
 
-pub htlc_height : (delay : ℕ) (b : KeyBytes) (o : CommitmentOutput) (direction : Direction) (h : Htlc) → o.kind ≡ ToHtlc direction h → IsOutput delay b o → h.expiry < locktime_threshold
+pub htlc_height : (delay : ℕ) (b : KeyBytes) (o : CommitmentOutput) (direction : Direction) (h : Htlc) → o.kind ≡ ToHtlc direction h → IsOutput delay b o → h.expiry < LOCKTIME_THRESHOLD
 htlc_height delay b o direction h k i = subst HasHeight k i.height
 
 second_part : (a b : Bool) → (a && b) ≡ true → b ≡ true

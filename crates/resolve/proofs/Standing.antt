@@ -4,7 +4,7 @@ use Rattle.std.specs.Prelude.{slice_get, ◌&&◌, nat_le, nat_lt, ◌==◌, unw
 use Rattle.std.specs.Str.{bytes_eq}
 use Rattle.std.proofs.lemmas.Bool.{and_from, eq-eqb, lt-ltb, le-leb}
 use Rattle.std.proofs.lemmas.Slice.Eq.{bytes_eq-Decides}
-use Rattle.script.specs.Limits.{locktime_threshold}
+use Rattle.script.specs.declared.limits.TheConstants.{LOCKTIME_THRESHOLD}
 use Rattle.script.specs.Spelling.{spelling}
 use Rattle.sighash.specs.Signing.{sighash}
 use Rattle.tx.specs.Fields.{Transaction, total_value}
@@ -26,8 +26,8 @@ use Rattle.penalty.specs.Claimable.{htlc_form}
 use Rattle.penalty.specs.Outputs.{HasWay}
 use Rattle.resolve.specs.Kinds.{IsHtlcPlace}
 
-low_lock : (direction : Direction) (h : Htlc) → h.expiry < locktime_threshold → nat_lt (lock_time_of direction h) locktime_threshold ≡ true
-low_lock Offered h l = lt-ltb h.expiry locktime_threshold l
+low_lock : (direction : Direction) (h : Htlc) → h.expiry < LOCKTIME_THRESHOLD → nat_lt (lock_time_of direction h) LOCKTIME_THRESHOLD ≡ true
+low_lock Offered h l = lt-ltb h.expiry LOCKTIME_THRESHOLD l
 low_lock Received h l = refl
 
 only_input : (c : Contents) (h : HtlcOutput) (place : Place) → IsHtlcPlace c h place → is_only_input (second_stage_of c h).inputs place.outpoint 0 ≡ true
@@ -52,7 +52,7 @@ no_height : (n : ℕ) → nat_le 0 n ≡ true
 no_height n = le-leb 0 n (omega arith)
 
 -- round a path without locks
-stands_round : (c : Contents) (h : HtlcOutput) (place : Place) (p : Path) → p.lock ≡ None → p.age ≡ None → h.htlc.expiry < locktime_threshold → IsHtlcPlace c h place
+stands_round : (c : Contents) (h : HtlcOutput) (place : Place) (p : Path) → p.lock ≡ None → p.age ≡ None → h.htlc.expiry < LOCKTIME_THRESHOLD → IsHtlcPlace c h place
     → is_shell p place (Fixed (second_stage_of c h)) ≡ true
 stands_round c h place p l a low w =
     let height : height_of p ≡ 0 = ap (λ o. unwrap_or o 0) l in
@@ -60,20 +60,20 @@ stands_round c h place p l a low w =
     let t : Transaction = second_stage_of c h in
     let one : (t.version == 2) ≡ true = version_is c h in
     let two : is_only_input t.inputs place.outpoint (age_of p) ≡ true = ap (is_only_input t.inputs place.outpoint) age ∙ only_input c h place w in
-    let three : nat_lt t.lock_time locktime_threshold ≡ true = ap (λ n. nat_lt n locktime_threshold) (lock_is c h) ∙ low_lock h.direction h.htlc low in
+    let three : nat_lt t.lock_time LOCKTIME_THRESHOLD ≡ true = ap (λ n. nat_lt n LOCKTIME_THRESHOLD) (lock_is c h) ∙ low_lock h.direction h.htlc low in
     let four : nat_le (height_of p) t.lock_time ≡ true = ap (λ n. nat_le n t.lock_time) height ∙ no_height t.lock_time in
     and_from _ _ (and_from _ _ (and_from _ _ (and_from _ _ one two) three) four) (within_value c h place w)
 
-way_of : (c : Contents) (h : HtlcOutput) (place : Place) (form : CheckedScript) (p : Path) → slice_get form.paths 1 ≡ Some p → p.lock ≡ None → p.age ≡ None → h.htlc.expiry < locktime_threshold
+way_of : (c : Contents) (h : HtlcOutput) (place : Place) (form : CheckedScript) (p : Path) → slice_get form.paths 1 ≡ Some p → p.lock ≡ None → p.age ≡ None → h.htlc.expiry < LOCKTIME_THRESHOLD
     → IsHtlcPlace c h place → HasWay form 1 place (Fixed (second_stage_of c h))
 way_of c h place form p e l a low w = (p, e, stands_round c h place p l a low w)
 
-way_at : (k : KeyBytes) (direction : Direction) (htlc : Htlc) (c : Contents) (h : HtlcOutput) (place : Place) → h.htlc.expiry < locktime_threshold → IsHtlcPlace c h place
+way_at : (k : KeyBytes) (direction : Direction) (htlc : Htlc) (c : Contents) (h : HtlcOutput) (place : Place) → h.htlc.expiry < LOCKTIME_THRESHOLD → IsHtlcPlace c h place
     → HasWay (htlc_form k direction htlc) 1 place (Fixed (second_stage_of c h))
 way_at k Offered htlc c h place low w = way_of c h place (htlc_form k Offered htlc) _ refl refl refl low w
 way_at k Received htlc c h place low w = way_of c h place (htlc_form k Received htlc) _ refl refl refl low w
 
-pub second_stage_way : (k : KeyBytes) (c : Contents) (h : HtlcOutput) (checked : CheckedScript) (place : Place) → checked ≡ htlc_form k h.direction h.htlc → h.htlc.expiry < locktime_threshold
+pub second_stage_way : (k : KeyBytes) (c : Contents) (h : HtlcOutput) (checked : CheckedScript) (place : Place) → checked ≡ htlc_form k h.direction h.htlc → h.htlc.expiry < LOCKTIME_THRESHOLD
     → IsHtlcPlace c h place → HasWay checked 1 place (Fixed (second_stage_of c h))
 second_stage_way k c h checked place e low w = subst (λ x. HasWay x 1 place (Fixed (second_stage_of c h))) (sym e) (way_at k h.direction h.htlc c h place low w)
 

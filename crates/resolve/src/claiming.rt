@@ -1,7 +1,7 @@
 // The claims that are due other than penalties.
 
 ghost use Rattle.std.specs.Prelude.{◌≡◌, ◌<◌, IfOk};
-ghost use Rattle.script.specs.Limits.{locktime_threshold};
+ghost use Rattle.script.specs.declared.limits.TheConstants.{LOCKTIME_THRESHOLD as locktime_threshold};
 ghost use Rattle.script.specs.Token.{token_of};
 ghost use Rattle.sighash.specs.Programs.{script_hash_program};
 ghost use Rattle.commit.specs.Outputs.{to_local_script as to_local_script_of, htlc_script as htlc_script_of};

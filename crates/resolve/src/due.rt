@@ -1,7 +1,7 @@
 //! What is due by a verdict.
 
 ghost use Rattle.std.specs.Prelude.{ℕ, ◌≡◌, ◌<◌, ◌++◌, ◌∷◌, [], Some, IfOk, OnOk, List as Values, slice_get, option_map};
-ghost use Rattle.script.specs.Limits.{locktime_threshold};
+ghost use Rattle.script.specs.declared.limits.TheConstants.{LOCKTIME_THRESHOLD as locktime_threshold};
 ghost use Rattle.commit.specs.declared.outputs.HtlcOutput.{HtlcOutput as HtlcParts};
 ghost use Rattle.commit.specs.Commitments.{tx_output, transaction_of, htlc_at, htlcs_of, IsOutputOf};
 ghost use Rattle.penalty.specs.Claimable.{Claimable, place_in};

@@ -7,7 +7,7 @@ use Rattle.channel.specs.Tokens.{peer_tokens}
 use Rattle.terms.specs.declared.proposals.ProposedTerms.{ProposedTerms}
 use Rattle.terms.specs.Proposals.{can_agree}
 use Rattle.scenario.specs.declared.seeds.Seeds.{Seeds}
-use Rattle.scenario.specs.Limits.{max_channels}
+use Rattle.scenario.specs.declared.limits.TheConstants.{MAX_CHANNELS}
 use Rattle.scenario.specs.Testing.{first_bad_terms}
 use Rattle.book.specs.declared.calls.Opening.{Opening}
 use Rattle.book.specs.declared.calls.Entry.{Entry}
@@ -61,10 +61,10 @@ if_few : (over : Bool) (terms : List ProposedTerms) → over ≡ false → first
 if_few true terms is none = absurd cc
 if_few false terms is none = rw none refl
 
-pub never_refused : (terms : List ProposedTerms) → length terms ≤ max_channels → list_all can_agree terms ≡ true → beginning_refusal terms ≡ None
+pub never_refused : (terms : List ProposedTerms) → length terms ≤ MAX_CHANNELS → list_all can_agree terms ≡ true → beginning_refusal terms ≡ None
 never_refused terms few all =
-    let within : nat_lt max_channels (length terms) ≡ false = grind (arith, few) in
-    if_few (nat_lt max_channels (length terms)) terms within (not_bad 0 terms all)
+    let within : nat_lt MAX_CHANNELS (length terms) ≡ false = grind (arith, few) in
+    if_few (nat_lt MAX_CHANNELS (length terms)) terms within (not_bad 0 terms all)
 
 pub is_memory : (first : Option WorldError) (e : WorldError) → first ≡ None → IsBeginningRefusal first e → (e ≡ NoMemory → ⊥) → ⊥
 is_memory first NoMemory none is other = other refl

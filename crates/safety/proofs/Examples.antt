@@ -12,7 +12,7 @@ use Rattle.digest.specs.Ripemd160.{left_words, right_words, left_rotations, righ
 use Rattle.digest.proofs.OutsideVectors.{length-ripemd160}
 use Rattle.script.specs.declared.opcode.Op.{Op}
 use Rattle.script.specs.declared.spending.Spend.{Spend}
-use Rattle.script.specs.Limits.{max_script_size}
+use Rattle.script.specs.declared.limits.TheConstants.{MAX_SCRIPT_SIZE}
 use Rattle.script.specs.Spelling.{spelling}
 use Rattle.script.specs.Token.{token_of, is_key}
 use Rattle.script.specs.Step.{Elements, age_passes}
@@ -201,7 +201,7 @@ module _ (funding : OutPoint) (hash : List ℕ) where
   unfolding to_local_script
   same_to_local = refl
 
-  script_short : length (spelling on_to_local.form.ops) ≤ max_script_size
+  script_short : length (spelling on_to_local.form.ops) ≤ MAX_SCRIPT_SIZE
   script_short = no_longer _ _ (to_local_ops c.keys.revocation c.delay c.keys.delayed (omega (arith, delay_is)) (keys_in state).revocation (keys_in state).delayed)
 
   limits_on : (sequence : ℕ) (first second : List ℕ) → sequence < 2 ^ 32 → length first ≤ 100 → length second ≤ 100 → KeepsLimits (spending (input_on on_to_local sequence (first ∷ second ∷ spelling on_to_local.form.ops ∷ [])))
@@ -367,7 +367,7 @@ module _ (funding : OutPoint) (hash : List ℕ) where
   pub offer_among : Contains (htlcs_of c) offer
   offer_among = subst (λ hs. Contains hs offer) (sym htlcs_are) (0, lit< tt, refl)
 
-  timeout_short : length (spelling on_htlc.form.ops) ≤ max_script_size
+  timeout_short : length (spelling on_htlc.form.ops) ≤ MAX_SCRIPT_SIZE
   timeout_short =
       no_longer _ _ (offered_ops (hash160 c.keys.revocation) c.keys.remote_htlc c.keys.local_htlc (ripemd160 hash) (length-ripemd160 _) (length-ripemd160 _) (keys_in state).remote_htlc (keys_in state).local_htlc)
 

@@ -4,7 +4,7 @@ use Rattle.std.specs.Prelude.{◌⊎◌, ◌&&◌, ◌||◌, ◌==◌, nat_lt, n
 use Rattle.std.specs.List.{Contains, Any, All, cons_option, list_all}
 use Rattle.std.proofs.lemmas.Bool.{false≢true, ltb-true, lt-leb}
 use Rattle.std.proofs.lemmas.List.Elements.{All-nil, All-cons, All-append, All-head, All-tail, All-contains}
-use Rattle.script.specs.Limits.{locktime_threshold}
+use Rattle.script.specs.declared.limits.TheConstants.{LOCKTIME_THRESHOLD}
 use Rattle.tx.specs.declared.input.OutPoint.{OutPoint}
 use Rattle.tx.specs.declared.input.TxIn.{TxIn}
 use Rattle.tx.specs.Fields.{Transaction, unsigned_inputs, unsigned_transaction}
@@ -50,7 +50,7 @@ signed_with_commitment c h = refl
 
 -- an HTLC expires at a height
 abbrev ExpiresLow : HtlcOutput → Type 0
-ExpiresLow h = h.htlc.expiry < locktime_threshold
+ExpiresLow h = h.htlc.expiry < LOCKTIME_THRESHOLD
 
 expire_low : (c : Contents) (index : ℕ) (os : List CommitmentOutput) → All (λ o. IsOutput c.delay c.keys o) os → All ExpiresLow (htlcs_from index os)
 unfolding htlcs_from
@@ -64,7 +64,7 @@ expire_low c index (o ∷ os) a =
     by ToRemote h rest = rest
     by (ToHtlc direction htlc) h rest = All-cons ExpiresLow (record { index = index; direction = direction; htlc = htlc }) (htlcs_from (index + 1) os) h rest
 
-low_lock : (direction : Direction) (h : Htlc) → h.expiry < locktime_threshold → lock_time_of direction h < locktime_threshold
+low_lock : (direction : Direction) (h : Htlc) → h.expiry < LOCKTIME_THRESHOLD → lock_time_of direction h < LOCKTIME_THRESHOLD
 low_lock Offered h l = l
 low_lock Received h l = omega arith
 
@@ -79,11 +79,11 @@ not_final [] o e = absurd (omega (arith, ap first_sequence e))
 not_final (i ∷ is) o e = let s : i.sequence ≡ 0 = ap first_sequence e in rw s refl
 
 -- a lock time that is a height is below the block's
-lock_reached : (height lock_time : ℕ) (inputs : List TxIn) → lock_time < locktime_threshold → list_all (λ i. i.sequence == 0xffffffff) inputs ≡ false → is_final height lock_time inputs ≡ true → lock_time < height
+lock_reached : (height lock_time : ℕ) (inputs : List TxIn) → lock_time < LOCKTIME_THRESHOLD → list_all (λ i. i.sequence == 0xffffffff) inputs ≡ false → is_final height lock_time inputs ≡ true → lock_time < height
 lock_reached height lock_time inputs l f e =
     ltb-true lock_time height
-    (by (nat_lt lock_time locktime_threshold) (nat_lt lock_time height) (nat_le locktime_threshold lock_time) (nat_le lock_time 0x20ffffff) (list_all (λ i. i.sequence == 0xffffffff) inputs)
-    (lt-leb locktime_threshold lock_time l) f e)
+    (by (nat_lt lock_time LOCKTIME_THRESHOLD) (nat_lt lock_time height) (nat_le LOCKTIME_THRESHOLD lock_time) (nat_le lock_time 0x20ffffff) (list_all (λ i. i.sequence == 0xffffffff) inputs)
+    (lt-leb LOCKTIME_THRESHOLD lock_time l) f e)
   where
     by : (a b c d g : Bool) → c ≡ false → g ≡ false → ((a && b) || (c && d) || g) ≡ true → b ≡ true
     by a b true d g h i e = absurd (false≢true (sym h))
@@ -102,7 +102,7 @@ second_outputs : (c : Contents) (h : HtlcOutput) → (second_stage_of c h).outpu
 unfolding second_stage_of
 second_outputs c h = refl
 
-second_final : (c : Contents) (h : HtlcOutput) (t : Transaction) → h.htlc.expiry < locktime_threshold → unsigned_transaction t ≡ second_stage_of c h → (height : ℕ) → is_final height t.lock_time t.inputs ≡ true
+second_final : (c : Contents) (h : HtlcOutput) (t : Transaction) → h.htlc.expiry < LOCKTIME_THRESHOLD → unsigned_transaction t ≡ second_stage_of c h → (height : ℕ) → is_final height t.lock_time t.inputs ≡ true
     → lock_time_of h.direction h.htlc < height
 unfolding second_stage_of
 second_final c h t l e height final =

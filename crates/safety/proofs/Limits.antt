@@ -9,9 +9,9 @@ use Rattle.digest.specs.Hash.{hash160}
 use Rattle.digest.specs.Ripemd160.{ripemd160}
 use Rattle.digest.proofs.OutsideVectors.{length-ripemd160}
 use Rattle.script.specs.declared.opcode.Op.{Op}
-use Rattle.script.specs.Limits.{max_script_size}
+use Rattle.script.specs.declared.limits.TheConstants.{MAX_SCRIPT_SIZE}
 use Rattle.script.specs.Spelling.{spelling}
-use Rattle.tx.specs.Limits.{max_value, max_outputs}
+use Rattle.tx.specs.declared.limits.TheConstants.{MAX_VALUE, MAX_OUTPUTS}
 use Rattle.tx.specs.Fields.{KeepsLimits}
 use Rattle.tx.specs.Spelling.{transaction_id}
 use Rattle.sighash.specs.Programs.{script_ops, ops_within}
@@ -46,30 +46,30 @@ use Rattle.safety.proofs.Claimed.{AreKeys, keys_in, outputs_in}
 none_some : {X : Type 0} (x : X) → None ≡ Some x → ⊥
 none_some x e = cc
 
-pub no_longer : (bytes : List ℕ) (ops : List Op) → script_ops bytes ≡ Some ops → length bytes ≤ max_script_size
+pub no_longer : (bytes : List ℕ) (ops : List Op) → script_ops bytes ≡ Some ops → length bytes ≤ MAX_SCRIPT_SIZE
 unfolding script_ops
-no_longer bytes ops e = by (nat_le (length bytes) max_script_size) refl e
+no_longer bytes ops e = by (nat_le (length bytes) MAX_SCRIPT_SIZE) refl e
   where
-    by : (b : Bool) → nat_le (length bytes) max_script_size ≡ b → (if b then ops_within (length bytes) bytes else None) ≡ Some ops → length bytes ≤ max_script_size
-    by true f g = leb-true (length bytes) max_script_size f
+    by : (b : Bool) → nat_le (length bytes) MAX_SCRIPT_SIZE ≡ b → (if b then ops_within (length bytes) bytes else None) ≡ Some ops → length bytes ≤ MAX_SCRIPT_SIZE
+    by true f g = leb-true (length bytes) MAX_SCRIPT_SIZE f
     by false f g = absurd (none_some ops g)
 
-htlc_short : (c : Contents) (direction : Direction) (h : Htlc) → AreKeys c.keys → h.expiry < 2 ^ 32 → length (spelling (htlc_form c.keys direction h).ops) ≤ max_script_size
+htlc_short : (c : Contents) (direction : Direction) (h : Htlc) → AreKeys c.keys → h.expiry < 2 ^ 32 → length (spelling (htlc_form c.keys direction h).ops) ≤ MAX_SCRIPT_SIZE
 htlc_short c Offered h k l = no_longer _ _ (offered_ops (hash160 c.keys.revocation) c.keys.remote_htlc c.keys.local_htlc (ripemd160 h.hash) (length-ripemd160 _) (length-ripemd160 _) k.remote_htlc k.local_htlc)
 htlc_short c Received h k l =
     no_longer _ _ (received_ops (hash160 c.keys.revocation) c.keys.remote_htlc c.keys.local_htlc (ripemd160 h.hash) h.expiry l (length-ripemd160 _) (length-ripemd160 _) k.remote_htlc k.local_htlc)
 
 -- ---- what can be claimed
 
--- its script has at most 10,000 bytes, and its value is at most max_value
+-- its script has at most 10,000 bytes, and its value is at most MAX_VALUE
 pub record IsPlain (o : Claimable) : Type 0 where
-  pub short : length (spelling o.form.ops) ≤ max_script_size
-  pub low : o.place.value ≤ max_value
+  pub short : length (spelling o.form.ops) ≤ MAX_SCRIPT_SIZE
+  pub low : o.place.value ≤ MAX_VALUE
 
-on_to_local : (c : Contents) (place : Place) → c.delay < 2 ^ 16 → AreKeys c.keys → place.value ≤ max_value → IsPlain (penalty_on c place)
+on_to_local : (c : Contents) (place : Place) → c.delay < 2 ^ 16 → AreKeys c.keys → place.value ≤ MAX_VALUE → IsPlain (penalty_on c place)
 on_to_local c place l k v = record { short = no_longer _ _ (to_local_ops c.keys.revocation c.delay c.keys.delayed l k.revocation k.delayed); low = v }
 
-on_output : (c : Contents) (index : ℕ) (place : Place) (kind : OutputKind) (o : CommitmentOutput) → c.delay < 2 ^ 16 → AreKeys c.keys → HasHeight kind → IsHtlcOf c.keys o kind → place.value ≡ o.value → o.value ≤ max_value → All IsPlain (claims_on c index place kind)
+on_output : (c : Contents) (index : ℕ) (place : Place) (kind : OutputKind) (o : CommitmentOutput) → c.delay < 2 ^ 16 → AreKeys c.keys → HasHeight kind → IsHtlcOf c.keys o kind → place.value ≡ o.value → o.value ≤ MAX_VALUE → All IsPlain (claims_on c index place kind)
 on_output c index place ToLocal o l k h s e v = All-cons IsPlain (penalty_on c place) [] (on_to_local c place l k (omega (arith, e, v))) (All-nil IsPlain)
 on_output c index place ToRemote o l k h s e v =
     All-cons IsPlain (payment_on c place) [] (record { short = no_longer _ _ (key_hash_ops (hash160 c.keys.remote) (length-ripemd160 _)); low = omega (arith, e, v) }) (All-nil IsPlain)
@@ -114,7 +114,7 @@ low_lock : (direction : Direction) (h : Htlc) → h.expiry < 2 ^ 32 → lock_tim
 low_lock Offered h l = l
 low_lock Received h l = omega arith
 
-second_limits : (c : Contents) (h : HtlcOutput) → h.index < 2 ^ 32 → h.htlc.expiry < 2 ^ 32 → satoshis_of h.htlc.amount ≤ max_value → KeepsLimits (second_stage_of c h)
+second_limits : (c : Contents) (h : HtlcOutput) → h.index < 2 ^ 32 → h.htlc.expiry < 2 ^ 32 → satoshis_of h.htlc.amount ≤ MAX_VALUE → KeepsLimits (second_stage_of c h)
 unfolding second_stage_of
 second_limits c h i l v = record {
   version = omega arith;
@@ -124,7 +124,7 @@ second_limits c h i l v = record {
   lock_time = low_lock h.direction h.htlc l;
 }
 
-signable : (c : Contents) (h : HtlcOutput) → AreKeys c.keys → h.index < 2 ^ 32 → h.htlc.expiry < 2 ^ 32 → satoshis_of h.htlc.amount ≤ max_value → IsSignable (htlc_signed c h)
+signable : (c : Contents) (h : HtlcOutput) → AreKeys c.keys → h.index < 2 ^ 32 → h.htlc.expiry < 2 ^ 32 → satoshis_of h.htlc.amount ≤ MAX_VALUE → IsSignable (htlc_signed c h)
 signable c h k i l v = record {
   transaction = second_limits c h i l v;
   input = record { txid = id_length c; index = i; sequence = omega arith; witness = record { count = omega arith; each = tt } };
@@ -132,7 +132,7 @@ signable c h k i l v = record {
   value = omega (arith, v);
 }
 
-signables_from : (c : Contents) (index : ℕ) (os : List CommitmentOutput) → AreKeys c.keys → index + length os ≤ max_outputs → All (λ o. IsOutput c.delay c.keys o) os → All (λ o. IsOutputOf c.keys o) os
+signables_from : (c : Contents) (index : ℕ) (os : List CommitmentOutput) → AreKeys c.keys → index + length os ≤ MAX_OUTPUTS → All (λ o. IsOutput c.delay c.keys o) os → All (λ o. IsOutputOf c.keys o) os
     → All IsSignable (map (htlc_signed c) (htlcs_from index os))
 unfolding htlcs_from
 signables_from c index [] k l a b = All-nil IsSignable
@@ -142,7 +142,7 @@ signables_from c index (o ∷ os) k l a b =
     by o.kind first.height limits.htlc limits.limits.value
     (signables_from c (index + 1) os k (omega (arith, l)) (All-tail (λ o. IsOutput c.delay c.keys o) o os a) (All-tail (λ o. IsOutputOf c.keys o) o os b))
   where
-    by : (kind : OutputKind) → HasHeight kind → IsHtlcOf c.keys o kind → o.value ≤ max_value → All IsSignable (map (htlc_signed c) (htlcs_from (index + 1) os))
+    by : (kind : OutputKind) → HasHeight kind → IsHtlcOf c.keys o kind → o.value ≤ MAX_VALUE → All IsSignable (map (htlc_signed c) (htlcs_from (index + 1) os))
         → All IsSignable (map (htlc_signed c) (cons_option (htlc_at index kind) (htlcs_from (index + 1) os)))
     by ToLocal h s v rest = rest
     by ToRemote h s v rest = rest
@@ -151,7 +151,7 @@ signables_from c index (o ∷ os) k l a b =
         All-cons IsSignable (htlc_signed c (record { index = index; direction = direction; htlc = htlc })) (map (htlc_signed c) (htlcs_from (index + 1) os))
         (signable c (record { index = index; direction = direction; htlc = htlc }) k (omega (arith, l)) (omega (arith, h)) (omega (arith, v, z))) rest
 
-pub few_in : (state : RevokedState) → length (commitment_in state).outputs ≤ max_outputs
+pub few_in : (state : RevokedState) → length (commitment_in state).outputs ≤ MAX_OUTPUTS
 few_in state = few_outputs (commitment_in state).outputs (not_refused state)
 
 pub htlcs_signable : (state : RevokedState) → All IsSignable (map (htlc_signed (commitment_in state)) (htlcs_of (commitment_in state)))

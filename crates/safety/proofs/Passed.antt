@@ -10,9 +10,9 @@ use Rattle.std.proofs.lemmas.List.Folds.{find-append}
 use Rattle.std.proofs.lemmas.Grind.{reverse_onto}
 use Rattle.tx.specs.declared.input.OutPoint.{OutPoint}
 use Rattle.tx.specs.declared.input.TxIn.{TxIn}
-use Rattle.tx.specs.Fields.{Transaction}
+use Rattle.tx.specs.Fields.{Transaction, same_outpoint}
 use Rattle.chain.specs.declared.errors.ChainError.{ChainError}
-use Rattle.chain.specs.Blocks.{Contents, Creation, Coin, height_of, same_outpoint, created_by, created_by_all, granted_at, grants_in, created_of, is_named, created_at}
+use Rattle.chain.specs.Blocks.{Contents, Creation, Coin, height_of, created_by, created_by_all, granted_at, grants_in, created_of, is_named, created_at}
 use Rattle.chain.specs.Indexing.{new_coin}
 use Rattle.chain.specs.Checks.{first_of, coin_refusal, input_refusal, inputs_refusal, transaction_refusal}
 use Rattle.chain.specs.Checked.{have_passed, is_checked}

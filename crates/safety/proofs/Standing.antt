@@ -7,9 +7,9 @@ use Rattle.std.proofs.lemmas.Option.{slice_get_past}
 use Rattle.tx.specs.declared.input.OutPoint.{OutPoint}
 use Rattle.tx.specs.declared.input.TxIn.{TxIn}
 use Rattle.tx.specs.Parts.{Output}
-use Rattle.tx.specs.Fields.{Transaction}
+use Rattle.tx.specs.Fields.{Transaction, same_outpoint}
 use Rattle.tx.specs.Spelling.{transaction_id}
-use Rattle.chain.specs.Blocks.{Contents as Block, Creation, Coin, same_outpoint, creations_from, created_by, created_by_all, granted_at, grants_in, created_of, names, is_named, created_at, coin_at}
+use Rattle.chain.specs.Blocks.{Contents as Block, Creation, Coin, creations_from, created_by, created_by_all, granted_at, grants_in, created_of, names, is_named, created_at, coin_at}
 use Rattle.chain.specs.Checked.{is_checked}
 use Rattle.chain.specs.Conserving.{GrantsAreApart}
 use Rattle.chain.proofs.Apart.{Differ, are_apart}

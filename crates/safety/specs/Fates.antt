@@ -39,7 +39,8 @@ signed_by_peer c own = map (htlc_signed c) (htlcs_of c) ++ own
 
 -- the input is of the HTLC transaction of the HTLC at the outpoint that it names, whatever its witness. HTLC-timeout is in a block above the expiry of the
 -- HTLC, which the owner offered (BIP 65). The only output is one that the peer can claim again
-pub record IsHtlcTransaction (state : RevokedState) (height : ℕ) (t : Transaction) (input : TxIn) : Type 0 where
+pub record IsHtlcTransaction (state : RevokedState) (height : ℕ) (t : Transaction)
+    (input : TxIn) : Type 0 where
   pub htlc : HtlcOutput
   pub among : Contains (htlcs_of (commitment_in state)) htlc
   pub at : input.outpoint ≡ record { txid = id_of (commitment_in state); index = htlc.index }
@@ -50,22 +51,27 @@ pub record IsHtlcTransaction (state : RevokedState) (height : ℕ) (t : Transact
   pub again : IsClaimedAt (claimable_of state) (place_in t 0 output)
 
 -- what an input is that takes such an output for good: one of the peer's own, whatever its witness; the owner's after the delay; or a collision
-pub data Ending (state : RevokedState) (o : Claimable) (since height : ℕ) (t : Transaction) (input : TxIn) (own : List Signed) : Type 0 where
+pub data Ending (state : RevokedState) (o : Claimable) (since height : ℕ) (t : Transaction)
+    (input : TxIn) (own : List Signed) : Type 0 where
   by_peer : Any (AreSame (spend_on o t input)) own → Ending state o since height t input own
-  by_owner : IsOwners (IsLate state since height) (commitment_in state) o t input → Ending state o since height t input own
+  by_owner : IsOwners (IsLate state since height) (commitment_in state) o t input
+      → Ending state o since height t input own
   by_twin : ShowsTwin (commitment_in state) o input → Ending state o since height t input own
-  by_collision : Any (ListsCollide (spend_on o t input)) (signed_by_peer (commitment_in state) own) → Ending state o since height t input own
+  by_collision : Any (ListsCollide (spend_on o t input)) (signed_by_peer (commitment_in state) own)
+      → Ending state o since height t input own
 
 -- what such an input is: it is of an HTLC transaction, whose output the peer can claim again; or it takes the output for good
-pub data Fate (state : RevokedState) (o : Claimable) (since height : ℕ) (t : Transaction) (input : TxIn) (own : List Signed) : Type 0 where
-  by_htlc_transaction : IsHtlcTransaction state height t input → Fate state o since height t input own
+pub data Fate (state : RevokedState) (o : Claimable) (since height : ℕ) (t : Transaction)
+    (input : TxIn) (own : List Signed) : Type 0 where
+  by_htlc_transaction : IsHtlcTransaction state height t input
+      → Fate state o since height t input own
   for_good : Ending state o since height t input own → Fate state o since height t input own
 
 -- it has a fate, whatever inputs of its own the peer signed, if each signature of the peer's in it is over an input that the peer signed
 abbrev pub HasFate : RevokedState → Claimable → (since height : ℕ) → Transaction → TxIn → Type 0
-HasFate state o since height t input =
-    (own : List Signed) → All IsSignable own → IsAsSigned (commitment_in state).keys (signed_by_peer (commitment_in state) own) (spend_on o t input)
-    → Fate state o since height t input own
+HasFate s o since height t input = (own : List Signed) → All IsSignable own
+    → IsAsSigned (commitment_in s).keys (signed_by_peer (commitment_in s) own) (spend_on o t input)
+    → Fate s o since height t input own
 
 -- this holds of any coin that is one of the outputs that a revoked state lets the peer claim
 abbrev pub NothingEscapes : Type 0
@@ -75,9 +81,9 @@ NothingEscapes =
 
 -- this holds of any transaction that a block of this height may hold above these blocks
 abbrev pub NothingEscapesAbove : List Block → ℕ → RevokedState → Type 0
-NothingEscapesAbove blocks height state =
-    (o : Claimable) (t : Transaction) (input : TxIn) (coin : Coin) → coin_at blocks input.outpoint ≡ Some coin → Takes state o height t input coin
-    → HasFate state o coin.height height t input
+NothingEscapesAbove blocks height s = (o : Claimable) (t : Transaction) (input : TxIn) (coin : Coin)
+    → coin_at blocks input.outpoint ≡ Some coin → Takes s o height t input coin
+    → HasFate s o coin.height height t input
 
 -- this holds of each transaction on a chain that passed its tests, by the coin that its input names
 abbrev pub NothingEscapesOnChains : Type 0

@@ -42,9 +42,12 @@ pub record AreSame (s z : Signed) : Type 0 where
 -- two byte strings that are hashed for their digests collide
 pub data ListsCollide (s z : Signed) : Type 0 where
   wholes : Collide sha256d (list_of s) (list_of z) → ListsCollide s z
-  outpoints : Collide sha256d (all_outpoints s.transaction.inputs) (all_outpoints z.transaction.inputs) → ListsCollide s z
-  sequences : Collide sha256d (all_sequences s.transaction.inputs) (all_sequences z.transaction.inputs) → ListsCollide s z
-  outputs : Collide sha256d (all_outputs s.transaction.outputs) (all_outputs z.transaction.outputs) → ListsCollide s z
+  outpoints : Collide sha256d (all_outpoints s.transaction.inputs)
+      (all_outpoints z.transaction.inputs) → ListsCollide s z
+  sequences : Collide sha256d (all_sequences s.transaction.inputs)
+      (all_sequences z.transaction.inputs) → ListsCollide s z
+  outputs : Collide sha256d (all_outputs s.transaction.outputs)
+      (all_outputs z.transaction.outputs) → ListsCollide s z
 
 -- a digest is over one input of one transaction, up to collisions
 abbrev pub OneDigest : Type 0

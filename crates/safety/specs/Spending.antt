@@ -23,14 +23,16 @@ use Rattle.safety.specs.Signing.{Signed, Collide, digest_of}
 
 -- what a token for the input is over, where it spends this output
 abbrev pub spend_on : Claimable → Transaction → TxIn → Signed
-spend_on o t input = record { transaction = t; input = input; code = spelling o.form.ops; value = o.place.value }
+spend_on o t input =
+    record { transaction = t; input = input; code = spelling o.form.ops; value = o.place.value }
 
 -- an item of the input's own witness is the key's token over the input's digest
 abbrev pub IsSignedBy : List ℕ → Signed → Type 0
 IsSignedBy key s = Contains s.input.witness (token_of key (digest_of s))
 
 -- an item of the witness collides with these bytes
-pub record HasTwin (hash : List ℕ → List ℕ) (bytes : List ℕ) (witness : List (List ℕ)) : Type 0 where
+pub record HasTwin (hash : List ℕ → List ℕ) (bytes : List ℕ)
+    (witness : List (List ℕ)) : Type 0 where
   pub item : List ℕ
   pub given : Contains witness item
   pub collides : Collide hash item bytes
@@ -47,10 +49,12 @@ pub record IsPeerKeyOn (c : Contents) (o : Claimable) (key : List ℕ) : Type 0 
 -- the witness shows other bytes with the hash of the output's script (BIP 141), or with that of such a key
 pub data ShowsTwin (c : Contents) (o : Claimable) (input : TxIn) : Type 0 where
   of_script : HasTwin sha256 (spelling o.form.ops) input.witness → ShowsTwin c o input
-  of_key : (key : List ℕ) → IsPeerKeyOn c o key → HasTwin hash160 key input.witness → ShowsTwin c o input
+  of_key : (key : List ℕ) → IsPeerKeyOn c o key → HasTwin hash160 key input.witness
+      → ShowsTwin c o input
 
 -- the owner's way, which only to_local's form has: the delayed key's token, and `Late` holds
-pub record IsOwners (Late : Type 0) (c : Contents) (o : Claimable) (t : Transaction) (input : TxIn) : Type 0 where
+pub record IsOwners (Late : Type 0) (c : Contents) (o : Claimable) (t : Transaction)
+    (input : TxIn) : Type 0 where
   pub form : o.form ≡ to_local_form c.keys.revocation c.delay c.keys.delayed
   pub token : IsSignedBy c.keys.delayed (spend_on o t input)
   pub late : Late
@@ -76,7 +80,8 @@ WhoCanSpend =
     → CanSpend (Waits t input (commitment_in state).delay) (commitment_in state) o t input
 
 -- the coin is an output that a revoked state lets the peer claim, and in a block of this height the input passes the chain's test of it
-pub record Takes (state : RevokedState) (o : Claimable) (height : ℕ) (t : Transaction) (input : TxIn) (coin : Coin) : Type 0 where
+pub record Takes (state : RevokedState) (o : Claimable) (height : ℕ) (t : Transaction)
+    (input : TxIn) (coin : Coin) : Type 0 where
   pub claimable : Contains (claimable_of state) o
   pub output : coin.output ≡ output_at o.place
   pub passes : coin_refusal height t input (Some coin) ≡ None

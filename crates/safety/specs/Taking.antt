@@ -12,7 +12,8 @@ use Rattle.safety.specs.Spending.{spend_on, IsSignedBy, peer_keys, ShowsTwin, Is
 
 -- where the witness has a token of one of the peer's keys over the input's digest, that digest is of one that the peer signed
 abbrev pub ShowsOnly : KeyBytes → List Signed → Signed → Type 0
-ShowsOnly k signed s = (key : List ℕ) → Contains (peer_keys k) key → IsSignedBy key s → Any (λ z. digest_of s ≡ digest_of z) signed
+ShowsOnly k signed s = (key : List ℕ) → Contains (peer_keys k) key → IsSignedBy key s
+    → Any (λ z. digest_of s ≡ digest_of z) signed
 
 -- an input of a transaction that keeps the limits; each signature of the peer's in it is over an input that the peer signed
 pub record IsAsSigned (k : KeyBytes) (signed : List Signed) (s : Signed) : Type 0 where

@@ -13,13 +13,13 @@ use Rattle.scenario.specs.Scenarios.{scenario_of}
 use Rattle.texts.specs.Terms.{terms_of}
 use Rattle.scenario.specs.Events.{event_of, event_named, blocks_of as blocks_event_of, sign_of}
 use Rattle.scenario.specs.declared.errors.ScenarioError.TheVariants.{NoMemory, NotJson, BadShape, OverLimit, BadTerms}
-use Rattle.scenario.specs.Limits.{max_channels, max_events, max_blocks}
+use Rattle.scenario.specs.declared.limits.TheConstants.{MAX_CHANNELS, MAX_EVENTS, MAX_BLOCKS}
 use Rattle.scenario.specs.Refusals.{refusal_number}
 use Rattle.scenario.specs.Seeds.{seed_of}
 use Rattle.scenario.specs.Testing.{has_few_blocks, is_within_limits, tested}
 use Rattle.scenario.specs.Reading.{scenario_in}
 
-limits : (max_channels ≡ 8) × (max_events ≡ 10000) × (max_blocks ≡ 10000)
+limits : (MAX_CHANNELS ≡ 8) × (MAX_EVENTS ≡ 10000) × (MAX_BLOCKS ≡ 10000)
 limits = (refl, refl, refl)
 
 refusals : map refusal_number (NoMemory ∷ NotJson ∷ BadShape ∷ OverLimit ∷ BadTerms 7 ∷ []) ≡ 0 ∷ 1 ∷ 2 ∷ 3 ∷ 4 ∷ []

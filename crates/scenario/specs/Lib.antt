@@ -1,4 +1,3 @@
-pub mod Limits
 pub mod Refusals
 pub mod Seeds
 pub mod Events

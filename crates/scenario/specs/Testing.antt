@@ -8,7 +8,7 @@ use Rattle.scenario.specs.declared.plain.PlainScenario.{PlainScenario}
 use Rattle.terms.specs.Proposals.{can_agree}
 use Rattle.scenario.specs.declared.errors.ScenarioError.{ScenarioError}
 use Rattle.scenario.specs.declared.errors.ScenarioError.TheVariants.{OverLimit, BadTerms}
-use Rattle.scenario.specs.Limits.{max_channels, max_events, max_blocks}
+use Rattle.scenario.specs.declared.limits.TheConstants.{MAX_CHANNELS, MAX_EVENTS, MAX_BLOCKS}
 
 -- the number of blocks by which an event grows the chain
 abbrev pub blocks_of : Event → ℕ
@@ -16,13 +16,13 @@ blocks_of (Blocks count) = count
 blocks_of event = 0
 
 abbrev pub has_few_blocks : Event → Bool
-has_few_blocks event = nat_le (blocks_of event) max_blocks
+has_few_blocks event = nat_le (blocks_of event) MAX_BLOCKS
 
 abbrev pub have_few_blocks : List Event → Bool
 have_few_blocks events = list_all has_few_blocks events
 
 abbrev pub is_within_limits : List ProposedTerms → List Event → Bool
-is_within_limits channels events = nat_le (length channels) max_channels && nat_le (length events) max_events && have_few_blocks events
+is_within_limits channels events = nat_le (length channels) MAX_CHANNELS && nat_le (length events) MAX_EVENTS && have_few_blocks events
 
 -- the first channel on whose terms the two sides can't agree, counted from 0
 abbrev pub first_bad_terms : List ProposedTerms → Option ℕ

@@ -3,7 +3,7 @@
 ghost use Rattle.std.specs.Prelude.{◌≡◌, ◌≤◌, length, IsTrue};
 ghost use Rattle.std.specs.List.{list_all};
 ghost use Rattle.terms.specs.Proposals.{can_agree};
-ghost use Rattle.scenario.specs.Limits.{max_channels, max_events};
+ghost use Rattle.scenario.specs.declared.limits.TheConstants.{MAX_CHANNELS as max_channels, MAX_EVENTS as max_events};
 ghost use Rattle.scenario.specs.Testing.{blocks_of, have_few_blocks, is_within_limits, first_bad_terms};
 
 use crate::errors::ScenarioError;

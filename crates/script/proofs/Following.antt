@@ -1,5 +1,5 @@
 -- Along the list, the function's place is tied to the chain of steps.
-use Rattle.std.proofs.Common.{◌≡◌, ℕ, zero, suc, ◌+◌, ◌<◌, ◌≤◌, max, nat_le, Bool, true, false, List, [], ◌∷◌, length, take, drop, reverse, sym, ap, ◌∙◌, refl, arith, subst, Result, Ok, Err, ⊎_elim, true≢false}
+use Rattle.std.proofs.Common.{◌≡◌, ℕ, zero, suc, ◌+◌, ◌<◌, ◌≤◌, max, nat_le, Bool, true, false, List, [], ◌∷◌, ◌++◌, length, take, drop, reverse, sym, ap, ◌∙◌, refl, arith, subst, Result, Ok, Err, ⊎_elim, true≢false}
 use Rattle.std.proofs.Math.Seq.{take-length, take-append_seam, drop-append_seam}
 use Rattle.std.proofs.lemmas.Bool.{leb-true, leb-false, ltb-true, ltb-false, or_cases, or_parts, cases_lt}
 use Rattle.std.proofs.lemmas.List.{length-reverse}
@@ -11,7 +11,7 @@ use Rattle.script.specs.declared.stops.Cause.{Cause}
 use Rattle.script.specs.declared.stops.Cause.TheVariants.{TooManyOps, StackTooTall, ItemTooLong, FalseEnd}
 use Rattle.script.specs.Step.{Elements, Effect, effect, truth, result_if, ◌>>=◌}
 use Rattle.script.specs.Run.{weight, counted_in, jump_length, open_ifs_after, RunState, state_after_effect, state_after_skip_or_run, state_after, Outcome, Clean, Stopped, at_end, onward, outcome_from, start, is_long, outcome}
-use Rattle.script.specs.Clean.{no_more, HasOpen, MayFollow, IsMisplaced, ArePlaced, Point, Steps, ends, RunsTo, start_on, AreShort, IsClean, PassesLimit, FailsAt, Fails, FaultAt, too_many, misplaced, failing, AreFaultless, StopsAt, long_item, least_fault, open_end, not_one, false_end}
+use Rattle.script.specs.Clean.{no_more, HasOpen, MayFollow, IsMisplaced, Point, Steps, ends, RunsTo, start_on, AreShort, IsClean, PassesLimit, FailsAt, Fails, FaultAt, too_many, misplaced, failing, AreFaultless, StopsAt, long_item, least_fault, open_end, not_one, false_end}
 use Rattle.script.proofs.Blocks.{jumps_made, jump_within}
 use Rattle.script.proofs.OpenIfs.{flags, Nest, nest_on, nest_open, flags_on, follows, refused, open_flags}
 use Rattle.script.proofs.Chains.{drop_more, take_one_more, stands_within, point_after, one_run, chain_on, chain_wider}
@@ -218,7 +218,7 @@ module _ (spend : Spend) (ops : List Op) (witness : List (List ℕ)) (short : Ar
       let r : ◌≡◌ {A = List Bool} [] (q.0 ∷ q.1) = q.2 in
       cc
 
-  all_placed : ArePlaced ops
+  all_placed : (before rest : List Op) (op : Op) → ops ≡ before ++ op ∷ rest → MayFollow before op
   all_placed before rest op e =
       let f : drop (length before) ops ≡ op ∷ rest = ap (drop (length before)) e ∙ drop-append_seam before (op ∷ rest) in
       let g : take (length before) ops ≡ before = ap (take (length before)) e ∙ take-append_seam before (op ∷ rest) in

@@ -1,12 +1,12 @@
 -- Runs of a script in the standard's own terms (BIP 141, 65, 112, 147). There are steps between positions of the list of opcodes, chains
 -- of steps, clean runs, and the first fault of any other run. The partners of IF, NOTIF, ELSE and ENDIF are found in the list, by nesting.
-use Rattle.std.specs.Prelude.{◌≡◌, ◌≢◌, ℕ, ◌+◌, ◌<◌, ◌≤◌, max, Bool, true, false, IsTrue, IsFalse, List, [], ◌∷◌, ◌++◌, length, take, drop, reverse, Result, Ok, Err, All, Any, ◌↔◌}
+use Rattle.std.specs.Prelude.{◌≡◌, ◌≢◌, ℕ, ◌+◌, ◌<◌, ◌≤◌, max, Bool, true, false, not, IsTrue, IsFalse, List, [], ◌∷◌, ◌++◌, length, take, drop, reverse, Result, Ok, Err, All, Any, ◌↔◌}
 use Rattle.script.specs.declared.opcode.Op.{Op}
 use Rattle.script.specs.declared.opcode.Op.TheVariants.{If, NotIf, Else, EndIf}
 use Rattle.script.specs.declared.spending.Spend.{Spend}
 use Rattle.script.specs.declared.stops.Cause.{Cause}
 use Rattle.script.specs.declared.stops.Cause.TheVariants.{OpenBranch, TooManyOps, StackTooTall, ItemTooLong, NotOneValue, FalseEnd}
-use Rattle.script.specs.Limits.{max_element_size, max_ops, max_stack_size}
+use Rattle.script.specs.declared.limits.TheConstants.{MAX_SCRIPT_ELEMENT_SIZE, MAX_OPS_PER_SCRIPT, MAX_STACK_SIZE}
 use Rattle.script.specs.declared.jumps.Jump.{Jump}
 use Rattle.script.specs.declared.jumps.Jump.TheVariants.{Next, AfterElse, AfterEndIf}
 use Rattle.script.specs.Step.{Elements, Effect, effect, truth}
@@ -21,18 +21,18 @@ is_opener op = false
 
 -- the opcode has no partner in the list
 abbrev pub is_single : Op → Bool
-is_single If = false
-is_single NotIf = false
 is_single Else = false
 is_single EndIf = false
-is_single op = true
+is_single op = not (is_opener op)
 
 -- a block, in which each IF and NOTIF has its ENDIF; the Bool says whether ELSEs may occur on the block's own level
 pub data IsBlock : Bool → List Op → Type 0 where
   no_more : {elses : Bool} → IsBlock elses []
-  one_more : {elses : Bool} {op : Op} {rest : List Op} → IsTrue (is_single op) → IsBlock elses rest → IsBlock elses (op ∷ rest)
+  one_more : {elses : Bool} {op : Op} {rest : List Op} → IsTrue (is_single op) → IsBlock elses rest
+      → IsBlock elses (op ∷ rest)
   an_else : {rest : List Op} → IsBlock true rest → IsBlock true (Else ∷ rest)
-  a_branch : {elses : Bool} {op : Op} {inner rest : List Op} → IsTrue (is_opener op) → IsBlock true inner → IsBlock elses rest → IsBlock elses (op ∷ (inner ++ EndIf ∷ rest))
+  a_branch : {elses : Bool} {op : Op} {inner rest : List Op} → IsTrue (is_opener op)
+      → IsBlock true inner → IsBlock elses rest → IsBlock elses (op ∷ (inner ++ EndIf ∷ rest))
 
 -- the list begins with a block and then this opcode, and n is the number of opcodes in both
 pub record LeadsAfter (elses : Bool) (closer : Op) (list : List Op) (n : ℕ) : Type 0 where
@@ -48,7 +48,8 @@ pub data Jumps (rest : List Op) : Jump → ℕ → Type 0 where
   onward : Jumps rest Next 0
   after_else : {n : ℕ} → LeadsAfter false Else rest n → Jumps rest AfterElse n
   after_endif_for_else : {n : ℕ} → LeadsAfter false EndIf rest n → Jumps rest AfterElse n
-  to_list_end_for_else : ((n : ℕ) → LeadsAfter false Else rest n → ⊥) → ((n : ℕ) → LeadsAfter false EndIf rest n → ⊥) → Jumps rest AfterElse (length rest)
+  to_list_end_for_else : ((n : ℕ) → LeadsAfter false Else rest n → ⊥)
+      → ((n : ℕ) → LeadsAfter false EndIf rest n → ⊥) → Jumps rest AfterElse (length rest)
   after_endif : {n : ℕ} → LeadsAfter true EndIf rest n → Jumps rest AfterEndIf n
   to_list_end : ((n : ℕ) → LeadsAfter true EndIf rest n → ⊥) → Jumps rest AfterEndIf (length rest)
 
@@ -59,6 +60,9 @@ pub record Point : Type 0 where
   pub stack : Elements
   pub keys : ℕ
   pub height : ℕ
+
+abbrev pub point_with : ℕ → Elements → ℕ → ℕ → Point
+point_with at stack keys height = record { at = at; stack = stack; keys = keys; height = height }
 
 -- the start, on the items of a witness, of which the last is the top
 abbrev pub start_on : List (List ℕ) → Point
@@ -73,15 +77,18 @@ pub record Steps (spend : Spend) (ops : List Op) (x y : Point) : Type 0 where
   pub does : effect spend (counted_in (take (x.at + 1) ops) + x.keys) op x.stack ≡ Ok done
   pub over : ℕ
   pub jumps : Jumps rest done.jump over
-  pub leads : y ≡ record { at = x.at + 1 + over; stack = done.stack; keys = x.keys + done.keys; height = max x.height (length done.stack) }
+  pub leads : y ≡ point_with (x.at + 1 + over) done.stack (x.keys + done.keys)
+      (max x.height (length done.stack))
 
 -- a chain of steps, each of which begins before position k and leaves at most 1,000 elements
 pub data Chain (spend : Spend) (ops : List Op) (k : ℕ) : Point → Point → Type 0 where
   ends : {x : Point} → Chain spend ops k x x
-  goes_on : {x y z : Point} → x.at < k → Steps spend ops x y → length y.stack ≤ max_stack_size → Chain spend ops k y z → Chain spend ops k x z
+  goes_on : {x y z : Point} → x.at < k → Steps spend ops x y → length y.stack ≤ MAX_STACK_SIZE
+      → Chain spend ops k y z → Chain spend ops k x z
 
 -- the run comes to position k, or jumps over it, and its steps before k lead to this point
-pub record RunsTo (spend : Spend) (ops : List Op) (witness : List (List ℕ)) (k : ℕ) (x : Point) : Type 0 where
+pub record RunsTo (spend : Spend) (ops : List Op) (witness : List (List ℕ)) (k : ℕ)
+    (x : Point) : Type 0 where
   pub chain : Chain spend ops k (start_on witness) x
   pub reached : k ≤ x.at
 
@@ -107,37 +114,35 @@ pub record IsMisplaced (ops : List Op) (k : ℕ) : Type 0 where
   pub here : drop k ops ≡ op ∷ rest
   pub refused : MayFollow (take k ops) op → ⊥
 
--- each ELSE and ENDIF has its IF, and no IF a second ELSE
-abbrev pub ArePlaced : List Op → Type 0
-ArePlaced ops = (before rest : List Op) (op : Op) → ops ≡ before ++ op ∷ rest → MayFollow before op
-
 -- no item has more than 520 bytes
 abbrev pub AreShort : List (List ℕ) → Type 0
-AreShort witness = All (λ item. length item ≤ max_element_size) witness
+AreShort witness = All (λ item. length item ≤ MAX_SCRIPT_ELEMENT_SIZE) witness
 
 -- the script runs clean on the witness, with this number of counted opcodes, and `height` as the greatest number of elements
-pub record IsClean (spend : Spend) (ops : List Op) (witness : List (List ℕ)) (counted height : ℕ) : Type 0 where
+pub record IsClean (spend : Spend) (ops : List Op) (witness : List (List ℕ))
+    (counted height : ℕ) : Type 0 where
   pub short : AreShort witness
-  pub placed : ArePlaced ops
+  -- each ELSE and ENDIF has its IF, and no IF a second ELSE
+  pub placed : (before rest : List Op) (op : Op) → ops ≡ before ++ op ∷ rest → MayFollow before op
   pub closed : HasOpen true ops → ⊥
   pub keys : ℕ
   pub last : List ℕ
-  pub runs : RunsTo spend ops witness (length ops) (record { at = length ops; stack = last ∷ []; keys = keys; height = height })
+  pub runs : RunsTo spend ops witness (length ops) (point_with (length ops) (last ∷ []) keys height)
   pub holds : IsTrue (truth last)
   pub sum : counted ≡ counted_in ops + keys
-  pub limit : counted ≤ max_ops
+  pub limit : counted ≤ MAX_OPS_PER_SCRIPT
 
 -- the opcodes above 60 up to and including opcode k, together with the keys of the CHECKMULTISIGs that ran before it, exceed 201
 pub record PassesLimit (spend : Spend) (ops : List Op) (witness : List (List ℕ)) (k : ℕ) : Type 0 where
   pub within : k < length ops
   pub point : Point
   pub runs : RunsTo spend ops witness k point
-  pub above : max_ops < counted_in (take (k + 1) ops) + point.keys
+  pub above : MAX_OPS_PER_SCRIPT < counted_in (take (k + 1) ops) + point.keys
 
 -- the opcode failed with this cause: its own, or more than 1,000 elements
 abbrev pub Fails : Result Effect Cause → Cause → Type 0
 Fails (Err c) cause = cause ≡ c
-Fails (Ok done) cause = (max_stack_size < length done.stack) × (cause ≡ StackTooTall)
+Fails (Ok done) cause = (MAX_STACK_SIZE < length done.stack) × (cause ≡ StackTooTall)
 
 -- the run comes to opcode k, which fails
 pub record FailsAt (spend : Spend) (ops : List Op) (witness : List (List ℕ)) (k : ℕ) (cause : Cause) : Type 0 where
@@ -162,7 +167,7 @@ AreFaultless spend ops witness k = (j : ℕ) (cause : Cause) → j < k → Fault
 -- the run stops at this position, for this cause. An item that is too long comes first, then the fault of the least position that has one,
 -- then what is wrong at the end of the list
 pub data StopsAt (spend : Spend) (ops : List Op) (witness : List (List ℕ)) : ℕ → Cause → Type 0 where
-  long_item : Any (λ item. max_element_size < length item) witness → StopsAt spend ops witness 0 ItemTooLong
+  long_item : Any (λ item. MAX_SCRIPT_ELEMENT_SIZE < length item) witness → StopsAt spend ops witness 0 ItemTooLong
   least_fault : {k : ℕ} {cause : Cause} → AreShort witness → AreFaultless spend ops witness k → FaultAt spend ops witness k cause → StopsAt spend ops witness k cause
   open_end : AreShort witness → AreFaultless spend ops witness (length ops) → HasOpen true ops → StopsAt spend ops witness (length ops) OpenBranch
   not_one : {x : Point} → AreShort witness → AreFaultless spend ops witness (length ops) → (HasOpen true ops → ⊥) → RunsTo spend ops witness (length ops) x → length x.stack ≢ 1 → StopsAt spend ops witness (length ops) NotOneValue

@@ -1,7 +1,6 @@
 pub mod Refusals
 pub mod Spelling
 pub mod Number
-pub mod Limits
 pub mod Token
 pub mod Step
 pub mod Run

@@ -22,14 +22,17 @@ sign_bit bs = 256 ^ length bs / 2
 abbrev pub magnitude_of : List ℕ → ℕ
 magnitude_of bs = unsigned bs % sign_bit bs
 
+-- the number of these bytes: a sign bit, and the magnitude
+abbrev pub signed_number : List ℕ → Number
+signed_number b = record { negative = nat_le (sign_bit b) (unsigned b); magnitude = magnitude_of b }
+
 -- the number that an item of at most `limit` bytes encodes, where no shorter item does: its magnitude is more than one
 -- byte less could hold
 unfoldable pub number_of : ℕ → List ℕ → Option Number
 number_of limit [] = Some (record { negative = false; magnitude = 0 })
 number_of limit (b ∷ bs) =
     if nat_le (length (b ∷ bs)) limit && nat_le (256 ^ length bs) (2 * magnitude_of (b ∷ bs))
-    then Some (record { negative = nat_le (sign_bit (b ∷ bs)) (unsigned (b ∷ bs)); magnitude = magnitude_of (b ∷ bs) })
-    else None
+    then Some (signed_number (b ∷ bs)) else None
 
 -- the lowest digit of a number in base 256; the last digit gets one more byte for the sign if its highest bit is set
 abbrev pub lowest : ℕ → List ℕ

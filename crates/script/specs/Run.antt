@@ -6,7 +6,7 @@ use Rattle.script.specs.declared.opcode.Op.TheVariants.{If, NotIf, Else, EndIf}
 use Rattle.script.specs.declared.spending.Spend.{Spend}
 use Rattle.script.specs.declared.stops.Cause.{Cause}
 use Rattle.script.specs.declared.stops.Cause.TheVariants.{OpenBranch, TooManyOps, StackTooTall, ItemTooLong, NotOneValue, FalseEnd}
-use Rattle.script.specs.Limits.{max_element_size, max_ops, max_stack_size}
+use Rattle.script.specs.declared.limits.TheConstants.{MAX_SCRIPT_ELEMENT_SIZE, MAX_OPS_PER_SCRIPT, MAX_STACK_SIZE}
 use Rattle.script.specs.Spelling.{code_of}
 use Rattle.script.specs.declared.jumps.Jump.{Jump}
 use Rattle.script.specs.declared.jumps.Jump.TheVariants.{Next, AfterElse, AfterEndIf}
@@ -30,7 +30,6 @@ skip_length stop depth (NotIf ∷ rest) = suc (skip_length stop (suc depth) rest
 skip_length stop zero (EndIf ∷ rest) = 1
 skip_length stop (suc depth) (EndIf ∷ rest) = suc (skip_length stop depth rest)
 skip_length true zero (Else ∷ rest) = 1
-skip_length true (suc depth) (Else ∷ rest) = suc (skip_length true (suc depth) rest)
 skip_length stop depth (op ∷ rest) = suc (skip_length stop depth rest)
 
 -- how many opcodes a run jumps over, of those that follow
@@ -69,17 +68,27 @@ pub record RunState : Type 0 where
 -- after an opcode that ran: there are at most 1,000 elements, and the greatest number is updated
 abbrev pub state_after_effect : List Op → ℕ → List Bool → ℕ → Effect → Result RunState Cause
 state_after_effect rest counted ifs height e =
-    result_if (nat_le (length e.stack) max_stack_size) StackTooTall (Ok (record { ahead = jump_length e.jump rest; stack = e.stack; counted = counted + e.keys; open_ifs = ifs; height = max height (length e.stack) }))
+    result_if (nat_le (length e.stack) MAX_STACK_SIZE) StackTooTall (Ok (record {
+      ahead = jump_length e.jump rest;
+      stack = e.stack;
+      counted = counted + e.keys;
+      open_ifs = ifs;
+      height = max height (length e.stack);
+    }))
 
 -- an opcode is jumped over, or run
-abbrev pub state_after_skip_or_run : Spend → Op → List Op → ℕ → RunState → ℕ → List Bool → Result RunState Cause
-state_after_skip_or_run spend op rest (suc n) p counted ifs = Ok (record { ahead = n; stack = p.stack; counted = counted; open_ifs = ifs; height = p.height })
-state_after_skip_or_run spend op rest zero p counted ifs = effect spend counted op p.stack >>= state_after_effect rest counted ifs p.height
+abbrev pub state_after_skip_or_run : Spend → Op → List Op → ℕ → RunState → ℕ → List Bool
+    → Result RunState Cause
+state_after_skip_or_run spend op rest (suc n) p counted ifs =
+    Ok (record p { ahead = n; counted = counted; open_ifs = ifs })
+state_after_skip_or_run spend op rest zero p counted ifs =
+    effect spend counted op p.stack >>= state_after_effect rest counted ifs p.height
 
 -- past one opcode, which is followed by these
 unfoldable pub state_after : Spend → Op → List Op → RunState → Result RunState Cause
-state_after spend op rest p =
-    result_if (nat_le (p.counted + weight op) max_ops) TooManyOps (open_ifs_after op p.open_ifs >>= state_after_skip_or_run spend op rest p.ahead p (p.counted + weight op))
+state_after s op rest p = result_if (nat_le (p.counted + weight op) MAX_OPS_PER_SCRIPT) TooManyOps
+    (open_ifs_after op p.open_ifs
+    >>= state_after_skip_or_run s op rest p.ahead p (p.counted + weight op))
 
 -- how a run ends: clean, with the counted opcodes and the greatest number of elements, or stopped, with the position and the cause
 pub data Outcome : Type 0 where
@@ -99,8 +108,8 @@ onward at (Err c) go = Stopped at c
 
 -- the outcome from a position on, where these opcodes are left
 abbrev pub outcome_from : Spend → ℕ → List Op → RunState → Outcome
-outcome_from spend at [] p = at_end at p.open_ifs p.stack p.counted p.height
-outcome_from spend at (op ∷ rest) p = onward at (state_after spend op rest p) (outcome_from spend (at + 1) rest)
+outcome_from s at [] p = at_end at p.open_ifs p.stack p.counted p.height
+outcome_from s at (op ∷ rest) p = onward at (state_after s op rest p) (outcome_from s (at + 1) rest)
 
 -- the state in which a run starts, on these elements
 abbrev pub start : Elements → RunState
@@ -108,8 +117,9 @@ start stack = record { ahead = 0; stack = stack; counted = 0; open_ifs = []; hei
 
 -- an item has more than 520 bytes
 abbrev pub is_long : List ℕ → Bool
-is_long item = nat_lt max_element_size (length item)
+is_long item = nat_lt MAX_SCRIPT_ELEMENT_SIZE (length item)
 
 -- how a script runs on the items of a witness, of which the last is the top
 abbrev pub outcome : Spend → List Op → List (List ℕ) → Outcome
-outcome spend ops witness = if list_any is_long witness then Stopped 0 ItemTooLong else outcome_from spend 0 ops (start (reverse witness))
+outcome spend ops witness = if list_any is_long witness then Stopped 0 ItemTooLong
+    else outcome_from spend 0 ops (start (reverse witness))

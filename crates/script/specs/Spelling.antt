@@ -4,7 +4,7 @@ use Rattle.script.specs.declared.opcode.Op.{Op}
 use Rattle.script.specs.declared.parse.ParseError.{ParseError}
 use Rattle.script.specs.declared.parse.ParseError.TheVariants.{NoMemory, BadOpcode, Truncated, TooLong}
 use Rattle.script.specs.declared.opcode.Op.TheVariants.{Push, Number, If, NotIf, Else, EndIf, Drop, Dup, Swap, Size, Equal, EqualVerify, Hash160, CheckSig, CheckMultiSig, CheckLockTimeVerify, CheckSequenceVerify}
-use Rattle.script.specs.Limits.{max_script_size}
+use Rattle.script.specs.declared.limits.TheConstants.{MAX_SCRIPT_SIZE}
 
 -- the byte of an opcode, those of branches first; that of a push is its length
 abbrev pub code_of : Op → ℕ
@@ -70,9 +70,9 @@ HasShortPush bytes at = (b : ℕ) × (rest : List ℕ) × SplitsUpTo bytes at (b
 -- left
 abbrev pub IsFault : List ℕ → ParseError → Type 0
 IsFault bytes NoMemory = Unit {0}
-IsFault bytes (BadOpcode at) = (length bytes ≤ max_script_size) × HasBadOpcode bytes at
-IsFault bytes (Truncated at) = (length bytes ≤ max_script_size) × HasShortPush bytes at
-IsFault bytes TooLong = max_script_size < length bytes
+IsFault bytes (BadOpcode at) = (length bytes ≤ MAX_SCRIPT_SIZE) × HasBadOpcode bytes at
+IsFault bytes (Truncated at) = (length bytes ≤ MAX_SCRIPT_SIZE) × HasShortPush bytes at
+IsFault bytes TooLong = MAX_SCRIPT_SIZE < length bytes
 
 -- the opcode begins with this byte and continues in these
 pub record Begins (first : ℕ) (after : List ℕ) (op : Op) : Type 0 where

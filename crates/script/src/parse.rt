@@ -44,7 +44,7 @@ impl Model for Script {
 
     ghost Value = { List Opcode };
 
-    ghost use Rattle.script.specs.Limits.{max_script_size};
+    ghost use Rattle.script.specs.declared.limits.TheConstants.{MAX_SCRIPT_SIZE as max_script_size};
     ghost use Rattle.script.specs.Spelling.{Spells};
 
     ghost view = { λ s. s.ops.items };

@@ -4,8 +4,8 @@ use Rattle.std.specs.List.{list_any}
 use Rattle.std.specs.Ordering.{is_eq}
 use Rattle.tx.specs.declared.input.OutPoint.{OutPoint}
 use Rattle.tx.specs.declared.input.TxIn.{TxIn}
-use Rattle.tx.specs.Fields.{Transaction}
-use Rattle.chain.specs.Blocks.{same_outpoint, names}
+use Rattle.tx.specs.Fields.{Transaction, same_outpoint}
+use Rattle.chain.specs.Blocks.{names}
 use Rattle.chain.specs.Indexing.{outpoint_cmp}
 use Rattle.chain.proofs.Noting.{ties}
 

@@ -4,7 +4,7 @@ use Rattle.std.specs.List.{list_any, flat_map}
 use Rattle.std.specs.Str.{bytes_eq}
 use Rattle.sighash.specs.Programs.{key_hash_program}
 use Rattle.tx.specs.Parts.{Output}
-use Rattle.tx.specs.Limits.{max_value}
+use Rattle.tx.specs.declared.limits.TheConstants.{MAX_VALUE}
 use Rattle.claim.specs.Claims.{ClaimParts}
 use Rattle.book.specs.Replies.{if_so}
 use Rattle.side.specs.declared.due.DueClaim.{DueClaim}
@@ -25,7 +25,7 @@ value_of (d ∷ due) = d.claim.place.value + value_of due
 
 -- why claims of a channel are not released together: MixedChannels, OverValue
 abbrev pub batch_refusal : ℕ → List DueClaim → Option BatchError
-batch_refusal c due = if_so (not (are_of c due)) MixedChannels (if_so (nat_lt max_value (value_of due)) OverValue None)
+batch_refusal c due = if_so (not (are_of c due)) MixedChannels (if_so (nat_lt MAX_VALUE (value_of due)) OverValue None)
 
 abbrev pub batch_error_number : BatchError → ℕ
 batch_error_number MixedChannels = 1

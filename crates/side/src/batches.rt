@@ -3,7 +3,7 @@
 ghost use Rattle.std.specs.Prelude.{◌≡◌, ◌+◌, ◌*◌, ◌≤◌, ◌^◌, [], ◌∷◌, map, fold, length, None, Some, IfOk, OnOk, MatchResult};
 ghost use Rattle.std.specs.List.{flat_map};
 ghost use Rattle.sighash.specs.Programs.{key_hash_program};
-ghost use Rattle.tx.specs.Limits.{max_inputs, max_value};
+ghost use Rattle.tx.specs.declared.limits.TheConstants.{MAX_INPUTS as max_inputs, MAX_VALUE as max_value};
 ghost use Rattle.book.specs.Calls.{IsBatchOf};
 ghost use Rattle.side.specs.Batches.{are_of, value_of, batch_refusal, with_new, each_once, claims_in, preimages_for, output_for};
 

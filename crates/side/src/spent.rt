@@ -4,7 +4,8 @@ ghost use Rattle.std.specs.Prelude.{◌≡◌, ◌||◌, IfOk, IfSome, OnOk};
 ghost use Rattle.std.specs.List.{list_any};
 ghost use Rattle.std.specs.BTreeSet.{contains};
 ghost use Rattle.tx.specs.declared.input.OutPoint.{OutPoint as Place};
-ghost use Rattle.chain.specs.Blocks.{names, same_outpoint};
+ghost use Rattle.tx.specs.Fields.{same_outpoint};
+ghost use Rattle.chain.specs.Blocks.{names};
 ghost use Rattle.chain.specs.Indexing.{outpoint_cmp};
 
 use chain::{Block, Confirmed};

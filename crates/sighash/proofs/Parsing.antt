@@ -10,7 +10,7 @@ use Rattle.script.specs.declared.opcode.Op.{Op}
 use Rattle.script.specs.declared.opcode.Op.TheVariants.{Push, Number, If, NotIf, Else, EndIf, Drop, Dup, Swap, Size, Equal, EqualVerify, Hash160, CheckSig, CheckMultiSig, CheckLockTimeVerify, CheckSequenceVerify}
 use Rattle.script.specs.declared.parse.ParseError.{ParseError}
 use Rattle.script.specs.declared.parse.ParseError.TheVariants.{NoMemory, BadOpcode, Truncated, TooLong}
-use Rattle.script.specs.Limits.{max_script_size}
+use Rattle.script.specs.declared.limits.TheConstants.{MAX_SCRIPT_SIZE}
 use Rattle.script.specs.Spelling.{code_of, payload_of, IsOp, spelling, Spells, StartsNone, IsFault}
 use Rattle.sighash.specs.Programs.{single_ops, single_op, op_before, ops_within, script_ops}
 
@@ -99,13 +99,13 @@ reads_end zero = refl
 reads_end (suc m) = refl
 
 -- bytes that split into opcodes are read as these
-pub parsed : (ops : List Op) (bytes : List ℕ) → Spells ops bytes → length bytes ≤ max_script_size → script_ops bytes ≡ Some ops
+pub parsed : (ops : List Op) (bytes : List ℕ) → Spells ops bytes → length bytes ≤ MAX_SCRIPT_SIZE → script_ops bytes ≡ Some ops
 unfolding script_ops
 parsed ops bytes spells short =
     let e : spelling ops ++ [] ≡ bytes = append-nil (spelling ops) ∙ spells.same in
     let enough : length (spelling ops ++ []) ≤ length bytes = omega (arith, ap length e) in
     let r = reads_all ops (length bytes) [] spells.each enough in
-    rw (le-leb (length bytes) max_script_size short)
+    rw (le-leb (length bytes) MAX_SCRIPT_SIZE short)
     (ap (ops_within (length bytes)) (sym e) ∙ r.2 ∙ ap (before ops) (reads_end r.0) ∙ ap Some (append-nil ops))
 
 each_single : AllByRecursion IsOp single_ops
@@ -136,18 +136,18 @@ short_at b rest (suc m) low short = rw (le-leb b 75 low, lt-leb b (length rest) 
 pub unparsed : (bytes : List ℕ) (e : ParseError) → e ≢ NoMemory → IsFault bytes e → script_ops bytes ≡ None
 unfolding script_ops
 unparsed bytes NoMemory known fault = absurd (known refl)
-unparsed bytes TooLong known fault = rw (lt-leb (length bytes) max_script_size fault) refl
+unparsed bytes TooLong known fault = rw (lt-leb (length bytes) MAX_SCRIPT_SIZE fault) refl
 unparsed bytes (BadOpcode at) known fault =
     let (b, rest, splits, none) = fault.1 in
     let r = reads_all splits.ops (length bytes) (b ∷ rest) splits.each (omega (arith, ap length splits.same)) in
-    rw (le-leb (length bytes) max_script_size fault.0)
+    rw (le-leb (length bytes) MAX_SCRIPT_SIZE fault.0)
     (ap (ops_within (length bytes)) (sym splits.same) ∙ r.2 ∙ ap (before splits.ops) (none_at b rest r.0 none))
 unparsed bytes (Truncated at) known fault =
     let (b, rest, splits, low, short) = fault.1 in
     let r = reads_all splits.ops (length bytes) (b ∷ rest) splits.each (omega (arith, ap length splits.same)) in
-    rw (le-leb (length bytes) max_script_size fault.0)
+    rw (le-leb (length bytes) MAX_SCRIPT_SIZE fault.0)
     (ap (ops_within (length bytes)) (sym splits.same) ∙ r.2 ∙ ap (before splits.ops) (short_at b rest r.0 low short))
 
 -- the bytes of opcodes are read as these
-pub parsed_spelling : (ops : List Op) → All IsOp ops → length (spelling ops) ≤ max_script_size → script_ops (spelling ops) ≡ Some ops
+pub parsed_spelling : (ops : List Op) → All IsOp ops → length (spelling ops) ≤ MAX_SCRIPT_SIZE → script_ops (spelling ops) ≡ Some ops
 parsed_spelling ops valid short = parsed ops (spelling ops) (record { each = valid; same = refl }) short

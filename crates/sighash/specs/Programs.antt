@@ -1,5 +1,5 @@
 -- The version 0 witness programs of outputs (BIP 141): the script that a program and a witness determine, and what it runs under.
-use Rattle.std.specs.Prelude.{ℕ, zero, suc, Bool, ◌&&◌, nat_le, ◌==◌, if◌then◌else◌, List, [], ◌∷◌, ◌++◌, length, take, drop, reverse, Option, Some, None, option_map, option_and_then}
+use Rattle.std.specs.Prelude.{ℕ, zero, suc, Bool, ◌&&◌, nat_le, ◌==◌, if◌then◌else◌, List, [], ◌∷◌, ◌++◌, length, take, drop, reverse, Option, Some, None, option_map, option_and_then, map}
 use Rattle.std.specs.List.{find}
 use Rattle.std.specs.Str.{bytes_eq}
 use Rattle.sha2.specs.Sha256.{sha256}
@@ -7,7 +7,7 @@ use Rattle.digest.specs.Hash.{sha256d, hash160}
 use Rattle.script.specs.declared.opcode.Op.{Op}
 use Rattle.script.specs.declared.opcode.Op.TheVariants.{Push, Number, If, NotIf, Else, EndIf, Drop, Dup, Swap, Size, Equal, EqualVerify, Hash160, CheckSig, CheckMultiSig, CheckLockTimeVerify, CheckSequenceVerify}
 use Rattle.script.specs.declared.spending.Spend.{Spend}
-use Rattle.script.specs.Limits.{max_script_size}
+use Rattle.script.specs.declared.limits.TheConstants.{MAX_SCRIPT_SIZE}
 use Rattle.script.specs.Spelling.{code_of}
 use Rattle.script.specs.Run.{Outcome, outcome}
 use Rattle.tx.specs.declared.input.TxIn.{TxIn}
@@ -18,9 +18,9 @@ use Rattle.sighash.specs.Signing.{signed_list}
 -- the opcodes that are one byte
 abbrev pub single_ops : List Op
 single_ops =
-    If ∷ NotIf ∷ Else ∷ EndIf ∷ Drop ∷ Dup ∷ Swap ∷ Size ∷ Equal ∷ EqualVerify ∷ Hash160 ∷ CheckSig ∷ CheckMultiSig ∷ CheckLockTimeVerify ∷ CheckSequenceVerify
-    ∷ Number 1 ∷ Number 2 ∷ Number 3 ∷ Number 4 ∷ Number 5 ∷ Number 6 ∷ Number 7 ∷ Number 8
-    ∷ Number 9 ∷ Number 10 ∷ Number 11 ∷ Number 12 ∷ Number 13 ∷ Number 14 ∷ Number 15 ∷ Number 16 ∷ []
+    If ∷ NotIf ∷ Else ∷ EndIf ∷ Drop ∷ Dup ∷ Swap ∷ Size ∷ Equal ∷ EqualVerify ∷ Hash160
+    ∷ CheckSig ∷ CheckMultiSig ∷ CheckLockTimeVerify ∷ CheckSequenceVerify
+    ∷ map Number (1 ∷ 2 ∷ 3 ∷ 4 ∷ 5 ∷ 6 ∷ 7 ∷ 8 ∷ 9 ∷ 10 ∷ 11 ∷ 12 ∷ 13 ∷ 14 ∷ 15 ∷ 16 ∷ [])
 
 -- the opcode that consists of this byte alone
 unfoldable pub single_op : ℕ → Option Op
@@ -36,13 +36,13 @@ ops_within zero [] = Some []
 ops_within zero (b ∷ rest) = None
 ops_within (suc n) [] = Some []
 ops_within (suc n) (b ∷ rest) =
-    if nat_le b 75
-    then (if nat_le b (length rest) then op_before (Push (take b rest)) (ops_within n (drop b rest)) else None)
+    if nat_le b 75 then (if nat_le b (length rest)
+    then op_before (Push (take b rest)) (ops_within n (drop b rest)) else None)
     else option_and_then (λ op. op_before op (ops_within n rest)) (single_op b)
 
 -- the opcodes of a script; nothing where the bytes are more than 10,000 or do not split into opcodes
 unfoldable pub script_ops : List ℕ → Option (List Op)
-script_ops bytes = if nat_le (length bytes) max_script_size then ops_within (length bytes) bytes else None
+script_ops bs = if nat_le (length bs) MAX_SCRIPT_SIZE then ops_within (length bs) bs else None
 
 -- the program of a key's hash (BIP 141, "Witness program"): version 0 and the key's HASH160
 unfoldable pub key_hash_program : List ℕ → List ℕ
@@ -54,11 +54,11 @@ script_hash_program script = 0x00 ∷ 0x20 ∷ sha256 script
 
 -- version 0 and the hash of a key
 abbrev pub is_key_hash_program : List ℕ → Bool
-is_key_hash_program program = length program == 22 && bytes_eq (take 2 program) (0x00 ∷ 0x14 ∷ [])
+is_key_hash_program p = length p == 22 && bytes_eq (take 2 p) (0x00 ∷ 0x14 ∷ [])
 
 -- version 0 and the hash of a script
 abbrev pub is_script_hash_program : List ℕ → Bool
-is_script_hash_program program = length program == 34 && bytes_eq (take 2 program) (0x00 ∷ 0x20 ∷ [])
+is_script_hash_program p = length p == 34 && bytes_eq (take 2 p) (0x00 ∷ 0x20 ∷ [])
 
 -- DUP HASH160 hash EQUALVERIFY CHECKSIG
 abbrev pub key_hash_script : List ℕ → List ℕ
@@ -72,24 +72,27 @@ pub record Given : Type 0 where
 -- the script is the last item of the witness, and has this hash
 abbrev pub given_by_hash : List ℕ → List (List ℕ) → Option Given
 given_by_hash hash [] = None
-given_by_hash hash (script ∷ below) = if bytes_eq (sha256 script) hash then Some (record { script = script; items = reverse below }) else None
+given_by_hash hash (script ∷ below) = if bytes_eq (sha256 script) hash
+    then Some (record { script = script; items = reverse below }) else None
 
 -- the script and items that a program and a witness determine, where the witness has the program's form
 unfoldable pub given_of : List ℕ → List (List ℕ) → Option Given
 given_of program witness =
-    if is_key_hash_program program
-    then (if length witness == 2 then Some (record { script = key_hash_script (drop 2 program); items = witness }) else None)
+    if is_key_hash_program program then (if length witness == 2
+    then Some (record { script = key_hash_script (drop 2 program); items = witness }) else None)
     else if is_script_hash_program program then given_by_hash (drop 2 program) (reverse witness)
     else None
 
 -- what a script can ask of the input that runs it (BIP 65, 68 and 112), with the digest for its script code and for the value that it spends
 abbrev pub spend_of : Transaction → TxIn → List ℕ → ℕ → Spend
-spend_of t input code value = record { version = t.version; lock_time = t.lock_time; sequence = input.sequence; digest = sha256d (signed_list t input code value) }
+spend_of t i code value = let digest = sha256d (signed_list t i code value) in
+    record { version = t.version; lock_time = t.lock_time; sequence = i.sequence; digest = digest }
 
 -- the outcome of the script that spends an input, where its bytes are a script
 abbrev pub run_of_given : Transaction → TxIn → ℕ → Given → Option Outcome
-run_of_given t input value given = option_map (λ ops. outcome (spend_of t input given.script value) ops given.items) (script_ops given.script)
+run_of_given t i value g =
+    option_map (λ ops. outcome (spend_of t i g.script value) ops g.items) (script_ops g.script)
 
 -- how the program of an output runs on the witness of an input; nothing where program, witness or script is malformed
 unfoldable pub run_of : Transaction → TxIn → Output → Option Outcome
-run_of t input output = option_and_then (run_of_given t input output.value) (given_of output.script input.witness)
+run_of t i o = option_and_then (run_of_given t i o.value) (given_of o.script i.witness)

@@ -19,17 +19,11 @@ all_outputs outputs = flat_map output outputs
 -- what is hashed for one of the inputs, with its script code and the value that it spends
 unfoldable pub signed_list : Transaction → TxIn → List ℕ → ℕ → List ℕ
 signed_list t input code value =
-    number 4 t.version
-    ++ sha256d (all_outpoints t.inputs)
-    ++ sha256d (all_sequences t.inputs)
-    ++ outpoint input.outpoint
-    ++ bytes_with_length code
-    ++ number 8 value
-    ++ number 4 input.sequence
-    ++ sha256d (all_outputs t.outputs)
-    ++ number 4 t.lock_time
-    ++ number 4 1
+    number 4 t.version ++ sha256d (all_outpoints t.inputs) ++ sha256d (all_sequences t.inputs)
+    ++ outpoint input.outpoint ++ bytes_with_length code
+    ++ number 8 value ++ number 4 input.sequence
+    ++ sha256d (all_outputs t.outputs) ++ number 4 t.lock_time ++ number 4 1
 
 -- the digest for the input at this index, where there is one
 abbrev pub sighash : Transaction → ℕ → List ℕ → ℕ → Option (List ℕ)
-sighash t index code value = option_map (λ input. sha256d (signed_list t input code value)) (slice_get t.inputs index)
+sighash t n code v = option_map (λ i. sha256d (signed_list t i code v)) (slice_get t.inputs n)

@@ -5,9 +5,9 @@ use Rattle.std.proofs.lemmas.List.{length-map}
 use Rattle.std.proofs.lemmas.List.Elements.{All-head, All-tail, All-contains}
 use Rattle.std.proofs.lemmas.Option.{same_Some, slice_get_within}
 use Rattle.sha2.specs.Sha256.{sha256, digest_bytes, final_hash, initial_hash_256}
-use Rattle.script.specs.Limits.{locktime_threshold}
+use Rattle.script.specs.declared.limits.TheConstants.{LOCKTIME_THRESHOLD}
 use Rattle.tx.specs.declared.input.TxIn.{TxIn}
-use Rattle.tx.specs.Limits.{max_value, max_outputs}
+use Rattle.tx.specs.declared.limits.TheConstants.{MAX_VALUE, MAX_OUTPUTS}
 use Rattle.tx.specs.Parts.{IsOutput as IsTxOutputWithin}
 use Rattle.tx.specs.Fields.{Transaction, AreOutputs, KeepsLimits}
 use Rattle.terms.specs.Agreement.{party}
@@ -46,10 +46,10 @@ outputs_each k (o ∷ os) a =
     let first : IsOutputOf k o = All-head (λ o. IsOutputOf k o) o os a in
     (record { value = first.limits.value; script = first.limits.program }, outputs_each k os (All-tail (λ o. IsOutputOf k o) o os a))
 
-outputs_within : (k : KeyBytes) (os : List CommitmentOutput) → length os ≤ max_outputs → All (λ o. IsOutputOf k o) os → AreOutputs (map tx_output os)
+outputs_within : (k : KeyBytes) (os : List CommitmentOutput) → length os ≤ MAX_OUTPUTS → All (λ o. IsOutputOf k o) os → AreOutputs (map tx_output os)
 outputs_within k os l a = let n = length-map os tx_output in record { count = omega (arith, l, n); each = outputs_each k os a }
 
-keeps : (c : Contents) → IsOutPoint c.funding → c.hidden.sequence < 2 ^ 32 → c.hidden.lock_time < 2 ^ 32 → length c.outputs ≤ max_outputs → All (λ o. IsOutputOf c.keys o) c.outputs
+keeps : (c : Contents) → IsOutPoint c.funding → c.hidden.sequence < 2 ^ 32 → c.hidden.lock_time < 2 ^ 32 → length c.outputs ≤ MAX_OUTPUTS → All (λ o. IsOutputOf c.keys o) c.outputs
     → KeepsLimits (transaction_of c)
 unfolding transaction_of
 keeps c f s t l a = record {
@@ -77,7 +77,7 @@ spends_funding terms k f = f
 not_refused : (terms : Terms) (k : CommitmentState) → CanPay terms k.view → refusal_of (contents_of terms k).outputs ≡ None
 not_refused terms k p = shared terms k.view k.owner k.number k.point.bytes p.whole p.few
 
-pub few_in : (terms : Terms) (k : CommitmentState) → CanPay terms k.view → length (contents_of terms k).outputs ≤ max_outputs
+pub few_in : (terms : Terms) (k : CommitmentState) → CanPay terms k.view → length (contents_of terms k).outputs ≤ MAX_OUTPUTS
 few_in terms k p = few_outputs (contents_of terms k).outputs (not_refused terms k p)
 
 limited : (terms : Terms) (k : CommitmentState) → CanPay terms k.view → All (λ o. IsOutputOf (contents_of terms k).keys o) (contents_of terms k).outputs
@@ -95,7 +95,7 @@ low_lock : (direction : Direction) (h : Htlc) → h.expiry < 2 ^ 32 → lock_tim
 low_lock Offered h l = l
 low_lock Received h l = omega arith
 
-second_keeps : (c : Contents) (h : HtlcOutput) → h.index < 2 ^ 32 → h.htlc.expiry < 2 ^ 32 → satoshis_of h.htlc.amount ≤ max_value → KeepsLimits (second_stage_of c h)
+second_keeps : (c : Contents) (h : HtlcOutput) → h.index < 2 ^ 32 → h.htlc.expiry < 2 ^ 32 → satoshis_of h.htlc.amount ≤ MAX_VALUE → KeepsLimits (second_stage_of c h)
 unfolding second_stage_of
 second_keeps c h i l v = record {
   version = omega arith;
@@ -107,9 +107,9 @@ second_keeps c h i l v = record {
 
 -- an HTLC of a commitment is one of its outputs, with the limits of that
 pub record IsLimitedHtlc (h : HtlcOutput) : Type 0 where
-  pub index : h.index < max_outputs
-  pub height : h.htlc.expiry < locktime_threshold
-  pub value : satoshis_of h.htlc.amount ≤ max_value
+  pub index : h.index < MAX_OUTPUTS
+  pub height : h.htlc.expiry < LOCKTIME_THRESHOLD
+  pub value : satoshis_of h.htlc.amount ≤ MAX_VALUE
 
 pub limited_htlc : (terms : Terms) (k : CommitmentState) → CanPay terms k.view → (h : HtlcOutput) → Contains (htlcs_of (contents_of terms k)) h → IsLimitedHtlc h
 limited_htlc terms k p h i =

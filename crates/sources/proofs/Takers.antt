@@ -5,7 +5,7 @@ use Rattle.std.specs.List.{Contains, list_all}
 use Rattle.std.proofs.lemmas.Bool.{false≢true, ltb-true, lt-leb}
 use Rattle.std.proofs.lemmas.Option.{same_Some}
 use Rattle.digest.specs.Hash.{sha256d}
-use Rattle.script.specs.Limits.{locktime_threshold}
+use Rattle.script.specs.declared.limits.TheConstants.{LOCKTIME_THRESHOLD}
 use Rattle.tx.specs.declared.input.OutPoint.{OutPoint}
 use Rattle.tx.specs.declared.input.TxIn.{TxIn}
 use Rattle.tx.specs.Fields.{Transaction, unsigned_inputs, unsigned_transaction}
@@ -54,7 +54,7 @@ use Rattle.sources.proofs.Seeds.{sides_differ}
 
 -- ---- the block of an HTLC transaction
 
-low_lock : (direction : Direction) (h : Htlc) → h.expiry < locktime_threshold → lock_time_of direction h < locktime_threshold
+low_lock : (direction : Direction) (h : Htlc) → h.expiry < LOCKTIME_THRESHOLD → lock_time_of direction h < LOCKTIME_THRESHOLD
 low_lock Offered h l = l
 low_lock Received h l = omega arith
 
@@ -68,12 +68,12 @@ not_final [] o e = absurd (omega (arith, ap first_sequence e))
 not_final (i ∷ is) o e = let s : i.sequence ≡ 0 = ap first_sequence e in rw s refl
 
 -- a lock time that is a height is below the block's
-lock_reached : (height lock_time : ℕ) (inputs : List TxIn) → lock_time < locktime_threshold → list_all (λ i. i.sequence == 0xffffffff) inputs ≡ false → is_final height lock_time inputs ≡ true
+lock_reached : (height lock_time : ℕ) (inputs : List TxIn) → lock_time < LOCKTIME_THRESHOLD → list_all (λ i. i.sequence == 0xffffffff) inputs ≡ false → is_final height lock_time inputs ≡ true
     → lock_time < height
 lock_reached height lock_time inputs l f e =
     ltb-true lock_time height
-    (by (nat_lt lock_time locktime_threshold) (nat_lt lock_time height) (nat_le locktime_threshold lock_time) (nat_le lock_time 0x20ffffff) (list_all (λ i. i.sequence == 0xffffffff) inputs)
-    (lt-leb locktime_threshold lock_time l) f e)
+    (by (nat_lt lock_time LOCKTIME_THRESHOLD) (nat_lt lock_time height) (nat_le LOCKTIME_THRESHOLD lock_time) (nat_le lock_time 0x20ffffff) (list_all (λ i. i.sequence == 0xffffffff) inputs)
+    (lt-leb LOCKTIME_THRESHOLD lock_time l) f e)
   where
     by : (a b c d g : Bool) → c ≡ false → g ≡ false → ((a && b) || (c && d) || g) ≡ true → b ≡ true
     by a b true d g h i e = absurd (false≢true (sym h))
@@ -82,7 +82,7 @@ lock_reached height lock_time inputs l f e =
     by true false false d false h i e = absurd (false≢true e)
     by false b false d false h i e = absurd (false≢true e)
 
-second_reached : (c : Contents) (h : HtlcOutput) (t : Transaction) (height : ℕ) → h.htlc.expiry < locktime_threshold → unsigned_transaction t ≡ second_stage_of c h
+second_reached : (c : Contents) (h : HtlcOutput) (t : Transaction) (height : ℕ) → h.htlc.expiry < LOCKTIME_THRESHOLD → unsigned_transaction t ≡ second_stage_of c h
     → is_final height t.lock_time t.inputs ≡ true
     → lock_time_of h.direction h.htlc < height
 unfolding second_stage_of

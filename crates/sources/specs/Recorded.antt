@@ -24,7 +24,8 @@ pub record IsPayable (terms : Terms) (k : CommitmentState) : Type 0 where
 -- a transaction of a commitment, without witnesses: the commitment transaction, or an HTLC transaction that spends an output of it
 pub data IsTransactionOf (c : Contents) (t : Transaction) : Type 0 where
   of_commitment : t ≡ transaction_of c → IsTransactionOf c t
-  of_htlc : (h : HtlcOutput) → Contains (htlcs_of c) h → t ≡ second_stage_of c h → IsTransactionOf c t
+  of_htlc : (h : HtlcOutput) → Contains (htlcs_of c) h → t ≡ second_stage_of c h
+      → IsTransactionOf c t
 
 -- each of them keeps the limits of a transaction
 abbrev pub RecordedLimits : Type 0

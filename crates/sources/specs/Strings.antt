@@ -20,16 +20,22 @@ use Rattle.sources.specs.Recorded.{IsTransactionOf}
 
 -- what is hashed for a commitment: for the ids of its transactions, for the programs of their outputs, and for the peer's keys in these
 pub data IsHashedFor (terms : Terms) (k : CommitmentState) (bytes : List ℕ) : Type 0 where
-  of_transaction : (t : Transaction) → IsTransactionOf (contents_of terms k) t → bytes ≡ stripped_spelling t → IsHashedFor terms k bytes
-  of_to_local : bytes ≡ to_local_script (contents_of terms k).delay (contents_of terms k).keys → IsHashedFor terms k bytes
-  of_htlc_script : (h : HtlcOutput) → Contains (htlcs_of (contents_of terms k)) h → bytes ≡ htlc_script (contents_of terms k).keys h.direction h.htlc → IsHashedFor terms k bytes
+  of_transaction : (t : Transaction) → IsTransactionOf (contents_of terms k) t
+      → bytes ≡ stripped_spelling t → IsHashedFor terms k bytes
+  of_to_local : bytes ≡ to_local_script (contents_of terms k).delay (contents_of terms k).keys
+      → IsHashedFor terms k bytes
+  of_htlc_script : (h : HtlcOutput) → Contains (htlcs_of (contents_of terms k)) h → bytes
+      ≡ htlc_script (contents_of terms k).keys h.direction h.htlc → IsHashedFor terms k bytes
   of_payment_key : bytes ≡ (contents_of terms k).keys.remote → IsHashedFor terms k bytes
-  of_revocation_key : bytes ≡ codes "revoke" ++ (party (other k.owner) terms).bases.revocation.bytes ++ k.point.bytes → IsHashedFor terms k bytes
-  of_htlc_key : bytes ≡ codes "derive" ++ (party (other k.owner) terms).bases.htlc.bytes ++ k.point.bytes → IsHashedFor terms k bytes
+  of_revocation_key : bytes ≡ codes "revoke" ++ (party (other k.owner) terms).bases.revocation.bytes
+      ++ k.point.bytes → IsHashedFor terms k bytes
+  of_htlc_key : bytes ≡ codes "derive" ++ (party (other k.owner) terms).bases.htlc.bytes
+      ++ k.point.bytes → IsHashedFor terms k bytes
 
 -- what is hashed for the base keys of a seed, and for the secrets of these
 pub data IsHashedOf (seed : List ℕ) (bytes : List ℕ) : Type 0 where
-  of_base : (b : Base) → bytes ≡ codes "point" ++ seed_secret seed (number_of b) → IsHashedOf seed bytes
+  of_base : (b : Base) → bytes ≡ codes "point" ++ seed_secret seed (number_of b)
+      → IsHashedOf seed bytes
   of_secret : (b : Base) → bytes ≡ codes "base" ++ seed ++ number_of b ∷ [] → IsHashedOf seed bytes
 
 -- two byte strings collide under one of the hashes

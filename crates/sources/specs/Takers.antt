@@ -24,7 +24,8 @@ use Rattle.sources.specs.Strings.{IsHashedFor, StringsCollide}
 use Rattle.sources.specs.Seeds.{AreOfTwoSeeds, SidesCollide}
 
 -- the transaction is that of the HTLC whose output is at the outpoint, whatever its witness. A timeout is in a block above the HTLC's expiry
-pub record IsHtlcTransactionAt (c : Contents) (o : OutPoint) (height : ℕ) (t : Transaction) : Type 0 where
+pub record IsHtlcTransactionAt (c : Contents) (o : OutPoint) (height : ℕ)
+    (t : Transaction) : Type 0 where
   pub htlc : HtlcOutput
   pub among : Contains (htlcs_of c) htlc
   pub at : o ≡ record { txid = id_of c; index = htlc.index }

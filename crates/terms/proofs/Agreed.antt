@@ -6,7 +6,7 @@ use Rattle.std.proofs.lemmas.Bool.{and_from, and_parts, le-leb, leb-true, lt-ltb
 use Rattle.std.proofs.Math.Bridge.{le_prop}
 use Rattle.std.proofs.Math.Nat.{ℕ_set}
 use mathlib.Core.HLevel.{is_prop→PathP}
-use Rattle.tx.specs.Limits.{max_value}
+use Rattle.tx.specs.declared.limits.TheConstants.{MAX_VALUE}
 use Rattle.tx.specs.declared.input.OutPoint.{OutPoint}
 use Rattle.terms.specs.declared.amounts.TheConstants.{MSAT_PER_SAT}
 use Rattle.terms.specs.declared.agreement.BaseKeys.{BaseKeys}
@@ -26,7 +26,7 @@ same_terms t u h =
       feerate = h.feerate_is i;
       a = h.a_is i;
       b = h.b_is i;
-      limited = is_prop→PathP (λ j. h.capacity_is j ≤ max_value) (λ j. le_prop) t.limited u.limited i;
+      limited = is_prop→PathP (λ j. h.capacity_is j ≤ MAX_VALUE) (λ j. le_prop) t.limited u.limited i;
       whole = is_prop→PathP (λ j. (h.a_is j).start + (h.b_is j).start ≡ MSAT_PER_SAT * h.capacity_is j) (λ j. ℕ_set _ _) t.whole u.whole i;
       short_a = is_prop→PathP (λ j. (h.a_is j).delay < 2 ^ 16) (λ j. le_prop) t.short_a u.short_a i;
       short_b = is_prop→PathP (λ j. (h.b_is j).delay < 2 ^ 16) (λ j. le_prop) t.short_b u.short_b i;
@@ -36,16 +36,16 @@ agrees : (t : ProposedTerms) → CanAgree t.capacity t.a.start t.b.start → t.a
 agrees t h a b =
     and_from _ _
     (and_from _ _
-    (and_from (nat_le t.capacity max_value) _ (le-leb t.capacity max_value h.limited) (eq-eqb (t.a.start + t.b.start) (MSAT_PER_SAT * t.capacity) h.whole))
+    (and_from (nat_le t.capacity MAX_VALUE) _ (le-leb t.capacity MAX_VALUE h.limited) (eq-eqb (t.a.start + t.b.start) (MSAT_PER_SAT * t.capacity) h.whole))
     (lt-ltb t.a.delay (2 ^ 16) a))
     (lt-ltb t.b.delay (2 ^ 16) b)
 
 can : (t : ProposedTerms) → can_agree t ≡ true → CanAgree t.capacity t.a.start t.b.start
 can t h =
-    let last = and_parts (nat_le t.capacity max_value && t.a.start + t.b.start == MSAT_PER_SAT * t.capacity && nat_lt t.a.delay (2 ^ 16)) (nat_lt t.b.delay (2 ^ 16)) h in
-    let front = and_parts (nat_le t.capacity max_value && t.a.start + t.b.start == MSAT_PER_SAT * t.capacity) (nat_lt t.a.delay (2 ^ 16)) last.0 in
-    let parts = and_parts (nat_le t.capacity max_value) (t.a.start + t.b.start == MSAT_PER_SAT * t.capacity) front.0 in
-    record { limited = leb-true t.capacity max_value parts.0; whole = eqb-true (t.a.start + t.b.start) (MSAT_PER_SAT * t.capacity) parts.1 }
+    let last = and_parts (nat_le t.capacity MAX_VALUE && t.a.start + t.b.start == MSAT_PER_SAT * t.capacity && nat_lt t.a.delay (2 ^ 16)) (nat_lt t.b.delay (2 ^ 16)) h in
+    let front = and_parts (nat_le t.capacity MAX_VALUE && t.a.start + t.b.start == MSAT_PER_SAT * t.capacity) (nat_lt t.a.delay (2 ^ 16)) last.0 in
+    let parts = and_parts (nat_le t.capacity MAX_VALUE) (t.a.start + t.b.start == MSAT_PER_SAT * t.capacity) front.0 in
+    record { limited = leb-true t.capacity MAX_VALUE parts.0; whole = eqb-true (t.a.start + t.b.start) (MSAT_PER_SAT * t.capacity) parts.1 }
 
 pub terms_are : (funding : OutPoint) (a b : BaseKeys) (p : ProposedTerms) (t : Terms) → CanAgree p.capacity p.a.start p.b.start
     → HasFields t funding p.capacity p.opener p.feerate (party_of p.a a) (party_of p.b b) → Some t ≡ agreed_terms funding a b p

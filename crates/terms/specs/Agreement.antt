@@ -1,6 +1,6 @@
 -- What two sides can agree on (BOLT 2, `open_channel`).
 use Rattle.std.specs.Prelude.{◌≡◌, ℕ, ◌+◌, ◌*◌, ◌≤◌}
-use Rattle.tx.specs.Limits.{max_value}
+use Rattle.tx.specs.declared.limits.TheConstants.{MAX_VALUE}
 use Rattle.tx.specs.declared.input.OutPoint.{OutPoint}
 use Rattle.terms.specs.declared.amounts.TheConstants.{MSAT_PER_SAT}
 use Rattle.terms.specs.declared.sides.Side.{Side}
@@ -10,7 +10,7 @@ use Rattle.terms.specs.declared.agreement.Terms.{Terms}
 
 -- two sides can agree on this capacity in satoshis, with these starting balances in millisatoshis
 pub record CanAgree (capacity a b : ℕ) : Type 0 where
-  pub limited : capacity ≤ max_value
+  pub limited : capacity ≤ MAX_VALUE
   pub whole : a + b ≡ MSAT_PER_SAT * capacity
 
 -- the terms have these values

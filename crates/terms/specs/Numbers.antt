@@ -10,19 +10,20 @@ use Rattle.terms.specs.Agreement.{party}
 
 -- the last six bytes of a hash, as a big-endian number
 abbrev pub low_48_bits : List ℕ → ℕ
-low_48_bits hash =
-    2 ^ 40 * slice_index hash 26 + 2 ^ 32 * slice_index hash 27 + 2 ^ 24 * slice_index hash 28
-    + 2 ^ 16 * slice_index hash 29 + 2 ^ 8 * slice_index hash 30 + slice_index hash 31
+low_48_bits h = 2 ^ 40 * slice_index h 26 + 2 ^ 32 * slice_index h 27 + 2 ^ 24 * slice_index h 28
+    + 2 ^ 16 * slice_index h 29 + 2 ^ 8 * slice_index h 30 + slice_index h 31
 
 -- the mask of a channel's commitment numbers: the low 48 bits of SHA-256 of the opener's payment base key, then the
 -- accepter's
 unfoldable pub mask_of : Terms → ℕ
-mask_of t = low_48_bits (sha256 ((party t.opener t).bases.payment.bytes ++ (party (other t.opener) t).bases.payment.bytes))
+mask_of t = low_48_bits (sha256 ((party t.opener t).bases.payment.bytes
+    ++ (party (other t.opener) t).bases.payment.bytes))
 
 -- the fields that carry 48 bits: the low half under the top byte 20 (hexadecimal), and the high half under the top
 -- byte 80
 abbrev pub fields_of : ℕ → Obscured
-fields_of hidden = record { lock_time = 0x20 * 2 ^ 24 + hidden % 2 ^ 24; sequence = 0x80 * 2 ^ 24 + hidden / 2 ^ 24 % 2 ^ 24 }
+fields_of n =
+    record { lock_time = 0x20000000 + n % 2 ^ 24; sequence = 0x80000000 + n / 2 ^ 24 % 2 ^ 24 }
 
 -- the fields that carry a number under a mask
 abbrev pub obscured : ℕ → ℕ → Obscured

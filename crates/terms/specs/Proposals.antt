@@ -1,7 +1,7 @@
 -- Proposed terms: whether two sides can agree on them, and the terms that they then have.
 use Rattle.std.specs.Prelude.{◌≡◌, ◌+◌, ◌*◌, ◌^◌, ◌==◌, ◌&&◌, nat_le, nat_lt, Bool, true, false, refl, Option, Some, None}
 use Rattle.std.proofs.lemmas.Bool.{and_parts, leb-true, ltb-true, eqb-true}
-use Rattle.tx.specs.Limits.{max_value}
+use Rattle.tx.specs.declared.limits.TheConstants.{MAX_VALUE}
 use Rattle.tx.specs.declared.input.OutPoint.{OutPoint}
 use Rattle.terms.specs.declared.amounts.TheConstants.{MSAT_PER_SAT}
 use Rattle.terms.specs.declared.agreement.BaseKeys.{BaseKeys}
@@ -12,7 +12,7 @@ use Rattle.terms.specs.declared.proposals.ProposedTerms.{ProposedTerms}
 
 -- the capacity is at most the greatest value of an output, the two starting balances sum to it, and each delay fits into 16 bits
 abbrev pub can_agree : ProposedTerms → Bool
-can_agree t = nat_le t.capacity max_value && t.a.start + t.b.start == MSAT_PER_SAT * t.capacity && nat_lt t.a.delay (2 ^ 16) && nat_lt t.b.delay (2 ^ 16)
+can_agree t = nat_le t.capacity MAX_VALUE && t.a.start + t.b.start == MSAT_PER_SAT * t.capacity && nat_lt t.a.delay (2 ^ 16) && nat_lt t.b.delay (2 ^ 16)
 
 -- a side's part of the terms, with these base keys
 abbrev pub party_of : ProposedParty → BaseKeys → Party
@@ -21,9 +21,9 @@ party_of p bases = record { dust = p.dust; delay = p.delay; minimum = p.minimum;
 -- the terms with a funding output and both sides' base keys, where the sides can agree on them
 abbrev pub terms_with : OutPoint → (a b : BaseKeys) → (t : ProposedTerms) → can_agree t ≡ true → Terms
 terms_with funding a b t h =
-    let last = and_parts (nat_le t.capacity max_value && t.a.start + t.b.start == MSAT_PER_SAT * t.capacity && nat_lt t.a.delay (2 ^ 16)) (nat_lt t.b.delay (2 ^ 16)) h in
-    let front = and_parts (nat_le t.capacity max_value && t.a.start + t.b.start == MSAT_PER_SAT * t.capacity) (nat_lt t.a.delay (2 ^ 16)) last.0 in
-    let sums = and_parts (nat_le t.capacity max_value) (t.a.start + t.b.start == MSAT_PER_SAT * t.capacity) front.0 in
+    let last = and_parts (nat_le t.capacity MAX_VALUE && t.a.start + t.b.start == MSAT_PER_SAT * t.capacity && nat_lt t.a.delay (2 ^ 16)) (nat_lt t.b.delay (2 ^ 16)) h in
+    let front = and_parts (nat_le t.capacity MAX_VALUE && t.a.start + t.b.start == MSAT_PER_SAT * t.capacity) (nat_lt t.a.delay (2 ^ 16)) last.0 in
+    let sums = and_parts (nat_le t.capacity MAX_VALUE) (t.a.start + t.b.start == MSAT_PER_SAT * t.capacity) front.0 in
     record {
       funding = funding;
       capacity = t.capacity;
@@ -31,7 +31,7 @@ terms_with funding a b t h =
       feerate = t.feerate;
       a = party_of t.a a;
       b = party_of t.b b;
-      limited = leb-true t.capacity max_value sums.0;
+      limited = leb-true t.capacity MAX_VALUE sums.0;
       whole = eqb-true (t.a.start + t.b.start) (MSAT_PER_SAT * t.capacity) sums.1;
       short_a = ltb-true t.a.delay (2 ^ 16) front.1;
       short_b = ltb-true t.b.delay (2 ^ 16) last.1;

@@ -8,7 +8,8 @@ use Rattle.script.specs.Number.{minimal_bytes_of}
 
 -- the push of a number that is not negative, minimally encoded
 unfoldable pub number_push : ℕ → Op
-number_push n = if n == 0 then Push [] else (if nat_le n 16 then Number n else Push (minimal_bytes_of n))
+number_push n =
+    if n == 0 then Push [] else if nat_le n 16 then Number n else Push (minimal_bytes_of n)
 
 -- one key is less than another, byte by byte
 abbrev pub is_lesser : List ℕ → List ℕ → Bool
@@ -25,11 +26,8 @@ funding key other = if is_lesser other key then two_of_two other key else two_of
 -- to_local: the revocation key, or the delayed key after the delay
 abbrev pub to_local : (revocation : List ℕ) (delay : ℕ) (delayed : List ℕ) → List Op
 to_local revocation delay delayed =
-    If
-    ∷ Push revocation
-    ∷ Else
-    ∷ number_push delay ∷ CheckSequenceVerify ∷ Drop
-    ∷ Push delayed
+    If ∷ Push revocation
+    ∷ Else ∷ number_push delay ∷ CheckSequenceVerify ∷ Drop ∷ Push delayed
     ∷ EndIf ∷ CheckSig ∷ []
 
 -- to_remote: the key of this hash
@@ -40,31 +38,19 @@ key_hash hash = Dup ∷ Hash160 ∷ Push hash ∷ EqualVerify ∷ CheckSig ∷ [
 abbrev pub offered : (revocation_hash remote local payment_hash : List ℕ) → List Op
 offered revocation_hash remote local payment_hash =
     Dup ∷ Hash160 ∷ Push revocation_hash ∷ Equal
-    ∷ If
-    ∷ CheckSig
-    ∷ Else
-    ∷ Push remote ∷ Swap ∷ Size ∷ number_push 32 ∷ Equal
-    ∷ NotIf
-    ∷ Drop ∷ Number 2 ∷ Swap ∷ Push local ∷ Number 2 ∷ CheckMultiSig
-    ∷ Else
-    ∷ Hash160 ∷ Push payment_hash ∷ EqualVerify
-    ∷ CheckSig
-    ∷ EndIf
-    ∷ EndIf ∷ []
+    ∷ If ∷ CheckSig
+    ∷ Else ∷ Push remote ∷ Swap ∷ Size ∷ number_push 32 ∷ Equal
+    ∷ NotIf ∷ Drop ∷ Number 2 ∷ Swap ∷ Push local ∷ Number 2 ∷ CheckMultiSig
+    ∷ Else ∷ Hash160 ∷ Push payment_hash ∷ EqualVerify ∷ CheckSig
+    ∷ EndIf ∷ EndIf ∷ []
 
 -- a received HTLC: the revocation key; both HTLC keys with the preimage; or the remote key from a height on
 abbrev pub received : (revocation_hash remote local payment_hash : List ℕ) (expiry : ℕ) → List Op
 received revocation_hash remote local payment_hash expiry =
     Dup ∷ Hash160 ∷ Push revocation_hash ∷ Equal
-    ∷ If
-    ∷ CheckSig
-    ∷ Else
-    ∷ Push remote ∷ Swap ∷ Size ∷ number_push 32 ∷ Equal
-    ∷ If
-    ∷ Hash160 ∷ Push payment_hash ∷ EqualVerify
+    ∷ If ∷ CheckSig
+    ∷ Else ∷ Push remote ∷ Swap ∷ Size ∷ number_push 32 ∷ Equal
+    ∷ If ∷ Hash160 ∷ Push payment_hash ∷ EqualVerify
     ∷ Number 2 ∷ Swap ∷ Push local ∷ Number 2 ∷ CheckMultiSig
-    ∷ Else
-    ∷ Drop ∷ number_push expiry ∷ CheckLockTimeVerify ∷ Drop
-    ∷ CheckSig
-    ∷ EndIf
-    ∷ EndIf ∷ []
+    ∷ Else ∷ Drop ∷ number_push expiry ∷ CheckLockTimeVerify ∷ Drop ∷ CheckSig
+    ∷ EndIf ∷ EndIf ∷ []

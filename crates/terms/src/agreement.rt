@@ -1,7 +1,7 @@
 //! The terms of a channel.
 
 ghost use Rattle.std.specs.Prelude.{◌≡◌, ◌+◌, ◌*◌, ◌^◌, ◌<◌, ◌≤◌};
-ghost use Rattle.tx.specs.Limits.{max_value};
+ghost use Rattle.tx.specs.declared.limits.TheConstants.{MAX_VALUE as max_value};
 ghost use Rattle.terms.specs.declared.amounts.TheConstants.{MSAT_PER_SAT};
 
 use crate::amounts::MSAT_PER_SAT;

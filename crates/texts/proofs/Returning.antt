@@ -6,7 +6,7 @@ use Rattle.hex.proofs.HexLemmas.{decode_of-encode_lower, decode_sized-encode_low
 use Rattle.hex.specs.Hex.{IsBytes}
 use Rattle.terms.specs.declared.sides.Side.{Side}
 use Rattle.terms.specs.declared.sides.Side.TheVariants.{A, B}
-use Rattle.tx.specs.Limits.{max_value, max_bytes}
+use Rattle.tx.specs.declared.limits.TheConstants.{MAX_VALUE, MAX_BYTES}
 use Rattle.tx.specs.Parts.{Output, IsOutput}
 use Rattle.updates.specs.declared.changes.Update.{Update}
 use Rattle.updates.specs.declared.changes.Update.TheVariants.{Add, Fulfil, Fail, Fee}
@@ -41,7 +41,7 @@ pub terms_again : (t : ProposedTerms) → (u16_of (number_data t.a.delay) ≡ So
 unfolding terms_of terms_data
 terms_again t delay feerate opener = rw (delay.0, delay.1, opener, feerate) refl
 
-pub output_again : (o : Output) → o.value ≤ max_value → length o.script ≤ max_bytes → bytes_of (bytes_data o.script) ≡ Some o.script → output_of (output_data o) ≡ Some o
+pub output_again : (o : Output) → o.value ≤ MAX_VALUE → length o.script ≤ MAX_BYTES → bytes_of (bytes_data o.script) ≡ Some o.script → output_of (output_data o) ≡ Some o
 unfolding output_of output_data
 output_again o value len script = rw (script, le-ltb _ _ value, le-ltb _ _ len) refl
 

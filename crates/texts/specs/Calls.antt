@@ -3,7 +3,7 @@ use Rattle.std.specs.Prelude.{ℕ, ◌==◌, Bool, true, false, not, ◌&&◌, �
 use Rattle.std.specs.Str.{bytes_eq}
 use Rattle.std.specs.List.{list_any}
 use Rattle.serde_json.specs.Data.{Data}
-use Rattle.tx.specs.Limits.{max_inputs, max_outputs}
+use Rattle.tx.specs.declared.limits.TheConstants.{MAX_INPUTS, MAX_OUTPUTS}
 use Rattle.updates.specs.declared.changes.Update.{Update}
 use Rattle.updates.specs.declared.changes.Update.TheVariants.{Add, Fulfil as Fulfilling, Fail as Failing, Fee}
 use Rattle.terms.specs.Proposals.{can_agree}
@@ -71,7 +71,7 @@ keep_of d = do
 
 -- at least one claim, and no more claims and outputs than one transaction may have
 abbrev pub are_within : ℕ → ℕ → Bool
-are_within claims outputs = nat_lt 0 claims && nat_le claims max_inputs && nat_le outputs max_outputs
+are_within claims outputs = nat_lt 0 claims && nat_le claims MAX_INPUTS && nat_le outputs MAX_OUTPUTS
 
 unfoldable pub release_of : Data → Option PlainCall
 release_of d = do

@@ -5,7 +5,7 @@ use Rattle.std.specs.Result.{result_ok}
 use Rattle.std.proofs.lemmas.Bool.{leb-true}
 use Rattle.serde_json.specs.Data.{Data}
 use Rattle.serde_json.specs.Find.{as_null}
-use Rattle.script.specs.Limits.{max_element_size}
+use Rattle.script.specs.declared.limits.TheConstants.{MAX_SCRIPT_ELEMENT_SIZE}
 use Rattle.tx.specs.Reading.{stripped_reading}
 use Rattle.claim.specs.declared.parts.WitnessItem.{WitnessItem}
 use Rattle.claim.specs.declared.parts.Slot.{Slot}
@@ -18,12 +18,12 @@ use Rattle.texts.specs.Keys.{key_of}
 use Rattle.texts.specs.Outpoints.{outpoint_of}
 
 -- a witness item, of at most 520 bytes
-abbrev pub item_if : (bytes : List ℕ) (short : Bool) → nat_le (length bytes) max_element_size ≡ short → Option WitnessItem
-item_if bytes true h = Some (record { item = bytes; short = leb-true (length bytes) max_element_size h })
+abbrev pub item_if : (bytes : List ℕ) (short : Bool) → nat_le (length bytes) MAX_SCRIPT_ELEMENT_SIZE ≡ short → Option WitnessItem
+item_if bytes true h = Some (record { item = bytes; short = leb-true (length bytes) MAX_SCRIPT_ELEMENT_SIZE h })
 item_if bytes false h = None
 
 abbrev pub witness_item_in : List ℕ → Option WitnessItem
-witness_item_in bytes = item_if bytes (nat_le (length bytes) max_element_size) refl
+witness_item_in bytes = item_if bytes (nat_le (length bytes) MAX_SCRIPT_ELEMENT_SIZE) refl
 
 abbrev pub witness_item_of : Data → Option WitnessItem
 witness_item_of d = bytes_of d >>= witness_item_in

@@ -1,6 +1,6 @@
 -- Facts in plain words, as lists of ASCII codes.
 use Rattle.std.specs.Prelude.{ℕ, ◌+◌, ◌/◌, ◌%◌, nat_lt, ◌==◌, Bool, true, false, if◌then◌else◌, List, [], ◌∷◌, ◌++◌, codes, decimal}
-use Rattle.script.specs.Limits.{locktime_threshold}
+use Rattle.script.specs.declared.limits.TheConstants.{LOCKTIME_THRESHOLD}
 use Rattle.facts.specs.Symbols.{KeySource, Fact, Stated}
 use Rattle.facts.specs.declared.symbols.KeySourceOver.TheVariants.{Const as FixedKey, Slot as SlotKey}
 use Rattle.facts.specs.declared.symbols.FactOver.TheVariants.{Hash, Size, Truth, Is, KeyForm, Form, Token, Assigned, Lock, Age}
@@ -47,7 +47,7 @@ item_words (b ∷ bytes) = codes "the bytes " ++ hex_text (b ∷ bytes)
 -- an output that is locked to height n is spent in block n + 1 at the earliest (BIP 65)
 abbrev pub lock_words : ℕ → List ℕ
 lock_words n =
-    if nat_lt n locktime_threshold
+    if nat_lt n LOCKTIME_THRESHOLD
     then codes "in block " ++ (decimal (n + 1) ++ codes " at the earliest")
     else codes "at the time " ++ (decimal n ++ codes " in seconds since 1970, which this profile never reaches")
 

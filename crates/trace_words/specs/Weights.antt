@@ -1,7 +1,7 @@
 -- The weight of the witness of a path: one unit for each byte (BIP 141).
 use Rattle.std.specs.Prelude.{ℕ, zero, suc, ◌+◌, ◌*◌, ◌^◌, max, min, Bool, true, false, nat_lt, ◌==◌, ◌||◌, if◌then◌else◌, List, [], ◌∷◌, length, Option, Some, None}
 use Rattle.std.specs.List.{list_any}
-use Rattle.script.specs.Limits.{max_stack_size}
+use Rattle.script.specs.declared.limits.TheConstants.{MAX_STACK_SIZE}
 use Rattle.facts.specs.Symbols.{Fact, Stated}
 use Rattle.facts.specs.declared.symbols.FactOver.TheVariants.{Hash, Size, Truth, Is, KeyForm, Form, Token, Assigned, Lock, Age}
 
@@ -56,4 +56,4 @@ items_weight facts (suc slot) signature = items_weight facts slot signature + it
 -- the number of items, the items, of which a path has at most 1,000, and the script
 abbrev pub witness_weight : List Stated → ℕ → ℕ → ℕ → ℕ
 witness_weight facts arity script signature =
-    compact_size (min arity max_stack_size + 1) + items_weight facts (min arity max_stack_size) signature + item_weight script
+    compact_size (min arity MAX_STACK_SIZE + 1) + items_weight facts (min arity MAX_STACK_SIZE) signature + item_weight script

@@ -4,7 +4,7 @@ use Rattle.std.specs.List.{flat_map, AllByRecursion}
 use Rattle.std.proofs.lemmas.Bool.{cases_lt, ltb-false, le-ltb, lt-ltb, eqb-true, eqb-false, ne_eqb}
 use Rattle.tx.specs.declared.errors.DecodeError.{DecodeError}
 use Rattle.tx.specs.declared.errors.DecodeError.TheVariants.{OverLimit}
-use Rattle.tx.specs.Limits.{max_bytes}
+use Rattle.tx.specs.declared.limits.TheConstants.{MAX_BYTES}
 use Rattle.tx.specs.Parts.{IsBounded}
 use Rattle.tx.specs.Spelling.{number, compact_size, bytes_with_length}
 use Rattle.tx.specs.Reading.{◌>>=◌, Field, bytes_at, wide_at, compact_size_at, compact_size_up_to, byte_string_at, fields_at, list_at}
@@ -112,13 +112,13 @@ pub text_reads : Reads byte_string_at bytes_with_length IsBounded
 unfolding byte_string_at bytes_with_length
 text_reads = record {
   takes = λ bytes x fits e.
-      let a = bind_ok (compact_size_up_to max_bytes bytes) (λ n. bytes_at n.0 n.1) x e in
-      let t = (count_up_to_reads max_bytes (omega arith)).takes bytes a.0 fits a.1 in
+      let a = bind_ok (compact_size_up_to MAX_BYTES bytes) (λ n. bytes_at n.0 n.1) x e in
+      let t = (count_up_to_reads MAX_BYTES (omega arith)).takes bytes a.0 fits a.1 in
       let u = (taken_reads a.0.0).takes a.0.1 x t.0.rest_fits a.2 in
       (Takes-then bytes (compact_size (length x.0)) a.0.1 x.0 x.1 (rw u.1 t.0) u.0, omega (arith, u.1, t.1));
   again = λ b rest le.
       let regrouped : (compact_size (length b) ++ b) ++ rest ≡ compact_size (length b) ++ (b ++ rest) = append_assoc (compact_size (length b)) b rest in
-      rw (regrouped, (count_up_to_reads max_bytes (omega arith)).again (length b) (b ++ rest) le) ((taken_reads (length b)).again b rest refl);
+      rw (regrouped, (count_up_to_reads MAX_BYTES (omega arith)).again (length b) (b ++ rest) le) ((taken_reads (length b)).again b rest refl);
 }
 
 -- ---- lists of fields

@@ -9,7 +9,7 @@ use Rattle.tx.specs.declared.errors.EncodeError.TheVariants as encode
 use Rattle.tx.specs.declared.errors.FieldError.TheVariants as field
 use Rattle.tx.specs.declared.errors.LimitError.TheVariants as limit
 use Rattle.tx.specs.Refusals.{limit_refusal_number, field_refusal_number, decode_refusal_number, encode_refusal_number}
-use Rattle.tx.specs.Limits.{max_value, max_inputs, max_outputs, max_items, max_bytes}
+use Rattle.tx.specs.declared.limits.TheConstants.{MAX_VALUE, MAX_INPUTS, MAX_OUTPUTS, MAX_ITEMS, MAX_BYTES}
 use Rattle.tx.specs.Fields.{Transaction, has_witness, transaction_with_witness, unsigned_transaction, total_value}
 use Rattle.tx.specs.Spelling.{number, compact_size, bytes_with_length, outpoint, input, output, witness, body, witnesses, spelling, stripped_spelling}
 use Rattle.tx.specs.Reading.{bytes_at, number_at, wide_at, compact_size_at, compact_size_up_to, byte_string_at, fields_at, marker_at, input_at, output_at, list_at, input_count_at, inputs_at, outputs_at, witness_at, signed_input_at, signed_inputs_at, witnesses_at, end_at, version_at, reading, stripped_reading, Field}
@@ -77,7 +77,7 @@ byte_too_many = refl
 -- ---- values and bytes from an independent script: different inputs, the second of which is not signed, different outputs,
 -- and a witness of two different items
 
-limits : (max_value ≡ 2100000000000000) × (max_inputs ≡ 4000) × (max_outputs ≡ 4000) × (max_items ≡ 1001) × (max_bytes ≡ 10000)
+limits : (MAX_VALUE ≡ 2100000000000000) × (MAX_INPUTS ≡ 4000) × (MAX_OUTPUTS ≡ 4000) × (MAX_ITEMS ≡ 1001) × (MAX_BYTES ≡ 10000)
 limits = (refl, refl, refl, refl, refl)
 
 abbrev signed : TxIn
@@ -133,7 +133,7 @@ a_count n rest = Ok (n, rest)
 abbrev no_count : DecodeError → Field ℕ
 no_count e = Err e
 
-count_limits : (compact_size_up_to max_inputs (0xfd ∷ 0xa0 ∷ 0x0f ∷ 7 ∷ []) ≡ a_count 4000 (7 ∷ [])) × (compact_size_up_to max_inputs (0xfd ∷ 0xa1 ∷ 0x0f ∷ []) ≡ no_count OverLimit)
+count_limits : (compact_size_up_to MAX_INPUTS (0xfd ∷ 0xa0 ∷ 0x0f ∷ 7 ∷ []) ≡ a_count 4000 (7 ∷ [])) × (compact_size_up_to MAX_INPUTS (0xfd ∷ 0xa1 ∷ 0x0f ∷ []) ≡ no_count OverLimit)
     × (compact_size_up_to 0 (0 ∷ []) ≡ a_count 0 []) × (compact_size_up_to 0 (1 ∷ []) ≡ no_count OverLimit)
 unfolding compact_size_up_to compact_size_at wide_at number_at bytes_at
 count_limits = (refl, refl, refl, refl)

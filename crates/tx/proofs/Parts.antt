@@ -5,7 +5,7 @@ use Rattle.std.proofs.lemmas.Bool.{ltb-false, le-ltb, eqb-true, eqb-false, ne_eq
 use Rattle.tx.specs.declared.errors.DecodeError.{DecodeError}
 use Rattle.tx.specs.declared.errors.DecodeError.TheVariants.{BadMarker, NoInputs, ValueTooLarge}
 use Rattle.tx.specs.declared.input.TxIn.{TxIn}
-use Rattle.tx.specs.Limits.{max_value, max_inputs, max_outputs, max_items, max_bytes}
+use Rattle.tx.specs.declared.limits.TheConstants.{MAX_VALUE, MAX_ITEMS}
 use Rattle.tx.specs.Parts.{IsBounded, IsWitness, Output, IsOutput}
 use Rattle.tx.specs.Fields.{IsInput}
 use Rattle.tx.specs.Spelling.{number, compact_size, bytes_with_length, outpoint, input, output, witness, witnesses}
@@ -104,9 +104,9 @@ output_reads : Reads output_at output IsOutput
 unfolding output_at output
 output_reads = record {
   takes = λ bytes x fits e.
-      let a = bind_ok (number_at 8 bytes) (λ value. cond (ltb max_value value.0) (Err ValueTooLarge) (byte_string_at value.1) >>= λ script. Ok (output_of value.0 script.0, script.1)) x e in
-      let b = bind_ok (cond (ltb max_value a.0.0) (Err ValueTooLarge) (byte_string_at a.0.1)) (λ script. Ok (output_of a.0.0 script.0, script.1)) x a.2 in
-      let g = guard_ok (ltb max_value a.0.0) ValueTooLarge (byte_string_at a.0.1) b.0 b.1 in
+      let a = bind_ok (number_at 8 bytes) (λ value. cond (ltb MAX_VALUE value.0) (Err ValueTooLarge) (byte_string_at value.1) >>= λ script. Ok (output_of value.0 script.0, script.1)) x e in
+      let b = bind_ok (cond (ltb MAX_VALUE a.0.0) (Err ValueTooLarge) (byte_string_at a.0.1)) (λ script. Ok (output_of a.0.0 script.0, script.1)) x a.2 in
+      let g = guard_ok (ltb MAX_VALUE a.0.0) ValueTooLarge (byte_string_at a.0.1) b.0 b.1 in
       let ta = (number_reads 8 (2 ^ 64) wide64).takes bytes a.0 fits a.1 in
       let tb = text_reads.takes a.0.1 b.0 ta.0.rest_fits g.1 in
       subst (λ (p : Output × List ℕ). Takes bytes (output p.0) p.1 × IsOutput p.0) (ok_is (output_of a.0.0 b.0.0, b.0.1) x b.2)
@@ -128,12 +128,12 @@ outputs_reads = counted_reads (compact_size_up_to 4000) FewOutputs (count_up_to_
 -- ---- witnesses
 
 abbrev FewItems : ℕ → Type 0
-FewItems n = n ≤ max_items
+FewItems n = n ≤ MAX_ITEMS
 
 witness_reads : Reads witness_at witness IsWitness
 unfolding witness_at witness
 witness_reads =
-    let r = counted_reads (compact_size_up_to max_items) FewItems (count_up_to_reads max_items (omega arith)) byte_string_at bytes_with_length IsBounded text_reads in
+    let r = counted_reads (compact_size_up_to MAX_ITEMS) FewItems (count_up_to_reads MAX_ITEMS (omega arith)) byte_string_at bytes_with_length IsBounded text_reads in
     record {
       takes = λ bytes x fits e. let t = r.takes bytes x fits e in (t.0, record { count = t.1.count; each = t.1.each });
       again = λ items rest good. r.again items rest (record { count = good.count; each = good.each });

@@ -1,9 +1,15 @@
 -- The fields of a transaction, and the limits that they keep.
-use Rattle.std.specs.Prelude.{◌≡◌, ℕ, zero, suc, ◌≤◌, ◌<◌, ◌^◌, ◌==◌, Bool, not, List, [], ◌∷◌, length, map, sum_by}
+use Rattle.std.specs.Prelude.{◌≡◌, ℕ, zero, suc, ◌≤◌, ◌<◌, ◌^◌, ◌==◌, ◌&&◌, Bool, not, List, [], ◌∷◌, length, map, sum_by}
 use Rattle.std.specs.List.{list_any}
+use Rattle.std.specs.Str.{bytes_eq}
+use Rattle.tx.specs.declared.input.OutPoint.{OutPoint}
 use Rattle.tx.specs.declared.input.TxIn.{TxIn}
-use Rattle.tx.specs.Limits.{max_inputs, max_outputs}
+use Rattle.tx.specs.declared.limits.TheConstants.{MAX_INPUTS, MAX_OUTPUTS}
 use Rattle.tx.specs.Parts.{IsWithin, IsWitness, Output, IsOutput}
+
+-- two outpoints are the same
+abbrev pub same_outpoint : OutPoint → OutPoint → Bool
+same_outpoint o p = bytes_eq o.txid p.txid && o.index == p.index
 
 pub record IsInput (i : TxIn) : Type 0 where
   pub txid : length i.outpoint.txid ≡ 32
@@ -18,10 +24,15 @@ pub record Transaction : Type 0 where
   pub lock_time : ℕ
 
 abbrev pub AreInputs : List TxIn → Type 0
-AreInputs inputs = IsWithin max_inputs IsInput inputs
+AreInputs inputs = IsWithin MAX_INPUTS IsInput inputs
 
 abbrev pub AreOutputs : List Output → Type 0
-AreOutputs outputs = IsWithin max_outputs IsOutput outputs
+AreOutputs outputs = IsWithin MAX_OUTPUTS IsOutput outputs
+
+-- a transaction of version 2
+abbrev pub version_two : List TxIn → List Output → ℕ → Transaction
+version_two inputs outputs lock_time =
+    record { version = 2; inputs = inputs; outputs = outputs; lock_time = lock_time }
 
 -- what every transaction keeps, whether or not it is signed
 pub record KeepsLimits (t : Transaction) : Type 0 where

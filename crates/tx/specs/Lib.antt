@@ -1,4 +1,3 @@
-pub mod Limits
 pub mod Parts
 pub mod Fields
 pub mod Refusals

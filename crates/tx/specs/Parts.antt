@@ -1,7 +1,7 @@
 -- The parts of a transaction and their limits, without where they lie in memory.
 use Rattle.std.specs.Prelude.{ℕ, ◌≤◌, List, length}
 use Rattle.std.specs.List.{AllByRecursion}
-use Rattle.tx.specs.Limits.{max_value, max_items, max_bytes}
+use Rattle.tx.specs.declared.limits.TheConstants.{MAX_VALUE, MAX_ITEMS, MAX_BYTES}
 
 -- at most `limit` elements, each of which keeps the limits of its kind
 pub record IsWithin {A : Type 0} (limit : ℕ) (Keeps : A → Type 0) (xs : List A) : Type 0 where
@@ -10,11 +10,11 @@ pub record IsWithin {A : Type 0} (limit : ℕ) (Keeps : A → Type 0) (xs : List
 
 -- the length of a witness item, or of the script of an output
 abbrev pub IsBounded : List ℕ → Type 0
-IsBounded bytes = length bytes ≤ max_bytes
+IsBounded bytes = length bytes ≤ MAX_BYTES
 
 -- the witness of an input (BIP 141)
 abbrev pub IsWitness : List (List ℕ) → Type 0
-IsWitness items = IsWithin max_items IsBounded items
+IsWitness items = IsWithin MAX_ITEMS IsBounded items
 
 -- an output: its value in satoshis, and its script
 pub record Output : Type 0 where
@@ -22,5 +22,5 @@ pub record Output : Type 0 where
   pub script : List ℕ
 
 pub record IsOutput (o : Output) : Type 0 where
-  pub value : o.value ≤ max_value
+  pub value : o.value ≤ MAX_VALUE
   pub script : IsBounded o.script

@@ -4,7 +4,7 @@ use Rattle.byteorder.specs.Endian.{little_number}
 use Rattle.tx.specs.declared.errors.DecodeError.{DecodeError}
 use Rattle.tx.specs.declared.errors.DecodeError.TheVariants.{NoMemory, Truncated, LongCount, BadMarker, NoInputs, NoWitness, ValueTooLarge, Trailing, OverLimit}
 use Rattle.tx.specs.declared.input.TxIn.{TxIn}
-use Rattle.tx.specs.Limits.{max_value, max_inputs, max_outputs, max_items, max_bytes}
+use Rattle.tx.specs.declared.limits.TheConstants.{MAX_VALUE, MAX_INPUTS, MAX_OUTPUTS, MAX_ITEMS, MAX_BYTES}
 use Rattle.tx.specs.Parts.{Output}
 use Rattle.tx.specs.Fields.{Transaction, has_witness}
 
@@ -60,7 +60,7 @@ compact_size_up_to limit bytes = do
 -- bytes after their length
 unfoldable pub byte_string_at : List ℕ → Field (List ℕ)
 byte_string_at bytes = do
-  n ← compact_size_up_to max_bytes bytes
+  n ← compact_size_up_to MAX_BYTES bytes
   bytes_at n.0 n.1
 
 -- n fields of one kind
@@ -88,7 +88,7 @@ input_at bytes = do
 unfoldable pub output_at : List ℕ → Field Output
 output_at bytes = do
   value ← number_at 8 bytes
-  script ← if nat_lt max_value value.0 then Err ValueTooLarge else byte_string_at value.1
+  script ← if nat_lt MAX_VALUE value.0 then Err ValueTooLarge else byte_string_at value.1
   Ok (record { value = value.0; script = script.0 }, script.1)
 
 -- a count, and that many fields
@@ -100,17 +100,17 @@ list_at count read bytes = do
 -- the number of inputs
 unfoldable pub input_count_at : List ℕ → Field ℕ
 input_count_at bytes = do
-  n ← compact_size_up_to max_inputs bytes
+  n ← compact_size_up_to MAX_INPUTS bytes
   if n.0 == 0 then Err NoInputs else Ok n
 
 unfoldable pub inputs_at : List ℕ → Field (List TxIn)
 inputs_at bytes = list_at input_count_at input_at bytes
 
 unfoldable pub outputs_at : List ℕ → Field (List Output)
-outputs_at bytes = list_at (compact_size_up_to max_outputs) output_at bytes
+outputs_at bytes = list_at (compact_size_up_to MAX_OUTPUTS) output_at bytes
 
 unfoldable pub witness_at : List ℕ → Field (List (List ℕ))
-witness_at bytes = list_at (compact_size_up_to max_items) byte_string_at bytes
+witness_at bytes = list_at (compact_size_up_to MAX_ITEMS) byte_string_at bytes
 
 -- the input with its witness
 unfoldable pub signed_input_at : TxIn → List ℕ → Field TxIn

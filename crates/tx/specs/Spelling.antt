@@ -39,7 +39,8 @@ witness items = compact_size (length items) ++ flat_map bytes_with_length items
 
 -- the inputs and outputs, each list after its count
 unfoldable pub body : List TxIn → List Output → List ℕ
-body inputs outputs = compact_size (length inputs) ++ flat_map input inputs ++ compact_size (length outputs) ++ flat_map output outputs
+body inputs outputs = compact_size (length inputs) ++ flat_map input inputs
+    ++ compact_size (length outputs) ++ flat_map output outputs
 
 -- a witness for each input
 unfoldable pub witnesses : List TxIn → List ℕ
@@ -68,3 +69,7 @@ pub record IsStripped (t : Transaction) (bytes : List ℕ) : Type 0 where
 -- the id (BIP 141), in the hash's own byte order
 unfoldable pub transaction_id : Transaction → List ℕ
 transaction_id t = sha256d (stripped_spelling t)
+
+-- the outpoint of its output at an index
+abbrev pub outpoint_at : Transaction → ℕ → OutPoint
+outpoint_at t index = record { txid = transaction_id t; index = index }

@@ -1,7 +1,7 @@
 //! Fields of a fixed or a stated length, read from the front of bytes.
 
 ghost use Rattle.std.specs.Prelude.{◌≡◌, ◌≤◌, ◌^◌, length, IfOk};
-ghost use Rattle.tx.specs.Limits.{max_bytes};
+ghost use Rattle.tx.specs.declared.limits.TheConstants.{MAX_BYTES as max_bytes};
 ghost use Rattle.tx.specs.Reading.{Gives, bytes_at, number_at, wide_at, compact_size_at, compact_size_up_to, byte_string_at, marker_at};
 
 use crate::errors::DecodeError;

@@ -53,7 +53,7 @@ pub type Inputs = LimitedList<TxIn>;
 
 impl Element for TxIn {
     ghost use Rattle.std.specs.Prelude.{true};
-    ghost use Rattle.tx.specs.Limits.{max_inputs};
+    ghost use Rattle.tx.specs.declared.limits.TheConstants.{MAX_INPUTS as max_inputs};
     ghost use Rattle.tx.specs.Fields.{IsInput};
 
     const LIMIT: usize = MAX_INPUTS;

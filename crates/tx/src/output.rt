@@ -1,7 +1,7 @@
 //! The outputs of a transaction.
 
 ghost use Rattle.std.specs.Prelude.{◌≡◌, ◌≤◌, ◌↔◌, nat_lt, length, IsTrue, IfOk, if◌then◌else◌};
-ghost use Rattle.tx.specs.Limits.{max_value, max_bytes};
+ghost use Rattle.tx.specs.declared.limits.TheConstants.{MAX_VALUE as max_value, MAX_BYTES as max_bytes};
 ghost use Rattle.tx.specs.Fields.{total_value};
 
 use crate::errors::FieldError;
@@ -93,7 +93,7 @@ pub type Outputs = LimitedList<TxOut>;
 
 impl Element for TxOut {
     ghost use Rattle.std.specs.Prelude.{true};
-    ghost use Rattle.tx.specs.Limits.{max_outputs};
+    ghost use Rattle.tx.specs.declared.limits.TheConstants.{MAX_OUTPUTS as max_outputs};
     ghost use Rattle.tx.specs.Parts.{IsOutput};
 
     const LIMIT: usize = MAX_OUTPUTS;

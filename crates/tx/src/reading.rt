@@ -1,7 +1,7 @@
 //! From bytes to transactions.
 
 ghost use Rattle.std.specs.Prelude.{◌≡◌, ◌≤◌, ◌<◌, ℕ, List, length, IfOk, Ok};
-ghost use Rattle.tx.specs.Limits.{max_inputs, max_outputs, max_items};
+ghost use Rattle.tx.specs.declared.limits.TheConstants.{MAX_INPUTS as max_inputs, MAX_OUTPUTS as max_outputs, MAX_ITEMS as max_items};
 ghost use Rattle.tx.specs.Fields.{Transaction};
 ghost use Rattle.tx.specs.Spelling.{IsTransaction, IsStripped};
 ghost use Rattle.tx.specs.Reading.{Gives, fields_at, byte_string_at, input_at, output_at, inputs_at, outputs_at, witness_at, signed_input_at, signed_inputs_at, witnesses_at, version_at, reading, stripped_reading};

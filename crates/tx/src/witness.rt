@@ -12,7 +12,7 @@ pub type Witness = LimitedList<ByteString>;
 
 impl Element for ByteString {
     ghost use Rattle.std.specs.Prelude.{nat_le, length};
-    ghost use Rattle.tx.specs.Limits.{max_items, max_bytes};
+    ghost use Rattle.tx.specs.declared.limits.TheConstants.{MAX_ITEMS as max_items, MAX_BYTES as max_bytes};
     ghost use Rattle.tx.specs.Parts.{IsBounded};
 
     const LIMIT: usize = MAX_ITEMS;

@@ -1,7 +1,7 @@
 -- What passes a sender's tests passes the tests of its receiver, who knows at least as much of its
 -- own updates.
 use Rattle.std.proofs.Common.{◌≡◌, ℕ, ◌+◌, ◌≤◌, Bool, true, false, not, eqb, ltb, leb, List, [], ◌∷◌, ◌++◌, length, sym, ap, ◌∙◌, refl, arith, Option, Some, None, Result, Ok, Err}
-use Rattle.std.specs.Prelude.{MatchResult}
+use Rattle.std.specs.Prelude.{MatchResult, is_none}
 use Rattle.std.proofs.lemmas.Bool.{ltb-false, le-ltb, leb-false, lt-leb}
 use Rattle.updates.specs.declared.changes.Update.{Update}
 use Rattle.updates.specs.declared.changes.Update.TheVariants.{Add, Fulfil, Fail, Fee}
@@ -14,7 +14,7 @@ use Rattle.updates.specs.declared.fates.Fate.TheVariants.{Live, Fulfilled, Faile
 use Rattle.updates.specs.Views.{start_of}
 use Rattle.sha2.specs.Sha256.{sha256}
 use Rattle.updates.specs.Stages.{Stages}
-use Rattle.updates.specs.Refusals.{Test, if_so, first_refusal, removable, to_remove, is_missing, is_wrong, update_tests, IsRefusal}
+use Rattle.updates.specs.Refusals.{Test, if_so, first_refusal, removable, to_remove, is_wrong, update_tests, IsRefusal}
 use Rattle.updates.specs.declared.errors.ChannelError.{ChannelError}
 use Rattle.updates.specs.declared.errors.ChannelError.TheVariants.{NoMemory}
 use Rattle.updates.proofs.Sums.{offers-append, spent_falls, live_count_falls, gained_of_more}
@@ -54,11 +54,11 @@ removed Live o p e = (refl, e)
 removed Fulfilled o p e = absurd (cc)
 removed Failed o p e = absurd (cc)
 
-pub present : (o : Option Htlc) → is_missing o ≡ false → (p : Htlc) × (o ≡ Some p)
+pub present : (o : Option Htlc) → is_none o ≡ false → (p : Htlc) × (o ≡ Some p)
 present None e = absurd (cc)
 present (Some p) e = (p, refl)
 
-same_to_remove : (s o s' o' : Stages) (id : ℕ) → KnowsMore s o s' o' → is_missing (to_remove id s o) ≡ false → to_remove id s' o' ≡ to_remove id s o
+same_to_remove : (s o s' o' : Stages) (id : ℕ) → KnowsMore s o s' o' → is_none (to_remove id s o) ≡ false → to_remove id s' o' ≡ to_remove id s o
 same_to_remove s o s' o' id k e =
     let p = present (to_remove id s o) e in
     let r = removed (fate id s.known) (offer_of id (offers o.settled)) p.0 p.1 in
@@ -71,8 +71,8 @@ update_passes : (terms : Terms) (by : Side) (s o s' o' : Stages) (u : Update) �
 update_passes terms by s o s' o' (Add p) k e = add_passes terms by s o s' o' p k e
 update_passes terms by s o s' o' (Fulfil id preimage) k (t1, (t2, t3)) =
     let g = same_to_remove s o s' o' id k t1 in
-    (ap is_missing g ∙ t1, (ap (is_wrong (sha256 preimage)) g ∙ t2, tt))
-update_passes terms by s o s' o' (Fail id) k (t1, t2) = let g = same_to_remove s o s' o' id k t1 in (ap is_missing g ∙ t1, tt)
+    (ap is_none g ∙ t1, (ap (is_wrong (sha256 preimage)) g ∙ t2, tt))
+update_passes terms by s o s' o' (Fail id) k (t1, t2) = let g = same_to_remove s o s' o' id k t1 in (ap is_none g ∙ t1, tt)
 update_passes terms by s o s' o' (Fee rate) k e = e
 
 pub update_accepted : ReceiversAccept

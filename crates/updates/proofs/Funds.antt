@@ -2,6 +2,7 @@
 use Rattle.std.proofs.Common.{◌≡◌, ℕ, ◌+◌, ◌*◌, ◌<◌, ◌≤◌, true, false, ◌&&◌, eqb, nat_lt, List, [], ◌∷◌, ◌++◌, length, IsTrue, sym, ap, ◌∙◌, refl, arith, append-nil, length-append}
 use Rattle.std.proofs.lemmas.Bool.{eqb-true, ne_eqb, not-false, ltb-false, leb-false, lt-ltb, and_parts, and_from}
 use Rattle.std.proofs.lemmas.List.Folds.{list_all-append}
+use Rattle.std.specs.Prelude.{is_none}
 use Rattle.terms.specs.declared.htlcs.Htlc.{Htlc}
 use Rattle.updates.specs.declared.changes.Update.{Update}
 use Rattle.updates.specs.declared.changes.Update.TheVariants.{Add, Fulfil, Fail, Fee}
@@ -13,7 +14,7 @@ use Rattle.updates.specs.declared.fates.Fate.TheVariants.{Live, Fulfilled, Faile
 use Rattle.updates.specs.declared.limits.TheConstants.{MAX_HTLCS, EXPIRY_END}
 use Rattle.updates.specs.Views.{IsCovered, IsSound, start_of, expire_at_heights}
 use Rattle.updates.specs.Stages.{Stages, with_update, to_receiver, by_receiver, to_sender, by_sender}
-use Rattle.updates.specs.Refusals.{update_tests, to_remove, is_missing}
+use Rattle.updates.specs.Refusals.{update_tests, to_remove}
 use Rattle.updates.proofs.Sums.{begins_on, begins_longer, begins, fate-append, offers-append, spent_falls, spent_of_fewer, spent-append, spent_is, gained_rises, gained_of_more, live_count_falls, live_count-append, live_count_of_fewer, live-length}
 use Rattle.updates.proofs.Numbering.{numbered-append, numbered_start, found_below, removes_below-more, removes_below-append, gained_settled}
 use Rattle.updates.proofs.Accepting.{AllPass, removed, present}
@@ -86,7 +87,7 @@ numbered_made terms by s o (Fail id) t n = rw (offers_same s.known (Fail id) ref
 numbered_made terms by s o (Fee rate) t n = rw (offers_same s.known (Fee rate) refl) n
 
 -- an HTLC that may be removed has a number below that of the next one to settle
-to_remove_below : (id : ℕ) (s o : Stages) → InOrder o → Numbered 0 (offers o.known) → is_missing (to_remove id s o) ≡ false → id < length (offers o.settled)
+to_remove_below : (id : ℕ) (s o : Stages) → InOrder o → Numbered 0 (offers o.known) → is_none (to_remove id s o) ≡ false → id < length (offers o.settled)
 to_remove_below id s o order n e =
     let p = present (to_remove id s o) e in
     let r = removed (fate id s.known) (offer_of id (offers o.settled)) p.0 p.1 in

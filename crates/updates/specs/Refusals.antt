@@ -1,6 +1,7 @@
 -- Which updates a channel refuses, in which order, and by which number (BOLT 2).
-use Rattle.std.specs.Prelude.{◌≡◌, ℕ, ◌+◌, Bool, true, false, not, ◌&&◌, nat_lt, nat_le, ◌==◌, List, [], ◌∷◌, length, Option, Some, None}
+use Rattle.std.specs.Prelude.{◌≡◌, ℕ, ◌+◌, Bool, true, false, not, ◌&&◌, nat_lt, nat_le, ◌==◌, List, [], ◌∷◌, length, Option, Some, None, is_none}
 use Rattle.std.specs.Str.{bytes_eq}
+use Rattle.std.specs.Option.{option_map_or}
 use Rattle.sha2.specs.Sha256.{sha256}
 use Rattle.terms.specs.declared.htlcs.Htlc.{Htlc}
 use Rattle.terms.specs.declared.sides.Side.{Side}
@@ -11,7 +12,7 @@ use Rattle.terms.specs.Agreement.{party}
 use Rattle.updates.specs.declared.changes.Update.{Update}
 use Rattle.updates.specs.declared.changes.Update.TheVariants.{Add, Fulfil, Fail, Fee}
 use Rattle.updates.specs.declared.fates.Fate.{Fate}
-use Rattle.updates.specs.declared.fates.Fate.TheVariants.{Live, Fulfilled, Failed}
+use Rattle.updates.specs.declared.fates.Fate.TheVariants.{Live}
 use Rattle.updates.specs.declared.errors.ChannelError.{ChannelError}
 use Rattle.updates.specs.declared.errors.ChannelError.TheVariants.{NoMemory, AmountZero, BelowMinimum, ExpiryTooLarge, WrongId, TooManyHtlcs, OverBalance, UnknownHtlc, WrongPreimage, NoUpdates, BadSignature, WrongSecret, NotYourTurn, NotOpener}
 use Rattle.updates.specs.declared.limits.TheConstants.{MAX_HTLCS, EXPIRY_END}
@@ -53,34 +54,25 @@ first_refusal (t ∷ tests) = if_so t.0 t.1 (first_refusal tests)
 -- had in millisatoshis, and `out` what of it has gone out
 abbrev pub add_tests : Terms → Side → ℕ → ℕ → ℕ → ℕ → Htlc → List Test
 add_tests terms by next live had out h =
-    (not (h.id == next), WrongId)
-    ∷ (h.amount == 0, AmountZero)
+    (not (h.id == next), WrongId) ∷ (h.amount == 0, AmountZero)
     ∷ (nat_lt h.amount (party (other by) terms).minimum, BelowMinimum)
-    ∷ (nat_le EXPIRY_END h.expiry, ExpiryTooLarge)
-    ∷ (nat_le MAX_HTLCS live, TooManyHtlcs)
-    ∷ (nat_lt had (h.amount + out), OverBalance)
-    ∷ []
-
-abbrev pub is_missing : Option Htlc → Bool
-is_missing None = true
-is_missing (Some h) = false
+    ∷ (nat_le EXPIRY_END h.expiry, ExpiryTooLarge) ∷ (nat_le MAX_HTLCS live, TooManyHtlcs)
+    ∷ (nat_lt had (h.amount + out), OverBalance) ∷ []
 
 abbrev pub is_wrong : List ℕ → Option Htlc → Bool
-is_wrong hash None = false
-is_wrong hash (Some h) = not (bytes_eq hash h.hash)
+is_wrong hash o = option_map_or (λ h. not (bytes_eq hash h.hash)) o false
 
 -- the tests of a fulfilment, with the HTLC that may be removed under this id
 abbrev pub fulfil_tests : Option Htlc → List ℕ → List Test
-fulfil_tests found preimage = (is_missing found, UnknownHtlc) ∷ (is_wrong (sha256 preimage) found, WrongPreimage) ∷ []
+fulfil_tests h x = (is_none h, UnknownHtlc) ∷ (is_wrong (sha256 x) h, WrongPreimage) ∷ []
 
 abbrev pub fail_tests : Option Htlc → List Test
-fail_tests found = (is_missing found, UnknownHtlc) ∷ []
+fail_tests h = (is_none h, UnknownHtlc) ∷ []
 
 abbrev pub is_side : Side → Side → Bool
 is_side A A = true
 is_side B B = true
-is_side A B = false
-is_side B A = false
+is_side a b = false
 
 abbrev pub fee_tests : Terms → Side → List Test
 fee_tests terms by = (not (is_side by terms.opener), NotOpener) ∷ []
@@ -88,8 +80,7 @@ fee_tests terms by = (not (is_side by terms.opener), NotOpener) ∷ []
 -- the HTLC with an id that passed all stages, if nobody removed it
 abbrev pub removable : Fate → Option Htlc → Option Htlc
 removable Live h = h
-removable Fulfilled h = None
-removable Failed h = None
+removable ended h = None
 
 abbrev pub to_remove : ℕ → Stages → Stages → Option Htlc
 to_remove id sender others = removable (fate id sender.known) (offer_of id (offers others.settled))
@@ -99,13 +90,14 @@ abbrev pub update_tests : Terms → Side → Stages → Stages → Update → Li
 update_tests terms by sender others (Add h) =
     add_tests terms by (length (offers sender.known)) (live_count sender.known others.settled)
     (start_of by terms + gained sender.settled others.known) (spent sender.known others.settled) h
-update_tests terms by sender others (Fulfil id preimage) = fulfil_tests (to_remove id sender others) preimage
+update_tests terms by sender others (Fulfil id x) = fulfil_tests (to_remove id sender others) x
 update_tests terms by sender others (Fail id) = fail_tests (to_remove id sender others)
 update_tests terms by sender others (Fee rate) = fee_tests terms by
 
 -- whether a signature of `sender` covers no new update
 abbrev pub covers_nothing : Stages → Stages → Bool
-covers_nothing sender others = length sender.known == length sender.with_receiver && length others.past_receiver == length others.with_sender
+covers_nothing s o =
+    length s.known == length s.with_receiver && length o.past_receiver == length o.with_sender
 
 -- out of memory, or the first refusal
 abbrev pub IsRefusal : Option ChannelError → ChannelError → Type 0

@@ -23,27 +23,28 @@ part_of PastReceiver s = s.past_receiver
 part_of WithSender s = s.with_sender
 
 abbrev pub none_yet : Stages
-none_yet = record { known = []; with_receiver = []; past_receiver = []; with_sender = []; settled = [] }
+none_yet =
+    record { known = []; with_receiver = []; past_receiver = []; with_sender = []; settled = [] }
 
 -- the sender makes an update
 abbrev pub with_update : Update → Stages → Stages
-with_update u s = record { known = s.known ++ u ∷ []; with_receiver = s.with_receiver; past_receiver = s.past_receiver; with_sender = s.with_sender; settled = s.settled }
+with_update u s = record s { known = s.known ++ u ∷ [] }
 
 -- the sender signs the receiver's next commitment
 abbrev pub to_receiver : Stages → Stages
-to_receiver s = record { known = s.known; with_receiver = s.known; past_receiver = s.past_receiver; with_sender = s.with_sender; settled = s.settled }
+to_receiver s = record s { with_receiver = s.known }
 
 -- the receiver revokes its previous commitment
 abbrev pub by_receiver : Stages → Stages
-by_receiver s = record { known = s.known; with_receiver = s.with_receiver; past_receiver = s.with_receiver; with_sender = s.with_sender; settled = s.settled }
+by_receiver s = record s { past_receiver = s.with_receiver }
 
 -- the receiver signs the sender's next commitment
 abbrev pub to_sender : Stages → Stages
-to_sender s = record { known = s.known; with_receiver = s.with_receiver; past_receiver = s.past_receiver; with_sender = s.past_receiver; settled = s.settled }
+to_sender s = record s { with_sender = s.past_receiver }
 
 -- the sender revokes its previous commitment
 abbrev pub by_sender : Stages → Stages
-by_sender s = record { known = s.known; with_receiver = s.with_receiver; past_receiver = s.past_receiver; with_sender = s.with_sender; settled = s.with_sender }
+by_sender s = record s { settled = s.with_sender }
 
 -- the same, by one list and a count for each further stage
 abbrev pub stages_of : List Update → ℕ → ℕ → ℕ → ℕ → Stages

@@ -70,23 +70,25 @@ abbrev pub holding_none : Terms → Side → Held
 holding_none terms side = record { terms = terms; side = side; own = none_yet; theirs = none_yet }
 
 abbrev pub holding_made : Update → Held → Held
-holding_made u h = record { terms = h.terms; side = h.side; own = with_update u h.own; theirs = h.theirs }
+holding_made u h = record h { own = with_update u h.own }
 
 abbrev pub holding_signed : Held → Held
-holding_signed h = record { terms = h.terms; side = h.side; own = to_receiver h.own; theirs = to_sender h.theirs }
+holding_signed h = record h { own = to_receiver h.own; theirs = to_sender h.theirs }
 
 abbrev pub holding_update : Update → Held → Held
-holding_update u h = record { terms = h.terms; side = h.side; own = h.own; theirs = with_update u h.theirs }
+holding_update u h = record h { theirs = with_update u h.theirs }
 
 abbrev pub holding_signature : Held → Held
-holding_signature h = record { terms = h.terms; side = h.side; own = by_sender (to_sender h.own); theirs = by_receiver (to_receiver h.theirs) }
+holding_signature h =
+    record h { own = by_sender (to_sender h.own); theirs = by_receiver (to_receiver h.theirs) }
 
 abbrev pub holding_revocation : Held → Held
-holding_revocation h = record { terms = h.terms; side = h.side; own = by_receiver h.own; theirs = by_sender h.theirs }
+holding_revocation h = record h { own = by_receiver h.own; theirs = by_sender h.theirs }
 
 -- the HTLC that a side would offer next
 abbrev pub next_htlc : Stages → ℕ → List ℕ → ℕ → Htlc
-next_htlc own amount hash expiry = record { id = length (offers own.known); amount = amount; hash = hash; expiry = expiry }
+next_htlc own amount hash expiry =
+    record { id = length (offers own.known); amount = amount; hash = hash; expiry = expiry }
 
 -- the tests of an update of one's own, and of the peer's
 abbrev pub own_tests : Held → Update → List Test

@@ -1,5 +1,7 @@
 -- What lists of updates say of the HTLCs in them (BOLT 2).
 use Rattle.std.specs.Prelude.{ℕ, ◌+◌, ◌==◌, if◌then◌else◌, List, [], ◌∷◌, Option, Some, None, unwrap_or}
+use Rattle.std.specs.Option.{option_or}
+use Rattle.std.specs.List.{find}
 use Rattle.updates.specs.declared.changes.Update.{Update}
 use Rattle.updates.specs.declared.changes.Update.TheVariants.{Add, Fulfil, Fail, Fee}
 use Rattle.terms.specs.declared.htlcs.Htlc.{Htlc}
@@ -9,8 +11,7 @@ use Rattle.updates.specs.declared.fates.Fate.TheVariants.{Live, Fulfilled, Faile
 -- the earlier of two fates, where there is one
 abbrev pub first_of_fates : Fate → Fate → Fate
 first_of_fates Live f = f
-first_of_fates Fulfilled f = Fulfilled
-first_of_fates Failed f = Failed
+first_of_fates ended f = ended
 
 -- what one update makes of the HTLC with this id that the other side offered
 abbrev pub fate_by : ℕ → Update → Fate
@@ -31,8 +32,7 @@ offers (u ∷ us) = offers us
 
 -- the offer with this id
 abbrev pub offer_of : ℕ → List Htlc → Option Htlc
-offer_of id [] = None
-offer_of id (o ∷ os) = if o.id == id then Some o else offer_of id os
+offer_of id htlcs = find (λ h. h.id == id) htlcs
 
 -- a sum over offers, by what the other side's updates made of each
 abbrev pub total : (Fate → ℕ → ℕ) → List Htlc → List Update → ℕ
@@ -41,23 +41,19 @@ total f (o ∷ os) ends = f (fate o.id ends) o.amount + total f os ends
 
 abbrev pub if_live : Fate → ℕ → ℕ
 if_live Live n = n
-if_live Fulfilled n = 0
-if_live Failed n = 0
+if_live ended n = 0
 
 abbrev pub if_fulfilled : Fate → ℕ → ℕ
-if_fulfilled Live n = 0
 if_fulfilled Fulfilled n = n
-if_fulfilled Failed n = 0
+if_fulfilled f n = 0
 
 abbrev pub unless_failed : Fate → ℕ → ℕ
-unless_failed Live n = n
-unless_failed Fulfilled n = n
 unless_failed Failed n = 0
+unless_failed f n = n
 
 abbrev pub one_if_live : Fate → ℕ → ℕ
 one_if_live Live n = 1
-one_if_live Fulfilled n = 0
-one_if_live Failed n = 0
+one_if_live ended n = 0
 
 -- the millisatoshis that left one's balance: of the offers in `mine` that `others` did not fail
 abbrev pub spent : List Update → List Update → ℕ
@@ -78,8 +74,7 @@ live_count mine others = total one_if_live (offers mine) others
 -- these HTLCs
 abbrev pub kept_if_live : Fate → Htlc → List Htlc → List Htlc
 kept_if_live Live o os = o ∷ os
-kept_if_live Fulfilled o os = os
-kept_if_live Failed o os = os
+kept_if_live ended o os = os
 
 abbrev pub live_in : List Htlc → List Update → List Htlc
 live_in [] ends = []
@@ -94,8 +89,7 @@ fee_of (Fee rate) = Some rate
 fee_of u = None
 
 abbrev pub later_fee : Option ℕ → Option ℕ → Option ℕ
-later_fee earlier None = earlier
-later_fee earlier (Some rate) = Some rate
+later_fee earlier later = option_or later earlier
 
 -- the rate of the last change of the feerate in a list
 abbrev pub newest_fee : List Update → Option ℕ

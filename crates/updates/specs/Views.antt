@@ -32,7 +32,7 @@ feerate_of B rate xs ys = last_fee rate ys
 
 -- what a side has, and the HTLCs that it offered and nobody removed
 abbrev pub share_of : ℕ → List Update → List Update → Share
-share_of start mine others = record { balance = balance start mine others; offered = live mine others }
+share_of start xs ys = record { balance = balance start xs ys; offered = live xs ys }
 
 -- the view of A's updates `xs` and B's `ys`
 abbrev pub view_of : Terms → List Update → List Update → View
@@ -56,7 +56,8 @@ expire_at_heights htlcs = list_all (λ h. nat_lt h.expiry EXPIRY_END) htlcs
 pub record IsSound (terms : Terms) (xs ys : List Update) : Type 0 where
   pub a : IsCovered terms.a.start xs ys
   pub b : IsCovered terms.b.start ys xs
-  pub sum : balance terms.a.start xs ys + balance terms.b.start ys xs + pending xs ys + pending ys xs ≡ MSAT_PER_SAT * terms.capacity
+  pub sum : balance terms.a.start xs ys + balance terms.b.start ys xs
+      + pending xs ys + pending ys xs ≡ MSAT_PER_SAT * terms.capacity
   pub few_of_a : length (live xs ys) ≤ MAX_HTLCS
   pub few_of_b : length (live ys xs) ≤ MAX_HTLCS
   pub heights_of_a : IsTrue (expire_at_heights (live xs ys))

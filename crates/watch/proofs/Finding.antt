@@ -6,13 +6,12 @@ use Rattle.std.proofs.lemmas.Option.{slice_get_read, slice_get_within, get_or_fr
 use Rattle.std.proofs.lemmas.Slice.Eq.{bytes_eq-Decides}
 use Rattle.sha2.specs.Sha256.{sha256, digest_bytes, final_hash, initial_hash_256}
 use Rattle.tx.specs.declared.input.TxIn.{TxIn}
-use Rattle.tx.specs.Fields.{Transaction, unsigned_inputs, unsigned_transaction}
+use Rattle.tx.specs.Fields.{Transaction, unsigned_inputs, unsigned_transaction, same_outpoint}
 use Rattle.tx.specs.Spelling.{transaction_id}
 use Rattle.tx.proofs.Witnesses.{same_id}
 use Rattle.terms.specs.declared.agreement.Terms.{Terms}
 use Rattle.terms.specs.Numbers.{low_48_bits, mask_of, obscured, revealed}
 use Rattle.terms.proofs.Revealing.{numbers_come_back}
-use Rattle.chain.specs.Blocks.{same_outpoint}
 use Rattle.chain.proofs.Noting.{itself}
 use Rattle.commit.specs.Commitments.{Contents, commitment_of, transaction_of, id_of}
 use Rattle.penalty.specs.Claimable.{commitment_in}

@@ -9,7 +9,7 @@ use Rattle.digest.specs.Ripemd160.{ripemd160}
 use Rattle.digest.proofs.OutsideVectors.{length-ripemd160}
 use Rattle.script.specs.declared.opcode.Op.{Op}
 use Rattle.script.specs.declared.opcode.Op.TheVariants.{Push, Number}
-use Rattle.script.specs.Limits.{locktime_threshold}
+use Rattle.script.specs.declared.limits.TheConstants.{LOCKTIME_THRESHOLD}
 use Rattle.script.specs.Number.{minimal_bytes_of}
 use Rattle.script.specs.Spelling.{spelling, payload_of, IsOp}
 use Rattle.script.specs.Token.{is_key}
@@ -78,7 +78,7 @@ received_read r m l p expiry low mk lk rl ml ll pl =
     (from_each IsOp (received r m l p expiry) (tt, (tt, (rv, (tt, (tt, (tt, (tt, (mv, (tt, (tt, (size.valid, (tt, (tt, (tt, (pv, (tt, (two, (tt, (lv, (two, (tt, (tt, (tt, (height.valid, (tt, (tt, (tt, (tt, (tt, tt))))))))))))))))))))))))))))))
     (let short = size.short in let small = height.short in simp length-append (omega (arith, short, small, rl, ml, ll, pl)))
 
-pub form_read : (k : KeyBytes) (d : Direction) (h : Htlc) → AreKeys k → h.expiry < locktime_threshold → IsRead (htlc_form k d h) (htlc_script k d h)
+pub form_read : (k : KeyBytes) (d : Direction) (h : Htlc) → AreKeys k → h.expiry < LOCKTIME_THRESHOLD → IsRead (htlc_form k d h) (htlc_script k d h)
 unfolding htlc_script
 form_read k Offered h keys low =
     let rl = length-ripemd160 _ in

@@ -1,12 +1,11 @@
 -- The number that a transaction carries.
 use Rattle.std.proofs.Common.{◌≡◌, ℕ, ◌^◌, ◌<◌, Bool, true, false, cond, List, [], ◌∷◌, Option, Some, None, sym, ap, ◌∙◌, refl}
 use Rattle.std.specs.Prelude.{◌↔◌}
-use Rattle.tx.specs.Fields.{Transaction}
+use Rattle.tx.specs.Fields.{Transaction, same_outpoint}
 use Rattle.tx.specs.declared.input.TxIn.{TxIn}
 use Rattle.terms.specs.declared.agreement.Terms.{Terms}
 use Rattle.terms.specs.Numbers.{mask_of, revealed, HasNumber}
 use Rattle.terms.proofs.Revealing.{numbered}
-use Rattle.chain.specs.Blocks.{same_outpoint}
 use Rattle.chain.proofs.Noting.{itself, same_is}
 use Rattle.watch.specs.Verdicts.{number_by, number_in}
 

@@ -3,7 +3,7 @@ use Rattle.std.specs.Prelude.{◌≡◌, ◌≢◌, ℕ, ◌<◌, ◌⊎◌, tru
 use Rattle.std.specs.List.{AllByRecursion}
 use Rattle.sha2.specs.Sha256.{sha256}
 use Rattle.digest.specs.Ripemd160.{ripemd160}
-use Rattle.script.specs.Limits.{locktime_threshold}
+use Rattle.script.specs.declared.limits.TheConstants.{LOCKTIME_THRESHOLD}
 use Rattle.script.specs.Token.{is_key}
 use Rattle.script.specs.Run.{Clean}
 use Rattle.facts.specs.Meaning.{Meets}
@@ -71,7 +71,7 @@ pub record ScriptCollides (c : Contents) (h : HtlcOutput) (i : TxIn) : Type 0 wh
 -- where the output runs clean (BIP 141), the witness takes one of the paths, or it ends with another script with the same SHA-256
 abbrev pub SpendersGo : Type 0
 SpendersGo =
-    (c : Contents) (h : HtlcOutput) (t : Transaction) (i : TxIn) (counted height : ℕ) → AreKeys c.keys → h.htlc.expiry < locktime_threshold
+    (c : Contents) (h : HtlcOutput) (t : Transaction) (i : TxIn) (counted height : ℕ) → AreKeys c.keys → h.htlc.expiry < LOCKTIME_THRESHOLD
     → run_of t i (tx_output (htlc_output c.keys h.direction h.htlc)) ≡ Some (Clean counted height) → ((index : ℕ) × Goes c h t i index) ⊎ ScriptCollides c h i
 
 -- ---- the preimage

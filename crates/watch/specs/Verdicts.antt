@@ -2,11 +2,10 @@
 use Rattle.std.specs.Prelude.{ℕ, Bool, false, if◌then◌else◌, List, [], ◌∷◌, Option, Some, None}
 use Rattle.std.specs.Str.{bytes_eq}
 use Rattle.tx.specs.declared.input.TxIn.{TxIn}
-use Rattle.tx.specs.Fields.{Transaction}
+use Rattle.tx.specs.Fields.{Transaction, same_outpoint}
 use Rattle.tx.specs.Spelling.{transaction_id}
 use Rattle.terms.specs.declared.agreement.Terms.{Terms}
 use Rattle.terms.specs.Numbers.{mask_of, revealed}
-use Rattle.chain.specs.Blocks.{same_outpoint}
 use Rattle.commit.specs.Commitments.{Contents, id_of}
 use Rattle.penalty.specs.Claimable.{commitment_in}
 use Rattle.resolve.specs.declared.verdicts.Verdict.{Verdict}

@@ -2,8 +2,8 @@
 use Rattle.std.specs.Prelude.{◌≡◌, ℕ, Bool, ◌&&◌, ◌||◌, ◌==◌, if◌then◌else◌, not, nat_le, length, List, [], ◌∷◌, ◌++◌, map, filter}
 use Rattle.std.specs.List.{list_any, flat_map}
 use Rattle.tx.specs.declared.input.OutPoint.{OutPoint}
-use Rattle.tx.specs.Fields.{Transaction}
-use Rattle.chain.specs.Blocks.{same_outpoint, names}
+use Rattle.tx.specs.Fields.{Transaction, same_outpoint}
+use Rattle.chain.specs.Blocks.{names}
 use Rattle.penalty.specs.Claimable.{Claimable}
 use Rattle.resolve.specs.declared.known.Known.{Known}
 use Rattle.resolve.specs.Due.{due_of}

@@ -2,7 +2,8 @@
 
 ghost use Rattle.std.specs.Prelude.{◌≡◌, ◌++◌, ◌∷◌, [], OnOk, OnErr};
 ghost use Rattle.std.specs.List.{list_any};
-ghost use Rattle.chain.specs.Blocks.{same_outpoint, names};
+ghost use Rattle.tx.specs.Fields.{same_outpoint};
+ghost use Rattle.chain.specs.Blocks.{names};
 ghost use Rattle.watch.specs.Watching.{Extends, spends_in};
 
 use chain::Confirmed;

@@ -6,7 +6,7 @@ use Rattle.sha2.specs.Sha256.{sha256}
 use Rattle.sha2.proofs.Facts256.{length-sha256}
 use Rattle.std.proofs.lemmas.Bool.{and_from, eq-eqb}
 use Rattle.sighash.specs.Programs.{script_hash_program, is_key_hash_program, is_script_hash_program}
-use Rattle.tx.specs.Limits.{max_value}
+use Rattle.tx.specs.declared.limits.TheConstants.{MAX_VALUE}
 use Rattle.std.proofs.lemmas.List.{map-append}
 use Rattle.std.proofs.lemmas.Option.{none-some, same_Some}
 use Rattle.tx.specs.Parts.{Output}
@@ -155,7 +155,7 @@ found_output true o p e = absurd cc
 found_output false o p e = cc
 
 pub funded_by : (seeds : Seeds) (c : ℕ) (plain : ProposedTerms) (o : Output) (r : Option Output) → r ≡ funding_if_within seeds c plain → r ≡ Some o → o ≡ funding_output seeds c plain
-funded_by seeds c plain o r is some = found_output (nat_lt max_value plain.capacity) (funding_output seeds c plain) o (sym some ∙ is)
+funded_by seeds c plain o r is some = found_output (nat_lt MAX_VALUE plain.capacity) (funding_output seeds c plain) o (sym some ∙ is)
 
 -- a chain grants it
 pub is_granted : (seeds : Seeds) (c : ℕ) (plain : ProposedTerms) (o : Output) → o ≡ funding_output seeds c plain → is_program o.script ≡ false → ⊥

@@ -4,8 +4,8 @@ use Rattle.std.specs.List.{list_any}
 use Rattle.sha2.specs.Sha256.{sha256, digest_bytes, hash_after, compress, rounds, schedule, first_words}
 use Rattle.tx.specs.Spelling.{number}
 use Rattle.tx.specs.declared.input.OutPoint.{OutPoint}
+use Rattle.tx.specs.Fields.{same_outpoint}
 use Rattle.chain.specs.Blocks.{grant_id, grant_outpoint}
-use Rattle.book.specs.Penalties.{same_outpoint}
 use Rattle.world.specs.Agreeing.{first_grants}
 
 abbrev id0 : List ℕ

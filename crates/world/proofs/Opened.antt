@@ -9,10 +9,11 @@ use Rattle.std.proofs.lemmas.List.{reverse-append, map-append}
 use Rattle.std.proofs.lemmas.Slice.Eq.{bytes_eq-Decides}
 use Rattle.script.specs.Spelling.{spelling}
 use Rattle.sha2.proofs.Facts256.{length-sha256}
-use Rattle.tx.specs.Limits.{max_value, max_bytes}
+use Rattle.tx.specs.declared.limits.TheConstants.{MAX_VALUE, MAX_BYTES}
 use Rattle.tx.specs.declared.errors.FieldError.TheVariants.{ValueTooLarge, OverLimit}
 use Rattle.tx.specs.Parts.{Output}
 use Rattle.tx.specs.declared.input.OutPoint.{OutPoint}
+use Rattle.tx.specs.Fields.{same_outpoint}
 use Rattle.chain.specs.Blocks.{grant_outpoint}
 use Rattle.terms.specs.declared.sides.Side.{Side}
 use Rattle.terms.specs.declared.sides.Side.TheVariants.{A, B}
@@ -33,7 +34,6 @@ use Rattle.book.specs.declared.calls.Opening.{Opening}
 use Rattle.book.specs.declared.calls.Call.{Call}
 use Rattle.book.specs.declared.calls.Entry.{Entry}
 use Rattle.book.specs.declared.errors.OpenError.TheVariants.{BookFull, SameFunding, BadSignature}
-use Rattle.book.specs.Penalties.{same_outpoint}
 use Rattle.book.specs.Books.{ChannelBook, Channels, opened_by, channels_after, replayed, replay, fundings_of}
 use Rattle.book.specs.Replies.{opened, unless, if_so, open_refusal, is_accepted, reply_of, extended, history_after}
 use Rattle.scenario.specs.declared.seeds.Seeds.{Seeds}
@@ -52,7 +52,7 @@ fundings_are_spent seeds c o p t h =
     }
 
 -- a script hash program has 34 bytes, fewer than the limit of an output
-short : (s : List ℕ) → nat_lt max_bytes (length (script_hash_program s)) ≡ false
+short : (s : List ℕ) → nat_lt MAX_BYTES (length (script_hash_program s)) ≡ false
 unfolding script_hash_program
 short s = rw (length-sha256 s) refl
 
@@ -61,11 +61,11 @@ made true big o h = refl
 made false big o h = rw (h) refl
 
 pub funded : (seeds : Seeds) (c : ℕ) (p : ProposedTerms) (script : List ℕ) → script ≡ (funding_output seeds c p).script
-    → result_ok (if nat_lt max_value p.capacity then Err ValueTooLarge else if nat_lt max_bytes (length script) then Err OverLimit else Ok (record { value = p.capacity; script = script }))
+    → result_ok (if nat_lt MAX_VALUE p.capacity then Err ValueTooLarge else if nat_lt MAX_BYTES (length script) then Err OverLimit else Ok (record { value = p.capacity; script = script }))
     ≡ funding_if_within seeds c p
 funded seeds c p script e =
-    ap (λ (s : List ℕ). result_ok (if nat_lt max_value p.capacity then Err ValueTooLarge else if nat_lt max_bytes (length s) then Err OverLimit else Ok (record { value = p.capacity; script = s }))) e
-    ∙ made (nat_lt max_value p.capacity) (nat_lt max_bytes (length (funding_output seeds c p).script)) (funding_output seeds c p) (short _)
+    ap (λ (s : List ℕ). result_ok (if nat_lt MAX_VALUE p.capacity then Err ValueTooLarge else if nat_lt MAX_BYTES (length s) then Err OverLimit else Ok (record { value = p.capacity; script = s }))) e
+    ∙ made (nat_lt MAX_VALUE p.capacity) (nat_lt MAX_BYTES (length (funding_output seeds c p).script)) (funding_output seeds c p) (short _)
 
 -- ---- both sides
 

@@ -7,6 +7,7 @@ use Rattle.std.proofs.lemmas.List.Folds.{list_any-append}
 use Rattle.std.proofs.lemmas.Option.{none-some, same_Some, slice_get_within}
 use Rattle.std.proofs.lemmas.Slice.Eq.{bytes_eq-Decides}
 use Rattle.tx.specs.declared.input.OutPoint.{OutPoint}
+use Rattle.tx.specs.Fields.{same_outpoint}
 use Rattle.terms.specs.declared.sides.Side.{Side}
 use Rattle.terms.specs.declared.sides.Side.TheVariants.{A, B}
 use Rattle.terms.specs.declared.agreement.Terms.{Terms}
@@ -21,7 +22,6 @@ use Rattle.channel.specs.declared.limits.TheConstants.{LAST_NUMBER}
 use Rattle.channel.specs.Keeping.{one_if}
 use Rattle.channel.specs.Numbered.{IsNumbered}
 use Rattle.book.specs.Books.{ChannelBook}
-use Rattle.book.specs.Penalties.{same_outpoint}
 use Rattle.sources.specs.Recorded.{IsOutPoint}
 use Rattle.sources.specs.Taken.{ChannelRecord, IsOwn, IsSound, ChannelRecords, AreSound}
 use Rattle.world.specs.Agreeing.{first_grants}

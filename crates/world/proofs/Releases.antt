@@ -5,7 +5,7 @@ use Rattle.std.proofs.lemmas.Bool.Decides.{nat_tests}
 use Rattle.std.proofs.lemmas.Option.{none-some, same_Some}
 use Rattle.tx.specs.Parts.{Output}
 use Rattle.tx.specs.Fields.{Transaction}
-use Rattle.tx.specs.Limits.{max_value}
+use Rattle.tx.specs.declared.limits.TheConstants.{MAX_VALUE}
 use Rattle.claim.specs.Claims.{ClaimParts}
 use Rattle.filling.specs.declared.errors.FillError.{FillError}
 use Rattle.filling.specs.Filling.{filling_of}
@@ -43,11 +43,11 @@ first_of_map f (y ∷ ys) x found = ap (λ z. Some (f z)) (same_Some y x found)
 -- claims that can be released together are of one channel, and their worth is within the limit
 pub record AreTogether (c : ℕ) (jobs : List DueClaim) : Type 0 where
   pub all_of : are_of c jobs ≡ true
-  pub little : nat_lt max_value (value_of jobs) ≡ false
+  pub little : nat_lt MAX_VALUE (value_of jobs) ≡ false
 
 pub are_together : (c : ℕ) (jobs : List DueClaim) → batch_refusal c jobs ≡ None → AreTogether c jobs
 are_together c jobs none =
-    let both = go (are_of c jobs) (nat_lt max_value (value_of jobs)) none in
+    let both = go (are_of c jobs) (nat_lt MAX_VALUE (value_of jobs)) none in
     record { all_of = both.0; little = both.1 }
   where
     go : (a b : Bool) → if_so (not a) batches.MixedChannels (if_so b batches.OverValue None) ≡ None → (a ≡ true) × (b ≡ false)
@@ -55,28 +55,28 @@ are_together c jobs none =
     go true true e = absurd (none-some batches.OverValue (sym e))
     go false b e = absurd (none-some batches.MixedChannels (sym e))
 
-pub small_enough : (v : ℕ) → nat_lt max_value v ≡ false → v ≤ max_value
+pub small_enough : (v : ℕ) → nat_lt MAX_VALUE v ≡ false → v ≤ MAX_VALUE
 small_enough v little = grind (arith, nat_tests)
 
 -- the first refusal, given the oldest of the claims
 by_first : (jobs : List DueClaim) (n : Node) (j : DueClaim) → slice_get jobs 0 ≡ Some j
-    → refusal_of jobs n ≡ if_so (not (are_of j.channel jobs)) errors.MixedChannels (if_so (nat_lt max_value (value_of jobs)) errors.OverValue (refusal_in (release_answer j.channel jobs n)))
+    → refusal_of jobs n ≡ if_so (not (are_of j.channel jobs)) errors.MixedChannels (if_so (nat_lt MAX_VALUE (value_of jobs)) errors.OverValue (refusal_in (release_answer j.channel jobs n)))
 by_first [] n j found = absurd (none-some j found)
 by_first (x ∷ jobs) n j found =
-    ap (λ (y : DueClaim). if_so (not (are_of y.channel (x ∷ jobs))) errors.MixedChannels (if_so (nat_lt max_value (value_of (x ∷ jobs))) errors.OverValue (refusal_in (release_answer y.channel (x ∷ jobs) n)))) (same_Some x j found)
+    ap (λ (y : DueClaim). if_so (not (are_of y.channel (x ∷ jobs))) errors.MixedChannels (if_so (nat_lt MAX_VALUE (value_of (x ∷ jobs))) errors.OverValue (refusal_in (release_answer y.channel (x ∷ jobs) n)))) (same_Some x j found)
 
 by_value : (jobs : List DueClaim) (n : Node) (j : DueClaim) → slice_get jobs 0 ≡ Some j → are_of j.channel jobs ≡ true
-    → refusal_of jobs n ≡ if_so (nat_lt max_value (value_of jobs)) errors.OverValue (refusal_in (release_answer j.channel jobs n))
-by_value jobs n j found all = by_first jobs n j found ∙ ap (λ b. if_so (not b) errors.MixedChannels (if_so (nat_lt max_value (value_of jobs)) errors.OverValue (refusal_in (release_answer j.channel jobs n)))) all
+    → refusal_of jobs n ≡ if_so (nat_lt MAX_VALUE (value_of jobs)) errors.OverValue (refusal_in (release_answer j.channel jobs n))
+by_value jobs n j found all = by_first jobs n j found ∙ ap (λ b. if_so (not b) errors.MixedChannels (if_so (nat_lt MAX_VALUE (value_of jobs)) errors.OverValue (refusal_in (release_answer j.channel jobs n)))) all
 
-by_book : (jobs : List DueClaim) (n : Node) (j : DueClaim) → slice_get jobs 0 ≡ Some j → are_of j.channel jobs ≡ true → nat_lt max_value (value_of jobs) ≡ false → refusal_of jobs n ≡ refusal_in (release_answer j.channel jobs n)
+by_book : (jobs : List DueClaim) (n : Node) (j : DueClaim) → slice_get jobs 0 ≡ Some j → are_of j.channel jobs ≡ true → nat_lt MAX_VALUE (value_of jobs) ≡ false → refusal_of jobs n ≡ refusal_in (release_answer j.channel jobs n)
 by_book jobs n j found all little = by_value jobs n j found all ∙ ap (λ b. if_so b errors.OverValue (refusal_in (release_answer j.channel jobs n))) little
 
 -- claims that can't be released together
 pub refused_together : (jobs : List DueClaim) (n : Node) (j : DueClaim) (e : BatchError) (x : EventError) → slice_get jobs 0 ≡ Some j → batch_refusal j.channel jobs ≡ Some e → x ≡ by_batch e
     → IsRefusal (refusal_of jobs n) x
 refused_together jobs n j e x found is by =
-    refused _ x (by_first jobs n j found ∙ go (are_of j.channel jobs) (nat_lt max_value (value_of jobs)) (refusal_in (release_answer j.channel jobs n)) is ∙ ap Some (sym by))
+    refused _ x (by_first jobs n j found ∙ go (are_of j.channel jobs) (nat_lt MAX_VALUE (value_of jobs)) (refusal_in (release_answer j.channel jobs n)) is ∙ ap Some (sym by))
   where
     go : (a b : Bool) (later : Option EventError) → if_so (not a) batches.MixedChannels (if_so b batches.OverValue None) ≡ Some e
         → if_so (not a) errors.MixedChannels (if_so b errors.OverValue later) ≡ Some (by_batch e)
@@ -122,7 +122,7 @@ same_answer o ch outputs claims preimages batch there is =
     ∙ ap (λ ps. refusal_in (released (fill_answer ch.state batch.claims batch.outputs ps))) (sym is.preimages_is)
     ∙ ap (λ p. refusal_in (released (asked NoSuchChannel p (λ c. fill_answer c.state batch.claims batch.outputs batch.preimages)))) (sym there)
 
-pub is_ready : (jobs : List DueClaim) (n : Node) (j : DueClaim) (s : State) (batch : Batch) → slice_get jobs 0 ≡ Some j → are_of j.channel jobs ≡ true → nat_lt max_value (value_of jobs) ≡ false
+pub is_ready : (jobs : List DueClaim) (n : Node) (j : DueClaim) (s : State) (batch : Batch) → slice_get jobs 0 ≡ Some j → are_of j.channel jobs ≡ true → nat_lt MAX_VALUE (value_of jobs) ≡ false
     → Some s ≡ option_map (λ ch. ch.state) (channel_of n j.channel) → IsBatchOf (claims_in jobs) (output_for s jobs ∷ []) (preimages_for jobs) batch → IsReady jobs n j.channel batch
 is_ready jobs n j s batch found all little there is =
     let t = is_there (channel_of n j.channel) s there in

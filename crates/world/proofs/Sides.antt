@@ -13,7 +13,7 @@ use Rattle.terms.specs.declared.sides.Side.{Side}
 use Rattle.terms.specs.declared.sides.Side.TheVariants.{A, B}
 use Rattle.terms.specs.declared.agreement.Terms.{Terms}
 use Rattle.terms.specs.Sides.{other}
-use Rattle.scenario.specs.Limits.{max_channels}
+use Rattle.scenario.specs.declared.limits.TheConstants.{MAX_CHANNELS}
 use Rattle.scenario.specs.declared.events.Event.{Event}
 use Rattle.chain.specs.Blocks.{Contents, height_of, grant_outpoint}
 use Rattle.claim.specs.Claims.{ClaimParts}
@@ -89,7 +89,7 @@ in_later old new later c x d = let l = later c d.ch d.there in record { ch = l.n
 -- ---- lists of claims
 
 abbrev pub AreOpened : List Entry → Type 0
-AreOpened history = (c : ℕ) (ch : ChannelBook) → slice_get (replay history) c ≡ Some ch → (c < max_channels) × (ch.state.held.terms.funding ≡ grant_outpoint c)
+AreOpened history = (c : ℕ) (ch : ChannelBook) → slice_get (replay history) c ≡ Some ch → (c < MAX_CHANNELS) × (ch.state.held.terms.funding ≡ grant_outpoint c)
 
 abbrev pub AreDueIn : List Entry → Type 0
 AreDueIn history = (seat c : ℕ) (batch : Batch) → Contains history (record { seat = seat; call = calls.Release c batch }) → AllByRecursion (IsDueIn history c) batch.claims
@@ -195,8 +195,8 @@ grant_at : (n i : ℕ) (p : OutPoint) → slice_get (first_grants n) i ≡ Some 
 grant_at zero i p at = absurd (none-some p at)
 grant_at (suc n) i p at = past_grants n i (grant_outpoint n) p at (grant_at n) refl
 
-opened_by_grants : (chs : Channels) (n : ℕ) → fundings_of chs ≡ first_grants n → n ≤ max_channels → (c : ℕ) (ch : ChannelBook) → slice_get chs c ≡ Some ch
-    → (c < max_channels) × (ch.state.held.terms.funding ≡ grant_outpoint c)
+opened_by_grants : (chs : Channels) (n : ℕ) → fundings_of chs ≡ first_grants n → n ≤ MAX_CHANNELS → (c : ℕ) (ch : ChannelBook) → slice_get chs c ≡ Some ch
+    → (c < MAX_CHANNELS) × (ch.state.held.terms.funding ≡ grant_outpoint c)
 opened_by_grants chs n are few c ch at =
     let funding : ChannelBook → OutPoint = λ x. x.state.held.terms.funding in
     let there : slice_get (first_grants n) c ≡ Some (funding ch)
@@ -207,7 +207,7 @@ opened_by_grants chs n are few c ch at =
 open_due : (history : List Entry) (o : Opening) → ReleasesDue history (calls.Open o)
 open_due history o c batch e = absurd cc
 
-pub side_opened : (n : Node) (o : Opening) (count : ℕ) → IsSide n → fundings_of (replay (with_opened o n).history) ≡ first_grants count → count ≤ max_channels → IsSide (with_opened o n)
+pub side_opened : (n : Node) (o : Opening) (count : ℕ) → IsSide n → fundings_of (replay (with_opened o n).history) ≡ first_grants count → count ≤ MAX_CHANNELS → IsSide (with_opened o n)
 side_opened n o count is stands few =
     let later = called_later n (calls.Open o) in
     record {

@@ -9,7 +9,7 @@ use Rattle.terms.specs.Agreement.{party}
 use Rattle.terms.specs.Bases.{IsSeedOf}
 use Rattle.terms.specs.Sides.{other}
 use Rattle.chain.specs.Blocks.{grant_outpoint}
-use Rattle.scenario.specs.Limits.{max_channels}
+use Rattle.scenario.specs.declared.limits.TheConstants.{MAX_CHANNELS}
 use Rattle.safety.specs.Standing.{HavePassed}
 use Rattle.sources.specs.Waiting.{EachInputFits}
 use Rattle.sources.specs.Places.{OwnersPlaces, PeersPlaces, RevokedPlaces}
@@ -123,7 +123,7 @@ pub record AreBoth (w : World) (c : ℕ) (x y : ChannelBook) : Type 0 where
   pub terms : (s : Side) → (end_of s x y).state.held.terms ≡ x.state.held.terms
   pub ends : (s : Side) → IsEnd s (end_of s x y).state (end_of (other s) x y).state
   pub seeds : (s : Side) → IsSeeded (end_of s x y)
-  pub granted : (c < max_channels) × (x.state.held.terms.funding ≡ grant_outpoint c)
+  pub granted : (c < MAX_CHANNELS) × (x.state.held.terms.funding ≡ grant_outpoint c)
 
 -- the laws of lower crates that this stands on
 pub record Laws : Type 0 where

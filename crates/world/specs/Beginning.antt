@@ -7,7 +7,7 @@ use Rattle.terms.specs.declared.sides.Side.TheVariants.{A}
 use Rattle.channel.specs.Tokens.{peer_tokens}
 use Rattle.terms.specs.declared.proposals.ProposedTerms.{ProposedTerms}
 use Rattle.scenario.specs.declared.seeds.Seeds.{Seeds}
-use Rattle.scenario.specs.Limits.{max_channels}
+use Rattle.scenario.specs.declared.limits.TheConstants.{MAX_CHANNELS}
 use Rattle.scenario.specs.Testing.{first_bad_terms}
 use Rattle.book.specs.declared.calls.Opening.{Opening}
 use Rattle.book.specs.declared.calls.Call.TheVariants.{Open}
@@ -66,7 +66,7 @@ IsBeginning seeds terms w = AllBegin seeds 0 terms empty_world w
 
 -- OverLimit: more than 8 channels; BadTerms: the first channel on whose terms the two sides can't agree
 abbrev pub beginning_refusal : List ProposedTerms → Option WorldError
-beginning_refusal terms = if nat_lt max_channels (length terms) then Some OverLimit else option_map BadTerms (first_bad_terms terms)
+beginning_refusal terms = if nat_lt MAX_CHANNELS (length terms) then Some OverLimit else option_map BadTerms (first_bad_terms terms)
 
 abbrev pub IsBeginningRefusal : Option WorldError → WorldError → Type 0
 IsBeginningRefusal first no_memory = Unit {0}

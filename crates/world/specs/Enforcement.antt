@@ -8,7 +8,7 @@
 -- `Claim` is (`IsWhole`). The chain is any list of blocks, so the theorem holds at every moment, whatever happens to the chain. It does not say that the transaction gets into a block,
 -- that its other inputs pass, or that its outputs are worth no more than its inputs.
 use Rattle.std.specs.Prelude.{◌≡◌, ℕ, ◌+◌, ◌≤◌, ◌<◌, false, List, slice_get, Some, None, ◌↔◌}
-use Rattle.script.specs.Limits.{max_ops, max_stack_size}
+use Rattle.script.specs.declared.limits.TheConstants.{MAX_OPS_PER_SCRIPT, MAX_STACK_SIZE}
 use Rattle.script.specs.Spelling.{spelling}
 use Rattle.script.specs.Clean.{IsClean}
 use Rattle.script.specs.Run.{Clean}
@@ -25,7 +25,8 @@ use Rattle.chain.specs.Checks.{input_refusal, indexed_refusal}
 
 -- an input fits a claim and is due. The output that it spends is unspent on the chain, with the value and the program of the claim's place. The lock time and the age are reached
 -- in a block of this height (BIP 65, 68)
-pub record IsDue (blocks : List Contents) (height : ℕ) (x : ClaimParts) (t : Transaction) (input : TxIn) : Type 0 where
+pub record IsDue (blocks : List Contents) (height : ℕ) (x : ClaimParts) (t : Transaction)
+    (input : TxIn) : Type 0 where
   pub fits : FitsClaim x t input
   pub coin : Coin
   pub reached : IsReached blocks height t input coin
@@ -33,17 +34,20 @@ pub record IsDue (blocks : List Contents) (height : ℕ) (x : ClaimParts) (t : T
   pub program : coin.output.script ≡ x.place.program
 
 -- such an input passes the chain's test and runs clean
-pub record Passes (blocks : List Contents) (height : ℕ) (x : ClaimParts) (t : Transaction) (input : TxIn) (due : IsDue blocks height x t input) : Type 0 where
+pub record Passes (blocks : List Contents) (height : ℕ) (x : ClaimParts) (t : Transaction)
+    (input : TxIn) (due : IsDue blocks height x t input) : Type 0 where
   -- the chain's test does not refuse it, alone or at any index at which it stands
   pub passes : input_refusal blocks height t input ≡ None
-  pub at_index : (i : ℕ) → slice_get t.inputs i ≡ Some input → indexed_refusal blocks height t (slice_get t.inputs i) ≡ None
+  pub at_index : (i : ℕ) → slice_get t.inputs i ≡ Some input
+      → indexed_refusal blocks height t (slice_get t.inputs i) ≡ None
   -- the program of the output that it spends runs clean on its whole witness (BIP 141)
   pub run : run_of t input due.coin.output ≡ Some (Clean due.fits.path.ops due.fits.path.height)
   -- a chain of steps leads from the witness items to the end of the script with one true value: no operand is missing, no check fails, no branch is open
-  pub clean : IsClean (spend_of t input (spelling x.ways.ops) x.place.value) x.ways.ops due.fits.fits.items due.fits.path.ops due.fits.path.height
+  pub clean : IsClean (spend_of t input (spelling x.ways.ops) x.place.value) x.ways.ops
+      due.fits.fits.items due.fits.path.ops due.fits.path.height
   -- its counted opcodes, and the greatest number of entries on its stack
-  pub few : due.fits.path.ops ≤ max_ops
-  pub low : due.fits.path.height ≤ max_stack_size
+  pub few : due.fits.path.ops ≤ MAX_OPS_PER_SCRIPT
+  pub low : due.fits.path.height ≤ MAX_STACK_SIZE
 
 -- so at any moment of any chain, for each accepted claim and each input that fits it
 abbrev pub ClaimsSpend : Type 0

@@ -3,7 +3,7 @@
 use Rattle.std.specs.Prelude.{ℕ, nat_lt, if◌then◌else◌, List, ◌++◌, Option, Some, None, codes}
 use Rattle.sha2.specs.Sha256.{sha256}
 use Rattle.script.specs.Spelling.{spelling}
-use Rattle.tx.specs.Limits.{max_value}
+use Rattle.tx.specs.declared.limits.TheConstants.{MAX_VALUE}
 use Rattle.tx.specs.declared.input.OutPoint.{OutPoint}
 use Rattle.tx.specs.Parts.{Output}
 use Rattle.tx.specs.Spelling.{number}
@@ -46,7 +46,7 @@ funding_output seeds channel plain = record {
 
 -- the funding output, if an output may have the value
 abbrev pub funding_if_within : Seeds → ℕ → ProposedTerms → Option Output
-funding_if_within seeds channel plain = if nat_lt max_value plain.capacity then None else Some (funding_output seeds channel plain)
+funding_if_within seeds channel plain = if nat_lt MAX_VALUE plain.capacity then None else Some (funding_output seeds channel plain)
 
 -- the terms are the scenario's, with the funding output's outpoint and the base keys of both sides
 abbrev pub AreTermsOf : Seeds → ℕ → OutPoint → ProposedTerms → Terms → Type 0

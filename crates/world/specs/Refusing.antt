@@ -1,6 +1,7 @@
 -- Why an event is refused, and what it leaves.
 use Rattle.std.specs.Prelude.{◌≡◌, ℕ, nat_le, List, [], ◌∷◌, length, Option, Some, None, Result, Ok, Err}
 use Rattle.std.specs.List.{cons_option}
+use Rattle.std.specs.Option.{option_map_or}
 use Rattle.channel.specs.declared.messages.Message.{Message}
 use Rattle.updates.specs.declared.errors.ChannelError.TheVariants.{NoMemory as refusal_memory}
 use Rattle.filling.specs.declared.errors.FillError.TheVariants.{NoMemory as fill_memory}
@@ -80,7 +81,8 @@ IsEvent first (Err e) old done new = IsRefusal first e × (new ≡ old)
 
 -- why a side does not make a call in a channel whose message goes to the peer, and the messages to the peer after it
 abbrev pub sending_refusal : ℕ → Call → Node → Node → Option EventError
-sending_refusal c call me peer = if_so (nat_le (length peer.lines) c) NoSuchChannel (refusal_in (answer_to me call))
+sending_refusal c call me peer =
+    if_so (nat_le (length peer.lines) c) NoSuchChannel (refusal_in (answer_to me call))
 
 abbrev pub sent_by : ℕ → Call → Node → Node → Node
 sent_by c call me peer = sent_to c (messages_in (answer_to me call)) peer
@@ -91,8 +93,7 @@ oldest_of [] = Err NoMessage
 oldest_of (m ∷ ms) = Ok m
 
 abbrev pub oldest_in : Option Line → Result Message EventError
-oldest_in None = Err NoSuchChannel
-oldest_in (Some line) = oldest_of line.inbox
+oldest_in o = option_map_or (λ line. oldest_of line.inbox) o (Err NoSuchChannel)
 
 -- why a message is not delivered to a side, the side after a delivery, and its peer
 abbrev pub delivery_refusal : ℕ → Result Message EventError → Node → Node → Option EventError

@@ -2,7 +2,7 @@
 use Rattle.std.specs.Prelude.{◌≡◌, ◌⊎◌, ℕ, ◌==◌, Bool, true, ◌||◌, not, nat_lt, List, [], ◌∷◌, ◌++◌, length, take, drop, Contains, Option, Some, None, Ok}
 use Rattle.std.specs.List.{AllByRecursion}
 use Rattle.tx.specs.Parts.{Output}
-use Rattle.tx.specs.Limits.{max_inputs, max_value}
+use Rattle.tx.specs.declared.limits.TheConstants.{MAX_INPUTS, MAX_VALUE}
 use Rattle.tx.specs.Fields.{Transaction}
 use Rattle.keys.specs.declared.bases.Base.TheVariants.{Payment}
 use Rattle.keys.specs.Derivation.{base_key}
@@ -45,12 +45,12 @@ abbrev pub refusal_of : List DueClaim → Node → Option EventError
 refusal_of [] n = Some NoJob
 refusal_of (j ∷ jobs) n =
     if_so (not (are_of j.channel (j ∷ jobs))) MixedChannels
-    (if_so (nat_lt max_value (value_of (j ∷ jobs))) OverValue
+    (if_so (nat_lt MAX_VALUE (value_of (j ∷ jobs))) OverValue
     (refusal_in (release_answer j.channel (j ∷ jobs) n)))
 
 -- a release has 1 to 4,000 claims, of those that were taken
 abbrev pub is_no_count : ℕ → ℕ → Bool
-is_no_count k taken = k == 0 || nat_lt max_inputs k || nat_lt taken k
+is_no_count k taken = k == 0 || nat_lt MAX_INPUTS k || nat_lt taken k
 
 abbrev pub release_refusal : ℕ → Node → Option EventError
 release_refusal k n = if_so (is_no_count k (length n.taken)) NoJob (refusal_of (take k n.taken) n)

@@ -11,7 +11,7 @@ use Rattle.resolve.specs.Due.{owners_due, peers_due}
 use Rattle.channel.specs.declared.commitments.CommitmentState.{CommitmentState}
 use Rattle.channel.specs.Tokens.{contents_of}
 use Rattle.channel.specs.States.{State}
-use Rattle.scenario.specs.Limits.{max_channels}
+use Rattle.scenario.specs.declared.limits.TheConstants.{MAX_CHANNELS}
 use Rattle.book.specs.declared.calls.Batch.{Batch}
 use Rattle.book.specs.declared.calls.Call.TheVariants.{Release}
 use Rattle.book.specs.declared.calls.Entry.{Entry}
@@ -50,6 +50,6 @@ pub record IsDueIn (history : List Entry) (c : ℕ) (x : ClaimParts) : Type 0 wh
 
 -- What is true of a side. Each channel is on its own grant of the chain. Its jobs, the claims that it took, and those that it released are on what recorded commitments of their channel let it claim.
 pub record IsSide (n : Node) : Type 0 where
-  pub opened : (c : ℕ) (ch : ChannelBook) → channel_of n c ≡ Some ch → (c < max_channels) × (ch.state.held.terms.funding ≡ grant_outpoint c)
+  pub opened : (c : ℕ) (ch : ChannelBook) → channel_of n c ≡ Some ch → (c < MAX_CHANNELS) × (ch.state.held.terms.funding ≡ grant_outpoint c)
   pub jobs : AllByRecursion (λ j. IsDueIn n.history j.channel j.claim) (n.jobs ++ n.taken)
   pub due : (seat c : ℕ) (batch : Batch) → Contains n.history (record { seat = seat; call = Release c batch }) → AllByRecursion (IsDueIn n.history c) batch.claims

@@ -37,7 +37,8 @@ world_after_call s c call w = with_nodes s (after_call call (node_of s w)) (sent
 
 -- why a side does not receive its oldest message in a channel, and the world after the delivery: the answer is on its way to the peer
 abbrev pub receipt_refusal : Side → ℕ → World → Option EventError
-receipt_refusal s c w = delivery_refusal c (oldest_in (slice_get (node_of s w).lines c)) (node_of s w) (node_of (other s) w)
+receipt_refusal s c w = delivery_refusal c (oldest_in (slice_get (node_of s w).lines c))
+    (node_of s w) (node_of (other s) w)
 
 abbrev pub world_after_delivery : Side → ℕ → World → World
 world_after_delivery s c w =

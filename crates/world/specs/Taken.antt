@@ -8,7 +8,7 @@ use Rattle.terms.specs.Sides.{other}
 use Rattle.commit.specs.Commitments.{Contents}
 use Rattle.penalty.specs.Claimable.{Claimable}
 use Rattle.channel.specs.declared.commitments.CommitmentState.{CommitmentState}
-use Rattle.scenario.specs.Limits.{max_channels}
+use Rattle.scenario.specs.declared.limits.TheConstants.{MAX_CHANNELS}
 use Rattle.safety.specs.Standing.{StandsAt}
 use Rattle.sources.specs.Strings.{IsHashedFor, IsHashedOf, StringsCollide}
 use Rattle.sources.specs.Takers.{IsHtlcTransactionAt, IsLateOn, IsHashedForGrant}
@@ -40,21 +40,27 @@ pub record IsLate (blocks : List Block) (c : Contents) (o : Claimable) (height :
 
 -- what is hashed for commitments that a side signed, for the seeds, and for the grants that fund channels
 pub data IsHashedIn (w : World) (bytes : List ℕ) : Type 0 where
-  of_commitment : (s : Side) (c n : ℕ) (ch : ChannelBook) (k : CommitmentState) → channel_of (node_of s w) c ≡ Some ch → slice_get ch.state.signed n ≡ Some k
+  of_commitment : (s : Side) (c n : ℕ) (ch : ChannelBook) (k : CommitmentState)
+      → channel_of (node_of s w) c ≡ Some ch → slice_get ch.state.signed n ≡ Some k
       → IsHashedFor ch.state.held.terms k bytes → IsHashedIn w bytes
-  of_seed : (s : Side) (c : ℕ) (ch : ChannelBook) → channel_of (node_of s w) c ≡ Some ch → IsHashedOf ch.state.seed bytes → IsHashedIn w bytes
-  of_grant : (c : ℕ) → c < max_channels → IsHashedForGrant c bytes → IsHashedIn w bytes
+  of_seed : (s : Side) (c : ℕ) (ch : ChannelBook) → channel_of (node_of s w) c ≡ Some ch
+      → IsHashedOf ch.state.seed bytes → IsHashedIn w bytes
+  of_grant : (c : ℕ) → c < MAX_CHANNELS → IsHashedForGrant c bytes → IsHashedIn w bytes
 
 -- A transaction in a block of a height takes an output that the side can claim. It is a filling that the side released. Or it is the HTLC transaction of the HTLC whose output this
 -- is. Or it is a filling that the owner of the commitment released, after the delay, and the output has the form of to_local. Or two of these strings collide
-pub data IsTaker (w : World) (s : Side) (c : Contents) (o : Claimable) (height : ℕ) (t : Transaction) : Type 0 where
+pub data IsTaker (w : World) (s : Side) (c : Contents) (o : Claimable) (height : ℕ)
+    (t : Transaction) : Type 0 where
   by_the_side : IsFillingIn (node_of s w).history t → IsTaker w s c o height t
-  by_the_htlc_transaction : IsHtlcTransactionAt c o.place.outpoint height t → IsTaker w s c o height t
-  by_the_owner : IsFillingIn (node_of (other s) w).history t → IsLate w.chain.blocks c o height → IsTaker w s c o height t
+  by_the_htlc_transaction : IsHtlcTransactionAt c o.place.outpoint height t
+      → IsTaker w s c o height t
+  by_the_owner : IsFillingIn (node_of (other s) w).history t → IsLate w.chain.blocks c o height
+      → IsTaker w s c o height t
   by_collision : StringsCollide (IsHashedIn w) (IsHashedIn w) → IsTaker w s c o height t
 
 -- Each input on the chain that names an output which a revoked commitment, or an HTLC transaction of it, lets a side claim stands in such a transaction
 abbrev pub OutputsAreTaken : World → Type 0
 OutputsAreTaken w =
-    (s : Side) (c : Contents) (o : Claimable) (height : ℕ) (t : Transaction) (input : TxIn) → IsRevokedTo w s c → Contains (claimable_in c) o
-    → StandsAt w.chain.blocks height t → Contains t.inputs input → input.outpoint ≡ o.place.outpoint → IsTaker w s c o height t
+    (s : Side) (c : Contents) (o : Claimable) (height : ℕ) (t : Transaction) (input : TxIn)
+    → IsRevokedTo w s c → Contains (claimable_in c) o → StandsAt w.chain.blocks height t
+    → Contains t.inputs input → input.outpoint ≡ o.place.outpoint → IsTaker w s c o height t

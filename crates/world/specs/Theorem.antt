@@ -50,28 +50,36 @@ pub record HoldsAt (w : World) : Type 0 where
   -- `book/specs/Guarding.antt` says so entry by entry.) What is kept is exactly the accepted claims on all that the revoked commitment lets the side claim
   pub accepted : (s : Side) → all_accepted peer_tokens (node_of s w).history ≡ true
   pub guarded : (s : Side) → is_guarded (node_of s w).history ≡ true
-  pub kept : (s : Side) (seat c n : ℕ) (claims : List ClaimParts) → Contains (node_of s w).history (record { seat = seat; call = Keep c n claims })
+  pub kept : (s : Side) (seat c n : ℕ) (claims : List ClaimParts)
+      → Contains (node_of s w).history (record { seat = seat; call = Keep c n claims })
       → ArePenaltiesIn c n (replay (node_of s w).history) claims
   -- each claim of a side is an accepted one
   pub claims : (s : Side) → AllByRecursion IsWhole (claims_of (node_of s w))
   -- an input that fits an accepted claim passes the chain's test for the next block and runs clean, once it is due
-  pub opens : (x : ClaimParts) (t : Transaction) (input : TxIn) → IsWhole x → (due : IsDue w.chain.blocks (length w.chain.blocks) x t input)
+  pub opens : (x : ClaimParts) (t : Transaction) (input : TxIn) → IsWhole x
+      → (due : IsDue w.chain.blocks (length w.chain.blocks) x t input)
       → Passes w.chain.blocks (length w.chain.blocks) x t input due
   -- each transaction that was released is the filling of a release in a side's history, and each input of such a filling fits its claim
   pub released : AreFillings w.a.history w.b.history w.released
-  pub fits : (s : Side) (seat c : ℕ) (batch : Batch) → Contains (node_of s w).history (record { seat = seat; call = Release c batch })
+  pub fits : (s : Side) (seat c : ℕ) (batch : Batch)
+      → Contains (node_of s w).history (record { seat = seat; call = Release c batch })
       → AllFit (filling_by batch).tx batch.claims (filling_by batch).tx.inputs
   -- whoever makes the next block, and whatever it has before: an input in it that takes an output which a revoked commitment lets its owner's peer claim has one of the fates of `Fate`, as far as the
   -- peer's tokens in it are over what the peer signed
-  pub others : (before : Block) (state : RevokedState) → NothingEscapesAbove (before ∷ w.chain.blocks) (length w.chain.blocks) state
+  pub others : (before : Block) (r : RevokedState)
+      → NothingEscapesAbove (before ∷ w.chain.blocks) (length w.chain.blocks) r
   -- in a channel whose two seeds differ, each transaction on the chain that takes an output which a revoked commitment lets a side claim is a filling of the side's. Or it is the HTLC's own
   -- transaction, or, on to_local's form alone, a filling of the owner's after the delay. Or named strings collide
   pub taken : OutputsAreTaken w
   -- the two sides hold the two ends of each channel
-  pub agree : (c : ℕ) (x y : ChannelBook) → channel_of w.a c ≡ Some x → channel_of w.b c ≡ Some y → AreEnds x.state y.state
+  pub agree : (c : ℕ) (x y : ChannelBook) → channel_of w.a c ≡ Some x → channel_of w.b c ≡ Some y
+      → AreEnds x.state y.state
   -- a side's book takes the oldest message on its way to it; so, barring out-of-memory, a delivery is refused only without a channel or a message
-  pub takes : (s : Side) (c : ℕ) (m : Message) (rest : List Message) → slice_get (inboxes (node_of s w)) c ≡ Some (m ∷ rest) → is_accepted (answer_to (node_of s w) (call_of c m)) ≡ true
-  pub delivers : (s : Side) (c : ℕ) (r : EventError) → receipt_refusal s c w ≡ Some r → (r ≡ NoSuchChannel) ⊎ (r ≡ NoMessage)
+  pub takes : (s : Side) (c : ℕ) (m : Message) (rest : List Message)
+      → slice_get (inboxes (node_of s w)) c ≡ Some (m ∷ rest)
+      → is_accepted (answer_to (node_of s w) (call_of c m)) ≡ true
+  pub delivers : (s : Side) (c : ℕ) (r : EventError) → receipt_refusal s c w ≡ Some r
+      → (r ≡ NoSuchChannel) ⊎ (r ≡ NoMessage)
 
 -- what `play` did: a run of the events, at each moment of which all of this holds
 pub record IsPlay (w : World) (es : List Event) (os : List Outcome) (end : World) : Type 0 where

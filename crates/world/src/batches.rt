@@ -1,7 +1,7 @@
 //! The batch by which a side releases claims.
 
 ghost use Rattle.std.specs.Prelude.{◌≡◌, ◌≤◌, false, take, map, length, IfOk, IfErr, MatchResult};
-ghost use Rattle.tx.specs.Limits.{max_inputs};
+ghost use Rattle.tx.specs.declared.limits.TheConstants.{MAX_INPUTS as max_inputs};
 ghost use Rattle.world.specs.Refusing.{IsRefusal};
 ghost use Rattle.world.specs.Releasing.{is_no_count, refusal_of, release_refusal, IsReady};
 

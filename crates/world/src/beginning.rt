@@ -7,7 +7,7 @@ ghost use Rattle.chain.specs.Blocks.{grants_in, grant_outpoint};
 ghost use Rattle.book.specs.declared.calls.Call.TheVariants.{Open};
 ghost use Rattle.book.specs.Replies.{is_accepted};
 ghost use Rattle.world.specs.Opening.{funding_output as funding_output_of, AreOpeningsOf};
-ghost use Rattle.scenario.specs.Limits.{max_channels};
+ghost use Rattle.scenario.specs.declared.limits.TheConstants.{MAX_CHANNELS as max_channels};
 ghost use Rattle.scenario.specs.Testing.{first_bad_terms};
 ghost use Rattle.world.specs.Worlds.{answer_to};
 ghost use Rattle.world.specs.Beginning.{empty_world, with_opened, granted, Begins, AllBegin, HasBegun, IsBeginning};

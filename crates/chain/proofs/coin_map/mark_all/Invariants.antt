@@ -1,7 +1,7 @@
 use Rattle.std.proofs.Common.{◌≡◌, take}
 use Rattle.std.specs.List.{list_any}
 use Rattle.tx.specs.declared.input.OutPoint.{OutPoint}
-use Rattle.chain.specs.Blocks.{same_outpoint}
+use Rattle.tx.specs.Fields.{same_outpoint}
 use Rattle.chain.specs.Indexing.{noted, with_mark}
 use Rattle.chain.proofs.coin_map.mark_all.Given as goal
 

@@ -3,9 +3,8 @@ use Rattle.std.specs.Cmp.Lexicographic.{slice_cmp}
 use Rattle.std.specs.List.{list_any}
 use Rattle.std.specs.BTreeSet.{contains, BTreeSet}
 use Rattle.tx.specs.Parts.{Output}
-use Rattle.tx.specs.Fields.{Transaction}
+use Rattle.tx.specs.Fields.{Transaction, same_outpoint}
 use Rattle.tx.specs.Spelling.{transaction_id}
-use Rattle.chain.specs.Blocks.{same_outpoint}
 use Rattle.chain.specs.Indexing.{noted, with_mark, without, is_output_below}
 use Rattle.chain.proofs.Indexed.{follows, lower, same_index, forgotten, id_added}
 use Rattle.chain.proofs.indexing.index_transaction.Goals as goal

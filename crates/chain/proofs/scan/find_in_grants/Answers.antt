@@ -1,5 +1,5 @@
 use Rattle.std.proofs.Common.{sym, ap, ◌∙◌, ◌+◌, arith}
-use Rattle.chain.specs.Blocks.{same_outpoint}
+use Rattle.tx.specs.Fields.{same_outpoint}
 use Rattle.chain.specs.Scanning.{found_in}
 use Rattle.chain.proofs.Finding.{granted_in_order, grants_here, grants_end}
 use Rattle.chain.proofs.Growing.{counts_on}

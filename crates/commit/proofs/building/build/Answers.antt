@@ -1,6 +1,6 @@
 use Rattle.std.proofs.Common.{◌≡◌, ◌≤◌, length, subst, sym, ap, ◌∙◌, Some, None}
 use Rattle.std.specs.List.{All}
-use Rattle.tx.specs.Limits.{max_outputs}
+use Rattle.tx.specs.declared.limits.TheConstants.{MAX_OUTPUTS}
 use Rattle.terms.specs.declared.agreement.Party.{Party}
 use Rattle.terms.specs.Agreement.{party}
 use Rattle.terms.specs.Numbers.{obscured}
@@ -20,7 +20,7 @@ returns-in-Some c =
 
 pub new-requires-clause-few : goal.new-requires-clause-few
 new-requires-clause-few c =
-    subst (λ os. length os ≤ max_outputs) (sym c.from_vec.ensures) (few_outputs _ (ap refusal_of (sym c.as_slice.ensures.value) ∙ sym c.in_default.ensures))
+    subst (λ os. length os ≤ MAX_OUTPUTS) (sym c.from_vec.ensures) (few_outputs _ (ap refusal_of (sym c.as_slice.ensures.value) ∙ sym c.in_default.ensures))
 
 pub new-requires-clause-each : goal.new-requires-clause-each
 new-requires-clause-each c =

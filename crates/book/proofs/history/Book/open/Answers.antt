@@ -1,11 +1,11 @@
 use Rattle.std.proofs.Common.{◌≡◌, ◌<◌, List, [], ◌∷◌, ◌++◌, length, None, Err, Ok, refl, sym, ap, ◌∙◌, subst, rules}
+use Rattle.tx.specs.Fields.{same_outpoint}
 use Rattle.indexmap.specs.IndexMap.{get}
 use Rattle.indexmap.proofs.CallerLemmas.{insert_entry-new}
 use Rattle.book.specs.declared.limits.TheConstants.{MAX_CHANNELS}
 use Rattle.book.specs.declared.calls.Call.TheVariants.{Open}
 use Rattle.book.specs.declared.calls.Entry.{Entry}
 use Rattle.book.specs.declared.errors.OpenError.TheVariants.{NoMemory, SameFunding}
-use Rattle.book.specs.Penalties.{same_outpoint}
 use Rattle.book.specs.Books.{ChannelBook}
 use Rattle.book.specs.Fulfilled.{Preimages}
 use Rattle.book.specs.Replies.{opened}

@@ -1,6 +1,6 @@
 use Rattle.std.proofs.Common.{◌≡◌, ◌-◌, ◌≤◌, [], ◌∷◌, ◌++◌, length, subst, sym, ap, ◌∙◌, arith}
 use Rattle.std.specs.Prelude.{IfOk}
-use Rattle.tx.specs.Limits.{max_value, max_bytes}
+use Rattle.tx.specs.declared.limits.TheConstants.{MAX_VALUE, MAX_BYTES}
 use Rattle.commit.specs.Fees.{satoshis_of, fee_of, htlc_weight}
 use Rattle.sighash.specs.Programs.{script_hash_program}
 use Rattle.commit.specs.Outputs.{to_local_script}
@@ -14,8 +14,8 @@ unreachable-requires c =
     let s = c.saturating_sub-value.ensures in
     let r = c.requires in
     let t = c.satoshis.ensures in
-    let v : c.saturating_sub-value.result ≤ max_value = omega (arith, s, r, t) in
-    let p : length c.in_ok-copy.field-0 ≤ max_bytes = subst (λ q. length q ≤ max_bytes) (sym (c.in_ok-copy.ensures ∙ c.self.invariant.program_is)) (short_script_program _) in
+    let v : c.saturating_sub-value.result ≤ MAX_VALUE = omega (arith, s, r, t) in
+    let p : length c.in_ok-copy.field-0 ≤ MAX_BYTES = subst (λ q. length q ≤ MAX_BYTES) (sym (c.in_ok-copy.ensures ∙ c.self.invariant.program_is)) (short_script_program _) in
     no_fault _ _ _ _ _ _ _ v p c.in-Err.is c.new.ensures
 
 pub returns : goal.returns
@@ -24,8 +24,8 @@ returns c =
     let r = c.requires in
     let t = c.satoshis.ensures in
     let f = c.htlc_fee-fee.ensures in
-    let v : c.saturating_sub-value.result ≤ max_value = omega (arith, s, r, t) in
-    let p : length c.in_ok-copy.field-0 ≤ max_bytes = subst (λ q. length q ≤ max_bytes) (sym (c.in_ok-copy.ensures ∙ c.self.invariant.program_is)) (short_script_program _) in
+    let v : c.saturating_sub-value.result ≤ MAX_VALUE = omega (arith, s, r, t) in
+    let p : length c.in_ok-copy.field-0 ≤ MAX_BYTES = subst (λ q. length q ≤ MAX_BYTES) (sym (c.in_ok-copy.ensures ∙ c.self.invariant.program_is)) (short_script_program _) in
     let o = same_ok _ _ _ c.in-Ok.is (taken _ _ _ _ _ _ v p c.new.ensures) in
     let e : c.self.inside.feerate ≡ c.args.self.now.feerate = ap (λ k. k.feerate) c.self.view_is in
     let value : c.saturating_sub-value.result ≡ satoshis_of c.args.htlc.now.htlc.amount - fee_of (htlc_weight c.args.htlc.now.direction) c.args.self.now.feerate = cc (s, t, f, e) in
