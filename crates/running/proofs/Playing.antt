@@ -6,6 +6,7 @@ use Rattle.std.proofs.lemmas.Result.{IfOk-weaker}
 use Rattle.std.proofs.lemmas.List.{drop_all}
 use Rattle.std.proofs.lemmas.Simd.{map-map}
 use Rattle.scenario.specs.declared.events.Event.{Event}
+use Rattle.desk.specs.Histories.{History}
 use Rattle.running.specs.declared.lines.Turn.{Turn}
 use Rattle.running.specs.declared.lines.Line.{Line}
 use Rattle.running.specs.declared.counts.Counts.{Counts}
@@ -85,8 +86,8 @@ totals events lines counts (ArePlayed.one_more l ls k ks is others) =
     ap (λ (n : ℕ). n ∷ map total_of ks) (all_total events l is.0 k is.1) ∙ ap (λ (ns : List ℕ). turns_in l.channel events ∷ ns) (totals events ls ks others)
 
 -- the channels of these lines are all below a number
-pub counted_all : (n : ℕ) (events : List Event) (counts : List Counts) → AreAllPlayed n events counts → map total_of counts ≡ all_turns n events
-counted_all n events counts all =
+pub counted_all : (a b : History) (n : ℕ) (events : List Event) (counts : List Counts) → AreAllPlayed a b n events counts → map total_of counts ≡ all_turns n events
+counted_all a b n events counts all =
     totals events all.lines counts all.played ∙ sym (map-map (λ (c : ℕ). turns_in c events) (λ (l : Line). l.channel) all.lines)
     ∙ ap (λ (cs : List ℕ). map (λ c. turns_in c events) cs) all.numbers
 

@@ -6,6 +6,7 @@ use Rattle.channel.specs.declared.messages.Message.{Message}
 use Rattle.channel.specs.Tokens.{peer_tokens}
 use Rattle.book.specs.declared.calls.Entry.{Entry}
 use Rattle.book.specs.declared.calls.Call.{Call}
+use Rattle.book.specs.declared.calls.Call.TheVariants.{Open, Step, Sign, Revoke, Keep, Release}
 use Rattle.book.specs.Replies.{Reply, opened, stepped, signed, revoked, kept, released, is_accepted, reply_of, extended, history_after}
 use Rattle.book.specs.Dispatch.{no_memory_of}
 use Rattle.desk.specs.declared.desk.Seat.{Seat}
@@ -14,7 +15,7 @@ use Rattle.desk.specs.Seats.{number_in, calls_in, last_in}
 use Rattle.desk.specs.Answers.{IsAnswered, calls_after}
 use Rattle.desk.proofs.Parts.{goes_on_more}
 use Rattle.side.specs.Acts.{messages_in}
-use Rattle.running.specs.Acting.{IsReply, IsSent, revoked_in}
+use Rattle.running.specs.Acting.{IsReply, IsOwnReply, IsSent, ran_out, revoked_in}
 
 -- ---- a refused reply
 
@@ -73,9 +74,43 @@ refused call s t reply is refusal = ⊎_elim
     })
     is.2
 
+-- ---- a reply of the book itself
+
+out_of_memory : (call : Call) → ran_out (no_memory_of call) ≡ true
+out_of_memory (Open o) = refl
+out_of_memory (Step c step) = refl
+out_of_memory (Sign c) = refl
+out_of_memory (Revoke c secret next_point) = refl
+out_of_memory (Keep c n claims) = refl
+out_of_memory (Release c batch) = refl
+
+pub in_memory : (r : Reply) → is_accepted r ≡ true → ran_out r ≡ false
+in_memory (opened (Ok n)) is = refl
+in_memory (opened (Err e)) is = absurd cc
+in_memory (stepped (Ok m)) is = refl
+in_memory (stepped (Err e)) is = absurd cc
+in_memory (signed (Ok m)) is = refl
+in_memory (signed (Err e)) is = absurd cc
+in_memory (revoked (Ok n)) is = refl
+in_memory (revoked (Err e)) is = absurd cc
+in_memory (kept (Ok u)) is = refl
+in_memory (kept (Err e)) is = absurd cc
+in_memory (released (Ok f)) is = refl
+in_memory (released (Err e)) is = absurd cc
+
+-- a reply that does not say that memory ran out is the book's own
+pub own_reply : (call : Call) (s t : Seat) (reply : Reply) → IsReply call s t reply → ran_out reply ≡ false → IsOwnReply call s t reply
+own_reply call s t reply is own = ⊎_elim
+    (λ (none_left : (reply ≡ no_memory_of call) × (calls_in t ≡ calls_in s) × (last_in t ≡ is.0)).
+    let both : true ≡ false = sym (ap ran_out none_left.0 ∙ out_of_memory call) ∙ own in
+    absurd cc)
+    (λ (it : (reply ≡ reply_of peer_tokens is.0 call) × (calls_in t ≡ calls_after (calls_in s) is.0 (number_in s) call) × (last_in t ≡ history_after peer_tokens is.0 (number_in s) call)).
+    record { history = is.0; found = is.1; reply_is = it.0; calls = it.1; last = it.2 })
+    is.2
+
 -- ---- what is sent
 
-pub is_sent : (call : Call) (s t : Seat) (inbox newer : List Message) (reply : Reply) (r : Result Bool AllocError) → IsReply call s t reply → IfOk r (λ done. done ≡ is_accepted reply)
-    → OnOk r (newer ≡ inbox ++ messages_in reply) → IfOk r (IsSent call s t inbox newer)
-is_sent call s t inbox newer reply (Ok done) answered done_is sent = record { reply = reply; answered = answered; done_is = done_is; sent = sent }
-is_sent call s t inbox newer reply (Err e) answered done_is sent = done_is
+pub is_sent : (call : Call) (s t : Seat) (inbox newer : List Message) (reply : Reply) (r : Result Bool AllocError) → IsReply call s t reply → IfOk r (λ _. ran_out reply ≡ false)
+    → IfOk r (λ done. done ≡ is_accepted reply) → OnOk r (newer ≡ inbox ++ messages_in reply) → IfOk r (IsSent call s t inbox newer)
+is_sent call s t inbox newer reply (Ok done) answered own done_is sent = record { reply = reply; answered = own_reply call s t reply answered own; done_is = done_is; sent = sent }
+is_sent call s t inbox newer reply (Err e) answered own done_is sent = done_is

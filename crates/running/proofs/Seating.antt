@@ -1,4 +1,4 @@
--- What threads are equipped with: seats at a board that were just made, and channels.
+-- What threads are equipped with: seats at a board and at a desk that were just made, and channels.
 use Rattle.std.proofs.Common.{◌≡◌, ℕ, zero, suc, ◌+◌, List, [], ◌∷◌, ◌++◌, map, All, sym, ap, ◌∙◌, arith, add-one}
 use Rattle.std.specs.List.{range_with_len}
 use Rattle.std.proofs.lemmas.List.{map-append}
@@ -6,10 +6,19 @@ use Rattle.std.proofs.lemmas.List.Elements.{All-weaker}
 use Rattle.board.specs.declared.board.Board.{Board}
 use Rattle.board.specs.declared.board.Seat.{Seat}
 use Rattle.board.specs.Seats.{IsSeatOf, IsNewSeatOf, AreSeats}
+use Rattle.book.specs.Books.{replay}
+use Rattle.desk.specs.Histories.{History}
+use Rattle.desk.specs.declared.desk.Seat.{Seat as DeskSeat}
+use Rattle.running.specs.declared.houses.Office.{Office}
 use Rattle.running.specs.declared.lines.Line.{Line}
+use Rattle.running.specs.Crews.{payments_in, PaysItself, IsOwnSeat}
 
 pub places_of : (board : Board) (count : ℕ) (places : List Seat) → AreSeats board count places → All (IsSeatOf board) places
 places_of board count places are = All-weaker (IsNewSeatOf board) (IsSeatOf board) (λ s is. is.seat_of) places are.each
+
+-- the side pays to the keys of the book with which this seat's desk was made, too
+pub pays_too : (office : Office) (closer seat : DeskSeat) → IsOwnSeat office closer seat → PaysItself office closer → PaysItself office seat
+pays_too office closer seat own pays = pays ∙ ap (λ (h : History). payments_in (replay h)) (sym own.made_with)
 
 -- ---- the channels of lines
 

@@ -1,18 +1,21 @@
 -- What a channel's thread does for one of its two sides.
-use Rattle.std.specs.Prelude.{◌≡◌, ℕ, ◌⊎◌, Bool, false, if◌then◌else◌, List, [], ◌∷◌, ◌++◌, drop, Option, Some, None, Ok, option_map, slice_get}
+use Rattle.std.specs.Prelude.{◌≡◌, ℕ, ◌==◌, ◌⊎◌, Bool, false, if◌then◌else◌, List, [], ◌∷◌, ◌++◌, drop, Option, Some, None, Ok, Err, option_map, slice_get}
 use Rattle.channel.specs.declared.messages.Message.{Message}
+use Rattle.channel.specs.Tokens.{peer_tokens}
 use Rattle.book.specs.declared.calls.Step.TheVariants.{Own}
 use Rattle.book.specs.declared.calls.Call.{Call}
 use Rattle.book.specs.declared.calls.Call.TheVariants.{Step as Stepping, Sign as Signing}
-use Rattle.book.specs.Replies.{Reply, is_accepted, revoked}
+use Rattle.book.specs.Replies.{Reply, opened, stepped, signed, revoked, kept, released, is_accepted, reply_of, history_after}
+use Rattle.book.specs.Refusals.{open_error_number, step_error_number, sign_error_number, keep_error_number, release_error_number}
 use Rattle.terms.specs.declared.sides.Side.{Side}
 use Rattle.terms.specs.declared.sides.Side.TheVariants as sides
 use Rattle.jobs.specs.declared.rule.Hand.{Hand}
 use Rattle.jobs.specs.Steps.{IsPut}
 use Rattle.jobs.specs.Ends.{hand_of}
 use Rattle.desk.specs.declared.desk.Seat.{Seat}
+use Rattle.desk.specs.Histories.{History}
 use Rattle.desk.specs.Seats.{number_in, calls_in, last_in}
-use Rattle.desk.specs.Answers.{IsAnswered}
+use Rattle.desk.specs.Answers.{IsAnswered, IsHistoryFor, calls_after}
 use Rattle.node.specs.declared.work.Job.{Job}
 use Rattle.node.specs.declared.work.Job.TheVariants.{Keep, Claims}
 use Rattle.side.specs.declared.due.DueClaim.{DueClaim}
@@ -56,21 +59,39 @@ job_for channel reply = option_map (Keep channel) (revoked_in reply)
 
 -- ---- calls
 
--- a seat made a call, and got this reply: the book's own, unless memory ran out
+-- a seat made a call, and got this reply: the book's own, or that memory ran out
 abbrev pub IsReply : Call → Seat → Seat → Reply → Type 0
 IsReply call before after reply = IsAnswered (number_in before) (calls_in before) (last_in before) call reply (calls_in after) (last_in after)
+
+-- whether a reply says that memory ran out
+abbrev pub ran_out : Reply → Bool
+ran_out (opened (Err e)) = open_error_number e == 0
+ran_out (stepped (Err e)) = step_error_number e == 0
+ran_out (signed (Err e)) = sign_error_number e == 0
+ran_out (revoked (Err e)) = step_error_number e == 0
+ran_out (kept (Err e)) = keep_error_number e == 0
+ran_out (released (Err e)) = release_error_number e == 0
+ran_out reply = false
+
+-- the book's own reply, at the end of a history that goes on from the one that the seat last saw; the seat's calls and the history are those after it
+pub record IsOwnReply (call : Call) (before after : Seat) (reply : Reply) : Type 0 where
+  pub history : History
+  pub found : IsHistoryFor (number_in before) (calls_in before) (last_in before) history
+  pub reply_is : reply ≡ reply_of peer_tokens history call
+  pub calls : calls_in after ≡ calls_after (calls_in before) history (number_in before) call
+  pub last : last_in after ≡ history_after peer_tokens history (number_in before) call
 
 -- and whether it is an acceptance, whose message goes into the peer's inbox
 pub record IsSent (call : Call) (before after : Seat) (inbox newer : List Message) (done : Bool) : Type 0 where
   pub reply : Reply
-  pub answered : IsReply call before after reply
+  pub answered : IsOwnReply call before after reply
   pub done_is : done ≡ is_accepted reply
   pub sent : newer ≡ inbox ++ messages_in reply
 
 -- the same of the call that takes the oldest message, which leaves the inbox if it was accepted; if that revoked a commitment of the peer, its job is put
 pub record IsTaken (channel : ℕ) (call : Call) (before after : End) (inbox newer : List Message) (done : Bool) : Type 0 where
   pub reply : Reply
-  pub answered : IsReply call before.seat after.seat reply
+  pub answered : IsOwnReply call before.seat after.seat reply
   pub done_is : done ≡ is_accepted reply
   pub sent : newer ≡ inbox ++ messages_in reply
   pub left : after.inbox.items ≡ (if done then drop 1 before.inbox.items else before.inbox.items)

@@ -1,9 +1,6 @@
 -- What a node begins with.
-use Rattle.std.specs.Prelude.{◌≡◌, ℕ, ◌+◌, ◌≤◌, List, length, map}
-use Rattle.keys.specs.declared.bases.Base.TheVariants.{Payment}
-use Rattle.keys.specs.Derivation.{base_key}
+use Rattle.std.specs.Prelude.{◌≡◌, ℕ, ◌+◌, ◌≤◌, List, length}
 use Rattle.book.specs.declared.calls.Entry.{Entry}
-use Rattle.book.specs.Books.{Channels}
 use Rattle.desk.specs.Histories.{first_seat}
 use Rattle.desk.specs.Seats.{IsSeatOf, IsNewSeatOf}
 use Rattle.scenario.specs.declared.scenarios.Scenario.{Scenario}
@@ -23,17 +20,13 @@ pub record IsBegun (scenario : Scenario) (begun : BooksAndChain) : Type 0 where
   pub a_few : first_seat begun.a ≤ 1
   pub b_few : first_seat begun.b ≤ 1
 
--- a side's desk over a book with this history, with one seat for its end and as many others as to make this number
+-- a side's desk over a book with this history, with a seat that closes it and as many others as to make this number
 pub record IsOpened (history : List Entry) (seats : ℕ) (o : Opened) : Type 0 where
   pub closer : IsNewSeatOf o.office.desk history o.closer
-  pub stock : IsStock o.office o.stock
+  pub stock : IsStock o.office o.closer o.stock
   pub many : length o.stock.seats.items + 1 ≡ seats
 
--- the bytes of a side's payment key in each channel
-abbrev pub payments_in : Channels → List (List ℕ)
-payments_in chs = map (λ ch. base_key ch.state.seed Payment) chs
-
--- a side's end and its threads have seats at its desk
+-- a side's desk has the seat that closes it, and its threads have seats there
 pub record AreReady (o : Opened) : Type 0 where
   pub closer : IsSeatOf o.office.desk o.closer
-  pub stock : IsStock o.office o.stock
+  pub stock : IsStock o.office o.closer o.stock

@@ -1,8 +1,12 @@
 -- What each thread has of its own fits what it shares.
-use Rattle.std.specs.Prelude.{All}
+use Rattle.std.specs.Prelude.{◌≡◌, ℕ, List, All, map}
+use Rattle.keys.specs.declared.bases.Base.TheVariants.{Payment}
+use Rattle.keys.specs.Derivation.{base_key}
+use Rattle.book.specs.Books.{Channels, replay}
 use Rattle.board.specs.declared.board.Board.{Board}
 use Rattle.board.specs.Seats as board_seats
-use Rattle.desk.specs.Seats.{IsSeatOf, HasSameCalls}
+use Rattle.desk.specs.declared.desk.Seat.{Seat}
+use Rattle.desk.specs.Seats.{IsSeatOf, IsNewSeatOf, HasSameCalls, opening_in}
 use Rattle.node.specs.Work.{IsWork}
 use Rattle.jobs.specs.Ends.{PutsWith, TakesWith, IsOneQueue}
 use Rattle.running.specs.declared.houses.Office.{Office}
@@ -19,9 +23,22 @@ use Rattle.running.specs.declared.staff.Served.TheVariants as served
 use Rattle.running.specs.declared.crews.Stock.{Stock}
 use Rattle.running.specs.declared.crews.Crew.{Crew}
 
--- a worker's seats are at its side's desk and at the board, and its pass is one to its queue
+-- the bytes of a side's payment key in each channel
+abbrev pub payments_in : Channels → List (List ℕ)
+payments_in chs = map (λ ch. base_key ch.state.seed Payment) chs
+
+-- the payment keys that a side's threads share are those of the book with which the seat's desk was made
+abbrev pub PaysItself : Office → Seat → Type 0
+PaysItself office seat = map (λ k. k.bytes) office.payments.items ≡ payments_in (replay (opening_in seat))
+
+-- a seat at the side's desk that has made no call, as the one that closes the desk
+abbrev pub IsOwnSeat : Office → (closer seat : Seat) → Type 0
+IsOwnSeat office closer seat = IsNewSeatOf office.desk (opening_in closer) seat
+
+-- a worker's seats are at its side's desk and at the board, and its pass is one to its queue. It pays to the keys of that desk's book
 pub record IsWorker (office : Office) (board : Board) (w : Worker) : Type 0 where
   pub seat : IsSeatOf office.desk w.hands.seat
+  pub payments : PaysItself office w.hands.seat
   pub place : board_seats.IsSeatOf board w.hands.place
   pub pass : TakesWith w.taker w.hands.pass
 
@@ -66,9 +83,10 @@ pub record GoesOnPlaying (house : House) (before after : Player) : Type 0 where
   pub b : HasSameCalls house.b.desk before.b after.b
   pub place : board_seats.IsSeatOf house.board after.place
 
--- from what a side's threads are equipped: seats at its desk, and its queue of jobs
-pub record IsStock (office : Office) (s : Stock) : Type 0 where
-  pub seats : All (IsSeatOf office.desk) s.seats.items
+-- from what a side's threads are equipped: seats at its desk, its payment keys, and its queue of jobs
+pub record IsStock (office : Office) (closer : Seat) (s : Stock) : Type 0 where
+  pub seats : All (IsOwnSeat office closer) s.seats.items
+  pub payments : PaysItself office closer
   pub queue : IsOneQueue s.sender s.taker
   pub pass : PutsWith s.sender s.pass
 

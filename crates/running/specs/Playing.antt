@@ -2,6 +2,10 @@
 use Rattle.std.specs.Prelude.{◌≡◌, ℕ, ◌+◌, List, [], ◌∷◌, map, All}
 use Rattle.std.specs.List.{range_with_len}
 use Rattle.scenario.specs.declared.events.Event.{Event}
+use Rattle.desk.specs.Histories.{History}
+use Rattle.desk.specs.Seats.{calls_in, last_in, opening_in}
+use Rattle.running.specs.declared.houses.Closers.{Closers}
+use Rattle.running.specs.declared.ends.End.{End}
 use Rattle.running.specs.declared.lines.Line.{Line}
 use Rattle.running.specs.declared.counts.Counts.{Counts}
 use Rattle.running.specs.Events.{turn_in}
@@ -25,14 +29,24 @@ pub data ArePlayed (events : List Event) : List Line → List Counts → Type 0 
   no_more : ArePlayed events [] []
   one_more : (l : Line) (ls : List Line) (k : Counts) (ks : List Counts) → IsPlayed events l k → ArePlayed events ls ks → ArePlayed events (l ∷ ls) (k ∷ ks)
 
--- no message is on its way
-pub record IsFirst (l : Line) : Type 0 where
-  pub a : l.a.inbox.items ≡ []
-  pub b : l.b.inbox.items ≡ []
+-- an end's seat has made no call, has last seen this history, and no message is on its way to it
+pub record IsFirstEnd (history : History) (e : End) : Type 0 where
+  pub inbox : e.inbox.items ≡ []
+  pub calls : calls_in e.seat ≡ []
+  pub last : last_in e.seat ≡ history
 
--- the events of all channels below a number were played, each channel's from where no message is on its way
-pub record AreAllPlayed (channels : ℕ) (events : List Event) (counts : List Counts) : Type 0 where
+-- the same of both ends of a channel, each with its side's history
+pub record IsFirst (a b : History) (l : Line) : Type 0 where
+  pub a_first : IsFirstEnd a l.a
+  pub b_first : IsFirstEnd b l.b
+
+-- the same at the desks of two sides, each with the history with which its desk was made
+abbrev pub IsFirstIn : Closers → Line → Type 0
+IsFirstIn closers = IsFirst (opening_in closers.a) (opening_in closers.b)
+
+-- the events of all channels below a number were played, each channel's from ends that have made no call, of sides whose books have these histories
+pub record AreAllPlayed (a b : History) (channels : ℕ) (events : List Event) (counts : List Counts) : Type 0 where
   pub lines : List Line
   pub numbers : map (λ l. l.channel) lines ≡ range_with_len 0 channels
-  pub first : All IsFirst lines
+  pub first : All (IsFirst a b) lines
   pub played : ArePlayed events lines counts

@@ -30,11 +30,11 @@ pub record IsLeft (opening history : History) : Type 0 where
 abbrev pub total_of : Counts → ℕ
 total_of counts = counts.played + counts.refused
 
--- both books go on from those that the scenario's world begins with, each channel's updates, signatures and deliveries were played in order, and each is counted once
+-- both books go on from those that the scenario's world begins with, each channel's updates, signatures and deliveries were played in order, from there on, and each is counted once
 pub record IsReport (scenario : Scenario) (report : Report) : Type 0 where
   pub world : World
   pub begins : IsBeginning scenario.seeds scenario.channels world
   pub a : IsLeft world.a.history report.a
   pub b : IsLeft world.b.history report.b
-  pub played : AreAllPlayed (length scenario.channels) scenario.events report.channels.items
+  pub played : AreAllPlayed world.a.history world.b.history (length scenario.channels) scenario.events report.channels.items
   pub counted : map total_of report.channels.items ≡ all_turns (length scenario.channels) scenario.events

@@ -9,7 +9,7 @@ ghost use Rattle.jobs.specs.Ends.{PutsWith, hand_of};
 ghost use Rattle.node.specs.declared.work.Job.TheVariants.{Keep};
 ghost use Rattle.side.specs.Acts.{call_of, messages_in};
 ghost use Rattle.running.specs.Crews.{IsEnd};
-ghost use Rattle.running.specs.Acting.{IsReply, IsSent, IsTaken, IsDelivered, IsActed, PutsIf, revoked_in};
+ghost use Rattle.running.specs.Acting.{IsReply, IsSent, IsTaken, IsDelivered, IsActed, PutsIf, revoked_in, ran_out};
 
 use crate::ends::{End, put};
 use crate::houses::Office;
@@ -37,7 +37,9 @@ pub(crate) enum Act {
 }
 
 // Whether a refused reply says that memory ran out.
-fn wants_memory(refused: &Reply) -> bool {
+fn wants_memory(refused: &Reply) -> bool
+    ensures { result ≡ ran_out (reply_form refused.now) }
+{
     match refused {
         Reply::Opened(Err(error)) => error.number() == 0,
         Reply::Stepped(Err(error)) => error.number() == 0,
@@ -45,16 +47,18 @@ fn wants_memory(refused: &Reply) -> bool {
         Reply::Revoked(Err(error)) => error.number() == 0,
         Reply::Kept(Err(error)) => error.number() == 0,
         Reply::Released(Err(error)) => error.number() == 0,
-        _ => false,
+        Reply::Opened(Ok(_)) | Reply::Stepped(Ok(_)) | Reply::Signed(Ok(_)) => false,
+        Reply::Revoked(Ok(_)) | Reply::Kept(Ok(())) | Reply::Released(Ok(_)) => false,
     }
 }
 
-// Sends the message of an accepted reply. Returns whether the reply is accepted; the only error is that memory ran out.
-#[tactic(auto, using(crate::proofs::Replying::silent))]
+// Sends the message of an accepted reply. Returns whether the reply is accepted; the only error is that memory ran out, as the reply may say itself.
+#[tactic(auto, using(crate::proofs::Replying::silent, crate::proofs::Replying::in_memory))]
 fn settle(reply: Reply, inbox: &mut VecDeque<Message>) -> Result<bool, AllocError>
     ensures done { IfOk result (λ done. done ≡ is_accepted (reply_form reply)) }
     ensures sent { OnOk result (inbox.new.items
         ≡ inbox.old.items ++ messages_in (reply_form reply)) }
+    ensures own { IfOk result (λ _. ran_out (reply_form reply) ≡ false) }
 {
     match message_of(reply) {
         Ok(Some(message)) => match inbox.push_back(message) {
@@ -96,6 +100,7 @@ fn revoked_by(reply: &Reply) -> Option<u64>
 }
 
 // Makes a call. Its message goes to the peer.
+#[tactic(auto, using(crate::proofs::Replying::is_sent))]
 fn send<R: Wait>(
     rt: &R,
     office: &Office,
@@ -136,6 +141,7 @@ fn signed<R: Wait>(rt: &R, office: &Office, seat: &mut Seat, channel: u64) -> Re
 }
 
 // Signs the peer's next commitment. The message goes to the peer.
+#[tactic(auto, using(crate::proofs::Replying::is_sent))]
 fn sign<R: Wait>(
     rt: &R,
     office: &Office,
@@ -173,7 +179,7 @@ fn put_keep<R: Wait>(
 }
 
 // Makes the call of the oldest message. Its answer goes to the peer. A refusal leaves the message where it is.
-#[tactic(auto, using(crate::proofs::Replying::unrevoked))]
+#[tactic(auto, using(crate::proofs::Replying::unrevoked, crate::proofs::Replying::own_reply))]
 fn take<R: Wait>(
     rt: &R,
     office: &Office,

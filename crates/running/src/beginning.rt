@@ -4,7 +4,8 @@ ghost use Rattle.std.specs.Prelude.{◌≡◌, ◌<◌, ◌≤◌, IfOk, map};
 ghost use Rattle.book.specs.Books.{replay, fundings_of};
 ghost use Rattle.desk.specs.Histories.{first_seat};
 ghost use Rattle.desk.specs.Seats.{AreSeats};
-ghost use Rattle.running.specs.Beginning.{IsBegun, IsOpened, payments_in};
+ghost use Rattle.running.specs.Beginning.{IsBegun, IsOpened};
+ghost use Rattle.running.specs.Crews.{payments_in};
 
 use crate::crews::Stock;
 use crate::houses::Office;
@@ -110,6 +111,7 @@ fn open_with<R: Wait>(
 ) -> Result<Opened, AllocError>
     requires some { 0 < seats }
     requires numbers { first_seat book ≤ 1 }
+    requires payments { map (λ k. k.bytes) told.payments.items ≡ payments_in (replay book) }
     ensures opened { IfOk result (IsOpened book seats) }
     ensures fundings { IfOk result (λ o. o.office.fundings.items ≡ told.fundings.items) }
     ensures payments { IfOk result (λ o. o.office.payments.items ≡ told.payments.items) }

@@ -1,21 +1,21 @@
 //! What all threads have of their own, made before the first of them starts.
 
-ghost use Rattle.std.specs.Prelude.{◌≡◌, ◌+◌, ◌*◌, ◌<◌, ◌≤◌, [], All, IfOk, OnOk, length, map};
+ghost use Rattle.std.specs.Prelude.{◌≡◌, ◌+◌, ◌*◌, ◌<◌, ◌≤◌, All, IfOk, OnOk, length, map};
 ghost use Rattle.std.specs.List.{range_with_len};
 ghost use Rattle.board.specs.Seats as board_seats;
-ghost use Rattle.desk.specs.Seats.{IsSeatOf};
-ghost use Rattle.running.specs.Crews.{IsStock, IsWorker, IsWatcher, IsMember, IsEnd, IsLine, IsPlayer, IsCrew};
-ghost use Rattle.running.specs.Playing.{IsFirst};
+ghost use Rattle.running.specs.Crews.{IsOwnSeat, IsStock, IsWorker, IsWatcher, IsMember, IsEnd, IsLine, IsPlayer, IsCrew};
+ghost use Rattle.desk.specs.Seats.{opening_in};
+ghost use Rattle.running.specs.Playing.{IsFirstEnd, IsFirstIn};
 
 use crate::ends::End;
-use crate::houses::{House, Office};
+use crate::houses::{Closers, House, Office};
 use crate::lines::Line;
 use crate::players::Player;
 use crate::staff::Member;
 use crate::watching::Watcher;
 use crate::working::Worker;
 use board::Board;
-use desk::{Desk, Seat};
+use desk::Seat;
 use jobs::{JobSender, JobTaker, Pass};
 use node::{Hands, Job};
 use std::alloc::{AllocError, Global};
@@ -41,14 +41,15 @@ pub(crate) struct Crew {
     pub(crate) player: Player,
 }
 
-// The seat at the end of a list of seats of a desk.
-fn next_seat(desk: &Desk, seats: &mut Vec<Seat>) -> Seat
-    requires { All (IsSeatOf desk.now) seats.old.items × (0 < length seats.old.items) }
-    ensures seat { IsSeatOf desk.now result }
-    ensures rest { All (IsSeatOf desk.now) seats.new.items
+// The seat at the end of a list of seats of a side, which are as the one that closes its desk.
+fn next_seat(office: &Office, closer: &Seat, seats: &mut Vec<Seat>) -> Seat
+    requires { All (IsOwnSeat office.now closer.now) seats.old.items
+        × (0 < length seats.old.items) }
+    ensures seat { IsOwnSeat office.now closer.now result }
+    ensures rest { All (IsOwnSeat office.now closer.now) seats.new.items
         × (length seats.new.items + 1 ≡ length seats.old.items) }
 {
-    let _desk = desk;
+    let (_office, _closer) = (office, closer);
     let Some(seat) = seats.pop() else {
         unreachable!()
     };
@@ -71,24 +72,25 @@ fn next_place(board: &Board, places: &mut Vec<board::Seat>) -> board::Seat
 }
 
 // A worker with a seat at the board. The only error is that memory ran out.
-#[tactic(auto, using(crate::proofs::Queues::takes_with))]
+#[tactic(auto, using(crate::proofs::Queues::takes_with, crate::proofs::Seating::pays_too))]
 fn one_worker(
     office: &Office,
+    closer: &Seat,
     board: &Board,
     stock: &mut Stock,
     place: board::Seat,
 ) -> Result<Worker, AllocError>
-    requires stock { IsStock office.now stock.old × (0 < length stock.old.seats.items) }
+    requires stock { IsStock office.now closer.now stock.old × (0 < length stock.old.seats.items) }
     requires place { board_seats.IsSeatOf board.now place }
     ensures worker { IfOk result (IsWorker office.now board.now) }
-    ensures stock { IsStock office.now stock.new }
+    ensures stock { IsStock office.now closer.now stock.new }
     ensures left { OnOk result (length stock.new.seats.items + 1
         ≡ length stock.old.seats.items) }
 {
     let _board = board;
     let taker = stock.taker.copy()?;
     let pass = stock.sender.pass(&mut stock.pass);
-    let seat = next_seat(&office.desk, &mut stock.seats);
+    let seat = next_seat(office, closer, &mut stock.seats);
     let hands = Hands { seat, place, pass };
     Ok(Worker { taker, hands })
 }
@@ -97,16 +99,18 @@ fn one_worker(
 fn workers_of(
     alloc: Global,
     office: &Office,
+    closer: &Seat,
     board: &Board,
     stock: &mut Stock,
     places: &mut Vec<board::Seat>,
     count: u16,
 ) -> Result<Vec<Member>, AllocError>
-    requires stock { IsStock office.now stock.old × (count ≤ length stock.old.seats.items) }
+    requires stock { IsStock office.now closer.now stock.old
+        × (count ≤ length stock.old.seats.items) }
     requires places { All (board_seats.IsSeatOf board.now) places.old.items
         × (count ≤ length places.old.items) }
     ensures staff { IfOk result (λ v. All (IsMember office.now board.now) v.items) }
-    ensures stock { IsStock office.now stock.new }
+    ensures stock { IsStock office.now closer.now stock.new }
     ensures seats_left { OnOk result (length stock.new.seats.items + count
         ≡ length stock.old.seats.items) }
     ensures places { All (board_seats.IsSeatOf board.now) places.new.items }
@@ -116,7 +120,7 @@ fn workers_of(
     let mut staff = Vec::new(alloc);
     for _worker in 0..count {
         let place = next_place(board, places);
-        let worker = one_worker(office, board, stock, place)?;
+        let worker = one_worker(office, closer, board, stock, place)?;
         staff.push(Member::Works(worker))?;
     }
     Ok(staff)
@@ -126,21 +130,22 @@ fn workers_of(
 #[tactic(auto, using(crate::proofs::Queues::puts_with))]
 fn watcher_of(
     office: &Office,
+    closer: &Seat,
     board: &Board,
     stock: &mut Stock,
     place: board::Seat,
 ) -> Result<Watcher, AllocError>
-    requires stock { IsStock office.now stock.old × (0 < length stock.old.seats.items) }
+    requires stock { IsStock office.now closer.now stock.old × (0 < length stock.old.seats.items) }
     requires place { board_seats.IsSeatOf board.now place }
     ensures watcher { IfOk result (IsWatcher office.now board.now) }
-    ensures stock { IsStock office.now stock.new }
+    ensures stock { IsStock office.now closer.now stock.new }
     ensures left { OnOk result (length stock.new.seats.items + 1
         ≡ length stock.old.seats.items) }
 {
     let _board = board;
     let sender = stock.sender.copy()?;
     let pass = stock.sender.pass(&mut stock.pass);
-    let seat = next_seat(&office.desk, &mut stock.seats);
+    let seat = next_seat(office, closer, &mut stock.seats);
     Ok(Watcher {
         seat,
         place,
@@ -153,42 +158,49 @@ fn watcher_of(
 fn staff_of(
     alloc: Global,
     office: &Office,
+    closer: &Seat,
     board: &Board,
     stock: &mut Stock,
     places: &mut Vec<board::Seat>,
     workers: u16,
 ) -> Result<Vec<Member>, AllocError>
-    requires stock { IsStock office.now stock.old
+    requires stock { IsStock office.now closer.now stock.old
         × (workers + 1 ≤ length stock.old.seats.items) }
     requires places { All (board_seats.IsSeatOf board.now) places.old.items
         × (workers + 1 ≤ length places.old.items) }
     ensures staff { IfOk result (λ v. All (IsMember office.now board.now) v.items) }
-    ensures stock { IsStock office.now stock.new }
+    ensures stock { IsStock office.now closer.now stock.new }
     ensures seats_left { OnOk result (length stock.new.seats.items + workers + 1
         ≡ length stock.old.seats.items) }
     ensures places { All (board_seats.IsSeatOf board.now) places.new.items }
     ensures places_left { OnOk result (length places.new.items + workers + 1
         ≡ length places.old.items) }
 {
-    let mut staff = workers_of(alloc, office, board, stock, places, workers)?;
+    let mut staff = workers_of(alloc, office, closer, board, stock, places, workers)?;
     let place = next_place(board, places);
-    let watcher = watcher_of(office, board, stock, place)?;
+    let watcher = watcher_of(office, closer, board, stock, place)?;
     staff.push(Member::Watches(watcher))?;
     Ok(staff)
 }
 
 // A side's end of a channel. The only error is that memory ran out.
 #[tactic(auto, using(crate::proofs::Queues::puts_with))]
-fn end_of(alloc: Global, office: &Office, stock: &mut Stock) -> Result<End, AllocError>
-    requires { IsStock office.now stock.old × (0 < length stock.old.seats.items) }
-    ensures end { IfOk result (λ e. IsEnd office.now e × (e.inbox.items ≡ [])) }
-    ensures stock { IsStock office.now stock.new }
+fn end_of(
+    alloc: Global,
+    office: &Office,
+    closer: &Seat,
+    stock: &mut Stock,
+) -> Result<End, AllocError>
+    requires { IsStock office.now closer.now stock.old × (0 < length stock.old.seats.items) }
+    ensures end { IfOk result (λ e. IsEnd office.now e
+        × IsFirstEnd (opening_in closer.now) e) }
+    ensures stock { IsStock office.now closer.now stock.new }
     ensures left { OnOk result (length stock.new.seats.items + 1
         ≡ length stock.old.seats.items) }
 {
     let sender = stock.sender.copy()?;
     let pass = stock.sender.pass(&mut stock.pass);
-    let seat = next_seat(&office.desk, &mut stock.seats);
+    let seat = next_seat(office, closer, &mut stock.seats);
     Ok(End {
         seat,
         sender,
@@ -201,20 +213,22 @@ fn end_of(alloc: Global, office: &Office, stock: &mut Stock) -> Result<End, Allo
 fn line_of(
     alloc: Global,
     house: &House,
+    closers: &Closers,
     a: &mut Stock,
     b: &mut Stock,
     channel: u64,
 ) -> Result<Line, AllocError>
-    requires a { IsStock house.now.a a.old × (0 < length a.old.seats.items) }
-    requires b { IsStock house.now.b b.old × (0 < length b.old.seats.items) }
-    ensures line { IfOk result (λ l. IsLine house.now l × (l.channel ≡ channel) × IsFirst l) }
-    ensures a { IsStock house.now.a a.new }
-    ensures b { IsStock house.now.b b.new }
+    requires a { IsStock house.now.a closers.now.a a.old × (0 < length a.old.seats.items) }
+    requires b { IsStock house.now.b closers.now.b b.old × (0 < length b.old.seats.items) }
+    ensures line { IfOk result (λ l. IsLine house.now l × (l.channel ≡ channel)
+        × IsFirstIn closers.now l) }
+    ensures a { IsStock house.now.a closers.now.a a.new }
+    ensures b { IsStock house.now.b closers.now.b b.new }
     ensures a_left { OnOk result (length a.new.seats.items + 1 ≡ length a.old.seats.items) }
     ensures b_left { OnOk result (length b.new.seats.items + 1 ≡ length b.old.seats.items) }
 {
-    let a = end_of(alloc, &house.a, a)?;
-    match end_of(alloc, &house.b, b) {
+    let a = end_of(alloc, &house.a, &closers.a, a)?;
+    match end_of(alloc, &house.b, &closers.b, b) {
         Ok(b) => Ok(Line { channel, a, b }),
         Err(error) => {
             drop(a);
@@ -227,38 +241,45 @@ fn line_of(
 fn lines_of(
     alloc: Global,
     house: &House,
+    closers: &Closers,
     a: &mut Stock,
     b: &mut Stock,
     count: u16,
 ) -> Result<Vec<Line>, AllocError>
-    requires a { IsStock house.now.a a.old × (count ≤ length a.old.seats.items) }
-    requires b { IsStock house.now.b b.old × (count ≤ length b.old.seats.items) }
+    requires a { IsStock house.now.a closers.now.a a.old × (count ≤ length a.old.seats.items) }
+    requires b { IsStock house.now.b closers.now.b b.old × (count ≤ length b.old.seats.items) }
     ensures lines { IfOk result (λ v. All (IsLine house.now) v.items) }
-    ensures first { IfOk result (λ v. All IsFirst v.items) }
+    ensures first { IfOk result (λ v. All (IsFirstIn closers.now) v.items) }
     ensures channels { IfOk result (λ v. map (λ l. l.channel) v.items
         ≡ range_with_len 0 count) }
-    ensures a { IsStock house.now.a a.new }
-    ensures b { IsStock house.now.b b.new }
+    ensures a { IsStock house.now.a closers.now.a a.new }
+    ensures b { IsStock house.now.b closers.now.b b.new }
     ensures a_left { OnOk result (length a.new.seats.items + count ≡ length a.old.seats.items) }
     ensures b_left { OnOk result (length b.new.seats.items + count ≡ length b.old.seats.items) }
 {
     let mut lines = Vec::new(alloc);
     for channel in 0..count {
-        lines.push(line_of(alloc, house, a, b, u64::from(channel))?)?;
+        lines.push(line_of(alloc, house, closers, a, b, u64::from(channel))?)?;
     }
     Ok(lines)
 }
 
 // What the thread has that plays the events of the chain.
-fn player_of(house: &House, a: &mut Stock, b: &mut Stock, place: board::Seat) -> Player
-    requires a { IsStock house.now.a a.old × (0 < length a.old.seats.items) }
-    requires b { IsStock house.now.b b.old × (0 < length b.old.seats.items) }
+fn player_of(
+    house: &House,
+    closers: &Closers,
+    a: &mut Stock,
+    b: &mut Stock,
+    place: board::Seat,
+) -> Player
+    requires a { IsStock house.now.a closers.now.a a.old × (0 < length a.old.seats.items) }
+    requires b { IsStock house.now.b closers.now.b b.old × (0 < length b.old.seats.items) }
     requires place { board_seats.IsSeatOf house.now.board place }
     ensures { IsPlayer house.now result }
 {
     Player {
-        a: next_seat(&house.a.desk, &mut a.seats),
-        b: next_seat(&house.b.desk, &mut b.seats),
+        a: next_seat(&house.a, &closers.a, &mut a.seats),
+        b: next_seat(&house.b, &closers.b, &mut b.seats),
         place,
     }
 }
@@ -267,27 +288,30 @@ fn player_of(house: &House, a: &mut Stock, b: &mut Stock, place: board::Seat) ->
 fn crew_from(
     alloc: Global,
     house: &House,
+    closers: &Closers,
     a: &mut Stock,
     b: &mut Stock,
     places: &mut Vec<board::Seat>,
     channels: u16,
     workers: u16,
 ) -> Result<Crew, AllocError>
-    requires a { IsStock house.now.a a.old × (channels + workers + 2 ≤ length a.old.seats.items) }
-    requires b { IsStock house.now.b b.old × (channels + workers + 2 ≤ length b.old.seats.items) }
+    requires a { IsStock house.now.a closers.now.a a.old
+        × (channels + workers + 2 ≤ length a.old.seats.items) }
+    requires b { IsStock house.now.b closers.now.b b.old
+        × (channels + workers + 2 ≤ length b.old.seats.items) }
     requires places { All (board_seats.IsSeatOf house.now.board) places.old.items
         × (2 * workers + 3 ≤ length places.old.items) }
     ensures crew { IfOk result (IsCrew house.now) }
-    ensures first { IfOk result (λ c. All IsFirst c.lines.items) }
+    ensures first { IfOk result (λ c. All (IsFirstIn closers.now) c.lines.items) }
     ensures channels { IfOk result (λ c. map (λ l. l.channel) c.lines.items
         ≡ range_with_len 0 channels) }
 {
     let board = &house.board;
-    let staff_a = staff_of(alloc, &house.a, board, a, places, workers)?;
-    let staff_b = staff_of(alloc, &house.b, board, b, places, workers)?;
-    let lines = lines_of(alloc, house, a, b, channels)?;
+    let staff_a = staff_of(alloc, &house.a, &closers.a, board, a, places, workers)?;
+    let staff_b = staff_of(alloc, &house.b, &closers.b, board, b, places, workers)?;
+    let lines = lines_of(alloc, house, closers, a, b, channels)?;
     let place = next_place(board, places);
-    let player = player_of(house, a, b, place);
+    let player = player_of(house, closers, a, b, place);
     Ok(Crew {
         staff_a,
         staff_b,
@@ -300,25 +324,37 @@ fn crew_from(
 pub(crate) fn crew_of(
     alloc: Global,
     house: &House,
+    closers: &Closers,
     a: Stock,
     b: Stock,
     places: Vec<board::Seat>,
     channels: u16,
     workers: u16,
 ) -> Result<Crew, AllocError>
-    requires a { IsStock house.now.a a × (channels + workers + 2 ≤ length a.seats.items) }
-    requires b { IsStock house.now.b b × (channels + workers + 2 ≤ length b.seats.items) }
+    requires a { IsStock house.now.a closers.now.a a
+        × (channels + workers + 2 ≤ length a.seats.items) }
+    requires b { IsStock house.now.b closers.now.b b
+        × (channels + workers + 2 ≤ length b.seats.items) }
     requires places { All (board_seats.IsSeatOf house.now.board) places.items
         × (2 * workers + 3 ≤ length places.items) }
     ensures crew { IfOk result (IsCrew house.now) }
-    ensures first { IfOk result (λ c. All IsFirst c.lines.items) }
+    ensures first { IfOk result (λ c. All (IsFirstIn closers.now) c.lines.items) }
     ensures channels { IfOk result (λ c. map (λ l. l.channel) c.lines.items
         ≡ range_with_len 0 channels) }
 {
     let mut a = a;
     let mut b = b;
     let mut places = places;
-    let crew = crew_from(alloc, house, &mut a, &mut b, &mut places, channels, workers);
+    let crew = crew_from(
+        alloc,
+        house,
+        closers,
+        &mut a,
+        &mut b,
+        &mut places,
+        channels,
+        workers,
+    );
     drop(a);
     drop(b);
     drop(places);

@@ -3,7 +3,7 @@
 use crate::progress::Progress;
 use crate::stages::Stage;
 use board::Board;
-use desk::Desk;
+use desk::{Desk, Seat};
 use keys::Key;
 use std::sync::Mutex;
 use tx::OutPoint;
@@ -20,6 +20,13 @@ pub(crate) struct Office {
     /// The preimages that blocks showed to the side's watcher.
     pub(crate) learnt: Mutex<Vec<[u8; 32]>>,
     pub(crate) progress: Progress,
+}
+
+/// The two seats that close the desks once all threads have ended. They make no call before.
+#[derive(Drop)]
+pub(crate) struct Closers {
+    pub(crate) a: Seat,
+    pub(crate) b: Seat,
 }
 
 /// What all threads share.

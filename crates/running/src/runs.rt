@@ -4,7 +4,7 @@ ghost use Rattle.std.specs.Prelude.{◌≡◌, ◌+◌, ◌*◌, ◌<◌, ◌≤
 ghost use Rattle.std.specs.List.{AllByRecursion};
 ghost use Rattle.claim.specs.Claims.{IsWhole};
 ghost use Rattle.board.specs.Seats as board_seats;
-ghost use Rattle.desk.specs.Seats.{IsSeatOf, last_in};
+ghost use Rattle.desk.specs.Seats.{IsSeatOf, opening_in, last_in};
 ghost use Rattle.running.specs.Beginning.{AreReady};
 ghost use Rattle.running.specs.Crews.{IsStock, IsMember, IsLine, IsPlayer, IsCrew};
 ghost use Rattle.running.specs.Playing.{IsPlayed, ArePlayed, AreAllPlayed};
@@ -14,7 +14,7 @@ ghost use Rattle.book.specs.Accepted.{claims_by};
 use crate::beginning::{Opened, begin, open_side};
 use crate::counts::Counts;
 use crate::crews::{Crew, Stock, crew_of};
-use crate::houses::{House, Office};
+use crate::houses::{Closers, House, Office};
 use crate::lines::{Line, play_line};
 use crate::players::{Player, play_chain};
 use crate::staff::{Member, beside};
@@ -213,6 +213,7 @@ fn run_house<R: Threads + Wait + Sync, G: Gate + Sync>(
     rt: &R,
     alloc: Global,
     house: &House,
+    closers: &Closers,
     events: &[Event],
     channels: u16,
     workers: u16,
@@ -222,13 +223,16 @@ fn run_house<R: Threads + Wait + Sync, G: Gate + Sync>(
     places: Vec<board::Seat>,
 ) -> Result<Vec<Counts>, AllocError>
     requires few { (channels ≤ 8) × (workers ≤ 16) }
-    requires a { IsStock house.now.a a × (channels + workers + 2 ≤ length a.seats.items) }
-    requires b { IsStock house.now.b b × (channels + workers + 2 ≤ length b.seats.items) }
+    requires a { IsStock house.now.a closers.now.a a
+        × (channels + workers + 2 ≤ length a.seats.items) }
+    requires b { IsStock house.now.b closers.now.b b
+        × (channels + workers + 2 ≤ length b.seats.items) }
     requires places { All (board_seats.IsSeatOf house.now.board) places.items
         × (2 * workers + 3 ≤ length places.items) }
-    ensures { IfOk result (λ v. AreAllPlayed channels events.now v.items) }
+    ensures { IfOk result (λ v. AreAllPlayed (opening_in closers.now.a)
+        (opening_in closers.now.b) channels events.now v.items) }
 {
-    let crew = crew_of(alloc, house, a, b, places, channels, workers)?;
+    let crew = crew_of(alloc, house, closers, a, b, places, channels, workers)?;
     run_crew(rt, alloc, house, events, gate, crew)
 }
 
@@ -238,24 +242,26 @@ fn run_house<R: Threads + Wait + Sync, G: Gate + Sync>(
 fn report_of<R: Wait>(
     rt: &R,
     house: House,
-    closer_a: Seat,
-    closer_b: Seat,
+    closers: Closers,
     channels: Vec<Counts>,
 ) -> Result<Report, AllocError>
-    requires a { IsSeatOf house.a.desk closer_a }
-    requires b { IsSeatOf house.b.desk closer_b }
-    ensures a { IfOk result (λ r. IsLeft (last_in closer_a) r.a) }
-    ensures b { IfOk result (λ r. IsLeft (last_in closer_b) r.b) }
+    requires a { IsSeatOf house.a.desk closers.a }
+    requires b { IsSeatOf house.b.desk closers.b }
+    ensures a { IfOk result (λ r. IsLeft (last_in closers.a) r.a) }
+    ensures b { IfOk result (λ r. IsLeft (last_in closers.b) r.b) }
     ensures channels { IfOk result (λ r. r.channels.items ≡ channels.items) }
 {
     if house.stage.has_failed() {
         drop(house);
-        drop(closer_a);
-        drop(closer_b);
+        drop(closers);
         drop(channels);
         return Err(AllocError);
     }
     let House { a, b, stage, .. } = house;
+    let Closers {
+        a: closer_a,
+        b: closer_b,
+    } = closers;
     let height = stage.into_height();
     Ok(Report {
         a: closed(rt, a, closer_a),
@@ -283,7 +289,8 @@ fn run_sides<R: Threads + Wait + Sync, G: Gate + Sync>(
     requires b { AreReady b × (channels + workers + 2 ≤ length b.stock.seats.items) }
     ensures a { IfOk result (λ r. IsLeft (last_in a.closer) r.a) }
     ensures b { IfOk result (λ r. IsLeft (last_in b.closer) r.b) }
-    ensures played { IfOk result (λ r. AreAllPlayed channels events.now r.channels.items) }
+    ensures played { IfOk result (λ r. AreAllPlayed (opening_in a.closer) (opening_in b.closer)
+        channels events.now r.channels.items) }
 {
     match Board::new(alloc, 2 * workers + 3) {
         Ok((board, places)) => {
@@ -297,6 +304,10 @@ fn run_sides<R: Threads + Wait + Sync, G: Gate + Sync>(
                 closer: closer_b,
                 stock: stock_b,
             } = b;
+            let closers = Closers {
+                a: closer_a,
+                b: closer_b,
+            };
             let house = House {
                 a: office_a,
                 b: office_b,
@@ -304,13 +315,13 @@ fn run_sides<R: Threads + Wait + Sync, G: Gate + Sync>(
                 stage: Stage::new(alloc, chain),
             };
             match run_house(
-                rt, alloc, &house, events, channels, workers, gate, stock_a, stock_b, places,
+                rt, alloc, &house, &closers, events, channels, workers, gate, stock_a, stock_b,
+                places,
             ) {
-                Ok(counts) => report_of(rt, house, closer_a, closer_b, counts),
+                Ok(counts) => report_of(rt, house, closers, counts),
                 Err(error) => {
                     drop(house);
-                    drop(closer_a);
-                    drop(closer_b);
+                    drop(closers);
                     Err(error)
                 }
             }

@@ -2,13 +2,16 @@
 
 use crate::gates::{Manner, TestGate};
 use crate::scenarios::text_with;
-use book::{Book, Call, Entry};
+use book::{Batch, Book, Call, Entry};
+use digest::hash160;
+use keys::{Base, Key};
 use running::{Counts, Report, run_node};
 use scenario::Scenario;
 use std::alloc::Global;
 use std::process::Abort;
 use std::sync::Wait;
 use std::thread::Threads;
+use tx::TxOut;
 
 /// A run of a node.
 #[derive(Clone, Copy)]
@@ -59,19 +62,35 @@ fn is_work(call: &Call) -> bool {
     }
 }
 
-// Whether a call releases claims of a channel.
-fn is_release(call: &Call, of: u64) -> bool {
-    match call {
-        Call::Release { channel, .. } => *channel == of,
+// Whether an output pays to the hash of a key (BIP 141, P2WPKH).
+fn pays_to(output: &TxOut, key: &Key) -> bool {
+    let program = output.script().bytes();
+    program.len() == 22
+        && program.starts_with(&[0x00, 0x14])
+        && hash160(&key.bytes).as_slice() == &program[2..]
+}
+
+// Whether a batch has one output, which pays to the book's own payment key in a channel.
+fn pays_itself(book: &Book, channel: u64, batch: &Batch) -> bool {
+    match (book.channel(channel), batch.outputs.values()) {
+        (Some(state), [output]) => pays_to(output, &state.signer().base(Base::Payment)),
         _ => false,
     }
 }
 
-// How many releases a book has in a channel.
+// Whether a call releases claims of a channel to the book's own payment key.
+fn is_release(book: &Book, call: &Call, of: u64) -> bool {
+    match call {
+        Call::Release { channel, batch } => *channel == of && pays_itself(book, of, batch),
+        _ => false,
+    }
+}
+
+// How many such releases a book has in a channel.
 fn releases_in(book: &Book, channel: u64) -> usize {
     book.entries()
         .iter()
-        .filter(|entry| is_release(&entry.call, channel))
+        .filter(|entry| is_release(book, &entry.call, channel))
         .count()
 }
 

@@ -1,7 +1,8 @@
 -- The two sides of a world hold the two ends of each channel, which agree.
-use Rattle.std.proofs.Common.{◌≡◌, ℕ, zero, suc, List, [], ◌∷◌, Some, subst}
+use Rattle.std.proofs.Common.{◌≡◌, ℕ, zero, suc, List, [], ◌∷◌, length, Some, refl, ap, subst}
 use Rattle.std.specs.Prelude.{slice_get}
 use Rattle.std.proofs.lemmas.Option.{none-some, same_Some}
+use Rattle.terms.specs.declared.sides.Side.{Side}
 use Rattle.terms.specs.declared.sides.Side.TheVariants.{A, B}
 use Rattle.terms.specs.declared.agreement.Terms.{Terms}
 use Rattle.channel.specs.declared.messages.Message.{Message}
@@ -49,3 +50,13 @@ ends_at agrees numbers (suc c) (v ∷ xs) (z ∷ ys) (p ∷ ps) (q ∷ qs) x y p
 ends_at agrees numbers c (v ∷ xs) [] ps qs x y paired here there = absurd paired
 ends_at agrees numbers c (v ∷ xs) (z ∷ ys) [] qs x y paired here there = absurd paired
 ends_at agrees numbers c (v ∷ xs) (z ∷ ys) (p ∷ ps) [] x y paired here there = absurd paired
+
+pub as_many : (side : Side) (xs ys : Channels) (ps qs : List (List Message)) → ArePaired side xs ys ps qs → length xs ≡ length ys
+as_many side [] [] [] [] paired = refl
+as_many side (x ∷ xs) (y ∷ ys) (p ∷ ps) (q ∷ qs) paired = ap suc (as_many side xs ys ps qs paired.1)
+as_many side [] (y ∷ ys) ps qs paired = absurd paired
+as_many side [] [] (p ∷ ps) qs paired = absurd paired
+as_many side [] [] [] (q ∷ qs) paired = absurd paired
+as_many side (x ∷ xs) [] ps qs paired = absurd paired
+as_many side (x ∷ xs) (y ∷ ys) [] qs paired = absurd paired
+as_many side (x ∷ xs) (y ∷ ys) (p ∷ ps) [] paired = absurd paired

@@ -25,7 +25,7 @@ use Rattle.world.specs.Refusing.{refusal_in, oldest_of, oldest_in, delivery_refu
 use Rattle.world.specs.Pairing.{DeliveriesAreTaken}
 use Rattle.world.specs.Enforcement.{ClaimsSpend}
 use Rattle.world.specs.Theorem.{IsWorld, WorldsHold}
-use Rattle.world.proofs.Ends.{ends_at}
+use Rattle.world.proofs.Ends.{ends_at, as_many}
 use Rattle.world.proofs.Whole.{are_whole}
 use Rattle.world.proofs.Inboxes.{got_of_map}
 use Rattle.world.proofs.Fitting.{fitting_world, history_of, agree_from}
@@ -90,6 +90,7 @@ worlds_hold means gate exact releasing opening escapes peers numbers laws delive
       fits = fits;
       others = λ before state. escapes (before ∷ w.chain.blocks) _ state;
       taken = outputs_are_taken laws w is fits;
+      as_many = as_many A (replay w.a.history) (replay w.b.history) (inboxes w.a) (inboxes w.b) is.agree;
       agree = λ c x y here there. ends_at peers numbers c (replay w.a.history) (replay w.b.history) (inboxes w.a) (inboxes w.b) x y is.agree here there;
       takes = takes;
       delivers = λ s c r refused. line_is c (node_of s w) (node_of (other s) w) (slice_get (node_of s w).lines c) r

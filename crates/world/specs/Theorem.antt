@@ -71,7 +71,8 @@ pub record HoldsAt (w : World) : Type 0 where
   -- in a channel whose two seeds differ, each transaction on the chain that takes an output which a revoked commitment lets a side claim is a filling of the side's. Or it is the HTLC's own
   -- transaction, or, on to_local's form alone, a filling of the owner's after the delay. Or named strings collide
   pub taken : OutputsAreTaken w
-  -- the two sides hold the two ends of each channel
+  -- the two sides have as many channels, and hold the two ends of each
+  pub as_many : length (replay w.a.history) ≡ length (replay w.b.history)
   pub agree : (c : ℕ) (x y : ChannelBook) → channel_of w.a c ≡ Some x → channel_of w.b c ≡ Some y
       → AreEnds x.state y.state
   -- a side's book takes the oldest message on its way to it; so, barring out-of-memory, a delivery is refused only without a channel or a message

@@ -2,7 +2,7 @@ use Rattle.std.proofs.Common.{◌≡◌, List, map, ap, ◌∙◌}
 use Rattle.std.proofs.lemmas.Result.{IfOk-weaker}
 use Rattle.keys.specs.declared.compressed.Key.{Key}
 use Rattle.book.specs.Books.{replay, fundings_of}
-use Rattle.running.specs.Beginning.{payments_in}
+use Rattle.running.specs.Crews.{payments_in}
 use Rattle.running.proofs.beginning.open_side.Goals as goal
 
 pub returns-in-Ok-clause-fundings : goal.returns-in-Ok-clause-fundings
