@@ -2,7 +2,7 @@
 use Rattle.std.specs.Prelude.{◌≡◌, ℕ, List, All, map}
 use Rattle.keys.specs.declared.bases.Base.TheVariants.{Payment}
 use Rattle.keys.specs.Derivation.{base_key}
-use Rattle.book.specs.Books.{Channels, replay}
+use Rattle.book.specs.Books.{Channels, replay, fundings_of}
 use Rattle.board.specs.declared.board.Board.{Board}
 use Rattle.board.specs.Seats as board_seats
 use Rattle.desk.specs.declared.desk.Seat.{Seat}
@@ -83,10 +83,15 @@ pub record GoesOnPlaying (house : House) (before after : Player) : Type 0 where
   pub b : HasSameCalls house.b.desk before.b after.b
   pub place : board_seats.IsSeatOf house.board after.place
 
--- from what a side's threads are equipped: seats at its desk, its payment keys, and its queue of jobs
+-- the funding outputs that a side's watcher follows are those of the book with which the seat's desk was made
+abbrev pub FollowsItself : Office → Seat → Type 0
+FollowsItself office seat = office.fundings.items ≡ fundings_of (replay (opening_in seat))
+
+-- from what a side's threads are equipped: seats at its desk, its payment keys and funding outputs, and its queue of jobs
 pub record IsStock (office : Office) (closer : Seat) (s : Stock) : Type 0 where
   pub seats : All (IsOwnSeat office closer) s.seats.items
   pub payments : PaysItself office closer
+  pub fundings : FollowsItself office closer
   pub queue : IsOneQueue s.sender s.taker
   pub pass : PutsWith s.sender s.pass
 

@@ -102,12 +102,18 @@ pub record HasAsked (before after : History) (cs : List ℕ) (f next : Follower)
   pub answers : AreAnswered before after cs f.reader next.reader
   pub round_is : next.round ≡ f.round
   pub height_is : next.height ≡ f.height
+  pub goes_on : next.is_done ≡ f.is_done
+
+-- it goes back, and reads on from there
+pub record ReadsAgain (fundings : List OutPoint) (height round : ℕ) (f next : Follower) : Type 0 where
+  pub back : GoesBack fundings height round f next
+  pub goes_on : next.is_done ≡ false
 
 -- What a follower does at what it found.
 abbrev pub Follows : List OutPoint → History → History → Sight → Follower → Type 0
 Follows fundings before after (Read f) next = next ≡ f
 Follows fundings before after (Asks f asked) next = HasAsked before after asked.items f next
-Follows fundings before after (Back f fork round) next = GoesBack fundings fork round f next
+Follows fundings before after (Back f fork round) next = ReadsAgain fundings fork round f next
 
 -- it found something on some chain, and did what follows
 pub record GoesOnReading (fundings : List OutPoint) (before after : History) (f next : Follower) : Type 0 where

@@ -112,6 +112,7 @@ fn open_with<R: Wait>(
     requires some { 0 < seats }
     requires numbers { first_seat book ≤ 1 }
     requires payments { map (λ k. k.bytes) told.payments.items ≡ payments_in (replay book) }
+    requires fundings { told.fundings.items ≡ fundings_of (replay book) }
     ensures opened { IfOk result (IsOpened book seats) }
     ensures fundings { IfOk result (λ o. o.office.fundings.items ≡ told.fundings.items) }
     ensures payments { IfOk result (λ o. o.office.payments.items ≡ told.payments.items) }

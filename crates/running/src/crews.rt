@@ -110,6 +110,7 @@ fn workers_of(
     requires places { All (board_seats.IsSeatOf board.now) places.old.items
         × (count ≤ length places.old.items) }
     ensures staff { IfOk result (λ v. All (IsMember office.now board.now) v.items) }
+    ensures many { IfOk result (λ v. length v.items ≡ count) }
     ensures stock { IsStock office.now closer.now stock.new }
     ensures seats_left { OnOk result (length stock.new.seats.items + count
         ≡ length stock.old.seats.items) }
@@ -169,6 +170,7 @@ fn staff_of(
     requires places { All (board_seats.IsSeatOf board.now) places.old.items
         × (workers + 1 ≤ length places.old.items) }
     ensures staff { IfOk result (λ v. All (IsMember office.now board.now) v.items) }
+    ensures many { IfOk result (λ v. length v.items ≡ workers + 1) }
     ensures stock { IsStock office.now closer.now stock.new }
     ensures seats_left { OnOk result (length stock.new.seats.items + workers + 1
         ≡ length stock.old.seats.items) }
@@ -302,6 +304,8 @@ fn crew_from(
     requires places { All (board_seats.IsSeatOf house.now.board) places.old.items
         × (2 * workers + 3 ≤ length places.old.items) }
     ensures crew { IfOk result (IsCrew house.now) }
+    ensures many_a { IfOk result (λ c. length c.staff_a.items ≡ workers + 1) }
+    ensures many_b { IfOk result (λ c. length c.staff_b.items ≡ workers + 1) }
     ensures first { IfOk result (λ c. All (IsFirstIn closers.now) c.lines.items) }
     ensures channels { IfOk result (λ c. map (λ l. l.channel) c.lines.items
         ≡ range_with_len 0 channels) }
@@ -338,6 +342,8 @@ pub(crate) fn crew_of(
     requires places { All (board_seats.IsSeatOf house.now.board) places.items
         × (2 * workers + 3 ≤ length places.items) }
     ensures crew { IfOk result (IsCrew house.now) }
+    ensures many_a { IfOk result (λ c. length c.staff_a.items ≡ workers + 1) }
+    ensures many_b { IfOk result (λ c. length c.staff_b.items ≡ workers + 1) }
     ensures first { IfOk result (λ c. All (IsFirstIn closers.now) c.lines.items) }
     ensures channels { IfOk result (λ c. map (λ l. l.channel) c.lines.items
         ≡ range_with_len 0 channels) }

@@ -4,7 +4,8 @@ ghost use Rattle.std.specs.Prelude.{◌≡◌, ◌+◌, ◌*◌, ◌<◌, ◌≤
 ghost use Rattle.std.specs.List.{AllByRecursion};
 ghost use Rattle.claim.specs.Claims.{IsWhole};
 ghost use Rattle.board.specs.Seats as board_seats;
-ghost use Rattle.desk.specs.Seats.{IsSeatOf, opening_in, last_in};
+ghost use Rattle.desk.specs.Histories.{calls_of};
+ghost use Rattle.desk.specs.Seats.{IsSeatOf, number_in, calls_in, opening_in, last_in};
 ghost use Rattle.running.specs.Beginning.{AreReady};
 ghost use Rattle.running.specs.Crews.{IsStock, IsMember, IsLine, IsPlayer, IsCrew};
 ghost use Rattle.running.specs.Playing.{IsPlayed, ArePlayed, AreAllPlayed};
@@ -76,10 +77,11 @@ fn hold_whole_history(entries: &[Entry])
     }
 }
 
-// The book of a side whose threads have ended.
+// The book of a side whose threads have ended. The seat that closes the desk makes no further call.
 fn closed<R: Wait>(rt: &R, office: Office, closer: Seat) -> Book
     requires { IsSeatOf office.desk closer }
-    ensures { IsLeft (last_in closer) result }
+    ensures left { IsLeft (last_in closer) result }
+    ensures calls { calls_of (number_in closer) result ≡ calls_in closer }
 {
     let mut closer = closer;
     let Office { desk, .. } = office;

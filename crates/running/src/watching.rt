@@ -7,7 +7,7 @@ ghost use Rattle.side.specs.Reading.{begun as begun_with};
 ghost use Rattle.desk.specs.Seats.{IsSeatOf, HasSameCalls, last_in};
 ghost use Rattle.running.specs.Crews.{IsWatcher, GoesOnWatching};
 ghost use Rattle.running.specs.Acting.{PutsClaims};
-ghost use Rattle.running.specs.Following.{IsFollower, IsSight, HasBegun, IsNext, Finds, FindsSome, AreAnswered, IsAnsweredFor, HasAsked, IsRenewed, GoesBack, GoesOnReading};
+ghost use Rattle.running.specs.Following.{IsFollower, IsSight, HasBegun, IsNext, Finds, FindsSome, AreAnswered, IsAnsweredFor, HasAsked, IsRenewed, GoesBack, ReadsAgain, GoesOnReading};
 
 use crate::ends::put;
 use crate::houses::{House, Office};
@@ -345,7 +345,7 @@ fn went_back<R: Wait>(
     requires follower { IsFollower (length office.now.fundings.items) follower }
     ensures watcher { GoesOnWatching office.now house.now.board watcher.old watcher.new }
     ensures follows { IfOk result (IsFollower (length office.now.fundings.items)) }
-    ensures back { IfOk result (GoesBack office.now.fundings.items fork round follower) }
+    ensures back { IfOk result (ReadsAgain office.now.fundings.items fork round follower) }
 {
     let Follower { reader, .. } = follower;
     match renewed(rt, alloc, house, office, watcher, reader, fork) {

@@ -1,6 +1,6 @@
 use Rattle.std.proofs.Common.{◌≡◌, All, Some, sym, ap, ◌∙◌, subst, arith}
 use Rattle.std.proofs.lemmas.List.Elements.{All-pop}
-use Rattle.book.specs.Books.{replay}
+use Rattle.book.specs.Books.{replay, fundings_of}
 use Rattle.desk.specs.Histories.{History}
 use Rattle.desk.specs.Seats.{IsNewSeatOf, opening_in}
 use Rattle.running.specs.Crews.{payments_in}
@@ -17,6 +17,7 @@ returns-clause-opened g c =
       stock = record {
         seats = subst (λ (h : History). All (IsNewSeatOf desk h) c.pop.new.self.items) made apart.0;
         payments = c.requires.payments ∙ ap (λ (h : History). payments_in (replay h)) made;
+        fundings = c.requires.fundings ∙ ap (λ (h : History). fundings_of (replay h)) made;
         queue = c.in_ok-sender.ensures.0;
         pass = c.in_ok-sender.ensures.1;
       };

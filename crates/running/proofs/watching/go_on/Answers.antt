@@ -3,7 +3,7 @@ use Rattle.std.proofs.lemmas.Result.{IfOk-weaker}
 use Rattle.desk.specs.Seats.{last_in}
 use Rattle.running.specs.declared.watching.Sight.{Sight}
 use Rattle.running.specs.declared.watching.Sight.TheVariants.{Asks, Back}
-use Rattle.running.specs.Following.{FindsSome, HasAsked, GoesBack, GoesOnReading}
+use Rattle.running.specs.Following.{FindsSome, HasAsked, ReadsAgain, GoesOnReading}
 use Rattle.running.proofs.watching.go_on.Goals as goal
 
 pub returns-in-Ok-Asks-clause-reads : goal.returns-in-Ok-Asks-clause-reads
@@ -26,5 +26,5 @@ returns-in-Ok-Back-clause-reads g c =
     let before = last_in c.args.watcher.now.seat in
     let after = last_in c.went_back.new.watcher.seat in
     let found : FindsSome f (Back same fork round) = subst (λ (s : Sight). FindsSome f s) c.in-Ok-Back.field-0-is c.in-Ok-Back.ensures.found in
-    IfOk-weaker c.went_back.result (GoesBack c.args.office.now.fundings.items fork round same) (GoesOnReading c.args.office.now.fundings.items before after f)
+    IfOk-weaker c.went_back.result (ReadsAgain c.args.office.now.fundings.items fork round same) (GoesOnReading c.args.office.now.fundings.items before after f)
     (λ next has. record { sight = Back same fork round; found = found; follows = has }) c.went_back.ensures.back
