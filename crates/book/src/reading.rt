@@ -5,7 +5,7 @@ ghost use Rattle.serde_json.specs.Read.{read};
 ghost use Rattle.book.specs.Loaded.{IsValue, Loads, dump_in};
 
 use crate::errors::LoadError;
-use serde_json::Value;
+use json_value::{ReadError, Value};
 use std::alloc::Global;
 use texts::{PlainDump, ReadValue, ShapeError};
 
@@ -15,13 +15,8 @@ fn value_in(alloc: Global, text: &str) -> Result<Value, LoadError>
 {
     match Value::from_str(alloc, text) {
         Ok(value) => Ok(value),
-        Err(error) => {
-            if error.is_memory() {
-                Err(LoadError::NoMemory)
-            } else {
-                Err(LoadError::NotJson)
-            }
-        }
+        Err(ReadError::NoMemory) => Err(LoadError::NoMemory),
+        Err(ReadError::NotJson) => Err(LoadError::NotJson),
     }
 }
 

@@ -1,4 +1,4 @@
-//! Tests of the libraries `texts`, `scenario` and `book`.
+//! Tests of the libraries `json_value`, `texts`, `scenario` and `book`.
 //!
 //! They are in a crate of their own, so that the libraries are not proved again when a test changes. The examples of
 //! the libraries' pages are among them. What a book answers stands in tables of calls, which `pairs` plays row by row.
@@ -6,6 +6,8 @@
 
 #[cfg(test)]
 mod book_calls;
+#[cfg(test)]
+mod json_values;
 #[cfg(test)]
 mod loaded_dumps;
 #[cfg(test)]

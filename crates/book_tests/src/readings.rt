@@ -1,5 +1,5 @@
 // Values that are read from texts, and written again.
-use serde_json::Value;
+use json_value::Value;
 use std::alloc::Global;
 use std::process::Abort;
 use texts::{FromValue, ReadValue, ShapeError, WriteValue};

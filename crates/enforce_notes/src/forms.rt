@@ -1,6 +1,6 @@
 // The shapes of the parts of a scenario.
 
-use serde_json::Value;
+use json_value::Value;
 use terms::Side;
 use texts::FromValue;
 

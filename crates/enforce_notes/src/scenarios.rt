@@ -1,7 +1,8 @@
 // Notes on a text that is not a scenario.
 
 use crate::forms::{MEMBERS, Part, TERMS, event_parts};
-use serde_json::{Error, Value};
+use json_value::{ReadError, Value};
+use serde_json::Error;
 use std::alloc::{AllocError, Global};
 use std::fmt::Write;
 use texts::tag_of;
@@ -22,8 +23,16 @@ pub fn notes(alloc: Global, input: &[u8]) -> Result<String, AllocError> {
 fn note_text(notes: &mut String, alloc: Global, input: &[u8]) -> Result<(), AllocError> {
     match Value::from_slice(alloc, input) {
         Ok(value) => note_fault(notes, &value),
-        Err(error) if error.is_memory() => Ok(()),
-        Err(error) => note_place(notes, input, &error),
+        Err(ReadError::NoMemory) => Ok(()),
+        Err(ReadError::NotJson) => note_invalid(notes, alloc, input),
+    }
+}
+
+// Notes on a text that is invalid JSON. The toolchain's own reader says where.
+fn note_invalid(notes: &mut String, alloc: Global, input: &[u8]) -> Result<(), AllocError> {
+    match serde_json::Value::from_slice(alloc, input) {
+        Err(error) if !error.is_memory() => note_place(notes, input, &error),
+        _ => Ok(()),
     }
 }
 
@@ -118,7 +127,7 @@ fn object_fault(value: &Value, parts: &[Part]) -> Option<Fault> {
     };
     for part in parts {
         let Part(name, kind) = *part;
-        match value.get(name) {
+        match value.member(name) {
             None => return Some(Fault::Lacks(name)),
             Some(member) if !kind.fits(member) => return Some(Fault::Part(*part)),
             Some(_) => {}
@@ -133,7 +142,7 @@ fn object_fault(value: &Value, parts: &[Part]) -> Option<Fault> {
 
 // The first channel whose terms do not have their shape.
 fn terms_fault(value: &Value) -> Option<(usize, Fault)> {
-    for (channel, terms) in value.get("channels")?.as_array()?.iter().enumerate() {
+    for (channel, terms) in value.member("channels")?.as_array()?.iter().enumerate() {
         if let Some(fault) = object_fault(terms, &TERMS) {
             return Some((channel, fault));
         }
@@ -143,7 +152,7 @@ fn terms_fault(value: &Value) -> Option<(usize, Fault)> {
 
 // The first event that does not have its shape.
 fn events_fault(value: &Value) -> Option<(usize, Fault)> {
-    for (index, event) in value.get("events")?.as_array()?.iter().enumerate() {
+    for (index, event) in value.member("events")?.as_array()?.iter().enumerate() {
         if let Some(fault) = event_fault(event) {
             return Some((index, fault));
         }
@@ -164,7 +173,7 @@ fn event_fault(event: &Value) -> Option<Fault> {
         return Some(Fault::Count(count, parts.len().saturating_add(1)));
     }
     for (index, part) in parts.iter().enumerate() {
-        if !part.1.fits(event.get(index.saturating_add(1))?) {
+        if !part.1.fits(event.item(index.saturating_add(1))?) {
             return Some(Fault::Part(*part));
         }
     }

@@ -1,10 +1,10 @@
 //! The events of a scenario.
 
 ghost use Rattle.std.specs.Prelude.{◌≡◌};
-ghost use Rattle.serde_json.specs.View.{view};
+ghost use Rattle.json_value.specs.View.{view};
 ghost use Rattle.scenario.specs.Events.{own_of, sign_of, deliver_of, keep_of, commitment_of, htlc_transaction_of, broadcast_of, blocks_of, look_of, take_of, release_of, reorg_of};
 
-use serde_json::Value;
+use json_value::Value;
 use terms::Side;
 use texts::{FromValue, array_of, item, own_named, tag_of};
 use updates::OwnUpdate;

@@ -1,8 +1,8 @@
 //! Scenarios as read from JSON.
 
 use crate::events::Event;
+use json_value::Value;
 use lists::List;
-use serde_json::Value;
 use std::alloc::Global;
 use terms::ProposedTerms;
 use texts::{FromValue, ReadValue, ShapeError, member, object_of, read_member};

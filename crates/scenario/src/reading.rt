@@ -1,13 +1,13 @@
 // Reads plain scenarios.
 
 ghost use Rattle.std.specs.Prelude.{◌≡◌, ok_or};
-ghost use Rattle.serde_json.specs.View.{view};
+ghost use Rattle.json_value.specs.View.{view};
 ghost use Rattle.scenario.specs.declared.errors.ScenarioError.TheVariants.{NotJson};
 ghost use Rattle.scenario.specs.Reading.{Reads, value_in, plain_in};
 
 use crate::errors::ScenarioError;
 use crate::plain::PlainScenario;
-use serde_json::Value;
+use json_value::{ReadError, Value};
 use std::alloc::Global;
 use texts::{ReadValue, ShapeError};
 
@@ -17,13 +17,8 @@ fn value_in(alloc: Global, bytes: &[u8]) -> Result<Value, ScenarioError>
 {
     match Value::from_slice(alloc, bytes) {
         Ok(value) => Ok(value),
-        Err(error) => {
-            if error.is_memory() {
-                Err(ScenarioError::NoMemory)
-            } else {
-                Err(ScenarioError::NotJson)
-            }
-        }
+        Err(ReadError::NoMemory) => Err(ScenarioError::NoMemory),
+        Err(ReadError::NotJson) => Err(ScenarioError::NotJson),
     }
 }
 

@@ -1,8 +1,8 @@
 -- Reading the items of an array in order: what was read, followed by what is left, is the whole.
 use Rattle.std.proofs.Common.{◌≡◌, ℕ, List, ◌++◌, drop, Option, Some, None}
 use Rattle.serde_json.specs.Data.{Data}
-use Rattle.serde_json.specs.View.{items_view}
-use Rattle.serde_json.specs.declared.value.Value.{Value}
+use Rattle.json_value.specs.View.{items_view}
+use Rattle.json_value.specs.declared.value.Value.{Value}
 use Rattle.texts.specs.Values.{each_of}
 
 abbrev onto : {A : Type 0} → List A → Option (List A) → Option (List A)

@@ -3,7 +3,7 @@
 use crate::allocating::ReadValue;
 use crate::errors::ShapeError;
 use crate::values::{FromValue, member, object_of};
-use serde_json::Value;
+use json_value::Value;
 use std::alloc::Global;
 use terms::{ProposedParty, ProposedTerms};
 

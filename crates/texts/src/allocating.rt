@@ -3,13 +3,13 @@
 
 ghost use Rattle.std.specs.Prelude.{◌≡◌, Option};
 ghost use Rattle.serde_json.specs.Data.{Data};
-ghost use Rattle.serde_json.specs.View.{view, items_view};
+ghost use Rattle.json_value.specs.View.{view, items_view};
 ghost use Rattle.texts.specs.Values.{Gives, bytes_of, each_of, list_of, item_of, member_of};
 
 use crate::errors::ShapeError;
 use hex::FromHexError;
+use json_value::Value;
 use lists::{ByteString, List};
-use serde_json::Value;
 use std::alloc::Global;
 
 /// A type that is read from a JSON value, by a reader that may allocate.
@@ -66,7 +66,7 @@ pub fn read_item<T: ReadValue + Drop>(
 ) -> Result<T, ShapeError>
     ensures { Gives (λ x. x) result (item_of index T.reads (view array.now)) }
 {
-    match array.get(index) {
+    match array.item(index) {
         Some(value) => T::read_value(alloc, value),
         None => Err(ShapeError::BadShape),
     }
@@ -80,7 +80,7 @@ pub fn read_member<T: ReadValue + Drop>(
 ) -> Result<T, ShapeError>
     ensures { Gives (λ x. x) result (member_of name.now T.reads (view object.now)) }
 {
-    match object.get(name) {
+    match object.member(name) {
         Some(value) => T::read_value(alloc, value),
         None => Err(ShapeError::BadShape),
     }

@@ -1,7 +1,7 @@
 //! The calls of a book and the dump of its history, as read from JSON.
 
 ghost use Rattle.std.specs.Prelude.{◌≡◌, length};
-ghost use Rattle.serde_json.specs.View.{view};
+ghost use Rattle.json_value.specs.View.{view};
 ghost use Rattle.texts.specs.Values.{Gives};
 ghost use Rattle.texts.specs.Calls.{opening_of, open_of, step_call_of, sign_of, revoke_of, keep_of, are_within, release_of, is_fee, changes_fee, has_fee, any_fee, is_version};
 
@@ -10,9 +10,9 @@ use crate::claims::PlainClaim;
 use crate::errors::ShapeError;
 use crate::steps::{PlainReceived, PlainRevocation, PlainStep};
 use crate::values::{FromValue, array_of, item, member, object_of, tag_of};
+use json_value::Value;
 use keys::Key;
 use lists::List;
-use serde_json::Value;
 use sighash::Token;
 use std::alloc::Global;
 use terms::{BaseKeys, ProposedTerms, Side};

@@ -1,7 +1,7 @@
 //! Claims, as read from JSON.
 
 ghost use Rattle.std.specs.Prelude.{◌≡◌};
-ghost use Rattle.serde_json.specs.View.{view};
+ghost use Rattle.json_value.specs.View.{view};
 ghost use Rattle.texts.specs.Values.{Gives};
 ghost use Rattle.texts.specs.Claims.{sig_of, preimage_of, exact_of};
 ghost use Rattle.texts.specs.ClaimEnds.{Ends};
@@ -10,8 +10,8 @@ use crate::allocating::{ReadValue, bytes_of, read_item, read_member};
 use crate::errors::ShapeError;
 use crate::values::{array_of, item, member, object_of, tag_of};
 use claim::{Place, Shell, Slot, WitnessItem};
+use json_value::Value;
 use lists::{ByteString, List};
-use serde_json::Value;
 use std::alloc::Global;
 use tx::{DecodeError, decode_stripped};
 

@@ -3,8 +3,8 @@
 ghost use Rattle.std.specs.Prelude.{◌≡◌};
 
 use crate::values::{FromValue, array_of, item};
+use json_value::Value;
 use keys::Key;
-use serde_json::Value;
 use sighash::Token;
 use terms::BaseKeys;
 

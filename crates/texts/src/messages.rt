@@ -1,11 +1,11 @@
 //! Updates of a channel, as BOLT 2's messages have them.
 
 ghost use Rattle.std.specs.Prelude.{◌≡◌};
-ghost use Rattle.serde_json.specs.View.{view};
+ghost use Rattle.json_value.specs.View.{view};
 ghost use Rattle.texts.specs.Messages.{add_of, fulfil_of, fail_of, fee_of};
 
 use crate::values::{FromValue, array_of, item, tag_of};
-use serde_json::Value;
+use json_value::Value;
 use terms::Htlc;
 use updates::Update;
 

@@ -5,7 +5,7 @@ ghost use Rattle.texts.specs.Outpoints.{digits_from, index_in, outpoint_in};
 
 use crate::values::FromValue;
 use hex::FromHex;
-use serde_json::Value;
+use json_value::Value;
 use tx::OutPoint;
 
 // The number that decimal digits spell, if it is below 2^32.

@@ -3,8 +3,8 @@
 use crate::allocating::{ReadValue, read_item};
 use crate::errors::ShapeError;
 use crate::values::{array_of, item};
+use json_value::Value;
 use lists::ByteString;
-use serde_json::Value;
 use std::alloc::Global;
 use tx::TxOut;
 

@@ -1,16 +1,16 @@
 //! Messages and steps of a channel, as read from JSON.
 
 ghost use Rattle.std.specs.Prelude.{◌≡◌};
-ghost use Rattle.serde_json.specs.View.{view};
+ghost use Rattle.json_value.specs.View.{view};
 ghost use Rattle.texts.specs.Values.{Gives};
 ghost use Rattle.texts.specs.Steps.{signature_in, revocation_in, own_offer_of, own_fulfil_of, own_fail_of, own_fee_of, own_named, receive_of};
 
 use crate::allocating::{ReadValue, read_item};
 use crate::errors::ShapeError;
 use crate::values::{FromValue, array_of, item, name_at, tag_of};
+use json_value::Value;
 use keys::Key;
 use lists::List;
-use serde_json::Value;
 use sighash::Token;
 use std::alloc::Global;
 use updates::{OwnUpdate, Update};

@@ -3,11 +3,11 @@
 ghost use Rattle.std.specs.Prelude.{◌≡◌, Option, option_map};
 ghost use Rattle.serde_json.specs.Data.{Data};
 ghost use Rattle.serde_json.specs.Find.{as_str};
-ghost use Rattle.serde_json.specs.View.{view};
+ghost use Rattle.json_value.specs.View.{view};
 ghost use Rattle.texts.specs.Values.{array_of, object_of, item_of, member_of, pair_of, tag_of};
 
 use hex::FromHex;
-use serde_json::Value;
+use json_value::Value;
 use terms::Side;
 
 /// A type that is read from a JSON value, without allocating.
@@ -117,26 +117,26 @@ pub fn object_of(value: &Value, count: usize) -> Option<&Value>
 pub fn item<T: FromValue>(array: &Value, index: usize) -> Option<T>
     ensures { result ≡ item_of index T.reads (view array.now) }
 {
-    T::from_value(array.get(index)?)
+    T::from_value(array.item(index)?)
 }
 
 /// Reads the member of an object with this name.
 pub fn member<T: FromValue>(object: &Value, name: &str) -> Option<T>
     ensures { result ≡ member_of name.now T.reads (view object.now) }
 {
-    T::from_value(object.get(name)?)
+    T::from_value(object.member(name)?)
 }
 
 /// The string that an array has at an index.
 pub fn name_at(array: &Value, index: usize) -> Option<&str>
     ensures { option_map (λ t. t.now) result ≡ item_of index as_str (view array.now) }
 {
-    array.get(index)?.as_str()
+    array.item(index)?.as_str()
 }
 
 /// The string at the front of an array, which says what the rest of it is.
 pub fn tag_of(value: &Value) -> Option<&str>
     ensures { option_map (λ t. t.now) result ≡ tag_of (view value.now) }
 {
-    value.get(0usize)?.as_str()
+    value.item(0)?.as_str()
 }

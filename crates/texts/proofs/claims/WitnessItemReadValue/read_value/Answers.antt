@@ -1,5 +1,5 @@
 use Rattle.std.proofs.Common.{rules, ◌≡◌, Some}
-use Rattle.serde_json.specs.View.{view}
+use Rattle.json_value.specs.View.{view}
 use Rattle.texts.specs.Values.{bytes_of}
 use Rattle.texts.proofs.SameItems.{item_found}
 use Rattle.texts.proofs.claims.WitnessItemReadValue.read_value.Goals as goal

@@ -1,5 +1,5 @@
 use Rattle.std.proofs.Common.{rules, ◌≡◌, Some}
-use Rattle.serde_json.specs.View.{view}
+use Rattle.json_value.specs.View.{view}
 use Rattle.texts.specs.Values.{bytes_of_len}
 use Rattle.texts.proofs.SameKeys.{key_is}
 use Rattle.texts.proofs.key_bytes.KeyFromValue.from_value.Goals as goal
