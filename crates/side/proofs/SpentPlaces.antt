@@ -7,7 +7,7 @@ use Rattle.tx.specs.declared.input.TxIn.{TxIn}
 use Rattle.tx.specs.Fields.{Transaction, same_outpoint}
 use Rattle.chain.specs.Blocks.{names}
 use Rattle.chain.specs.Indexing.{outpoint_cmp}
-use Rattle.chain.proofs.Noting.{ties}
+use Rattle.chain.proofs.Noting.{ties, same_is}
 
 -- one of the inputs spends it
 abbrev pub among : OutPoint → List TxIn → Bool
@@ -21,27 +21,36 @@ moved true true b = refl
 moved true false b = refl
 moved false a b = refl
 
--- one input more is in the set
-pub input_added : (old new : OutPoint → Bool) (inputs : List TxIn) (i : ℕ) (d x : TxIn) (whole : OutPoint → Bool) → i < length inputs → x ≡ get_or inputs i d
-    → ((q : OutPoint) → new q ≡ cond (is_eq (outpoint_cmp x.outpoint q)) true (old q)) → ((o : OutPoint) → (among o (drop i inputs) || old o) ≡ whole o)
-    → (o : OutPoint) → (among o (drop (i + 1) inputs) || new o) ≡ whole o
-input_added old new inputs i d x whole l e u v o =
-    ap (λ t. among o (drop (i + 1) inputs) || t) (u o ∙ ap (λ t. cond t true (old o)) (ties x.outpoint o))
+-- an outpoint that is marked is not one that isn't
+unlike : (is_marked : OutPoint → Bool) (x o : OutPoint) → is_marked x ≡ false → is_marked o ≡ true → (b : Bool) → same_outpoint x o ≡ b → b ≡ false
+unlike is_marked x o out within false s = refl
+unlike is_marked x o out within true s = sym within ∙ ap is_marked (sym (same_is x o s)) ∙ out
+
+-- one that isn't marked changes nothing for those that are
+pub passed : (is_marked : OutPoint → Bool) (has : OutPoint → Bool) (x o : OutPoint) → is_marked x ≡ false → is_marked o ≡ true → has o ≡ cond (is_eq (outpoint_cmp x o)) true (has o)
+passed is_marked has x o out within = ap (λ t. cond t true (has o)) (sym (ties x o ∙ unlike is_marked x o out within (same_outpoint x o) refl))
+
+-- one input more is in the set, for the outpoints that are marked
+pub input_added : (is_marked old new : OutPoint → Bool) (inputs : List TxIn) (i : ℕ) (d x : TxIn) (whole : OutPoint → Bool) → i < length inputs → x ≡ get_or inputs i d
+    → ((q : OutPoint) → is_marked q ≡ true → new q ≡ cond (is_eq (outpoint_cmp x.outpoint q)) true (old q)) → ((o : OutPoint) → is_marked o ≡ true → (among o (drop i inputs) || old o) ≡ whole o)
+    → (o : OutPoint) → is_marked o ≡ true → (among o (drop (i + 1) inputs) || new o) ≡ whole o
+input_added is_marked old new inputs i d x whole l e u v o m =
+    ap (λ t. among o (drop (i + 1) inputs) || t) (u o m ∙ ap (λ t. cond t true (old o)) (ties x.outpoint o))
     ∙ moved (same_outpoint x.outpoint o) (among o (drop (i + 1) inputs)) (old o)
     ∙ ap (λ (xs : List TxIn). among o xs || old o) (sym (split inputs i d x l e))
-    ∙ v o
+    ∙ v o m
 
 regrouped : (a b c : Bool) → (b || (a || c)) ≡ ((a || b) || c)
 regrouped true true c = refl
 regrouped true false c = refl
 regrouped false b c = refl
 
--- the inputs of one transaction more are in the set
-pub tx_added : (old new : OutPoint → Bool) (txs : List Transaction) (i : ℕ) (d t : Transaction) (inputs : List TxIn) (whole : OutPoint → Bool) → i < length txs → t ≡ get_or txs i d → inputs ≡ t.inputs
-    → ((o : OutPoint) → new o ≡ (among o inputs || old o)) → ((o : OutPoint) → (list_any (names o) (drop i txs) || old o) ≡ whole o)
-    → (o : OutPoint) → (list_any (names o) (drop (i + 1) txs) || new o) ≡ whole o
-tx_added old new txs i d t inputs whole l e s u v o =
-    ap (λ b. list_any (names o) (drop (i + 1) txs) || b) (u o ∙ ap (λ (xs : List TxIn). among o xs || old o) s)
+-- the inputs of one transaction more are in the set, for the outpoints that are marked
+pub tx_added : (is_marked old new : OutPoint → Bool) (txs : List Transaction) (i : ℕ) (d t : Transaction) (inputs : List TxIn) (whole : OutPoint → Bool) → i < length txs → t ≡ get_or txs i d → inputs ≡ t.inputs
+    → ((o : OutPoint) → is_marked o ≡ true → new o ≡ (among o inputs || old o)) → ((o : OutPoint) → is_marked o ≡ true → (list_any (names o) (drop i txs) || old o) ≡ whole o)
+    → (o : OutPoint) → is_marked o ≡ true → (list_any (names o) (drop (i + 1) txs) || new o) ≡ whole o
+tx_added is_marked old new txs i d t inputs whole l e s u v o m =
+    ap (λ b. list_any (names o) (drop (i + 1) txs) || b) (u o m ∙ ap (λ (xs : List TxIn). among o xs || old o) s)
     ∙ regrouped (names o t) (list_any (names o) (drop (i + 1) txs)) (old o)
     ∙ ap (λ (ts : List Transaction). list_any (names o) ts || old o) (sym (split txs i d t l e))
-    ∙ v o
+    ∙ v o m

@@ -4,3 +4,4 @@ pub mod Following
 pub mod Batches
 pub mod Acts
 pub mod Broadcasting
+pub mod Marks

@@ -31,6 +31,7 @@ pub mod batches;
 mod due;
 mod following;
 pub mod laws;
+mod marks;
 mod preimages;
 mod reading;
 mod sets;

@@ -311,7 +311,7 @@ impl Reader {
         ensures within { IfOk result (λ v. All (λ c. c < length self.now.seen) v.items) }
         ensures in_step { IsInStep self.now }
     {
-        let spent = Spent::by(alloc, block, self.channels.len())?;
+        let spent = Spent::by(alloc, block, &self.fundings)?;
         let mut channels = Vec::new(alloc);
         for index in 0..self.channels.len() {
             let funding = &self.fundings[index];
