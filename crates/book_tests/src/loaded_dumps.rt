@@ -60,10 +60,14 @@ fn loaded(alloc: Global, text: &str) -> Result<usize, LoadError> {
 
 const EMPTY: &str = "{\"history\":[],\"version\":2}";
 
+fn empty_dump(rt: &impl Abort, alloc: Global) -> String {
+    let book = Book::new(alloc);
+    book.dump(alloc).expect(rt, "memory")
+}
+
 #[test]
 fn loads_what_an_empty_book_dumps(rt: HostRuntime) {
-    let text = Book::new(rt.alloc()).dump(rt.alloc()).expect(&rt, "memory");
-    assert!(rt; text.as_str() == EMPTY);
+    assert!(rt; empty_dump(&rt, rt.alloc()).as_str() == EMPTY);
     assert!(rt; loaded(rt.alloc(), EMPTY) == Ok(0));
 }
 

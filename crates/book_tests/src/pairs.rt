@@ -32,6 +32,14 @@ pub(crate) fn batch_of(rt: &impl Abort, alloc: Global, claims: List<Claim>) -> B
     Batch::new(claims, List::new(alloc), List::new(alloc)).expect(rt, "a batch")
 }
 
+// The number of inputs of a batch as a signer fills it.
+fn inputs_filled(alloc: Global, batch: &Batch, signer: &Signer) -> Result<usize, FillError> {
+    match filled(alloc, batch, signer) {
+        Ok(filled) => Ok(filled.tx().inputs().len()),
+        Err(refusal) => Err(refusal),
+    }
+}
+
 impl Pair {
     pub(crate) fn new(rt: &impl Abort, alloc: Global) -> Pair {
         let next_point = opening_points(&Signer::new(alloc, &[2; 32])).second;
@@ -124,10 +132,7 @@ impl Pair {
     fn fill_by(&self, rt: &impl Abort, signer: &Signer) -> Result<usize, FillError> {
         let claims = first_claims(rt, self.alloc, self.came.secret);
         let batch = batch_of(rt, self.alloc, claims);
-        match filled(self.alloc, &batch, signer) {
-            Ok(filled) => Ok(filled.tx().inputs().len()),
-            Err(refusal) => Err(refusal),
-        }
+        inputs_filled(self.alloc, &batch, signer)
     }
 
     pub(crate) fn fill_by_channel(&self, rt: &impl Abort) -> Result<usize, FillError> {

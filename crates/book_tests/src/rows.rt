@@ -106,13 +106,19 @@ fn is_known(known: &Known, wanted: &Summary) -> bool {
         && known.preimages.values() == wanted.preimages
 }
 
+fn is_known_of(rt: &impl Abort, book: &Book, wanted: &Summary) -> bool {
+    let known = book.known(0).expect(rt, "memory");
+    is_known(&known, wanted)
+}
+
 fn knows(rt: &impl Abort, book: &Book, wanted: &Summary) -> bool {
-    let is_known = is_known(&book.known(0).expect(rt, "memory"), wanted);
-    is_known && book.preimages(0) == wanted.preimages && book.preimages(1).is_empty()
+    is_known_of(rt, book, wanted)
+        && book.preimages(0) == wanted.preimages
+        && book.preimages(1).is_empty()
 }
 
 fn knows_no_other(book: &Book) -> bool {
-    matches!(book.known(1), Err(KnowError::NoSuchChannel))
+    book.known(1).err() == Some(KnowError::NoSuchChannel)
 }
 
 fn has_the_funding(rt: &impl Abort, alloc: Global, book: &Book) -> bool {

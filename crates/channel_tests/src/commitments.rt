@@ -4,8 +4,8 @@ ghost use Rattle.std.specs.Prelude.{◌≤◌};
 
 use crate::fixtures::{is_hash, key, one_key_party};
 use commit::{
-    Commitment, OutputKind, Side, Terms, View, build, commitment_amounts, commitment_fee, htlc_tx,
-    signing_digests,
+    Amounts, Commitment, OutputKind, Side, Terms, View, build, commitment_amounts, commitment_fee,
+    htlc_tx, signing_digests,
 };
 use parties::{FUNDING, party_with, terms_of, view};
 use std::alloc::Global;
@@ -20,17 +20,30 @@ const HTLCS: [Htlc; 480] = [Htlc {
     expiry: 500,
 }; 480];
 
-// Asserts the amounts of B's commitment with `count` HTLCs that A offered, and twelve times as many of B.
-fn has_amounts(rt: &impl Abort, alloc: Global, terms: &Terms, count: usize)
+// Whether these are the amounts of B's commitment with `count` HTLCs that A offered, and twelve times as many of B.
+fn are_amounts(amounts: &Amounts, count: usize) -> bool
+    requires { count ≤ 40 }
+{
+    amounts.offered.len() == 12 * count
+        && amounts.received.len() == count
+        && amounts.fee == commitment_fee(13 * count, 1000)
+        && amounts.to_local == Some(3_000_000)
+}
+
+// Whether a view with so many HTLCs has these amounts.
+fn has_amounts(rt: &impl Abort, alloc: Global, terms: &Terms, view: &View, count: usize) -> bool
+    requires { count ≤ 40 }
+{
+    let amounts = commitment_amounts(alloc, terms, view, Side::B).expect(rt, "memory");
+    are_amounts(&amounts, count)
+}
+
+fn count_has_amounts(rt: &impl Abort, alloc: Global, terms: &Terms, count: usize) -> bool
     requires { count ≤ 40 }
 {
     let balances = [4_000_000_000, 3_000_000_000];
     let view = view(alloc, balances, &HTLCS[..count], &HTLCS[..12 * count]).expect(rt, "memory");
-    let amounts = commitment_amounts(alloc, terms, &view, Side::B).expect(rt, "memory");
-    assert!(rt; amounts.offered.len() == 12 * count);
-    assert!(rt; amounts.received.len() == count);
-    assert_eq!(rt; amounts.fee, commitment_fee(13 * count, 1000));
-    assert_eq!(rt; amounts.to_local, Some(3_000_000));
+    has_amounts(rt, alloc, terms, &view, count)
 }
 
 // The example of the crate's page.
@@ -39,7 +52,10 @@ fn every_count_of_htlcs_has_amounts(rt: HostRuntime) {
     let half = one_key_party(&rt, 5_000_000_000);
     let terms = terms_of(FUNDING, 10_000_000, half, half).expect(&rt, "terms");
     for count in 0usize..=40 {
-        has_amounts(&rt, rt.alloc(), &terms, count);
+        assert!(rt;
+            count_has_amounts(&rt, rt.alloc(), &terms, count),
+            "{count}"
+        );
     }
 }
 
@@ -127,16 +143,20 @@ fn second_stage_id(rt: &impl Abort, alloc: Global, commitment: &Commitment, k: u
     }
 }
 
-// HTLC outputs of equal scripts and values are sorted by expiry.
+// HTLC outputs of equal scripts and values are sorted by expiry. The id is that of an independent model.
+fn is_sorted(commitment: &Commitment) -> bool {
+    let id = "0b68fca0a9b008484b31f065a8438e5570c606be55ff503cc436fa7e45f5728e";
+    output(commitment, 0) == (10_000, 500)
+        && output(commitment, 1) == (10_000, 600)
+        && output(commitment, 2) == (20_000, 2)
+        && output(commitment, 3) == (58_932, 1)
+        && is_hash(commitment.id(), id)
+}
+
 #[test]
 fn equal_htlcs_stand_by_expiry(rt: HostRuntime) {
     let commitment = built(&rt, rt.alloc(), Side::A, 42, false);
-    assert!(rt; output(&commitment, 0) == (10_000, 500));
-    assert!(rt; output(&commitment, 1) == (10_000, 600));
-    assert!(rt; output(&commitment, 2) == (20_000, 2));
-    assert!(rt; output(&commitment, 3) == (58_932, 1));
-    let id = "0b68fca0a9b008484b31f065a8438e5570c606be55ff503cc436fa7e45f5728e";
-    assert!(rt; is_hash(commitment.id(), id));
+    assert!(rt; is_sorted(&commitment));
 }
 
 // The ids of a commitment and of its HTLC transactions, of an independent model; there is no fifth HTLC.
@@ -163,11 +183,15 @@ fn has_digests(rt: &impl Abort, alloc: Global, commitment: &Commitment) {
     assert!(rt; is_hash(&htlcs[3], last));
 }
 
+fn is_that_of_the_model(rt: &impl Abort, alloc: Global, commitment: &Commitment) {
+    has_ids(rt, alloc, commitment);
+    has_digests(rt, alloc, commitment);
+    assert!(rt; commitment.copy().is_ok());
+}
+
 // HTLCs of both directions on the accepter's commitment.
 #[test]
 fn transactions_are_those_of_the_model(rt: HostRuntime) {
     let commitment = built(&rt, rt.alloc(), Side::B, 43, true);
-    has_ids(&rt, rt.alloc(), &commitment);
-    has_digests(&rt, rt.alloc(), &commitment);
-    assert!(rt; commitment.copy().is_ok());
+    is_that_of_the_model(&rt, rt.alloc(), &commitment);
 }

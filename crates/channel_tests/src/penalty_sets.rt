@@ -27,11 +27,20 @@ fn set_of_a(rt: &impl Abort, alloc: Global) -> PenaltySet {
 }
 
 // The number of outputs of that commitment.
-fn outputs_of_a(rt: &impl Abort, alloc: Global) -> usize {
-    let (terms, view) = (terms(rt), offered(rt, alloc));
-    assert!(rt; refusal(&terms, &view).is_none());
-    let built = payable_commitment(alloc, &terms, &view, Side::A, 7, &key(rt, 0xcc));
+fn outputs_of(rt: &impl Abort, alloc: Global, terms: &Terms, view: &View) -> usize {
+    assert!(rt; refusal(terms, view).is_none());
+    let built = payable_commitment(alloc, terms, view, Side::A, 7, &key(rt, 0xcc));
     built.expect(rt, "memory").outputs().len()
+}
+
+fn outputs_of_a(rt: &impl Abort, alloc: Global) -> usize {
+    let view = offered(rt, alloc);
+    outputs_of(rt, alloc, &terms(rt), &view)
+}
+
+// Whether a set has a claim for each output, and for that of the HTLC transaction.
+fn is_whole(set: &PenaltySet) -> bool {
+    set.claims().len() == 4 && set.state().number == 7 && set.copy().is_ok()
 }
 
 // The example of the crate's page: to_local, to_remote and the HTLC, and the HTLC transaction's output.
@@ -39,9 +48,7 @@ fn outputs_of_a(rt: &impl Abort, alloc: Global) -> usize {
 fn claims_all_that_a_commitment_pays(rt: HostRuntime) {
     assert!(rt; outputs_of_a(&rt, rt.alloc()) == 3);
     let set = set_of_a(&rt, rt.alloc());
-    assert_eq!(rt; set.claims().len(), 4);
-    assert!(rt; set.state().number == 7);
-    assert!(rt; set.copy().is_ok());
+    assert!(rt; is_whole(&set));
 }
 
 const REFUSALS: [(StateError, &str); 3] = [

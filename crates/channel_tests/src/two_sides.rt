@@ -2,7 +2,7 @@
 
 use crate::opening::{deliver, offered, open, opened};
 use channel::{Channel, Message, Tokens, opening_points};
-use keys::{Base, Signer, point, revocation};
+use keys::{Base, Key, Signer, point, revocation};
 use std::process::Abort;
 use terms::Side;
 use updates::{ChannelError, OwnUpdate};
@@ -65,16 +65,20 @@ const OFFER: OwnUpdate = OwnUpdate::Offer {
 };
 
 // An own update is the same as the call of its kind.
+fn makes(rt: &impl Abort, channel: &mut Channel) {
+    assert!(rt; channel.set_fee(1500).is_ok());
+    assert!(rt; next(rt, channel) == (1, 1500, 80_000_000));
+    assert!(rt; channel.make(&FEE).is_ok());
+    assert!(rt; channel.make(&OFFER).is_ok());
+    assert!(rt; next(rt, channel) == (1, 2000, 79_999_000));
+    let failed = channel.make(&OwnUpdate::Fail { id: 0 });
+    assert!(rt; is_refused(failed, ChannelError::UnknownHtlc));
+}
+
 #[test]
 fn makes_its_own_updates(rt: HostRuntime) {
     let mut channel = opened(&rt, rt.alloc(), Side::A);
-    assert!(rt; channel.set_fee(1500).is_ok());
-    assert!(rt; next(&rt, &channel) == (1, 1500, 80_000_000));
-    assert!(rt; channel.make(&FEE).is_ok());
-    assert!(rt; channel.make(&OFFER).is_ok());
-    assert!(rt; next(&rt, &channel) == (1, 2000, 79_999_000));
-    let failed = channel.make(&OwnUpdate::Fail { id: 0 });
-    assert!(rt; is_refused(failed, ChannelError::UnknownHtlc));
+    makes(&rt, &mut channel);
 }
 
 // Whether these are the tokens of a message.
@@ -106,19 +110,23 @@ fn sign_and_fail(rt: &impl Abort, b: &mut Channel, a: &mut Channel) {
 }
 
 // An offer and its failure, signed by both sides. Once B revoked its commitment 0, A shows its secret, and may sign for
-// what the commitment would pay B.
+// what the commitment would pay B. `first` is B's first point.
+fn agree(rt: &impl Abort, a: &mut Channel, b: &mut Channel, first: &Key) {
+    let key = revocation(&a.signer().base(Base::Revocation), first);
+    assert!(rt; !a.signer().can_sign(&key));
+    sign_an_offer(rt, a, b);
+    assert!(rt; a.signer().can_sign(&key));
+    let secret = a.peers_secret(0).expect(rt, "a secret");
+    assert!(rt; point(&secret) == *first);
+    sign_and_fail(rt, b, a);
+    assert!(rt; next(rt, b) == (2, 2000, 80_000_000));
+    assert!(rt; b.signed().is_ok());
+}
+
 #[test]
 fn two_sides_agree(rt: HostRuntime) {
+    let first = opening_points(&Signer::new(rt.alloc(), &[2; 32])).first;
     let mut a = opened(&rt, rt.alloc(), Side::A);
     let mut b = opened(&rt, rt.alloc(), Side::B);
-    let first = opening_points(&Signer::new(rt.alloc(), &[2; 32])).first;
-    let key = revocation(&a.signer().base(Base::Revocation), &first);
-    assert!(rt; !a.signer().can_sign(&key));
-    sign_an_offer(&rt, &mut a, &mut b);
-    assert!(rt; a.signer().can_sign(&key));
-    let secret = a.peers_secret(0).expect(&rt, "a secret");
-    assert!(rt; point(&secret) == first);
-    sign_and_fail(&rt, &mut b, &mut a);
-    assert!(rt; next(&rt, &b) == (2, 2000, 80_000_000));
-    assert!(rt; b.signed().is_ok());
+    agree(&rt, &mut a, &mut b, &first);
 }

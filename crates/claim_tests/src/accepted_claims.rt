@@ -15,12 +15,16 @@ fn claim_of(rt: &impl Abort, alloc: Global) -> Claim {
     claimed(rt, alloc, checked, 0, slots, program)
 }
 
+// Whether a copy of a claim waits for no age and no height.
+fn is_due_at_once(rt: &impl Abort, claim: &Claim) -> bool {
+    let copy = claim.copy().expect(rt, "memory");
+    copy.needs_age() == 0 && copy.needs_height() == 0
+}
+
 #[test]
 fn claims_a_checksig(rt: HostRuntime) {
     let claim = claim_of(&rt, rt.alloc());
-    let copy = claim.copy().expect(&rt, "memory");
-    assert_eq!(rt; copy.needs_age(), 0);
-    assert!(rt; copy.needs_height() == 0);
+    assert!(rt; is_due_at_once(&rt, &claim));
 }
 
 // The number of the refusal of a claim without slots by this script, on an output with a program of these parts. `None`

@@ -29,14 +29,20 @@ fn filled(rt: &impl Abort, alloc: Global, claim: &Claim, signer: &Signer) -> Fil
     fill(alloc, &[claim], outputs, signer, &[]).expect(rt, "filled")
 }
 
+// Whether a filling has one input, which spends one place.
+fn fills_one(filled: &Filled) -> bool {
+    filled.tx().inputs().len() == 1 && filled.places().len() == 1
+}
+
 // The example of the page of `filling`.
+fn fills(rt: &impl Abort, alloc: Global, claim: &Claim, signer: &Signer) -> bool {
+    let filled = filled(rt, alloc, claim, signer);
+    fills_one(&filled) && filled.into_tx().has_witness()
+}
+
 #[test]
 fn fills_a_claim(rt: HostRuntime) {
-    let alloc = rt.alloc();
-    let signer = Signer::new(alloc, &[1; 32]);
-    let claim = claim(&rt, alloc, &signer.base(Base::Payment));
-    let filled = filled(&rt, alloc, &claim, &signer);
-    assert_eq!(rt; filled.tx().inputs().len(), 1);
-    assert!(rt; filled.places().len() == 1);
-    assert!(rt; filled.into_tx().has_witness());
+    let signer = Signer::new(rt.alloc(), &[1; 32]);
+    let claim = claim(&rt, rt.alloc(), &signer.base(Base::Payment));
+    assert!(rt; fills(&rt, rt.alloc(), &claim, &signer));
 }

@@ -110,18 +110,23 @@ fn last_age(checked: &Checked) -> Option<u16> {
     }
 }
 
+// Whether a script is the one of to_local with these bytes of the delay, and its last path has this age.
+fn is_to_local(rt: &impl Abort, alloc: Global, filled: &Checked, delay: &[u8], age: u16) -> bool {
+    let listed = checked_to_local(rt, alloc, delay);
+    is_same(filled, &listed) && last_age(filled) == Some(age)
+}
+
+fn fills_delays(rt: &impl Abort, alloc: Global, pattern: &CheckedPattern) {
+    for (delay, spelt, age) in &DELAYS {
+        let filled = filled(rt, alloc, pattern, *delay);
+        assert!(rt; is_to_local(rt, alloc, &filled, spelt, *age), "{delay}");
+    }
+}
+
 #[test]
 fn fills_as_check_lists(rt: HostRuntime) {
-    let alloc = rt.alloc();
-    let pattern = listed(&rt, alloc, &TO_LOCAL).expect(&rt, "listed");
-    for (delay, spelt, age) in &DELAYS {
-        let filled = filled(&rt, alloc, &pattern, *delay);
-        assert!(rt;
-            is_same(&filled, &checked_to_local(&rt, alloc, spelt)),
-            "{delay}"
-        );
-        assert!(rt; last_age(&filled) == Some(*age));
-    }
+    let pattern = listed(&rt, rt.alloc(), &TO_LOCAL).expect(&rt, "listed");
+    fills_delays(&rt, rt.alloc(), &pattern);
 }
 
 // The number of the refusal of these fills; `None` where they give an instance.

@@ -56,40 +56,54 @@ fn settle(first: &mut Ledger, second: &mut Ledger) {
 }
 
 // An HTLC is fulfilled once it passed all stages, and then its amount is B's.
-#[test]
-fn amounts_change_sides(rt: HostRuntime) {
-    let (mut a, mut b) = open(&rt, rt.alloc());
-    add(&rt, &mut a, &mut b, 3_861_000);
+fn fulfil_one(rt: &impl Abort, a: &mut Ledger, b: &mut Ledger) {
+    add(rt, a, b, 3_861_000);
     assert!(rt; b.fulfil(0, PREIMAGE) == Err(ChannelError::UnknownHtlc));
-    settle(&mut a, &mut b);
+    settle(a, b);
     assert!(rt; b.fulfil(0, HASH) == Err(ChannelError::WrongPreimage));
     assert!(rt; b.fulfil(0, PREIMAGE).is_ok());
     let preimage = PREIMAGE;
     let fulfilment = Update::Fulfil { id: 0, preimage };
     assert!(rt; a.receive_update(&fulfilment).is_ok());
     assert!(rt; b.fail(0) == Err(ChannelError::UnknownHtlc));
+}
+
+// Its amount is B's in what is signed next, and once both signed it in what was signed.
+fn move_one(rt: &impl Abort, a: &mut Ledger, b: &mut Ledger) {
     let moved = (76_139_000, 23_861_000, 0, 1000);
-    assert!(rt; seen(&rt, b.view_to_sign()) == moved);
-    assert!(rt; seen(&rt, a.view_to_receive()) == moved);
+    assert!(rt; seen(rt, b.view_to_sign()) == moved);
+    assert!(rt; seen(rt, a.view_to_receive()) == moved);
     let pending = (76_139_000, 20_000_000, 1, 1000);
-    assert!(rt; seen(&rt, a.view_of(Side::A)) == pending);
-    settle(&mut b, &mut a);
-    assert!(rt; seen(&rt, a.view_of(Side::A)) == moved);
+    assert!(rt; seen(rt, a.view_of(Side::A)) == pending);
+    settle(b, a);
+    assert!(rt; seen(rt, a.view_of(Side::A)) == moved);
+}
+
+#[test]
+fn amounts_change_sides(rt: HostRuntime) {
+    let (mut a, mut b) = open(&rt, rt.alloc());
+    fulfil_one(&rt, &mut a, &mut b);
+    move_one(&rt, &mut a, &mut b);
+}
+
+// An HTLC with the number of the feerate is offered and failed, and the feerate changes.
+fn offer_and_fail(rt: &impl Abort, a: &mut Ledger, b: &mut Ledger, rate: u32) {
+    let id = u64::from(rate);
+    add(rt, a, b, 1000);
+    set_fee(rt, a, b, rate);
+    settle(a, b);
+    assert!(rt; b.fail(id).is_ok());
+    assert!(rt; a.receive_update(&Update::Fail { id }).is_ok());
+    settle(b, a);
+    assert!(rt; seen(rt, b.view_of(Side::A)) == (80_000_000, 20_000_000, 0, rate));
 }
 
 // Under ample memory no call is refused, however long the lists are; and then as many HTLCs as a commitment may hold.
 #[test]
 fn long_histories_are_accepted(rt: HostRuntime) {
     let (mut a, mut b) = open(&rt, rt.alloc());
-    for id in 0..200u64 {
-        let rate = id as u32;
-        add(&rt, &mut a, &mut b, 1000);
-        set_fee(&rt, &mut a, &mut b, rate);
-        settle(&mut a, &mut b);
-        assert!(rt; b.fail(id).is_ok());
-        assert!(rt; a.receive_update(&Update::Fail { id }).is_ok());
-        settle(&mut b, &mut a);
-        assert!(rt; seen(&rt, b.view_of(Side::A)) == (80_000_000, 20_000_000, 0, rate));
+    for rate in 0..200u32 {
+        offer_and_fail(&rt, &mut a, &mut b, rate);
     }
     for _htlc in 0..483 {
         add(&rt, &mut a, &mut b, 1000);

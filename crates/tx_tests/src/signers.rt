@@ -101,22 +101,27 @@ fn signs(rt: &impl Abort, signer: &Signer, keys: &[&str], all: bool) -> bool {
     true
 }
 
+// A signer with base keys learns a point, then the point of a secret, which alone makes no revocation key signable, and
+// then the secret, which does.
+fn learn_rights(rt: &impl Abort, signer: &mut Signer) {
+    assert!(rt; signs(rt, signer, &BASE_KEYS, true));
+    assert!(rt; signs(rt, signer, &DERIVED, false));
+    assert!(rt; signs(rt, signer, &REVOCATIONS, false));
+    signer.learn_point(&some_point(rt)).expect(rt, "memory");
+    assert!(rt; signs(rt, signer, &DERIVED, true));
+    assert!(rt; signs(rt, signer, &REVOCATIONS, false));
+    signer.learn_point(&key(rt, POINT)).expect(rt, "memory");
+    assert!(rt; signs(rt, signer, &REVOCATIONS, false));
+    signer.learn_secret(&some_secret()).expect(rt, "memory");
+    assert!(rt; signs(rt, signer, &REVOCATIONS, true));
+    assert!(rt; signs(rt, signer, &BASE_KEYS, true));
+    assert!(rt; signs(rt, signer, &[POINT], false));
+}
+
 #[test]
 fn signs_for_what_it_has_a_right_to(rt: HostRuntime) {
     let mut signer = Signer::new(rt.alloc(), &SEED);
-    assert!(rt; signs(&rt, &signer, &BASE_KEYS, true));
-    assert!(rt; signs(&rt, &signer, &DERIVED, false));
-    assert!(rt; signs(&rt, &signer, &REVOCATIONS, false));
-    signer.learn_point(&some_point(&rt)).expect(&rt, "memory");
-    assert!(rt; signs(&rt, &signer, &DERIVED, true));
-    assert!(rt; signs(&rt, &signer, &REVOCATIONS, false));
-    // the point of a secret alone makes no revocation key signable: the secret does
-    signer.learn_point(&key(&rt, POINT)).expect(&rt, "memory");
-    assert!(rt; signs(&rt, &signer, &REVOCATIONS, false));
-    signer.learn_secret(&some_secret()).expect(&rt, "memory");
-    assert!(rt; signs(&rt, &signer, &REVOCATIONS, true));
-    assert!(rt; signs(&rt, &signer, &BASE_KEYS, true));
-    assert!(rt; signs(&rt, &signer, &[POINT], false));
+    learn_rights(&rt, &mut signer);
 }
 
 /// A secret that differs for each number.
