@@ -11,7 +11,7 @@ use Rattle.texts.specs.declared.calls.PlainEntry.{PlainEntry}
 use Rattle.texts.specs.Calls.{dump_of as dump_in_data}
 use Rattle.book.specs.declared.errors.EntryError.TheVariants as entries
 use Rattle.book.specs.declared.errors.LoadError.TheVariants.{NotJson, BadShape, BadClaim, BadHistory}
-use Rattle.book.specs.Opcodes.{ops_in, ops_of}
+use Rattle.claim.specs.Opcodes.{ops_in, ops_of}
 use Rattle.book.specs.Openings.{batch_of}
 use Rattle.book.specs.Loading.{checked_of, claim_of, claims_of, call_of, entry_of}
 use Rattle.book.specs.Loaded.{dump_in, history_after_plain}

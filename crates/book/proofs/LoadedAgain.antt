@@ -45,7 +45,7 @@ use Rattle.book.specs.Loading.{checked_of, claim_of, claims_of, call_of, with_se
 use Rattle.book.specs.Dumping.{plain_party, plain_terms, plain_opening, plain_step, plain_call, plain_entry, step_data, call_data, history_entry_data, history_data}
 use Rattle.book.specs.Loaded.{with_entry, history_after_plain, loaded}
 use Rattle.book.specs.Again.{IsWhole, HasWholeClaims, HasStepTokens, HasTokens, ComesBack, ClaimsComeBack, OpeningsComeBack, EntriesComeBack}
-use Rattle.book.proofs.OpcodesRead.{reads}
+use Rattle.claim.proofs.OpcodesRead.{reads}
 use Rattle.terms.proofs.Agreed.{same_terms}
 use Rattle.book.proofs.SameOpenings.{same_bases, same_opening, agrees, batch_is, within_batch}
 use Rattle.book.proofs.Accepted.{accepted_means}

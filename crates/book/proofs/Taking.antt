@@ -17,14 +17,14 @@ use Rattle.claim.specs.Judgement.{judgement_of, bare_shell}
 use Rattle.claim.specs.Fitting.{IsRefusal}
 use Rattle.claim.specs.Claims.{ClaimParts, IsAcceptedOf}
 use Rattle.texts.specs.declared.claims.PlainClaim.{PlainClaim}
-use Rattle.book.specs.Opcodes.{ops_of}
+use Rattle.claim.specs.Opcodes.{ops_of}
 use Rattle.book.specs.declared.errors.EntryError.{EntryError}
 use Rattle.book.specs.declared.errors.EntryError.TheVariants as entries
 use Rattle.texts.specs.Values.{◌>>=◌}
 use Rattle.book.specs.declared.calls.Call.{Call}
 use Rattle.book.specs.declared.calls.Entry.{Entry}
 use Rattle.book.specs.Loading.{Answers, Takes, checked_of, claim_of, claims_of, with_claims, with_seat}
-use Rattle.book.proofs.OpcodesRead.{is_read}
+use Rattle.claim.proofs.OpcodesRead.{is_read}
 
 -- bytes with a fault are not a script
 pub none_read : (bytes : List ℕ) (e : ParseError) → IsFault bytes e → (e ≡ parses.NoMemory → ⊥) → ops_of bytes ≡ None

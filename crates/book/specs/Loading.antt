@@ -23,7 +23,7 @@ use Rattle.book.specs.declared.calls.Step.TheVariants.{Own, Updated, Signed}
 use Rattle.book.specs.declared.calls.Call.{Call}
 use Rattle.book.specs.declared.calls.Call.TheVariants.{Open, Step as Stepping, Sign, Revoke, Keep, Release}
 use Rattle.book.specs.declared.calls.Entry.{Entry}
-use Rattle.book.specs.Opcodes.{ops_of}
+use Rattle.claim.specs.Opcodes.{ops_of}
 use Rattle.book.specs.Openings.{opening_of, batch_of}
 
 -- a result is the defined one, unless memory ran out

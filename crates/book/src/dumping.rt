@@ -82,13 +82,7 @@ fn step_value(alloc: Global, channel: u64, step: &Step) -> Result<Value, AllocEr
 fn keeps(claim: &Claim)
     ensures { IsWhole claim.now }
 {
-    let checked = claim.checked();
-    let script = checked.script();
-    let _ = script.ops();
-    let _ = script.bytes();
-    let _ = checked.paths();
     let _ = claim.path();
-    let _ = claim.shell();
 }
 
 // The same for each claim.

@@ -1,7 +1,7 @@
 //! Turns the plain forms of a dump into calls. Claims are accepted anew, never trusted.
 
 ghost use Rattle.std.specs.Prelude.{◌≡◌};
-ghost use Rattle.book.specs.Opcodes.{ops_of};
+ghost use Rattle.claim.specs.Opcodes.{ops_of};
 ghost use Rattle.book.specs.Openings.{batch_of};
 ghost use Rattle.book.specs.Loading.{Answers, Takes, shaped, with_claims, release_of, checked_of, claim_of, claims_of, step_of, call_of, entry_of};
 
@@ -84,6 +84,8 @@ pub fn claims_of(alloc: Global, plains: List<PlainClaim>) -> Result<List<Claim>,
             Err(error) => return Err(error),
         }
     }
+    // They are kept for as long as the book lives.
+    claims.shrink_to_fit();
     Ok(List::from_vec(claims))
 }
 

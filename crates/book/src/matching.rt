@@ -12,7 +12,6 @@ ghost use Rattle.filling.specs.Refusals.{is_fixed};
 ghost use Rattle.book.specs.Penalties.{same_place, same_filling, same_fillings, same_claimable, all_match, is_claim_on, are_claims_on, IsChecked};
 
 use claim::{Claim, OutPoint, Place, Shell, Slot};
-use paths::Checked;
 use penalty::PenaltySet;
 
 fn same_outpoint(a: &OutPoint, b: &OutPoint) -> bool
@@ -55,12 +54,11 @@ fn same_slots(a: &[Slot], b: &[Slot]) -> bool
     others.is_empty()
 }
 
-// Tells the proof what the type of a checked script keeps.
-fn keeps(checked: &Checked)
-    ensures { IsChecked checked.now }
+// Tells the proof what the type of a claim keeps of its script.
+fn keeps(claim: &Claim)
+    ensures { IsChecked claim.now.ways }
 {
-    let _ = checked.paths();
-    let _ = checked.script().ops();
+    let _ = claim.path();
 }
 
 /// Tells the proof what the type of claims keeps.
@@ -78,7 +76,7 @@ fn is_alike(kept: &Claim, claim: &Claim) -> bool
         (is_fixed claim.now.shell)) }
 {
     same_place(claim.place(), kept.place())
-        && claim.checked().script().bytes() == kept.checked().script().bytes()
+        && claim.script() == kept.script()
         && claim.index() == kept.index()
         && same_slots(claim.slots(), kept.slots())
         && matches!(claim.shell(), Shell::Open)
@@ -90,8 +88,8 @@ fn is_claim_on(kept: &Claim, claim: &Claim) -> bool
     ensures exact { kept.now.shell ≡ Open → IsTrue result
         → IsClaimOn (claimed_by kept.now) claim.now }
 {
-    keeps(kept.checked());
-    keeps(claim.checked());
+    keeps(kept);
+    keeps(claim);
     // Tells the proof that the claim was judged on this path.
     let _ = claim.path();
     is_alike(kept, claim)

@@ -4,7 +4,7 @@ use Rattle.std.specs.Prelude.{slice_get, IsTrue, if◌then◌else◌, nat_lt, un
 use Rattle.tx.specs.Fields.{Transaction}
 use Rattle.tx.specs.declared.input.TxIn.{TxIn}
 use Rattle.std.proofs.lemmas.Bool.{ltb-true, false≢true}
-use Rattle.std.proofs.lemmas.Option.{get_or_from_slice_get, slice_get_within, slice_get_read, slice_get_past}
+use Rattle.std.proofs.lemmas.Option.{same_Some, get_or_from_slice_get, slice_get_within, slice_get_read, slice_get_past}
 use Rattle.script.specs.Spelling.{spelling, Spells}
 use Rattle.script.specs.Run.{Clean, outcome}
 use Rattle.sighash.specs.Programs.{spend_of}
@@ -45,6 +45,15 @@ pub accepted-within : (ways : CheckedScript) (index : ℕ) (slots : List Slot) (
 accepted-within ways index slots place shell e =
     let o = ok-path (judgement_of ways index slots place shell) e in
     slice_get_within ways.paths index o.0 (judgement_of-ok ways index slots place shell o.0 o.1).at
+
+-- the path at the index is the one that was judged
+pub taken-here : (ways : CheckedScript) (index : ℕ) (slots : List Slot) (place : Place) (shell : Shell) (p : Path) → slice_get ways.paths index ≡ Some p → is_ok (judgement_of ways index slots place shell) ≡ true
+    → judgement_of ways index slots place shell ≡ Ok p
+taken-here ways index slots place shell p at e =
+    let o = ok-path (judgement_of ways index slots place shell) e in
+    let here : slice_get ways.paths index ≡ Some o.0 = (judgement_of-ok ways index slots place shell o.0 o.1).at in
+    let same : p ≡ o.0 = same_Some p o.0 (sym at ∙ here) in
+    o.1 ∙ ap Ok (sym same)
 
 -- a claim takes one path
 pub one-path : (r : Result Path AcceptError) (p q : Path) → r ≡ Ok p → r ≡ Ok q → p ≡ q

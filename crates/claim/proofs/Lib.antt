@@ -10,5 +10,7 @@ pub mod Shells
 pub mod Meeting
 pub mod Programs
 pub mod Judged
+pub mod OpcodesRead
+pub mod Kept
 pub mod EvidenceExamples
 pub mod JudgementExamples

@@ -10,7 +10,7 @@ use crate::errors::AcceptError;
 use crate::judgement::judge;
 use crate::parts::{Place, Shell, Slot};
 use lists::List;
-use paths::Checked;
+use paths::{Checked, Way};
 use std::alloc::Global;
 
 // The shell, with the witness items of a fixed transaction removed.
@@ -27,7 +27,8 @@ fn bare(shell: Shell) -> Shell
 }
 
 /// Accepts a claim by one path of a checked script, on an output whose program is the script's. `slots` fill the path's slots, the top of the stack
-/// first. Whatever fits the claim spends the output. A claim keeps a fixed transaction without its witness.
+/// first. Whatever fits the claim spends the output. A claim keeps a fixed transaction without its witness, and of the checked script the bytes and
+/// its own path.
 ///
 /// Checked in this order: `NoSuchPath`, `WrongArity`, `WrongProgram`, `WrongShell`, `Contradiction`, and `Unmet` with the first fact of the path
 /// that the slots do not show. `NoMemory` means that this fact could not be copied.
@@ -49,7 +50,12 @@ pub fn accept(
     match judge(alloc, &checked, path, slots.as_slice(), &place, &shell) {
         Err(refusal) => Err(refusal),
         Ok(()) => {
-            let claim = Claim::new(checked, path, List::from_vec(slots), place, shell);
+            let way = checked.into_way(path);
+            let Way {
+                script,
+                path: taken,
+            } = way;
+            let claim = Claim::new(script, path, taken, List::from_vec(slots), place, shell);
             // The proof learns from its path that the claim spends the output.
             let _ = claim.path();
             Ok(claim)

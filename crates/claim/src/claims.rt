@@ -1,22 +1,24 @@
 // Claims.
 
-ghost use Rattle.std.specs.Prelude.{◌≡◌, ◌<◌, length, slice_index_or};
+ghost use Rattle.std.specs.Prelude.{◌≡◌, ◌<◌, ◌≤◌, length};
 
 use crate::copies::copied_slots;
 use crate::parts::{Place, Shell, Slot};
-use lists::List;
-use paths::{Checked, Path};
-use script::limits::LOCKTIME_THRESHOLD;
+use lists::{ByteString, List};
+use paths::Path;
+use paths::laws::listed_paths_are_sound;
+use script::limits::{LOCKTIME_THRESHOLD, MAX_SCRIPT_SIZE};
 use std::alloc::AllocError;
 use std::marker::Model;
 use tx::OutPoint;
 
-/// A claim on an output: a path through its script, with a filling of each of the path's slots, and the transaction round it. Only `accept` makes
-/// one. A contract sees it as these parts.
+/// A claim on an output: a path through its script, with a filling of each of the path's slots, and the transaction round it. Of the script it keeps the bytes, and of the script's paths its own. Only
+/// `accept` makes one. A contract sees it as these parts, with every path of the script.
 #[derive(Drop)]
 pub struct Claim {
-    checked: Checked,
+    script: ByteString,
     index: usize,
+    path: Path,
     slots: List<Slot>,
     place: Place,
     shell: Shell,
@@ -25,41 +27,46 @@ pub struct Claim {
 impl Model for Claim {
     ghost use Rattle.std.specs.Prelude.{is_ok, IsTrue};
     ghost use Rattle.claim.specs.Judgement.{judgement_of};
+    ghost use Rattle.claim.specs.Ways.{ways_of, IsWayOf};
     ghost use Rattle.claim.specs.Claims.{ClaimParts, IsBare};
 
     ghost Value = { ClaimParts };
 
-    ghost view = { λ c. record { ways = c.checked; index = c.index; slots = c.slots; place = c.place; shell = c.shell } };
+    ghost view = { λ c. record {
+      ways = ways_of c.script;
+      index = c.index;
+      slots = c.slots;
+      place = c.place;
+      shell = c.shell;
+    } };
 
-    ghost invariant = { λ c. IsTrue (is_ok (judgement_of c.checked c.index c.slots c.place c.shell)) × IsBare c.shell };
-}
-
-// The path at an index.
-fn path_at(paths: &[Path], index: usize) -> &Path
-    requires { index < length paths.now }
-    ensures { result.now ≡ slice_index_or paths.now index result.now }
-{
-    &paths[index]
+    ghost invariant = { λ c. IsWayOf c.script c.index c.path
+        × IsTrue (is_ok (judgement_of (ways_of c.script) c.index c.slots c.place c.shell))
+        × IsBare c.shell };
 }
 
 impl Claim {
     ghost use Rattle.std.specs.Prelude.{is_ok, IsTrue, IfOk, Some, true};
+    ghost use Rattle.script.specs.Spelling.{Spells};
     ghost use Rattle.claim.specs.Judgement.{judgement_of, is_shell};
+    ghost use Rattle.claim.specs.Ways.{ways_of, IsWayOf};
     ghost use Rattle.claim.specs.Claims.{IsBare, IsSpending, IsWhole, TakesPath, path_of, sequence_of, lock_time_of};
     ghost use Rattle.paths.specs.Sound.{IsSound};
 
-    // A claim that was judged. A fixed transaction in its shell has no witness items.
+    // A claim that was judged on a path of its script. A fixed transaction in its shell has no witness items.
     pub(crate) fn new(
-        checked: Checked,
+        script: ByteString,
         index: usize,
+        path: Path,
         slots: List<Slot>,
         place: Place,
         shell: Shell,
     ) -> Claim
-        requires judged { IsTrue (is_ok (judgement_of checked index slots place shell)) }
+        requires way { IsWayOf script index path }
+        requires judged { IsTrue (is_ok (judgement_of (ways_of script) index slots place shell)) }
         requires bare { IsBare shell }
         ensures { result ≡ record {
-          ways = checked;
+          ways = ways_of script;
           index = index;
           slots = slots;
           place = place;
@@ -67,8 +74,9 @@ impl Claim {
         } }
     {
         Claim {
-            checked,
+            script,
             index,
+            path,
             slots,
             place,
             shell,
@@ -79,23 +87,30 @@ impl Claim {
     pub fn copy(&self) -> Result<Self, AllocError>
         ensures { IfOk result (λ c. c ≡ self.now) }
     {
-        // The proof learns from the path that the parts were judged.
-        let _ = self.path();
-        let slots = copied_slots(self.slots.allocator(), self.slots())?;
-        Ok(Claim {
-            checked: self.checked.copy()?,
-            index: self.index,
-            slots: List::from_vec(slots),
-            place: self.place.copy()?,
-            shell: self.shell.copy()?,
-        })
+        let script = self.script.copy()?;
+        let path = self.path.copy()?;
+        let slots = copied_slots(self.slots.allocator(), self.slots.values())?;
+        let place = self.place.copy()?;
+        let shell = self.shell.copy()?;
+        let copy = Claim::new(
+            script,
+            self.index,
+            path,
+            List::from_vec(slots),
+            place,
+            shell,
+        );
+        Ok(copy)
     }
 
-    /// The script of the claimed output, with its paths.
-    pub fn checked(&self) -> &Checked
-        ensures { result.now ≡ self.now.ways }
+    /// The bytes of the claimed output's script.
+    pub fn script(&self) -> &[u8]
+        ensures spelt { Spells self.now.ways.ops result.now }
+        ensures short { length result.now ≤ MAX_SCRIPT_SIZE }
     {
-        &self.checked
+        // Borrowing both fields gives the prover the invariant.
+        let _path = &self.path;
+        self.script.bytes()
     }
 
     /// The index of the claim's path among those of its script.
@@ -114,10 +129,11 @@ impl Claim {
         ensures spends { IsSpending self.now }
         ensures whole { IsWhole self.now }
     {
-        // The proof learns from its bytes and opcodes that the script has its limits.
-        let _ = self.checked.script().bytes();
-        let _ = self.checked.script().ops();
-        path_at(self.checked.paths(), self.index)
+        // The proof learns from the law that whatever meets a listed path runs clean.
+        listed_paths_are_sound();
+        // Borrowing both fields gives the prover the invariant.
+        let _script = &self.script;
+        &self.path
     }
 
     /// How the slots of the path are filled, the top of the stack first.

@@ -104,7 +104,7 @@ fn witness(
     let mut items = items(alloc, digest, claim.slots(), signer, preimages)?;
     items.reverse();
     let program = claim.place().program.bytes();
-    let script = claim.checked().script().bytes();
+    let script = claim.script();
     Ok(witness_of(alloc, program, script, items)?)
 }
 
@@ -128,7 +128,7 @@ fn filled_input(
     // The proof learns from the path that the claim spends its output.
     let _ = claim.path();
     let digest = cache
-        .digest_of(index, claim.checked().script().bytes(), claim.place().value)
+        .digest_of(index, claim.script(), claim.place().value)
         .unwrap();
     let witness = witness(alloc, &digest, claim, signer, preimages)?;
     Ok(TxIn {

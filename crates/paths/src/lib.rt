@@ -43,7 +43,7 @@ mod walking;
 
 pub use errors::CheckError;
 pub use facts::{Fact, KeySource, Stated, Sym};
-pub use listing::{Checked, check};
+pub use listing::{Checked, Way, check};
 pub use patterns::{CheckedPattern, check_pattern};
 pub use pieces::{Fill, InstanceError, PatternError, Piece};
 pub use state::Path;

@@ -17,8 +17,8 @@ use crate::errors::CheckError;
 use crate::filling::filled_paths;
 use crate::state::{Path, PatternPath};
 use crate::walking::walk_all;
-use lists::List;
-use script::limits::MAX_OPS_PER_SCRIPT;
+use lists::{ByteString, List};
+use script::limits::{MAX_OPS_PER_SCRIPT, MAX_SCRIPT_SIZE};
 use script::{Op, Script};
 use std::alloc::{AllocError, Global};
 use std::marker::Model;
@@ -41,8 +41,16 @@ impl Model for Checked {
     ghost invariant = { λ c. listing c.script ≡ Ok c.paths };
 }
 
+/// One way through a script: the bytes of the script, and the path.
+#[derive(Drop)]
+pub struct Way {
+    pub script: ByteString,
+    pub path: Path,
+}
+
 impl Checked {
-    ghost use Rattle.std.specs.Prelude.{◌≡◌, All, Ok, IfOk};
+    ghost use Rattle.std.specs.Prelude.{◌≡◌, ◌<◌, ◌≤◌, length, slice_get, All, Ok, Some, IfOk};
+    ghost use Rattle.script.specs.Spelling.{Spells};
     ghost use Rattle.paths.specs.Listing.{listing};
     ghost use Rattle.paths.specs.Sound.{IsSound};
     ghost use Rattle.paths.specs.Exhaustive.{IsExhaustive};
@@ -76,6 +84,23 @@ impl Checked {
         // Borrowing both fields gives the prover the invariant: these are the script's paths.
         let _script = &self.script;
         self.paths.values()
+    }
+
+    /// One way through the script, without the others. It allocates nothing.
+    pub fn into_way(self, index: usize) -> Way
+        requires { index < length self.paths }
+        ensures spelt { Spells self.ops result.script }
+        ensures short { length result.script ≤ MAX_SCRIPT_SIZE }
+        ensures listed { listing self.ops ≡ Ok self.paths }
+        ensures path { slice_get self.paths index ≡ Some result.path }
+    {
+        let Checked { script, paths } = self;
+        let mut paths = paths.into_vec();
+        let path = paths.swap_remove(index);
+        Way {
+            script: script.into_bytes(),
+            path,
+        }
     }
 
     /// A copy of the script with its paths, which are not listed again. The only error is that memory ran out.

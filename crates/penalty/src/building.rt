@@ -99,6 +99,8 @@ fn claims_with(
         )?;
         htlcs += htlc_count(&output.kind);
     }
+    // They may be kept for as long as the channel lives.
+    claims.shrink_to_fit();
     Ok(List::from_vec(claims))
 }
 

@@ -92,6 +92,15 @@ impl Script {
         self.bytes.as_slice()
     }
 
+    /// The bytes themselves, taken out of the script. It allocates nothing.
+    pub fn into_bytes(self) -> ByteString
+        ensures spelt { Spells self result }
+        ensures short { length result ≤ MAX_SCRIPT_SIZE }
+    {
+        let Script { bytes, ops: _ } = self;
+        ByteString::from_vec(bytes)
+    }
+
     /// The opcodes.
     pub fn ops(&self) -> &[Op]
         ensures value { result.now ≡ self.now }

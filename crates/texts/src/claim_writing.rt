@@ -105,7 +105,7 @@ impl WriteValue for Claim {
             .member("outpoint", &place.outpoint)?
             .member("path", &(self.index() as u64))?
             .member("program", &place.program)?
-            .bytes("script", self.checked().script().bytes())?
+            .bytes("script", self.script())?
             .member("shell", self.shell())?
             .each("slots", self.slots())?
             .member("value", &place.value)?;

@@ -21,4 +21,4 @@ pub returns : goal.returns
 returns c =
     let e : into_iter_items c.loop-plain.plain-iterator ≡ [] = nil_from_length (into_iter_items c.loop-plain.plain-iterator) (omega (arith, c.in-None.ensures.steps.0)) in
     let whole = all_taken c.args.plains c.loop-plain.claims.items (subst (SoFar c.args.plains c.loop-plain.claims.items) e c.loop-plain.invariant) in
-    whole ∙ ap Some (sym c.from_vec.ensures)
+    whole ∙ ap Some (sym (c.from_vec.ensures ∙ c.shrink_to_fit.ensures.items))

@@ -1,4 +1,4 @@
-use Rattle.book.proofs.OpcodesRead.{reads}
+use Rattle.claim.proofs.OpcodesRead.{reads}
 use Rattle.book.proofs.Taking.{none_read}
 use Rattle.book.proofs.loading.script_of.Goals as goal
 

@@ -1,4 +1,4 @@
-use Rattle.std.proofs.Common.{◌+◌, subst, sym, ap}
+use Rattle.std.proofs.Common.{◌+◌, subst, sym, ap, ◌∙◌}
 use Rattle.penalty.specs.Claimable.{claims_on, claims_from}
 use Rattle.penalty.specs.Sets.{AreClaimsOn}
 use Rattle.penalty.proofs.Collecting.{collects_none, is_kth, collects_on, collects_all}
@@ -18,5 +18,5 @@ loop-index-preserved c =
 pub returns : goal.returns
 returns c =
     subst (λ os. AreClaimsOn (claims_from c.args.commitment.now 0 os) c.from_vec.result) c.outputs-outputs.ensures.value
-    (subst (λ cs. AreClaimsOn (claims_from c.args.commitment.now 0 c.outputs-outputs.result.now) cs) (sym c.from_vec.ensures)
+    (subst (λ cs. AreClaimsOn (claims_from c.args.commitment.now 0 c.outputs-outputs.result.now) cs) (sym (c.from_vec.ensures ∙ c.shrink_to_fit.ensures.items))
     (collects_all (claims_on c.args.commitment.now) c.args.commitment.now c.loop-index.index c.outputs-outputs.result.now c.loop-index.htlcs c.loop-index.claims.items c.loop-index.invariant c.loop-index-test.false))

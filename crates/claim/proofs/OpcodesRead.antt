@@ -10,8 +10,7 @@ use Rattle.script.specs.declared.opcode.Op.{Op}
 use Rattle.script.specs.declared.opcode.Op.TheVariants.{Push, Number}
 use Rattle.script.specs.declared.limits.TheConstants.{MAX_SCRIPT_SIZE}
 use Rattle.script.specs.Spelling.{code_of, payload_of, spelling, IsOp, Spells, Begins}
-use Rattle.texts.specs.Values.{◌>>=◌}
-use Rattle.book.specs.Opcodes.{with_code, bare_ops, op_at, ops_in, ops_of}
+use Rattle.claim.specs.Opcodes.{◌>>=◌, with_code, bare_ops, op_at, ops_in, ops_of}
 
 -- ---- what opcodes spell is read as these opcodes
 
