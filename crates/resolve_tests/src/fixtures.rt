@@ -161,13 +161,13 @@ pub fn known_with(rt: &impl Abort, alloc: Global, terms: &Terms, theirs: KnownCo
     Known {
         terms: *terms,
         side: Side::A,
-        signer: Signer::new(alloc, &[1; 32]),
-        own: signed(rt, alloc, terms),
         older: older(rt, alloc, terms),
-        theirs,
-        next: Some(numbered(rt, alloc, terms, Side::B, MAX_NUMBER)),
         revoked: two_revoked(rt, alloc, terms),
         preimages: List::new(alloc),
+        signer: Signer::new(alloc, &[1; 32]),
+        own: signed(rt, alloc, terms),
+        theirs,
+        next: Some(numbered(rt, alloc, terms, Side::B, MAX_NUMBER)),
     }
 }
 

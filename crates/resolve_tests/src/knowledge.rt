@@ -43,8 +43,8 @@ fn refuses(rt: &impl Abort, alloc: Global, tokens: Tokens) -> bool {
 
 #[test]
 fn a_signed_commitment_has_the_peers_tokens(rt: HostRuntime) {
-    for tokens in [Tokens::WrongOnCommitment, Tokens::WrongOnHtlc] {
-        assert!(rt; refuses(&rt, rt.alloc(), tokens));
+    for tokens in &[Tokens::WrongOnCommitment, Tokens::WrongOnHtlc] {
+        assert!(rt; refuses(&rt, rt.alloc(), *tokens));
     }
 }
 
@@ -61,20 +61,29 @@ fn due(rt: &impl Abort, alloc: Global, known: &Known, verdict: Verdict) -> usize
     due_claims(alloc, known, verdict).expect(rt, "memory").len()
 }
 
-fn knows_what_is_due(rt: &impl Abort, alloc: Global, known: &Known) {
-    for (verdict, wanted) in DUE {
-        assert!(rt; due(rt, alloc, known, verdict) == wanted);
+// Whether as many claims are due by each verdict as the table says, and one older commitment is there.
+fn knows_what_is_due(rt: &impl Abort, alloc: Global, known: &Known) -> bool {
+    for (verdict, wanted) in &DUE {
+        if due(rt, alloc, known, *verdict) != *wanted {
+            return false;
+        }
     }
-    assert!(rt; known.older.len() == 1);
+    known.older.len() == 1
 }
 
-// The copy of all that is known: of its own commitments, which have the peer's tokens, of the peer's, one of which has
-// the last number, and of those that the peer revoked.
-fn copied(rt: &impl Abort, alloc: Global) -> Known {
-    known(rt, alloc).copy().expect(rt, "memory")
+// Whether the copy of all that is known does so: of its own commitments, which have the peer's tokens, of the peer's,
+// one of which has the last number, and of those that the peer revoked.
+fn has_a_copy(rt: &impl Abort, alloc: Global, known: &Known) -> bool {
+    let copy = known.copy().expect(rt, "memory");
+    let is_same = knows_what_is_due(rt, alloc, &copy);
+    drop(copy);
+    is_same
 }
 
 #[test]
 fn a_copy_knows_the_same(rt: HostRuntime) {
-    knows_what_is_due(&rt, rt.alloc(), &copied(&rt, rt.alloc()));
+    let known = known(&rt, rt.alloc());
+    let is_same = has_a_copy(&rt, rt.alloc(), &known);
+    drop(known);
+    assert!(rt; is_same);
 }

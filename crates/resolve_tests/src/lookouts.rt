@@ -60,12 +60,13 @@ fn closing_tx(rt: &impl Abort, alloc: Global, known: &Known) -> Tx {
     tx
 }
 
-// The block after the first closes the channel, and the next one is empty.
+// The block after the first closes the channel, and the next one, which is the last, is empty.
 fn close(rt: &impl Abort, alloc: Global, chain: &mut Index, known: &Known) {
     let mut txs = Vec::new(alloc);
     txs.push(closing_tx(rt, alloc, known)).expect(rt, "memory");
-    assert!(rt; chain.connect(txs).is_ok());
-    assert!(rt; chain.connect(Vec::new(alloc)).is_ok());
+    let closed = chain.connect(txs).is_ok();
+    let followed = chain.connect(Vec::new(alloc)).is_ok();
+    assert!(rt; closed && followed && chain.blocks().len() == 3);
 }
 
 // What is done with the lookout, and what it answers.
@@ -96,17 +97,17 @@ const ROWS: [Row; 11] = [
     Row::Look(1, 1, 2),
 ];
 
-// The number of claims that a block gives.
-fn count(
+// Whether a block gives so many claims, and shows no preimage.
+fn gives(
     rt: &impl Abort,
     alloc: Global,
     lookout: &mut Lookout,
     height: u64,
     block: &Block,
-) -> usize {
+    claims: usize,
+) -> bool {
     let sight = lookout.look(alloc, height, block).expect(rt, "memory");
-    assert!(rt; sight.learnt.is_empty());
-    sight.claims.len()
+    sight.learnt.is_empty() && sight.claims.len() == claims
 }
 
 // Whether the lookout answers as the row says.
@@ -120,7 +121,7 @@ fn answers(
     match *row {
         Row::Look(height, index, claims) => {
             let block = blocks.get(index).expect(rt, "a block");
-            count(rt, alloc, lookout, height, block) == claims
+            gives(rt, alloc, lookout, height, block, claims)
         }
         Row::Learn(preimage) => lookout.learn(&[preimage]).is_ok(),
         Row::Knows(preimages) => lookout.known().preimages.len() == preimages,
@@ -131,29 +132,26 @@ fn answers(
     }
 }
 
-// Plays the rows on the blocks of the close. The watch is left.
-fn watched(rt: &impl Abort, alloc: Global, chain: &Index, known: Known) -> Watch {
-    let mut lookout = Lookout::new(Watch::new(alloc), known);
+// Plays the rows on the blocks of the close.
+fn play(rt: &impl Abort, alloc: Global, blocks: &[Block], lookout: &mut Lookout) {
     for (index, row) in ROWS.iter().enumerate() {
-        assert!(rt;
-            answers(rt, alloc, chain.blocks(), &mut lookout, row),
-            "row {index}"
-        );
+        assert!(rt; answers(rt, alloc, blocks, lookout, row), "row {index}");
     }
-    lookout.into_watch()
 }
 
-// The blocks of the close, and what A knows.
-fn closed(rt: &impl Abort, alloc: Global, chain: &mut Index) -> Known {
+// The watch that is left by a lookout over the close.
+fn watched(rt: &impl Abort, alloc: Global, chain: &mut Index) -> Watch {
     let known = funded(rt, alloc, chain);
     close(rt, alloc, chain, &known);
-    assert!(rt; chain.blocks().len() == 3);
-    known
+    let known = Box::new(alloc, known).ok().expect(rt, "memory");
+    let mut lookout = Lookout::new(Watch::new(alloc), known);
+    play(rt, alloc, chain.blocks(), &mut lookout);
+    lookout.into_watch()
 }
 
 #[test]
 fn gives_what_falls_due(rt: HostRuntime) {
     let mut chain = Index::new(rt.alloc()).expect(&rt, "memory");
-    let known = closed(&rt, rt.alloc(), &mut chain);
-    assert!(rt; watched(&rt, rt.alloc(), &chain, known).copy().is_ok());
+    let watch = watched(&rt, rt.alloc(), &mut chain);
+    assert!(rt; watch.copy().err().is_none());
 }

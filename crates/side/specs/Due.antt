@@ -47,6 +47,14 @@ abbrev pub FindsIf : Option Known → ℕ → List Transaction → ℕ → Seen 
 FindsIf None height txs c older newer jobs shown = (newer ≡ older) × (jobs ≡ []) × (shown ≡ [])
 FindsIf (Some known) height txs c older newer jobs shown = Finds known height txs c older newer jobs shown
 
+-- what is found, behind what was found before
+pub record FindsMore (k : Option Known) (height : ℕ) (txs : List Transaction) (c : ℕ) (older newer : Seen) (jobs more_jobs : List DueClaim) (shown more_shown : List (List ℕ)) : Type 0 where
+  pub new_jobs : List DueClaim
+  pub new_shown : List (List ℕ)
+  pub finds : FindsIf k height txs c older newer new_jobs new_shown
+  pub jobs_are : more_jobs ≡ jobs ++ new_jobs
+  pub shown_are : more_shown ≡ shown ++ new_shown
+
 -- ---- what is known
 
 -- adds preimages to what is known

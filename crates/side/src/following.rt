@@ -56,12 +56,13 @@ impl Followed {
 }
 
 /// From now on the channel is read by `known`. Does not allocate.
-pub(crate) fn tell(alloc: Global, followed: &mut Followed, known: Known)
-    ensures { followed.new ≡ told known followed.old }
+pub(crate) fn tell(alloc: Global, followed: &mut Followed, known: Box<Known>)
+    ensures { followed.new ≡ told known.value followed.old }
 {
     let nothing = Followed::Alone(Watch::new(alloc));
     let watch = mem::replace(followed, nothing).into_watch();
-    *followed = Followed::Known(Lookout::new(watch, known));
+    let told = Followed::Known(Lookout::new(watch, known));
+    drop(mem::replace(followed, told));
 }
 
 /// Adds preimages to the answer of each channel that has one. The only error is that memory ran out.

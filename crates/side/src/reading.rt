@@ -3,12 +3,13 @@
 ghost use Rattle.std.specs.Prelude.{◌≡◌, ◌≤◌, if◌then◌else◌, ◌∷◌, ◌++◌, [], filter, length, map, reverse, IfOk, OnOk};
 ghost use Rattle.std.specs.List.{AllByRecursion, cons_option, filter_map, list_any};
 ghost use Rattle.claim.specs.Claims.{IsWhole};
-ghost use Rattle.side.specs.Due.{wanted_by, asks, due_claims_of, Finds, FindsIf, with_preimages};
+ghost use Rattle.side.specs.Due.{wanted_by, asks, due_claims_of, Finds, FindsMore, with_preimages};
 ghost use Rattle.side.specs.Reading.{FindsBlock};
 ghost use Rattle.side.specs.Following.{seen_in, known_in};
 
 use crate::due::DueClaim;
 use crate::following::{Followed, teach_all, tell, unanswered, watches_of};
+use crate::marks::Marks;
 use crate::preimages::Preimages;
 use crate::spent::Spent;
 use chain::Block;
@@ -28,6 +29,7 @@ use watch::{Lookout, Watch};
 #[derive(Drop)]
 pub struct Reader {
     fundings: Vec<OutPoint>,
+    marks: Option<Marks>,
     channels: Vec<Followed>,
     learnt: Vec<[u8; 32]>,
     due: VecDeque<DueClaim>,
@@ -174,12 +176,12 @@ fn push_all(preimages: &mut List<[u8; 32]>, more: &[[u8; 32]]) -> Result<(), All
 }
 
 // Adds preimages to what is known of a channel. The only error is that memory ran out.
-fn with_preimages(shown: &[[u8; 32]], known: Known) -> Result<Known, AllocError>
-    ensures { IfOk result (λ k. k ≡ with_preimages shown.now known) }
+fn with_preimages(alloc: Global, shown: &[[u8; 32]], known: Known) -> Result<Box<Known>, AllocError>
+    ensures { IfOk result (λ k. k.value ≡ with_preimages shown.now known) }
 {
     let mut known = known;
     push_all(&mut known.preimages, shown)?;
-    Ok(known)
+    Ok(Box::new(alloc, known)?)
 }
 
 // Reads a block for a channel, with what is known of it. The only error is that memory ran out.
@@ -204,25 +206,6 @@ fn look_by(
     })
 }
 
-// Reads a block for a channel; finds nothing if it has no answer. The only error is that memory ran out.
-fn read_channel(
-    alloc: Global,
-    height: u64,
-    block: &Block,
-    channel: u64,
-    followed: &mut Followed,
-) -> Result<Found, AllocError>
-    ensures found { IfOk result (λ f. FindsIf (known_in followed.old) height
-        (reverse block.now.transactions) channel (seen_in followed.old) (seen_in followed.new)
-        f.due.items f.learnt.items) }
-    ensures known { OnOk result (known_in followed.new ≡ known_in followed.old) }
-{
-    match followed {
-        Followed::Alone(_) => Ok(nothing_found(alloc)),
-        Followed::Known(lookout) => look_by(alloc, height, block, channel, lookout),
-    }
-}
-
 // Appends what was found. The only error is that memory ran out.
 fn add(found: &mut Found, more: Found) -> Result<(), AllocError>
     ensures due { OnOk result (found.new.due.items ≡ found.old.due.items ++ more.due.items) }
@@ -233,6 +216,29 @@ fn add(found: &mut Found, more: Found) -> Result<(), AllocError>
     found.due.append(&mut more.due)?;
     found.learnt.append(&mut more.learnt)?;
     Ok(())
+}
+
+// Reads a block for a channel, and appends what it finds; that is nothing if the channel has no answer. The only error is that memory ran out.
+fn read_channel(
+    alloc: Global,
+    height: u64,
+    block: &Block,
+    channel: u64,
+    followed: &mut Followed,
+    found: &mut Found,
+) -> Result<(), AllocError>
+    ensures found { OnOk result (FindsMore (known_in followed.old) height
+        (reverse block.now.transactions) channel (seen_in followed.old) (seen_in followed.new)
+        found.old.due.items found.new.due.items found.old.learnt.items found.new.learnt.items) }
+    ensures known { OnOk result (known_in followed.new ≡ known_in followed.old) }
+{
+    match followed {
+        Followed::Alone(_) => Ok(()),
+        Followed::Known(lookout) => {
+            let more = look_by(alloc, height, block, channel, lookout)?;
+            add(found, more)
+        }
+    }
 }
 
 // Reads a block for all channels, with what is known of each. The only error is that memory ran out.
@@ -251,8 +257,7 @@ fn read_channels(
     for index in 0..channels.len() {
         let channel = index as u64;
         let followed = &mut channels[index];
-        let more = read_channel(alloc, height, block, channel, followed)?;
-        add(&mut found, more)?;
+        read_channel(alloc, height, block, channel, followed, &mut found)?;
     }
     Ok(found)
 }
@@ -295,8 +300,10 @@ impl Reader {
         ensures { IfOk result (λ r. r ≡ begun fundings.items watches.items learnt.items) }
     {
         let channels = unanswered(alloc, watches)?;
+        let marks = Marks::of_many(alloc, &fundings)?;
         Ok(Reader {
             fundings,
+            marks,
             channels,
             learnt,
             due: VecDeque::new(alloc),
@@ -311,7 +318,7 @@ impl Reader {
         ensures within { IfOk result (λ v. All (λ c. c < length self.now.seen) v.items) }
         ensures in_step { IsInStep self.now }
     {
-        let spent = Spent::by(alloc, block, &self.fundings)?;
+        let spent = Spent::by(alloc, block, &self.marks)?;
         let mut channels = Vec::new(alloc);
         for index in 0..self.channels.len() {
             let funding = &self.fundings[index];
@@ -328,8 +335,8 @@ impl Reader {
         ensures ok { OnOk result (self.new ≡ with_answer channel known self.old) }
         ensures err { OnErr result (self.new ≡ self.old) }
     {
-        let known = with_preimages(&self.learnt, known)?;
         let alloc = *self.channels.allocator();
+        let known = with_preimages(alloc, &self.learnt, known)?;
         tell(alloc, &mut self.channels[channel as usize], known);
         Ok(())
     }

@@ -18,22 +18,19 @@ use std::marker::Model;
 use tx::{OutPoint, TxIn};
 use watch::Watch;
 
-/// From this number of channels on, a block is gone over once for all of them. For fewer channels it costs less to go over it for each.
-const MANY_CHANNELS: usize = 16;
-
-/// What a block spends. For many channels their funding outputs are marked, and only what has their marks is kept, so that each is found at once.
+/// What a block spends. For many channels their funding outputs are marked, and of what it spends only outpoints that have marks are kept, so that each is found at once.
 /// A contract sees the transactions of the block.
 #[derive(Drop)]
 pub(crate) struct Spent<'a> {
     block: &'a Block,
     txs: &'a [Confirmed],
-    marked: Option<Marked>,
+    marked: Option<Marked<'a>>,
 }
 
 /// Marks, and what a block spends of the outpoints that have them.
 #[derive(Drop)]
-struct Marked {
-    marks: Marks,
+struct Marked<'a> {
+    marks: &'a Marks,
     outpoints: BTreeSet<OutPoint>,
 }
 
@@ -51,7 +48,7 @@ impl<'a> Model for Spent<'a> {
 
     ghost view = { λ a. a.txs.now };
 
-    ghost invariant = { λ a. (a.txs.now ≡ reverse a.block.now.transactions) × IfSome a.marked (λ m. (o : Place) → is_marked m.marks.first.items m.marks.second.items o ≡ true → contains outpoint_cmp m.outpoints o ≡ list_any (names o) a.txs.now) };
+    ghost invariant = { λ a. (a.txs.now ≡ reverse a.block.now.transactions) × IfSome a.marked (λ m. (o : Place) → is_marked m.marks.now.first.items m.marks.now.second.items o ≡ true → contains outpoint_cmp m.outpoints o ≡ list_any (names o) a.txs.now) };
 }
 
 // Adds an outpoint, if it is marked.
@@ -103,38 +100,39 @@ fn outpoints_of(
     Ok(outpoints)
 }
 
-// Marks these outpoints, if they are many, and keeps what transactions spend of them. The only error is that memory ran out.
-fn marked_in(
+// What transactions spend of the outpoints that are marked, if there are marks. The only error is that memory ran out.
+fn marked_in<'a>(
     alloc: Global,
     txs: &[Confirmed],
-    fundings: &[OutPoint],
-) -> Result<Option<Marked>, AllocError>
+    marks: &'a Option<Marks>,
+) -> Result<Option<Marked<'a>>, AllocError>
     ensures { IfOk result (λ found. IfSome found (λ m. (o : Place) → is_marked
-        m.marks.first.items m.marks.second.items o ≡ true → contains outpoint_cmp m.outpoints o
-        ≡ list_any (names o) txs.now)) }
+        m.marks.now.first.items m.marks.now.second.items o ≡ true → contains outpoint_cmp
+        m.outpoints o ≡ list_any (names o) txs.now)) }
 {
-    if fundings.len() < MANY_CHANNELS {
-        return Ok(None);
+    match marks {
+        None => Ok(None),
+        Some(marks) => {
+            let outpoints = outpoints_of(alloc, marks, txs)?;
+            Ok(Some(Marked { marks, outpoints }))
+        }
     }
-    let marks = Marks::of(alloc, fundings)?;
-    let outpoints = outpoints_of(alloc, &marks, txs)?;
-    Ok(Some(Marked { marks, outpoints }))
 }
 
 impl<'a> Spent<'a> {
     ghost use Rattle.std.specs.Prelude.{◌≡◌, reverse, IfOk};
     ghost use Rattle.watch.specs.Watching.{is_spent};
 
-    /// What a block spends, to be asked for channels with these funding outputs. The only error is that memory ran out.
+    /// What a block spends, to be asked for channels whose funding outputs have these marks. The only error is that memory ran out.
     pub(crate) fn by(
         alloc: Global,
         block: &'a Block,
-        fundings: &[OutPoint],
+        marks: &'a Option<Marks>,
     ) -> Result<Self, AllocError>
         ensures { IfOk result (λ s. s ≡ reverse block.now.transactions) }
     {
         let txs = block.transactions();
-        let marked = marked_in(alloc, txs, fundings)?;
+        let marked = marked_in(alloc, txs, marks)?;
         Ok(Spent { block, txs, marked })
     }
 

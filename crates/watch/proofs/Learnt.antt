@@ -134,3 +134,8 @@ kept_settled false changed more ps known seen spends e n c i s = tt
 kept_settled true changed more ps known seen spends e n c i s =
     subst (λ (x : List (List ℕ)). IsSettled seen (record known { preimages = x })) (sym e)
     (still_settled more known seen (ap (some_changes known more) (sym i) ∙ sym c ∙ n) s)
+
+-- what holds of what is known holds of its equal
+pub kept_known : (d k : Known) (seen : Seen) (o : Option (Vec CommitmentHtlcs Global)) (b : Bool) → d ≡ k → IfSome o (λ v. v.items ≡ htlcs_by k seen.spends) × OnTrue b (IsSettled seen k)
+    → IfSome o (λ v. v.items ≡ htlcs_by d seen.spends) × OnTrue b (IsSettled seen d)
+kept_known d k seen o b e h = subst (λ (x : Known). IfSome o (λ v. v.items ≡ htlcs_by x seen.spends) × OnTrue b (IsSettled seen x)) (sym e) h

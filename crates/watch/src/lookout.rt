@@ -25,7 +25,8 @@ use std::mem;
 #[derive(Drop)]
 pub struct Lookout {
     watch: Watch,
-    known: Known,
+    // Apart, so that many lookouts lie close together.
+    known: Box<Known>,
     // The HTLCs of the known commitments among the transactions that were read, if they are worked out.
     commitments: Option<Vec<CommitmentHtlcs>>,
     // Whether all that is due was given.
@@ -40,11 +41,11 @@ impl Model for Lookout {
 
     ghost Value = { LookoutParts };
 
-    ghost view = { λ l. record { seen = l.watch; known = l.known } };
+    ghost view = { λ l. record { seen = l.watch; known = l.known.value } };
 
     ghost invariant = { λ l.
-        IfSome l.commitments (λ c. c.items ≡ htlcs_by l.known l.watch.spends)
-        × OnTrue l.is_settled (IsSettled l.watch l.known) };
+        IfSome l.commitments (λ c. c.items ≡ htlcs_by l.known.value l.watch.spends)
+        × OnTrue l.is_settled (IsSettled l.watch l.known.value) };
 }
 
 // What a block shows, after these transactions were read. The HTLCs of the known commitments among them are worked out where they weren't yet. The only
@@ -131,8 +132,8 @@ impl Lookout {
     ghost use Rattle.watch.specs.Lookouts.{with_learnt};
 
     /// A watch with what is known of its channel.
-    pub fn new(watch: Watch, known: Known) -> Lookout
-        ensures { result ≡ record { seen = watch; known = known } }
+    pub fn new(watch: Watch, known: Box<Known>) -> Lookout
+        ensures { result ≡ record { seen = watch; known = known.value } }
     {
         Lookout {
             watch,
@@ -155,10 +156,12 @@ impl Lookout {
     {
         let Lookout {
             watch,
-            known: _known,
-            commitments: _commitments,
-            is_settled: _is_settled,
+            known,
+            commitments,
+            ..
         } = self;
+        drop(known);
+        drop(commitments);
         watch
     }
 

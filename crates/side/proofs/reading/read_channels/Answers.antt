@@ -10,10 +10,10 @@ loop-index-preserved c =
     let now = c.loop-index.channels in
     let old = get_or now i c.index-channels-index.result in
     let new = c.read_channel.new.followed in
-    let more = c.in_ok-more.more in
-    read_step c.args.height (reverse c.args.block.now.transactions) c.args.channels.now i now (slice_set now i new) old new c.loop-index.found.due.items c.add.new.found.due.items more.due.items
-    c.loop-index.found.learnt.items c.add.new.found.learnt.items more.learnt.items c.loop-index.invariant (omega arith) (get_or_default now i c.index-channels-index.result old (omega arith)) refl
-    c.in_ok-more.ensures.found c.in_ok-more.ensures.known c.in_ok-add.ensures.due c.in_ok-add.ensures.learnt
+    let more = c.in_ok-read_channel.ensures.found in
+    read_step c.args.height (reverse c.args.block.now.transactions) c.args.channels.now i now (slice_set now i new) old new c.loop-index.found.due.items c.read_channel.new.found.due.items more.new_jobs
+    c.loop-index.found.learnt.items c.read_channel.new.found.learnt.items more.new_shown c.loop-index.invariant (omega arith) (get_or_default now i c.index-channels-index.result old (omega arith)) refl
+    more.finds c.in_ok-read_channel.ensures.known more.jobs_are more.shown_are
 
 pub returns-clause-found : goal.returns-clause-found
 returns-clause-found c =
