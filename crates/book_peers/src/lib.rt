@@ -21,5 +21,5 @@ mod peers;
 mod releases;
 
 pub use nodes::{Node, SEAT};
-pub use openings::{Opened, open_side};
+pub use openings::{Opened, open_side, open_side_with};
 pub use peers::{Act, PREIMAGE, Peers, Reply, offer};

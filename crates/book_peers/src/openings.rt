@@ -66,8 +66,13 @@ fn open_by(
     Ok(Opened { opening, channel })
 }
 
-/// How a side opens the channel of this number.
+/// How a side opens the channel of this number, of 100,000 satoshis. A opens it, and has 80,000.
 pub fn open_side(alloc: Global, number: u32, side: Side) -> Result<Opened> {
+    open_side_with(alloc, number, side, 100_000)
+}
+
+/// The same for a channel of so many satoshis, of which A has four fifths.
+pub fn open_side_with(alloc: Global, number: u32, side: Side, capacity: u32) -> Result<Opened> {
     let seed_a = channel_seed(0x0a, number);
     let seed_b = channel_seed(0x0b, number);
     let (a, b) = (Signer::new(alloc, &seed_a), Signer::new(alloc, &seed_b));
@@ -75,11 +80,12 @@ pub fn open_side(alloc: Global, number: u32, side: Side) -> Result<Opened> {
         index: number,
         ..FUNDING
     };
+    let capacity = u64::from(capacity);
     let terms = terms_of(
         funding,
-        100_000,
-        party(&a, 80_000_000),
-        party(&b, 20_000_000),
+        capacity,
+        party(&a, capacity * 800),
+        party(&b, capacity * 200),
     )?;
     match side {
         Side::A => open_by(alloc, terms, Side::A, &seed_a, a, &b),

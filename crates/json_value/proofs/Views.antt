@@ -1,11 +1,11 @@
 -- A value, level by level, and the members of an object.
-use Rattle.std.proofs.Common.{◌≡◌, ℕ, zero, suc, ◌+◌, ◌<◌, ◌≤◌, List, [], ◌∷◌, length, drop, get_or, Option, Some, None, String, Vec, Global, Ordering, Less, Equal, Greater, string_bytes, string_cmp, nat_cmp, Bool, true, false, bytes_eq, refl, sym, ap, ◌∙◌, arith, rules, drop-cons, add-one}
+use Rattle.std.proofs.Common.{◌≡◌, ℕ, zero, suc, ◌+◌, ◌<◌, ◌≤◌, List, [], ◌∷◌, length, drop, get_or, Option, Some, None, String, Vec, Global, Ordering, Less, Equal, Greater, string_bytes, string_cmp, nat_cmp, true, false, bytes_eq, refl, ap, ◌∙◌, arith, rules, drop-cons, add-one}
 use Rattle.std.proofs.lemmas.List.{drop_all}
 use Rattle.std.proofs.lemmas.Map.Text.{is_eq-slice_cmp}
 use Rattle.std.specs.Cmp.Lexicographic.{slice_cmp}
 use Rattle.std.specs.Ordering.{match_ordering, is_eq}
 use Rattle.std.specs.BTreeMap.{insert_entry}
-use Rattle.serde_json.specs.Data.{Data, array, object, Members, member, put}
+use Rattle.serde_json.specs.Data.{Data, array, object, put}
 use Rattle.serde_json.specs.Find.{get_member, get_item}
 use Rattle.json_value.specs.View.{view, items_view, members_view}
 use Rattle.json_value.specs.declared.value.Value.{Value, Array, Object, the_lemmas}

@@ -21,17 +21,22 @@ fn revoke_first(rt: &impl Abort, peers: &mut Peers, channel: usize) {
         (Side::A, Act::Deliver),
         (Side::A, Act::Update(offer(1_000_000, 501))),
     ] {
-        assert!(rt; peers.act(side, channel, act).is_ok());
+        let _reply = peers.act(side, channel, act).expect(rt, "a reply");
+    }
+}
+
+// Opens so many channels, in each of which B revokes its commitment 0.
+fn begin(rt: &impl Abort, alloc: Global, peers: &mut Peers, channels: u32) {
+    peers.open(alloc, channels).expect(rt, "channels");
+    for channel in 0..channels {
+        revoke_first(rt, peers, channel as usize);
     }
 }
 
 // A's book, all of whose calls are of seat 0. In each of so many channels B has revoked its commitment 0, and A has an offer to sign.
 fn book_of_a(rt: &impl Abort, alloc: Global, channels: u32) -> Book {
     let mut peers = Peers::new(alloc);
-    assert!(rt; peers.open(alloc, channels).is_ok());
-    for channel in 0..channels {
-        revoke_first(rt, &mut peers, channel as usize);
-    }
+    begin(rt, alloc, &mut peers, channels);
     let Peers { a, .. } = peers;
     let Node { book, .. } = a;
     book

@@ -40,8 +40,8 @@ fn is_kept<R: Wait>(rt: &R, desk: &Desk, seat: &mut Seat, channel: u64) -> u64
     ensures same { HasSameCalls desk.now seat.old seat.new }
     ensures small { result < 2 }
 {
-    match desk.revoked(rt, seat, channel, 0) {
-        Err(KeepError::AlreadyKept) => 1,
+    match desk.revoked(rt, seat, channel, 0).err() {
+        Some(KeepError::AlreadyKept) => 1,
         _ => 0,
     }
 }

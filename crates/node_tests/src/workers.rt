@@ -16,7 +16,7 @@ use jobs::{JobSender, Pass, job_queue};
 use keys::Key;
 use lists::List;
 use node::{Done, Hands, Job, Pool, Shared, worker};
-use penalty::penalties;
+use penalty::{PenaltySet, penalties};
 use side::DueClaim;
 use std::alloc::Global;
 use std::collections::VecDeque;
@@ -51,6 +51,15 @@ fn sign<R: Wait + Abort>(rt: &R, desk: &Desk, seat: &mut Seat, channel: u64) -> 
     }
 }
 
+// The penalties of B's commitment 0.
+fn set_of<R: Wait + Abort>(rt: &R, alloc: Global, desk: &Desk, seat: &mut Seat) -> PenaltySet
+    requires { IsSeatOf desk.now seat.old }
+    ensures { IsSeatOf desk.now seat.new }
+{
+    let state = desk.revoked(rt, seat, 0, 0).expect(rt, "a state");
+    penalties(alloc, &state).expect(rt, "memory")
+}
+
 // Keeps the penalties of B's commitment 0.
 fn keep<R: Wait + Abort>(
     rt: &R,
@@ -61,8 +70,7 @@ fn keep<R: Wait + Abort>(
     requires { IsSeatOf desk.now seat.old }
     ensures { IsSeatOf desk.now seat.new }
 {
-    let state = desk.revoked(rt, seat, 0, 0).expect(rt, "a state");
-    let set = penalties(alloc, &state).expect(rt, "memory");
+    let set = set_of(rt, alloc, desk, seat);
     desk.keep_set(rt, seat, 0, 0, set)
 }
 
@@ -117,10 +125,42 @@ fn run_one<R: Wait + Abort>(
 
 // How many entries a seat has.
 fn count_of(book: &Book, seat: u32) -> usize {
-    book.entries()
-        .iter()
-        .filter(|entry| entry.seat == seat)
-        .count()
+    let mut count: usize = 0;
+    for entry in book.entries() {
+        if entry.seat == seat {
+            count = count.saturating_add(1);
+        }
+    }
+    count
+}
+
+// Closes a desk by its seat. How many entries of its book the seats 1 and 2 have.
+fn counts_at_end<R: Wait>(rt: &R, desk: Desk, seat: &mut Seat) -> [usize; 2]
+    requires { IsSeatOf desk seat.old }
+{
+    let book = desk.close(rt, seat);
+    [count_of(&book, 1), count_of(&book, 2)]
+}
+
+// Whether a worker is stopped at its first ticket.
+fn is_stopped<R: Wait + Abort>(rt: &R, alloc: Global, desk: &Desk, working: Seat) -> bool
+    requires { IsSeatOf desk.now working }
+{
+    let pool = empty_pool(rt, alloc);
+    let gate = TestGate::new(Manner::Stops);
+    let done = run_one(rt, alloc, desk, working, &[], &pool, keep_in(0), &gate);
+    done.jobs == 1 && done.stopped == Some(0)
+}
+
+// Whether the seat signs once it has kept the penalties, and not before.
+fn guards<R: Wait + Abort>(rt: &R, alloc: Global, desk: &Desk, seat: &mut Seat) -> bool
+    requires { IsSeatOf desk.now seat.old }
+    ensures { IsSeatOf desk.now seat.new }
+{
+    let before = sign(rt, desk, seat, 0);
+    let kept = keep(rt, alloc, desk, seat);
+    let after = sign(rt, desk, seat, 0);
+    before == Some(SignError::PenaltiesMissing(0)) && kept == Ok(()) && after.is_none()
 }
 
 // A worker that is stopped leaves the desk alone: nothing is signed until another seat has kept the penalties.
@@ -130,13 +170,8 @@ fn stopped_worker(rt: HostRuntime) {
     let (desk, mut seats) = desk_over(&rt, alloc, 1, 2);
     let mut seat = next_seat(&rt, &desk, &mut seats);
     let working = next_seat(&rt, &desk, &mut seats);
-    let pool = empty_pool(&rt, alloc);
-    let gate = TestGate::new(Manner::Stops);
-    let done = run_one(&rt, alloc, &desk, working, &[], &pool, keep_in(0), &gate);
-    assert!(rt; done.jobs == 1 && done.stopped == Some(0));
-    assert!(rt; sign(&rt, &desk, &mut seat, 0) == Some(SignError::PenaltiesMissing(0)));
-    assert!(rt; keep(&rt, alloc, &desk, &mut seat) == Ok(()));
-    assert!(rt; sign(&rt, &desk, &mut seat, 0).is_none());
+    let is_stopped = is_stopped(&rt, alloc, &desk, working);
+    assert!(rt; is_stopped && guards(&rt, alloc, &desk, &mut seat));
 }
 
 // Two workers are given a job each, and the first one waits for the second.
@@ -146,6 +181,7 @@ fn run_two<R: Wait + Abort + Threads + Sync>(
     desk: &Desk,
     one: Seat,
     two: Seat,
+    pool: &Mutex<Pool>,
     gate: &TestGate,
 ) -> (Done, Done)
     requires { IsSeatOf desk.now one × IsSeatOf desk.now two }
@@ -165,18 +201,48 @@ fn run_two<R: Wait + Abort + Threads + Sync>(
         pass,
     };
     drop(sender);
-    let pool = empty_pool(rt, alloc);
     let shared = Shared {
         desk,
         board: &board,
         payments: &[],
-        pool: &pool,
+        pool,
     };
     thread::join(
         rt,
         || worker(rt, alloc, &shared, &taker, &mut ours, gate),
         || worker(rt, alloc, &shared, &taker, &mut theirs, gate),
     )
+}
+
+// Whether a worker did its one job.
+fn did_one(done: &Done) -> bool {
+    done.jobs == 1 && done.stopped.is_none()
+}
+
+// Whether each of two workers does its job, and the penalties of one channel were kept while the first was held.
+fn are_at_once<R: Wait + Abort + Threads + Sync>(
+    rt: &R,
+    alloc: Global,
+    desk: &Desk,
+    one: Seat,
+    two: Seat,
+) -> bool
+    requires { IsSeatOf desk.now one × IsSeatOf desk.now two }
+{
+    let pool = empty_pool(rt, alloc);
+    let gate = TestGate::new(Manner::Holds);
+    let (ours, theirs) = run_two(rt, alloc, desk, one, two, &pool, &gate);
+    did_one(&ours) && did_one(&theirs) && gate.kept() == 1
+}
+
+// Whether both channels sign.
+fn both_sign<R: Wait + Abort>(rt: &R, desk: &Desk, seat: &mut Seat) -> bool
+    requires { IsSeatOf desk.now seat.old }
+    ensures { IsSeatOf desk.now seat.new }
+{
+    let first = sign(rt, desk, seat, 0);
+    let second = sign(rt, desk, seat, 1);
+    first.is_none() && second.is_none()
 }
 
 // While one worker is held, the other keeps the penalties of another channel; then both are kept, each by a seat of its own, and each channel signs.
@@ -187,38 +253,22 @@ fn two_workers_at_once(rt: HostRuntime) {
     let mut seat = next_seat(&rt, &desk, &mut seats);
     let two = next_seat(&rt, &desk, &mut seats);
     let one = next_seat(&rt, &desk, &mut seats);
-    let gate = TestGate::new(Manner::Holds);
-    let (ours, theirs) = run_two(&rt, alloc, &desk, one, two, &gate);
-    assert!(rt; ours.jobs == 1 && ours.stopped.is_none());
-    assert!(rt; theirs.jobs == 1 && theirs.stopped.is_none());
-    assert!(rt; gate.kept() == 1);
-    assert!(rt; sign(&rt, &desk, &mut seat, 0).is_none());
-    assert!(rt; sign(&rt, &desk, &mut seat, 1).is_none());
-    let book = desk.close(&rt, &mut seat);
-    assert!(rt; count_of(&book, 1) == 1 && count_of(&book, 2) == 1);
+    let are_at_once = are_at_once(&rt, alloc, &desk, one, two);
+    let both_sign = both_sign(&rt, &desk, &mut seat);
+    assert!(rt; are_at_once && both_sign);
+    assert!(rt; counts_at_end(&rt, desk, &mut seat) == [1, 1]);
 }
 
-// The claims on B's commitment 0, as they fall due.
-fn due_of<R: Wait + Abort>(
-    rt: &R,
-    alloc: Global,
-    desk: &Desk,
-    seat: &mut Seat,
-) -> VecDeque<DueClaim>
-    requires { IsSeatOf desk.now seat.old }
-    ensures { IsSeatOf desk.now seat.new }
-{
-    let state = desk.revoked(rt, seat, 0, 0).expect(rt, "a state");
-    let set = penalties(alloc, &state).expect(rt, "memory");
+// The claims of a set, as they fall due.
+fn due_of(rt: &impl Abort, alloc: Global, set: PenaltySet) -> VecDeque<DueClaim> {
     let mut due = VecDeque::new(alloc);
     for claim in set.into_claims() {
-        let preimages = List::new(alloc);
         let pushed = due.push_back(DueClaim {
             channel: 0,
             claim,
-            preimages,
+            preimages: List::new(alloc),
         });
-        assert!(rt; pushed.is_ok());
+        pushed.ok().expect(rt, "memory");
     }
     due
 }
@@ -226,6 +276,12 @@ fn due_of<R: Wait + Abort>(
 // The output that a due claim is on.
 fn outpoint_of(rt: &impl Abort, due: &VecDeque<DueClaim>, index: usize) -> OutPoint {
     due.get(index).expect(rt, "a claim").claim.place().outpoint
+}
+
+// The outputs that two due claims are on.
+fn outpoints_of(rt: &impl Abort, due: &VecDeque<DueClaim>) -> (OutPoint, OutPoint) {
+    assert!(rt; due.len() == 2);
+    (outpoint_of(rt, due, 0), outpoint_of(rt, due, 1))
 }
 
 // Whether a transaction spends this output alone, and pays to the payment key.
@@ -238,6 +294,39 @@ fn is_release_of(tx: &Tx, outpoint: &OutPoint) -> bool {
     }
 }
 
+// Whether these are two transactions, each of which is such a release.
+fn are_releases_of(txs: &[Tx], first: &OutPoint, second: &OutPoint) -> bool {
+    match txs {
+        [one, two] => is_release_of(one, first) && is_release_of(two, second),
+        _ => false,
+    }
+}
+
+// Whether the releases wait in the pool, and stand among those that were ever released.
+fn has_releases_of(pool: &Pool, first: &OutPoint, second: &OutPoint) -> bool {
+    are_releases_of(&pool.waiting, first, second) && are_releases_of(&pool.released, first, second)
+}
+
+// Whether a worker releases these claims, two in number.
+fn releases<R: Wait + Abort>(
+    rt: &R,
+    alloc: Global,
+    desk: &Desk,
+    working: Seat,
+    due: VecDeque<DueClaim>,
+) -> bool
+    requires { IsSeatOf desk.now working }
+{
+    let (first, second) = outpoints_of(rt, &due);
+    let payments = [Key::read(&PAYMENT).expect(rt, "a key")];
+    let job = Job::Claims(due);
+    let pool = empty_pool(rt, alloc);
+    let gate = TestGate::new(Manner::Open);
+    let done = run_one(rt, alloc, desk, working, &payments, &pool, job, &gate);
+    let pool = pool.into_inner();
+    did_one(&done) && has_releases_of(&pool, &first, &second)
+}
+
 // Each of two claims goes to the pool in a transaction of its own, by the worker's seat.
 #[test]
 fn releases_each_claim(rt: HostRuntime) {
@@ -245,24 +334,8 @@ fn releases_each_claim(rt: HostRuntime) {
     let (desk, mut seats) = desk_over(&rt, alloc, 1, 2);
     let mut seat = next_seat(&rt, &desk, &mut seats);
     let working = next_seat(&rt, &desk, &mut seats);
-    let pool = empty_pool(&rt, alloc);
-    let payments = [Key::read(&PAYMENT).expect(&rt, "a key")];
-    let due = due_of(&rt, alloc, &desk, &mut seat);
-    assert!(rt; due.len() == 2);
-    let first = outpoint_of(&rt, &due, 0);
-    let second = outpoint_of(&rt, &due, 1);
-    let gate = TestGate::new(Manner::Open);
-    let job = Job::Claims(due);
-    let done = run_one(&rt, alloc, &desk, working, &payments, &pool, job, &gate);
-    assert!(rt; done.jobs == 1 && done.stopped.is_none());
-    let pool = pool.into_inner();
-    assert!(rt; pool.waiting.len() == 2 && pool.released.len() == 2);
-    assert!(rt;
-        is_release_of(&pool.waiting[0], &first) && is_release_of(&pool.released[0], &first)
-    );
-    assert!(rt;
-        is_release_of(&pool.waiting[1], &second) && is_release_of(&pool.released[1], &second)
-    );
-    let book = desk.close(&rt, &mut seat);
-    assert!(rt; count_of(&book, 1) == 2);
+    let set = set_of(&rt, alloc, &desk, &mut seat);
+    let due = due_of(&rt, alloc, set);
+    assert!(rt; releases(&rt, alloc, &desk, working, due));
+    assert!(rt; counts_at_end(&rt, desk, &mut seat) == [2, 0]);
 }

@@ -1,4 +1,4 @@
-use Rattle.std.proofs.Common.{◌≡◌, sym, ◌∙◌, arith}
+use Rattle.std.proofs.Common.{sym, ◌∙◌, arith}
 use Rattle.json_value.proofs.Views.{found_at, passed_at}
 use Rattle.json_value.proofs.objects.found_in.Goals as goal
 
