@@ -6,24 +6,31 @@
 #![tactic(auto)]
 
 use std::alloc::Global;
-use std::env::{self, Env};
+use std::env;
 use std::io::{self, Read, Write};
 use std::process::ExitCode;
 use trace_words::{refuse_memory, refuse_words};
 
 /// The words after the program's name.
-fn words<R: Env + Alloc>(rt: &R) -> io::Result<Vec<String<R::A>, R::A>> {
+fn words(rt: &HostRuntime) -> io::Result<Vec<String>> {
     Ok(env::args(rt)?.skip(1).collect(rt.alloc())?)
 }
 
-/// Does what the words say. The first word names the library that does it.
+/// Does what the words say. The first word names the library that does it. Arguments that are not UTF-8 are wrong words.
 fn run(
     alloc: Global,
-    words: &[String],
+    words: &io::Result<Vec<String>>,
     input: &mut dyn Read,
     out: &mut dyn Write,
     err: &mut dyn Write,
 ) -> u8 {
+    let words: &[String] = match words {
+        Ok(words) => words.as_slice(),
+        Err(error) => match error.kind() {
+            io::ErrorKind::OutOfMemory => return refuse_memory(out),
+            _ => &[],
+        },
+    };
     match words {
         [word] if word.as_str() == "scenario" => trace_scenario::run(alloc, input, out),
         [word] if word.as_str() == "dump" => trace_dump::run(alloc, input, out),
@@ -37,28 +44,14 @@ fn run(
     }
 }
 
-/// Runs the words that the program was called with. Arguments that are not UTF-8 are wrong words.
+/// Runs the words that the program was called with.
 fn main(rt: HostRuntime) -> ExitCode {
-    let status = match words(&rt) {
-        Ok(words) => {
-            let status = run(
-                rt.alloc(),
-                words.as_slice(),
-                &mut rt.stdin(),
-                &mut rt.stdout(),
-                &mut rt.stderr(),
-            );
-            drop(words);
-            status
-        }
-        Err(error) => {
-            let kind = error.kind();
-            drop(error);
-            match kind {
-                io::ErrorKind::OutOfMemory => refuse_memory(&mut rt.stdout()),
-                _ => refuse_words(&mut rt.stderr()),
-            }
-        }
-    };
-    ExitCode::from(status)
+    let words = words(&rt);
+    ExitCode::from(run(
+        rt.alloc(),
+        &words,
+        &mut rt.stdin(),
+        &mut rt.stdout(),
+        &mut rt.stderr(),
+    ))
 }

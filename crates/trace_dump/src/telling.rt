@@ -6,7 +6,7 @@ use book::Book;
 use channel::{Channel, CommitmentState};
 use commit::{Amounts, commitment_amounts};
 use std::alloc::Global;
-use terms::{Htlc, Side, Terms};
+use terms::{Htlc, Side};
 use trace_words::Piece::{Count, Hash, Text};
 use trace_words::{Line, Piece};
 
@@ -88,38 +88,37 @@ fn tell_offered(line: &mut Line, channel: &Channel, direction: &'static str, off
 
 // Writes what can be claimed.
 fn tell_claim(line: &mut Line, claim: &Claimable) {
-    let none = Text("null");
     // its name, and the id of its HTLC
     let (output, id) = match claim.output {
-        OutputName::ToLocal => ("to_local", none),
-        OutputName::ToRemote => ("to_remote", none),
-        OutputName::Offered(id) => ("offered", Count(id)),
-        OutputName::Received(id) => ("received", Count(id)),
+        OutputName::ToLocal => ("to_local", None),
+        OutputName::ToRemote => ("to_remote", None),
+        OutputName::Offered(id) => ("offered", Some(id)),
+        OutputName::Received(id) => ("received", Some(id)),
     };
     // its name, and the lock time
     let (way, lock) = match claim.way {
-        Way::Payment => ("payment", none),
-        Way::Preimage => ("preimage", none),
-        Way::Timeout(lock) => ("timeout", Count(u64::from(lock))),
-        Way::Penalty => ("penalty", none),
+        Way::Payment => ("payment", None),
+        Way::Preimage => ("preimage", None),
+        Way::Timeout(lock) => ("timeout", Some(lock as u64)),
+        Way::Penalty => ("penalty", None),
     };
     // how long nobody else can take the output
     let (alone, limit) = match claim.alone {
-        Alone::Always => ("always", none),
-        Alone::Blocks(blocks) => ("blocks", Count(u64::from(blocks))),
-        Alone::Until(height) => ("until", Count(u64::from(height))),
-        Alone::NoPreimage => ("no_preimage", none),
+        Alone::Always => ("always", None),
+        Alone::Blocks(blocks) => ("blocks", Some(blocks as u64)),
+        Alone::Until(height) => ("until", Some(height as u64)),
+        Alone::NoPreimage => ("no_preimage", None),
     };
     line.element(
         r#"{"output":"%","id":%,"value":%,"by":"%","lock":%,"alone":"%","limit":%}"#,
         &[
             Text(output),
-            id,
+            Piece::or_null(id),
             Count(claim.value),
             Text(way),
-            lock,
+            Piece::or_null(lock),
             Text(alone),
-            limit,
+            Piece::or_null(limit),
         ],
     );
 }
@@ -146,9 +145,9 @@ fn tell_amounts(
 fn tell_closing(
     alloc: Global,
     line: &mut Line,
+    channel: &Channel,
     close: Close,
     hashes: &[[u8; 32]],
-    terms: &Terms,
     state: &CommitmentState,
     name: &'static str,
     kept: Piece,
@@ -157,52 +156,36 @@ fn tell_closing(
         r#"{"commitment":"%","number":%,"kept":%,"claims":["#,
         &[Text(name), Count(state.number), kept],
     );
-    match commitment_amounts(alloc, terms, &state.view, state.owner) {
+    match commitment_amounts(alloc, channel.terms(), &state.view, state.owner) {
         Ok(amounts) => tell_amounts(alloc, line, close, hashes, &amounts),
         Err(_) => line.fail(),
     }
     line.push("]}");
 }
 
-// Writes a commitment of the peer that is not revoked, if there is one. Preimages of these hashes are known.
-fn tell_newest(
-    alloc: Global,
-    line: &mut Line,
-    channel: &Channel,
-    name: &'static str,
-    source: Source,
-    hashes: &[[u8; 32]],
-) {
-    let none = Text("null");
-    if let Some(state) = commitment(channel, source) {
-        let terms = channel.terms();
-        tell_closing(alloc, line, Close::Newest, hashes, terms, state, name, none);
+// Writes the commitments of the peer that are not revoked. Preimages of these hashes are known.
+fn tell_unrevoked(alloc: Global, line: &mut Line, channel: &Channel, hashes: &[[u8; 32]]) {
+    let (close, none) = (Close::Newest, Text("null"));
+    if let Some(state) = commitment(channel, Source::Theirs) {
+        tell_closing(alloc, line, channel, close, hashes, state, "theirs", none);
     }
-}
-
-// Writes the commitments of the peer that are not revoked.
-fn tell_unrevoked(alloc: Global, line: &mut Line, channel: &Channel, preimages: &[[u8; 32]]) {
-    match hashes_of(alloc, preimages) {
-        Ok(hashes) => {
-            let hashes = hashes.as_slice();
-            tell_newest(alloc, line, channel, "theirs", Source::Theirs, hashes);
-            tell_newest(alloc, line, channel, "next", Source::Next, hashes);
-        }
-        Err(_) => line.fail(),
+    if let Some(state) = commitment(channel, Source::Next) {
+        tell_closing(alloc, line, channel, close, hashes, state, "next", none);
     }
 }
 
 // Writes the revoked commitments of the peer, and whether their penalties are kept.
 fn tell_revoked(alloc: Global, line: &mut Line, book: &Book, index: u64, channel: &Channel) {
-    let terms = channel.terms();
-    let close = Close::Revoked(terms.party(channel.side().other()).delay);
-    let revoked = channel.peer_number() as usize;
-    for state in channel.peers_commitments().iter().take(revoked) {
-        let kept = match book.keeps(index, state.number) {
-            Some(kept) => Piece::flag(kept),
-            None => Text("null"),
-        };
-        tell_closing(alloc, line, close, &[], terms, state, "revoked", kept);
+    let owner = channel.side().other();
+    let close = Close::Revoked(channel.terms().party(owner).delay);
+    for number in 0..channel.peer_number() {
+        if let Some(state) = channel.peers_commitment(number) {
+            let kept = match book.keeps(index, state.number) {
+                Some(kept) => Piece::flag(kept),
+                None => Text("null"),
+            };
+            tell_closing(alloc, line, channel, close, &[], state, "revoked", kept);
+        }
     }
 }
 
@@ -229,7 +212,10 @@ fn tell_channel(alloc: Global, line: &mut Line, book: &Book, index: u64, channel
     tell_offered(line, channel, "offered", side);
     tell_offered(line, channel, "received", side.other());
     line.push(r#"],"closes":["#);
-    tell_unrevoked(alloc, line, channel, book.preimages(index));
+    match hashes_of(alloc, book.preimages(index)) {
+        Ok(hashes) => tell_unrevoked(alloc, line, channel, hashes.as_slice()),
+        Err(_) => line.fail(),
+    }
     tell_revoked(alloc, line, book, index, channel);
     line.push("]}\n");
 }

@@ -62,8 +62,10 @@ pub fn tell_claims(line: &mut Line, told: &Told, world: &World, side: Side, coun
     let jobs = world.jobs(side);
     let before = (jobs.len() as u64).saturating_sub(count);
     line.push(r#","claims":["#);
-    for due in jobs.iter().skip(before as usize) {
-        tell_claim(line, told, side, due);
+    for index in before as usize..jobs.len() {
+        if let Some(due) = jobs.get(index) {
+            tell_claim(line, told, side, due);
+        }
     }
     line.push("]");
 }

@@ -2,10 +2,10 @@
 
 use crate::coins::{Coin, Kind, Told};
 use crate::names::side_name;
-use crate::outputs::{outpoint_of, tell_output};
+use crate::outputs::tell_output;
 use chain::Confirmed;
 use channel::CommitmentState;
-use commit::{CommitmentOutput, Direction, OutputKind, build};
+use commit::{Commitment, CommitmentOutput, Direction, OutputKind, build};
 use std::alloc::Global;
 use terms::{Side, Terms, number_of};
 use trace_words::Piece::Count;
@@ -36,16 +36,20 @@ fn output_coin(to_local: &Coin, output: &CommitmentOutput) -> Coin {
     coin
 }
 
-// Writes a commitment of this number with its outputs. The `k`-th HTLC with an output has the index `k`.
+// Writes a transaction as this commitment with its outputs, if it is that one, and returns whether it is. The `k`-th HTLC
+// with an output has the index `k`.
 fn tell_closing(
     told: &mut Told,
     line: &mut Line,
     number: u64,
     to_local: &Coin,
-    outputs: &[CommitmentOutput],
+    commitment: &Commitment,
     confirmed: &Confirmed,
-) {
-    let mut k = 0u64;
+) -> bool {
+    if commitment.id() != confirmed.id() {
+        return false;
+    }
+    let (mut index, mut k) = (0u32, 0u64);
     line.write(
         r#","kind":"commitment","channel":%,"owner":"%","number":%,"revoked":%,"outputs":["#,
         &[
@@ -55,9 +59,9 @@ fn tell_closing(
             Piece::flag(to_local.is_revoked),
         ],
     );
-    for (index, output) in outputs.iter().enumerate() {
-        let coin = output_coin(to_local, output);
-        tell_output(line, told, &outpoint_of(confirmed, index), coin);
+    for output in commitment.outputs() {
+        tell_output(line, told, confirmed, index, output_coin(to_local, output));
+        index = index.saturating_add(1);
         if let OutputKind::ToHtlc(_, htlc) = &output.kind {
             line.write(
                 r#","id":%,"expiry":%,"index":%"#,
@@ -68,6 +72,7 @@ fn tell_closing(
         line.push("}");
     }
     line.push("]");
+    true
 }
 
 // Writes a transaction as a side's commitment, if it is one, and returns whether it is.
@@ -126,14 +131,7 @@ fn tell_if_built(
         state.number,
         &state.point,
     ) {
-        Ok(commitment) => {
-            let is_same = commitment.id() == confirmed.id();
-            if is_same {
-                let outputs = commitment.outputs();
-                tell_closing(told, line, state.number, to_local, outputs, confirmed);
-            }
-            is_same
-        }
+        Ok(commitment) => tell_closing(told, line, state.number, to_local, &commitment, confirmed),
         Err(_) => {
             line.fail();
             false
@@ -153,9 +151,26 @@ pub fn tell_commitment(
     channel: u64,
     confirmed: &Confirmed,
 ) {
-    for side in [Side::A, Side::B] {
-        if tell_if_of(alloc, world, told, line, height, channel, side, confirmed) {
-            break;
-        }
+    let is_of_a = tell_if_of(
+        alloc,
+        world,
+        told,
+        line,
+        height,
+        channel,
+        Side::A,
+        confirmed,
+    );
+    if !is_of_a {
+        tell_if_of(
+            alloc,
+            world,
+            told,
+            line,
+            height,
+            channel,
+            Side::B,
+            confirmed,
+        );
     }
 }

@@ -41,9 +41,9 @@ pub struct Coin {
     pub due: u64,
 }
 
-// A change that a block made.
+/// A change that a block made.
 #[derive(Clone, Copy, Drop)]
-enum Change {
+pub enum Change {
     Came(OutPoint),
     Went(OutPoint),
     /// The changes before it are those of the transaction
@@ -105,8 +105,8 @@ impl Told {
         }
     }
 
-    // Records a change.
-    fn note(&mut self, line: &mut Line, change: Change) {
+    /// Records a change. A transaction in a block comes after the changes that it made.
+    pub fn note(&mut self, line: &mut Line, change: Change) {
         if self.changes.push(change).is_err() {
             line.fail();
         }
@@ -138,29 +138,6 @@ impl Told {
         }
     }
 
-    /// Assigns the changes since the last transaction to this one.
-    pub fn mined(&mut self, line: &mut Line, height: u64, txid: &[u8; 32]) {
-        let txid = *txid;
-        self.note(line, Change::Mined { height, txid });
-    }
-
-    // Undoes a change.
-    fn undo(&mut self, line: &mut Line, change: &Change) {
-        match change {
-            Change::Mined { txid, .. } => line.element(r#""%""#, &[Hash(*txid)]),
-            Change::Came(outpoint) => {
-                if let Some(coin) = self.coins.remove(outpoint) {
-                    self.count(&coin, false);
-                }
-            }
-            Change::Went(outpoint) => {
-                if let Some(coin) = self.coin(outpoint) {
-                    self.count(&coin, true);
-                }
-            }
-        }
-    }
-
     /// Disconnects the blocks above a height, and writes
     /// the ids of their transactions, the last first.
     pub fn back_to(&mut self, line: &mut Line, height: u64) {
@@ -170,8 +147,19 @@ impl Told {
                     return;
                 }
             }
-            if let Some(change) = self.changes.pop() {
-                self.undo(line, &change);
+            match self.changes.pop() {
+                Some(Change::Mined { txid, .. }) => line.element(r#""%""#, &[Hash(txid)]),
+                Some(Change::Came(outpoint)) => {
+                    if let Some(coin) = self.coins.remove(&outpoint) {
+                        self.count(&coin, false);
+                    }
+                }
+                Some(Change::Went(outpoint)) => {
+                    if let Some(coin) = self.coin(&outpoint) {
+                        self.count(&coin, true);
+                    }
+                }
+                None => {}
             }
         }
     }

@@ -6,20 +6,16 @@ use trace_words::Line;
 use trace_words::Piece::Count;
 use world::World;
 
-// Whether one of a side's HTLCs has this number.
-fn has(htlcs: &[Htlc], id: u64) -> bool {
-    for htlc in htlcs {
-        if htlc.id == id {
-            return true;
-        }
-    }
-    false
-}
-
 // Writes those of a side's HTLCs that are not among others of it.
 fn tell_without(line: &mut Line, offerer: Side, htlcs: &[Htlc], others: &[Htlc]) {
     for htlc in htlcs {
-        if !has(others, htlc.id) {
+        let mut is_among = false;
+        for other in others {
+            if other.id == htlc.id {
+                is_among = true;
+            }
+        }
+        if !is_among {
             line.element(
                 r#"{"offerer":"%","id":%}"#,
                 &[side_name(offerer), Count(htlc.id)],

@@ -8,7 +8,7 @@ use trace_words::Line;
 use trace_words::Piece::{Count, Sum};
 use world::World;
 
-// Writes the chain's height, its unspent outputs and its fees.
+// Writes the chain's height, its unspent outputs and its fees, and begins the penalties that are kept.
 fn tell_chain(line: &mut Line, chain: &Index) {
     let Ok(unspent) = chain.unspent() else {
         line.fail();
@@ -19,7 +19,7 @@ fn tell_chain(line: &mut Line, chain: &Index) {
         return;
     };
     line.write(
-        r#"{"end":{"height":%,"unspent":%,"value":%,"fees":%"#,
+        r#"{"end":{"height":%,"unspent":%,"value":%,"fees":%,"kept":{"A":["#,
         &[
             Count(chain.height()),
             Count(unspent.count),
@@ -47,7 +47,6 @@ fn tell_kept(line: &mut Line, book: &Book) {
 pub fn tell_end(line: &mut Line, told: &Told, world: &World) {
     let (a, b) = (world.book(Side::A), world.book(Side::B));
     tell_chain(line, world.chain());
-    line.push(r#","kept":{"A":["#);
     tell_kept(line, a);
     line.push(r#"],"B":["#);
     tell_kept(line, b);

@@ -38,6 +38,7 @@ use scenario::{Event, Scenario, ScenarioError};
 use serde_json::Value;
 use std::alloc::Global;
 use std::io::{Read, Write};
+use trace_words::Piece::Count;
 use trace_words::{InputError, Line, read_all, refuse_memory, write_refusal, write_told};
 use world::World;
 use world::errors::WorldError;
@@ -56,12 +57,10 @@ fn tell_event(
     ensures { result ≤ 1 }
 {
     let before = world.chain().height();
+    line.write(r#"{"event":%,"words":"#, &[Count(index as u64)]);
+    line.push_shown(words);
     match played(world, event) {
-        Ok(outcomes) => {
-            for outcome in &outcomes {
-                told.tell_event(alloc, line, world, before, index, words, event, outcome);
-            }
-        }
+        Ok(outcomes) => told.tell_played(alloc, line, world, before, event, outcomes.as_slice()),
         Err(_) => line.fail(),
     }
     write_told(out, line, 0)
@@ -83,12 +82,14 @@ fn tell_events(
     if write_told(out, line, 0) == 1 {
         return 1;
     }
-    for (index, event) in events.iter().enumerate() {
+    let mut index = 0usize;
+    for event in events {
         if let Some(words) = words.get(index) {
             if tell_event(alloc, out, line, world, told, index, event, words) == 1 {
                 return 1;
             }
         }
+        index = index.saturating_add(1);
     }
     tell_end(line, told, world);
     write_told(out, line, 0)

@@ -19,7 +19,7 @@ const DELIVERED: &str = r#","delivered":{"to":"%","channel":%,"message":"%","wai
 fn tell_message(
     line: &mut Line,
     world: &World,
-    template: &str,
+    template: &'static str,
     to: Side,
     channel: u64,
     message: &'static str,
@@ -34,12 +34,35 @@ fn tell_message(
     );
 }
 
-// Writes the next stage of an HTLC, and leaves its object open.
-fn tell_stage(line: &mut Line, channel: u64, offerer: Side, id: u64, stage: &'static str) {
-    line.write(
-        r#","htlc":{"channel":%,"offerer":"%","id":%,"stage":"%""#,
-        &[Count(channel), side_name(offerer), Count(id), Text(stage)],
-    );
+// Writes the next stage of the HTLC in an update on its way to a side, if it has one.
+fn tell_htlc(line: &mut Line, to: Side, channel: u64, stage: &'static str, update: &Update) {
+    let (channel, stage) = (Count(channel), Text(stage));
+    match update {
+        Update::Add(htlc) => {
+            let hash = htlc.hash;
+            line.write(
+                r#","htlc":{"channel":%,"offerer":"%","id":%,"stage":"%","amount":%,"hash":"%","expiry":%}"#,
+                &[
+                    channel,
+                    side_name(to.other()),
+                    Count(htlc.id),
+                    stage,
+                    Count(htlc.amount),
+                    Hash(hash),
+                    Count(u64::from(htlc.expiry)),
+                ],
+            );
+        }
+        Update::Fulfil { id, preimage } => line.write(
+            r#","htlc":{"channel":%,"offerer":"%","id":%,"stage":"%","preimage":"%"}"#,
+            &[channel, side_name(to), Count(*id), stage, Hash(*preimage)],
+        ),
+        Update::Fail { id } => line.write(
+            r#","htlc":{"channel":%,"offerer":"%","id":%,"stage":"%"}"#,
+            &[channel, side_name(to), Count(*id), stage],
+        ),
+        Update::Fee { .. } => {}
+    }
 }
 
 // Writes an update that is on its way to a side, or that it received, and the next stage of the HTLC in it.
@@ -51,37 +74,19 @@ fn tell_update(
     channel: u64,
     update: &Update,
 ) {
-    let (template, offered, fulfilled, failed) = if is_received {
-        (DELIVERED, "received", "fulfil_received", "fail_received")
-    } else {
-        (SENT, "offered", "fulfilled", "failed")
+    let (message, sent, received) = match update {
+        Update::Add(_) => ("update_add_htlc", "offered", "received"),
+        Update::Fulfil { .. } => ("update_fulfill_htlc", "fulfilled", "fulfil_received"),
+        Update::Fail { .. } => ("update_fail_htlc", "failed", "fail_received"),
+        Update::Fee { .. } => ("update_fee", "", ""),
     };
-    match update {
-        Update::Add(htlc) => {
-            let hash = htlc.hash;
-            tell_message(line, world, template, to, channel, "update_add_htlc");
-            tell_stage(line, channel, to.other(), htlc.id, offered);
-            line.write(
-                r#","amount":%,"hash":"%","expiry":%}"#,
-                &[
-                    Count(htlc.amount),
-                    Hash(hash),
-                    Count(u64::from(htlc.expiry)),
-                ],
-            );
-        }
-        Update::Fulfil { id, preimage } => {
-            tell_message(line, world, template, to, channel, "update_fulfill_htlc");
-            tell_stage(line, channel, to, *id, fulfilled);
-            line.write(r#","preimage":"%"}"#, &[Hash(*preimage)]);
-        }
-        Update::Fail { id } => {
-            tell_message(line, world, template, to, channel, "update_fail_htlc");
-            tell_stage(line, channel, to, *id, failed);
-            line.push("}");
-        }
-        Update::Fee { .. } => tell_message(line, world, template, to, channel, "update_fee"),
-    }
+    let (template, stage) = if is_received {
+        (DELIVERED, received)
+    } else {
+        (SENT, sent)
+    };
+    tell_message(line, world, template, to, channel, message);
+    tell_htlc(line, to, channel, stage, update);
 }
 
 /// Writes an update that a side made.

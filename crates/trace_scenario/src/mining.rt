@@ -1,9 +1,9 @@
 //! The transactions of new blocks, and the kinds of their outputs.
 
 use crate::closing::tell_commitment;
-use crate::coins::{Coin, Kind, Told};
+use crate::coins::{Change, Coin, Kind, Told};
 use crate::names::side_name;
-use crate::outputs::{outpoint_of, tell_output, tell_spends};
+use crate::outputs::{tell_output, tell_spends};
 use chain::{Block, Coins as _, Confirmed};
 use sighash::programs::{is_script_hash_program, key_hash_program};
 use std::alloc::Global;
@@ -20,9 +20,11 @@ fn payee(alloc: Global, world: &World, line: &mut Line, channel: u64, output: &T
     };
     match key_hash_program(alloc, &own.terms().a.bases.payment.bytes) {
         Ok(program) => {
-            let is_of_a = program.bytes() == output.script().bytes();
-            drop(program);
-            if is_of_a { Side::A } else { Side::B }
+            if program.bytes() == output.script().bytes() {
+                Side::A
+            } else {
+                Side::B
+            }
         }
         Err(_) => {
             line.fail();
@@ -82,9 +84,11 @@ fn tell_follower(
         );
     }
     line.push(r#","outputs":["#);
-    for (index, output) in outputs.iter().enumerate() {
+    let mut index = 0u32;
+    for output in outputs {
         let coin = output_coin(alloc, world, line, height, spent, output);
-        tell_output(line, told, &outpoint_of(confirmed, index), coin);
+        tell_output(line, told, confirmed, index, coin);
+        index = index.saturating_add(1);
         line.push("}");
     }
     line.push("]");
@@ -102,14 +106,17 @@ fn tell_tx(
 ) {
     let tx = confirmed.tx();
     let txid = *confirmed.id();
-    line.element(r#"{"height":%,"txid":"%""#, &[Count(height), Hash(txid)]);
+    line.element(
+        r#"{"height":%,"txid":"%","spends":["#,
+        &[Count(height), Hash(txid)],
+    );
     tell_spends(line, tx);
     let mut worth = 0u64;
     for input in tx.inputs() {
         worth = worth.saturating_add(told.go(line, &input.outpoint));
     }
     let paid = u64::try_from(total_value(tx.outputs())).unwrap_or(u64::MAX);
-    line.write(r#","fee":%"#, &[Count(worth.saturating_sub(paid))]);
+    line.write(r#"],"fee":%"#, &[Count(worth.saturating_sub(paid))]);
     match spent.kind {
         Kind::Funding => {
             tell_commitment(alloc, world, told, line, height, spent.channel, confirmed)
@@ -117,7 +124,7 @@ fn tell_tx(
         _ => tell_follower(alloc, world, told, line, height, spent, confirmed),
     }
     line.push("}");
-    told.mined(line, height, &txid);
+    told.note(line, Change::Mined { height, txid });
 }
 
 // Writes the transactions of a block of this height.
@@ -140,15 +147,12 @@ fn tell_block(
 
 /// Writes the transactions of the blocks above a height.
 pub fn tell_mined(alloc: Global, world: &World, told: &mut Told, line: &mut Line, above: u64) {
+    let blocks = world.chain().blocks();
     line.push(r#","mined":["#);
-    for (height, block) in world
-        .chain()
-        .blocks()
-        .iter()
-        .enumerate()
-        .skip((above as usize).saturating_add(1))
-    {
-        tell_block(alloc, world, told, line, height as u64, block);
+    for height in above.saturating_add(1)..blocks.len() as u64 {
+        if let Some(block) = blocks.get(height as usize) {
+            tell_block(alloc, world, told, line, height, block);
+        }
     }
     line.push("]");
     told.tell_alone(line);

@@ -10,7 +10,6 @@ use crate::mining::tell_mined;
 use crate::names::side_name;
 use chain::Coins as _;
 use scenario::Event;
-use serde_json::Value;
 use std::alloc::{AllocError, Global};
 use std::slice;
 use trace_words::Line;
@@ -70,20 +69,20 @@ impl Told {
         }
     }
 
-    /// Writes the line of an event: its number, its JSON, its outcome, the height, and what it changed. The chain had height `before` when it came.
-    pub fn tell_event(
+    /// Ends the line of an event that was played: its outcome, the height, and what it changed. The chain had height `before` when it came.
+    pub fn tell_played(
         &mut self,
         alloc: Global,
         line: &mut Line,
         world: &World,
         before: u64,
-        index: usize,
-        words: &Value,
         event: &Event,
-        outcome: &Outcome,
+        outcomes: &[Outcome],
     ) {
-        line.write(r#"{"event":%,"words":"#, &[Count(index as u64)]);
-        line.push_shown(words);
+        let [outcome] = outcomes else {
+            line.fail();
+            return;
+        };
         line.push(r#","answer":""#);
         line.push_shown(outcome);
         line.write(r#"","height":%"#, &[Count(world.chain().height())]);

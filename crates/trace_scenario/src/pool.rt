@@ -16,9 +16,9 @@ impl Told {
         line.push(r#","joined":["#);
         for tx in pool.iter().skip(self.waiting.len()) {
             let id = txid(tx);
-            line.element(r#"{"txid":"%""#, &[Hash(id)]);
+            line.element(r#"{"txid":"%","spends":["#, &[Hash(id)]);
             tell_spends(line, tx);
-            line.push("}");
+            line.push("]}");
             if self.waiting.push(id).is_err() {
                 line.fail();
             }

@@ -25,15 +25,6 @@ pub fn read_tx(alloc: Global, text: &str) -> Result<Tx, SpentError> {
     }
 }
 
-// Reads the program in hexadecimal on the line of this number.
-fn read_program(alloc: Global, text: &str, number: usize) -> Result<ByteString, SpentError> {
-    match hex::decode(alloc, text) {
-        Ok(program) => Ok(ByteString::from_vec(program)),
-        Err(FromHexError::OutOfMemory) => Err(SpentError::Input(InputError::NoMemory)),
-        Err(_) => Err(SpentError::BadLine(number)),
-    }
-}
-
 // Reads the output on the line of this number.
 fn read_output(alloc: Global, line: &str, number: usize) -> Result<TxOut, SpentError> {
     let Some((value, program)) = line.split_once(' ') else {
@@ -42,33 +33,33 @@ fn read_output(alloc: Global, line: &str, number: usize) -> Result<TxOut, SpentE
     let Ok(value) = value.parse::<u64>() else {
         return Err(SpentError::BadLine(number));
     };
-    match TxOut::new(value, read_program(alloc, program, number)?) {
-        Ok(output) => Ok(output),
+    match hex::decode(alloc, program) {
+        Ok(program) => match TxOut::new(value, ByteString::from_vec(program)) {
+            Ok(output) => Ok(output),
+            Err(_) => Err(SpentError::BadLine(number)),
+        },
+        Err(FromHexError::OutOfMemory) => Err(SpentError::Input(InputError::NoMemory)),
         Err(_) => Err(SpentError::BadLine(number)),
     }
 }
 
-// Adds the output on the line of this number.
-fn push_output(
+/// Appends the outputs on the lines after the first, which have to be this many.
+pub fn read_outputs(
     alloc: Global,
     outputs: &mut Vec<TxOut>,
-    line: &str,
-    number: usize,
+    text: &str,
+    count: usize,
 ) -> Result<(), SpentError> {
-    match outputs.push(read_output(alloc, line, number)?) {
-        Ok(()) => Ok(()),
-        Err(_) => Err(SpentError::Input(InputError::NoMemory)),
-    }
-}
-
-/// Reads the outputs on the lines after the first, which have to be this many.
-pub fn read_outputs(alloc: Global, text: &str, count: usize) -> Result<Vec<TxOut>, SpentError> {
-    if text.lines().skip(1).count() != count {
+    if text.lines().count().saturating_sub(1) != count {
         return Err(SpentError::BadCount);
     }
-    let mut outputs = Vec::new(alloc);
-    for (index, line) in text.lines().skip(1).enumerate() {
-        push_output(alloc, &mut outputs, line, index.saturating_add(2))?;
+    let mut number = 1usize;
+    for line in text.lines().skip(1) {
+        number = number.saturating_add(1);
+        match outputs.push(read_output(alloc, line, number)?) {
+            Ok(()) => {}
+            Err(_) => return Err(SpentError::Input(InputError::NoMemory)),
+        }
     }
-    Ok(outputs)
+    Ok(())
 }

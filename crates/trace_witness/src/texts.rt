@@ -1,111 +1,101 @@
 // Writes the verdict on an input.
 
 use crate::causes::cause_sentence;
-use script::Op;
+use lists::ByteString;
 use trace_words::Piece::{Count, Hash, Text};
 use trace_words::{Form, Line, byte_of, opcode_name};
 use verdict::{Clean, Fault, Stopped, Verdict};
 
-// The name of the opcode at which a run stops, or another text if it stops at the end.
-fn op_or(ops: &[Op], index: usize, end: &'static str) -> &'static str {
-    match ops.get(index) {
-        Some(op) => opcode_name(op),
-        None => end,
-    }
-}
-
-// Writes a clean run as the last members of an object.
-fn clean_json(line: &mut Line, clean: &Clean) {
+// Writes a clean run.
+fn tell_clean(line: &mut Line, form: Form, clean: &Clean) {
     let digest = clean.digest;
-    let path = match clean.path {
-        Some(path) => Count(path as u64),
-        None => Text("null"),
-    };
-    line.write(
-        ",\"path\":%,\"counted\":%,\"height\":%,\"digest\":\"%\"}\n",
-        &[
-            path,
-            Count(clean.run.counted as u64),
-            Count(clean.run.height as u64),
-            Hash(digest),
-        ],
-    );
-}
-
-// Writes a clean run for people.
-fn clean_page(line: &mut Line, clean: &Clean) {
-    match clean.path {
-        Some(path) => line.write(" runs clean on path %", &[Count(path as u64)]),
-        None => line.push(" runs clean, its paths are not listed"),
-    }
-    line.write(
-        ": % opcodes counted, % elements at most\n",
-        &[
-            Count(clean.run.counted as u64),
-            Count(clean.run.height as u64),
-        ],
-    );
-}
-
-// Writes where a run stops, why, and the stack there, as the last members of an object.
-fn stopped_json(line: &mut Line, stopped: &Stopped) {
-    let digest = stopped.digest;
-    let ops = stopped.script.ops();
-    let index = stopped.index;
-    let quote = if index < ops.len() { "\"" } else { "" };
-    line.push(r#","stopped":""#);
-    line.push_shown(stopped.cause);
-    line.write(
-        r#"","opcode":%,"op":%%%,"byte":%,"says":"%","stack":["#,
-        &[
-            Count(index as u64),
-            Text(quote),
-            Text(op_or(ops, index, "null")),
-            Text(quote),
-            Count(byte_of(ops, index)),
-            Text(cause_sentence(stopped.cause)),
-        ],
-    );
-    if let Some(stack) = &stopped.stack {
-        for item in stack.values().iter().rev() {
-            line.element(r#"""#, &[]);
-            line.push_hex(item.bytes());
-            line.push(r#"""#);
+    let counted = Count(clean.run.counted as u64);
+    let height = Count(clean.run.height as u64);
+    match form {
+        Form::Json => {
+            let path = match clean.path {
+                Some(path) => Count(path as u64),
+                None => Text("null"),
+            };
+            line.write(
+                ",\"path\":%,\"counted\":%,\"height\":%,\"digest\":\"%\"}\n",
+                &[path, counted, height, Hash(digest)],
+            );
         }
-    }
-    line.write("],\"digest\":\"%\"}\n", &[Hash(digest)]);
-}
-
-// Writes where a run stops, why, and the stack there, for people. The empty element is `-`.
-fn stopped_page(line: &mut Line, stopped: &Stopped) {
-    let digest = stopped.digest;
-    let ops = stopped.script.ops();
-    let index = stopped.index;
-    line.write(
-        " stops at opcode % (%), byte %: ",
-        &[
-            Count(index as u64),
-            Text(op_or(ops, index, "end")),
-            Count(byte_of(ops, index)),
-        ],
-    );
-    line.push_shown(stopped.cause);
-    line.write(": %\n", &[Text(cause_sentence(stopped.cause))]);
-    if let Some(stack) = &stopped.stack {
-        for item in stack.values().iter().rev() {
-            line.push("  stack   ");
-            if item.bytes().is_empty() {
-                line.push("-");
+        Form::Text => {
+            match clean.path {
+                Some(path) => line.write(" runs clean on path %", &[Count(path as u64)]),
+                None => line.push(" runs clean, its paths are not listed"),
             }
-            line.push_hex(item.bytes());
-            line.push("\n");
+            line.write(
+                ": % opcodes counted, % elements at most\n",
+                &[counted, height],
+            );
         }
     }
-    line.write("  digest  %\n", &[Hash(digest)]);
 }
 
-// Writes why no script runs, between texts of the form.
-fn tell_fault(line: &mut Line, fault: &Fault, before: &str, between: &str, after: &str) {
+// Writes the elements of a stack, the top first: of an array, or a line each, where the empty element is `-`.
+fn tell_stack(line: &mut Line, form: Form, items: &[ByteString]) {
+    for item in items.iter().rev() {
+        match form {
+            Form::Json => line.element("\"", &[]),
+            Form::Text if item.is_empty() => line.push("  stack   -"),
+            Form::Text => line.push("  stack   "),
+        }
+        line.push_hex(item.bytes());
+        line.push(match form {
+            Form::Json => "\"",
+            Form::Text => "\n",
+        });
+    }
+}
+
+// Writes where a run stops, why, and the stack there.
+fn tell_stopped(line: &mut Line, form: Form, stopped: &Stopped) {
+    let digest = stopped.digest;
+    let (cause, index) = (stopped.cause, stopped.index);
+    let ops = stopped.script.ops();
+    let (end, after) = match form {
+        Form::Json => ("null", "],\"digest\":\"%\"}\n"),
+        Form::Text => ("end", "  digest  %\n"),
+    };
+    let (op, quote) = match ops.get(index) {
+        Some(op) => (opcode_name(op), "\""),
+        None => (end, ""),
+    };
+    let (opcode, byte) = (Count(index as u64), Count(byte_of(ops, index)));
+    let says = Text(cause_sentence(cause));
+    match form {
+        Form::Json => {
+            line.push(r#","stopped":""#);
+            line.push_shown(cause);
+            line.write(
+                r#"","opcode":%,"op":%%%,"byte":%,"says":"%","stack":["#,
+                &[opcode, Text(quote), Text(op), Text(quote), byte, says],
+            );
+        }
+        Form::Text => {
+            line.write(
+                " stops at opcode % (%), byte %: ",
+                &[opcode, Text(op), byte],
+            );
+            line.push_shown(cause);
+            line.write(": %\n", &[says]);
+        }
+    }
+    if let Some(stack) = &stopped.stack {
+        tell_stack(line, form, stack.values());
+    }
+    line.write(after, &[Hash(digest)]);
+}
+
+// Writes why no script runs.
+fn tell_fault(line: &mut Line, form: Form, fault: &Fault) {
+    let (before, after) = match form {
+        Form::Json => (r#","refused":"%"#, "\",\"says\":\"%\"}\n"),
+        Form::Text => (" is refused: %", ": %\n"),
+    };
     let (name, says) = match fault {
         Fault::OtherProgram => (
             "OtherProgram",
@@ -125,37 +115,23 @@ fn tell_fault(line: &mut Line, fault: &Fault, before: &str, between: &str, after
         ),
         Fault::BadScript(_) => ("", "the last item of the witness is not a script"),
     };
-    line.push(before);
-    line.push(name);
+    line.write(before, &[Text(name)]);
     if let Fault::BadScript(error) = fault {
         line.push_shown(error);
     }
-    line.push(between);
-    line.push(says);
-    line.push(after);
+    line.write(after, &[Text(says)]);
 }
 
 /// Writes the verdict on an input: an object on a line, or lines for people.
 pub fn tell_verdict(line: &mut Line, form: Form, input: usize, verdict: &Verdict) {
-    let number = Count(input as u64);
-    match form {
-        Form::Json => {
-            line.write(r#"{"input":%"#, &[number]);
-            match verdict {
-                Verdict::Refused(fault) => {
-                    tell_fault(line, fault, r#","refused":""#, r#"","says":""#, "\"}\n")
-                }
-                Verdict::Stopped(stopped) => stopped_json(line, stopped),
-                Verdict::Clean(clean) => clean_json(line, clean),
-            }
-        }
-        Form::Text => {
-            line.write("input %", &[number]);
-            match verdict {
-                Verdict::Refused(fault) => tell_fault(line, fault, " is refused: ", ": ", "\n"),
-                Verdict::Stopped(stopped) => stopped_page(line, stopped),
-                Verdict::Clean(clean) => clean_page(line, clean),
-            }
-        }
+    let before = match form {
+        Form::Json => r#"{"input":%"#,
+        Form::Text => "input %",
+    };
+    line.write(before, &[Count(input as u64)]);
+    match verdict {
+        Verdict::Refused(fault) => tell_fault(line, form, fault),
+        Verdict::Stopped(stopped) => tell_stopped(line, form, stopped),
+        Verdict::Clean(clean) => tell_clean(line, form, clean),
     }
 }

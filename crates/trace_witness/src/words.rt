@@ -51,8 +51,9 @@ fn tell_bytes(alloc: Global, form: Form, bytes: &[u8], out: &mut dyn Write) -> u
 fn tell_tx(alloc: Global, form: Form, text: &str, tx: &Tx, out: &mut dyn Write) -> u8
     ensures { result ≤ 1 }
 {
-    match read_outputs(alloc, text, tx.inputs().len()) {
-        Ok(outputs) => tell_inputs(alloc, form, tx, outputs.as_slice(), out),
+    let mut outputs = Vec::new(alloc);
+    match read_outputs(alloc, &mut outputs, text, tx.inputs().len()) {
+        Ok(()) => tell_inputs(alloc, form, tx, outputs.as_slice(), out),
         Err(error) => refuse(alloc, form, &error, out),
     }
 }

@@ -21,15 +21,6 @@ fn slots(fact: &Fact) -> &[usize] {
     }
 }
 
-// The keys of a fact.
-fn keys(fact: &Fact) -> &[KeySource] {
-    match fact {
-        Fact::Token(_, key) => slice::from_ref(key),
-        Fact::Assigned(_, keys) => keys.values(),
-        _ => &[],
-    }
-}
-
 // Writes bytes in hexadecimal, a text.
 fn tell_bytes(line: &mut Line, bytes: &[u8]) {
     line.push(r#"""#);
@@ -37,12 +28,19 @@ fn tell_bytes(line: &mut Line, bytes: &[u8]) {
     line.push(r#"""#);
 }
 
-// Writes a key, an element of an array: a text in hexadecimal, or the number of the slot that has it.
-fn tell_key(line: &mut Line, key: &KeySource) {
-    line.element("", &[]);
-    match key {
-        KeySource::Const(key) => tell_bytes(line, key.bytes()),
-        KeySource::Slot(slot) => line.push_shown(*slot),
+// Writes the keys of a fact, elements of an array: texts in hexadecimal, or the numbers of the slots that have them.
+fn tell_keys(line: &mut Line, fact: &Fact) {
+    let keys: &[KeySource] = match fact {
+        Fact::Token(_, key) => slice::from_ref(key),
+        Fact::Assigned(_, keys) => keys.values(),
+        _ => &[],
+    };
+    for key in keys {
+        line.element("", &[]);
+        match key {
+            KeySource::Const(key) => tell_bytes(line, key.bytes()),
+            KeySource::Slot(slot) => line.push_shown(*slot),
+        }
     }
 }
 
@@ -82,9 +80,7 @@ fn tell_fact(line: &mut Line, stated: &Stated) {
         line.element("%", &[Count(*slot as u64)]);
     }
     line.push(r#"],"keys":["#);
-    for key in keys(&stated.fact) {
-        tell_key(line, key);
-    }
+    tell_keys(line, &stated.fact);
     line.push(r#"],"value":"#);
     tell_value(line, &stated.fact);
     line.push(r#","says":""#);

@@ -31,7 +31,7 @@ mod sentences;
 mod weights;
 mod writer;
 
-use crate::lines::{tell_input, told};
+use crate::lines::{refuse_input, tell_text, told};
 pub use input::{InputError, MAX_INPUT, read_all};
 pub use lines::{write_refusal, write_told};
 pub use looks::Look;
@@ -61,7 +61,10 @@ pub fn run_words(
 {
     let (form, rest) = Form::read(words);
     match rest {
-        [] => tell_input(alloc, form, input, out),
+        [] => match read_all(alloc, input) {
+            Ok(bytes) => tell_text(alloc, bytes.as_slice(), form, out),
+            Err(refusal) => refuse_input(alloc, form, refusal, out),
+        },
         [text] => told(alloc, text.as_str(), form, out),
         _ => refuse_words(err),
     }

@@ -2,14 +2,14 @@
 
 ghost use Rattle.std.specs.Prelude.{◌≡◌, ◌≤◌, ◌⊎◌};
 
-use crate::input::{InputError, read_all};
+use crate::input::InputError;
 use crate::pieces::Piece::Count;
 use crate::reading::{Form, refuse, tell};
 use crate::writer::Line;
 use crate::{refuse_memory, written};
 use std::alloc::Global;
 use std::fmt::Display;
-use std::io::{Read, Write};
+use std::io::Write;
 
 /// Writes a line, clears it, and returns the status. Returns 1 if the write fails, or if memory ran out before, which it then reports instead.
 pub fn write_told(out: &mut dyn Write, line: &mut Line, status: u8) -> u8
@@ -55,18 +55,8 @@ pub fn told(alloc: Global, text: &str, form: Form, out: &mut dyn Write) -> u8
     write_told(out, &mut line, status)
 }
 
-/// Explains each script of the input, one a line and each at once, and returns the greatest status.
-pub fn tell_input(alloc: Global, form: Form, input: &mut dyn Read, out: &mut dyn Write) -> u8
-    ensures { result ≤ 1 }
-{
-    match read_all(alloc, input) {
-        Ok(bytes) => tell_text(alloc, bytes.as_slice(), form, out),
-        Err(refusal) => refuse_input(alloc, form, refusal, out),
-    }
-}
-
-// Explains each script of the bytes of a text.
-fn tell_text(alloc: Global, bytes: &[u8], form: Form, out: &mut dyn Write) -> u8
+/// Explains each script of the bytes of a text, one a line and each at once, and returns the greatest status.
+pub fn tell_text(alloc: Global, bytes: &[u8], form: Form, out: &mut dyn Write) -> u8
     ensures { result ≤ 1 }
 {
     let Ok(text) = str::from_utf8(bytes) else {
@@ -81,8 +71,8 @@ fn tell_text(alloc: Global, bytes: &[u8], form: Form, out: &mut dyn Write) -> u8
     status
 }
 
-// Reports that the input is refused.
-fn refuse_input(alloc: Global, form: Form, refusal: InputError, out: &mut dyn Write) -> u8
+/// Reports that the input is refused, and returns the status.
+pub fn refuse_input(alloc: Global, form: Form, refusal: InputError, out: &mut dyn Write) -> u8
     ensures { result ≤ 1 }
 {
     let mut line = Line::new(alloc);

@@ -1,7 +1,7 @@
 // The names of opcodes, and how far a branch is indented.
 
 ghost use Rattle.std.specs.Prelude.{◌≡◌, ◌<◌, ◌+◌, ◌^◌};
-ghost use Rattle.trace_words.specs.Names.{name_of, shown_depth, depth_after as depth_beyond};
+ghost use Rattle.trace_words.specs.Names.{name_of, shown_depth, depth_after};
 
 use script::Op;
 
@@ -30,24 +30,17 @@ pub fn opcode_name(op: &Op) -> &'static str
 }
 
 /// The number of branches that an opcode is in, if `ifs` IFs are open
-/// before it. ELSE and ENDIF are shown at the level of their IF.
-pub fn depth(op: &Op, ifs: usize) -> usize
-    ensures { result ≡ shown_depth op.now ifs }
-{
-    match op {
-        Op::Else | Op::EndIf => ifs.saturating_sub(1),
-        _ => ifs,
-    }
-}
-
-/// The number of IFs that are open after an opcode.
-pub fn depth_after(op: &Op, ifs: usize) -> usize
+/// before it, and the number of IFs that are open after it. ELSE and
+/// ENDIF are shown at the level of their IF.
+pub fn branches(op: &Op, ifs: usize) -> (usize, usize)
     requires { ifs + 1 < 2 ^ 64 }
-    ensures { result ≡ depth_beyond op.now ifs }
+    ensures shown { result.0 ≡ shown_depth op.now ifs }
+    ensures after { result.1 ≡ depth_after op.now ifs }
 {
     match op {
-        Op::If | Op::NotIf => ifs + 1,
-        Op::EndIf => ifs.saturating_sub(1),
-        _ => ifs,
+        Op::If | Op::NotIf => (ifs, ifs + 1),
+        Op::Else => (ifs.saturating_sub(1), ifs),
+        Op::EndIf => (ifs.saturating_sub(1), ifs.saturating_sub(1)),
+        _ => (ifs, ifs),
     }
 }

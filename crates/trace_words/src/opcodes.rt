@@ -8,79 +8,56 @@ use crate::writer::Line;
 use script::Op;
 use std::slice;
 
-// Writes the members of a push besides its opcode.
-fn tell_object(line: &mut Line, item: &[u8]) {
-    line.push(r#","hex":""#);
-    line.push_hex(item);
-    match Look::of(item) {
-        Look::Key => line.push(r#"","looks":"key""#),
-        Look::Hash => line.push(r#"","looks":"hash""#),
-        Look::Bytes => line.push(r#"","looks":"bytes""#),
-        Look::Number(number) => line.write(
-            r#"","looks":"number","number":%%"#,
-            &[
-                Text(if number.negative { "-" } else { "" }),
-                Count(number.magnitude),
-            ],
-        ),
-    }
-}
-
 // Writes the bytes of a push, and what they look like.
-fn tell_page(line: &mut Line, item: &[u8]) {
-    if item.is_empty() {
-        line.push(" - (the empty item, number 0)");
-        return;
-    }
-    line.push(" ");
+fn tell_push(line: &mut Line, form: Form, item: &[u8]) {
+    let (before, key, hash, number, bytes) = match form {
+        Form::Json => (
+            r#","hex":""#,
+            r#"","looks":"key""#,
+            r#"","looks":"hash""#,
+            r#"","looks":"number","number":%%"#,
+            r#"","looks":"bytes""#,
+        ),
+        Form::Text if item.is_empty() => (" -", "", "", " (the empty item, number %%)", ""),
+        Form::Text => (" ", " (key)", " (hash)", " (number %%)", ""),
+    };
+    line.push(before);
     line.push_hex(item);
     match Look::of(item) {
-        Look::Key => line.push(" (key)"),
-        Look::Hash => line.push(" (hash)"),
-        Look::Bytes => {}
-        Look::Number(number) => line.write(
-            " (number %%)",
-            &[
-                Text(if number.negative { "-" } else { "" }),
-                Count(number.magnitude),
-            ],
-        ),
+        Look::Key => line.push(key),
+        Look::Hash => line.push(hash),
+        Look::Bytes => line.push(bytes),
+        Look::Number(read) => {
+            let sign = if read.negative { "-" } else { "" };
+            line.write(number, &[Text(sign), Count(read.magnitude)]);
+        }
     }
 }
 
 /// Writes an opcode, which begins at this byte and is in this number of branches: an element of an array, or a line that is indented by branch.
 pub fn tell_op(line: &mut Line, form: Form, op: &Op, byte: usize, depth: usize) {
-    let (byte, name) = (byte as u64, Text(opcode_name(op)));
-    match form {
-        Form::Json => line.element(
-            r#"{"byte":%,"depth":%,"op":"%""#,
-            &[Count(byte), Count(depth as u64), name],
-        ),
+    let name = opcode_name(op);
+    let end = match form {
+        Form::Json => {
+            line.element(
+                r#"{"byte":%,"depth":%,"op":"%""#,
+                &[Count(byte as u64), Count(depth as u64), Text(name)],
+            );
+            "}"
+        }
         Form::Text => {
             line.push_shown(format_args!("{byte:>5}  "));
             for _ in 0..depth {
                 line.push("  ");
             }
-            line.write("%", &[name]);
+            line.push(name);
+            "\n"
         }
-    }
-    let item = match op {
-        Op::Push(item) => Some(item.bytes()),
-        Op::Number(n) => Some(slice::from_ref(n)),
-        _ => None,
     };
-    match form {
-        Form::Json => {
-            if let Some(item) = item {
-                tell_object(line, item);
-            }
-            line.push("}");
-        }
-        Form::Text => {
-            if let Some(item) = item {
-                tell_page(line, item);
-            }
-            line.push("\n");
-        }
+    match op {
+        Op::Push(item) => tell_push(line, form, item.bytes()),
+        Op::Number(n) => tell_push(line, form, slice::from_ref(n)),
+        _ => {}
     }
+    line.push(end);
 }

@@ -23,29 +23,24 @@ fn tell_role(line: &mut Line, facts: &[Stated], role: &str, label: &str, otherwi
     }
 }
 
-// Writes a path through a script of this number of bytes, with its number.
-fn tell_path(line: &mut Line, path: &Path, number: usize, size: usize) {
-    let facts = path.facts.values();
-    line.write(
-        "path %: % items, % weight units (% with tokens)\n",
-        &[
-            Count(number as u64),
-            Count(path.arity as u64),
-            Sum(witness_weight(facts, path.arity, size, SIGNATURE_SIZE)),
-            Sum(witness_weight(facts, path.arity, size, TOKEN_SIZE)),
-        ],
-    );
-    tell_role(line, facts, "who", "  who   ", "  who   anyone\n");
-    tell_role(line, facts, "with", "  with  ", "");
-    tell_role(line, facts, "when", "  when  ", "  when  at once\n");
-}
-
-/// Writes the paths through a script of this number of bytes.
+/// Writes the paths through a script of this number of bytes, each with its number.
 pub fn tell_paths(line: &mut Line, paths: &[Path], size: usize) {
     if paths.is_empty() {
         line.push("no path: no witness opens this script\n");
     }
     for (number, path) in paths.iter().enumerate() {
-        tell_path(line, path, number, size);
+        let facts = path.facts.values();
+        line.write(
+            "path %: % items, % weight units (% with tokens)\n",
+            &[
+                Count(number as u64),
+                Count(path.arity as u64),
+                Sum(witness_weight(facts, path.arity, size, SIGNATURE_SIZE)),
+                Sum(witness_weight(facts, path.arity, size, TOKEN_SIZE)),
+            ],
+        );
+        tell_role(line, facts, "who", "  who   ", "  who   anyone\n");
+        tell_role(line, facts, "with", "  with  ", "");
+        tell_role(line, facts, "when", "  when  ", "  when  at once\n");
     }
 }

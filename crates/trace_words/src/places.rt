@@ -44,15 +44,17 @@ fn excess_at(ops: &[Op]) -> Option<usize> {
     None
 }
 
-/// The byte at which a script is refused, if the reason is one of its opcodes or its end.
+/// The byte at which a script is refused, if the reason is one of its opcodes or its end. The only error is that memory ran out.
 pub fn place(alloc: Global, ops: &[Op], error: &CheckError) -> Result<Option<u64>, AllocError> {
-    match error {
-        CheckError::Undecided(at) => Ok(Some(byte_of(ops, *at))),
-        CheckError::OpenBranch => Ok(Some(byte_of(ops, open_at(alloc, ops)?))),
-        CheckError::TooManyOps => match excess_at(ops) {
-            Some(at) => Ok(Some(byte_of(ops, at))),
-            None => Ok(None),
-        },
-        _ => Ok(None),
+    let index = match error {
+        CheckError::NoMemory => return Err(AllocError),
+        CheckError::Undecided(at) => Some(*at),
+        CheckError::OpenBranch => Some(open_at(alloc, ops)?),
+        CheckError::TooManyOps => excess_at(ops),
+        _ => None,
+    };
+    match index {
+        Some(index) => Ok(Some(byte_of(ops, index))),
+        None => Ok(None),
     }
 }

@@ -1,15 +1,14 @@
 // Reads and explains a script.
 
 use crate::input::InputError;
-use crate::names::{depth, depth_after};
+use crate::names::branches;
 use crate::opcodes::tell_op;
 use crate::pieces::Piece;
-use crate::pieces::Piece::{Count, Text};
 use crate::places::place;
 use crate::writer::Line;
 use crate::{json, pages};
 use hex::FromHexError;
-use paths::{CheckError, Path, check};
+use paths::{Path, check};
 use script::limits::MAX_SCRIPT_SIZE;
 use script::{Op, ParseError, Script};
 use std::alloc::Global;
@@ -91,7 +90,13 @@ fn tell_script(alloc: Global, line: &mut Line, form: Form, script: &Script) -> b
             true
         }
         Err(error) => {
-            tell_unlisted(alloc, line, form, script, error);
+            match place(alloc, script.ops(), &error) {
+                Ok(byte) => {
+                    let size = script.bytes().len() as u64;
+                    refuse(line, form, Some(size), script.ops(), error, byte);
+                }
+                Err(_) => line.fail(),
+            }
             false
         }
     }
@@ -107,21 +112,6 @@ fn tell_listed(line: &mut Line, form: Form, script: &Script, paths: &[Path]) {
     }
 }
 
-// Explains a script that is not listed.
-fn tell_unlisted(alloc: Global, line: &mut Line, form: Form, script: &Script, error: CheckError) {
-    if let CheckError::NoMemory = error {
-        line.fail();
-        return;
-    }
-    match place(alloc, script.ops(), &error) {
-        Ok(byte) => {
-            let size = script.bytes().len() as u64;
-            refuse(line, form, Some(size), script.ops(), error, byte);
-        }
-        Err(_) => line.fail(),
-    }
-}
-
 // Writes what comes first of each script: its number of bytes, and its opcodes.
 fn begin(line: &mut Line, form: Form, bytes: Option<u64>, ops: &[Op]) {
     if let Form::Json = form {
@@ -129,9 +119,10 @@ fn begin(line: &mut Line, form: Form, bytes: Option<u64>, ops: &[Op]) {
     }
     let (mut byte, mut ifs) = (0usize, 0usize);
     for op in ops {
-        tell_op(line, form, op, byte, depth(op, ifs));
+        let (depth, after) = branches(op, ifs);
+        tell_op(line, form, op, byte, depth);
         byte = byte.saturating_add(op.payload_len()).saturating_add(1);
-        ifs = depth_after(op, ifs);
+        ifs = after;
     }
     if let Form::Json = form {
         line.push("]");
@@ -148,19 +139,12 @@ pub fn refuse<D: Display + Drop>(
     byte: Option<u64>,
 ) {
     begin(line, form, bytes, ops);
-    match form {
-        Form::Json => {
-            line.push(r#","refused":""#);
-            line.push_shown(refusal);
-            line.write("\",\"byte\":%}\n", &[Piece::or_null(byte)]);
-        }
-        Form::Text => {
-            line.push("refused ");
-            line.push_shown(refusal);
-            if let Some(byte) = byte {
-                line.write(" at byte %", &[Count(byte)]);
-            }
-            line.push("\n");
-        }
-    }
+    let (before, after) = match form {
+        Form::Json => (r#","refused":""#, "\",\"byte\":%}\n"),
+        Form::Text if byte.is_some() => ("refused ", " at byte %\n"),
+        Form::Text => ("refused ", "\n"),
+    };
+    line.push(before);
+    line.push_shown(refusal);
+    line.write(after, &[Piece::or_null(byte)]);
 }

@@ -60,18 +60,23 @@ impl Line {
         }
     }
 
-    /// Writes a template, with the next piece in the place of each `%`.
+    /// Writes a template, with the next piece in the place of each `%`. A piece without a place is left out.
     pub fn write(&mut self, template: &str, pieces: &[Piece]) {
-        for (index, text) in template.split('%').enumerate() {
+        let mut rest = template;
+        for piece in pieces {
+            let Some((text, after)) = rest.split_once('%') else {
+                break;
+            };
             self.push(text);
-            match pieces.get(index) {
-                Some(Piece::Text(text)) => self.push(text),
-                Some(Piece::Count(number)) => self.push_shown(*number),
-                Some(Piece::Sum(number)) => self.push_shown(*number),
-                Some(Piece::Hash(bytes)) => self.push_hex(bytes),
-                None => {}
+            match piece {
+                Piece::Text(text) => self.push(text),
+                Piece::Count(number) => self.push_shown(*number),
+                Piece::Sum(number) => self.push_shown(*number),
+                Piece::Hash(bytes) => self.push_hex(bytes),
             }
+            rest = after;
         }
+        self.push(rest);
     }
 
     /// Writes what an element of an array begins with: after a comma, if it is not the first one.
