@@ -7,7 +7,7 @@ BOUNDS=$(mktemp)
 export BOUNDS
 trap 'rm -f "$BOUNDS"' EXIT
 failed=()
-for benchmark in ripemd160.sh costs.sh instances.py commitments.py channels.py penalties.py books.py worlds.py looks.py calls.py; do
+for benchmark in ripemd160.sh costs.sh instances.py commitments.py channels.py penalties.py books.py growth.py worlds.py looks.py calls.py; do
   echo "== bench/$benchmark"
   "bench/$benchmark" || failed+=("bench/$benchmark")
 done

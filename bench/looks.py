@@ -1,6 +1,6 @@
 #!/usr/bin/env python3
 """Times how a side reads blocks after a revoked commitment closed a channel, in processor seconds, without the scenario up to there. Then how a reader of 1,000 open channels reads a block of 3,000
-transactions, beside a reader of one.
+transactions, beside a reader of one. And how a reader that knows 10,000 preimages reads a close and 100 empty blocks, beside one that knows ten of them.
 
   bench/looks.py                    proves and builds what it runs; wants the toolchain's `rt`
   bench/looks.py PROGRAM READER     times these builds of crates/enforce and of bench/programs/reader_costs
@@ -51,14 +51,14 @@ def cost(program, htlcs, *blocks):
     return looked - passed
 
 
-def read(program, channels):
-    """The nanoseconds of a block of 3,000 transactions for a reader of so many open channels."""
-    done = subprocess.run([program], input=f"channels {channels}\n", capture_output=True, text=True, check=True)
-    return int(done.stdout.split()[-1])
+def numbers(program, line):
+    """The numbers that the program prints for a line."""
+    done = subprocess.run([program], input=f"{line}\n", capture_output=True, text=True, check=True)
+    return [int(word) for word in done.stdout.split() if word.isdigit()]
 
 
-def main(words):
-    program, reader = words or (built("enforce"), built("reader_costs"))
+def time_looks(program):
+    """Looks over many blocks after the close, beside looks over few."""
     one = cost(program, HTLCS, 1)
     print(f"one look, {HTLCS} HTLCs, 1 block: {one * 1e3:.2f} ms")
     for blocks, most in ((10, 1.5), (100, 1.5), (1000, 1.5), (10_000, 3)):
@@ -69,9 +69,31 @@ def main(words):
     parts = cost(program, HTLCS, *10 * [100])
     print(f"ten looks of 100 blocks: {parts * 1e3:.2f} ms")
     bounded("ten looks of 100 blocks to one of 1,000", parts / whole, 2)
-    alone, many = read(reader, 1), read(reader, 1000)
+
+
+def time_channels(reader):
+    """A block of 3,000 transactions for a reader of so many open channels."""
+    alone, many = (numbers(reader, f"channels {channels}")[-1] for channels in (1, 1000))
     print(f"a block of 3,000 transactions, 1 open channel: {alone / 1e6:.2f} ms, 1,000: {many / 1e6:.2f} ms")
     bounded("a block of 3,000 transactions for 1,000 open channels to one", many / alone, 3)
+
+
+def time_preimages(reader):
+    """A close with 480 HTLCs, of which ten preimages are known, and then as many of 10,000. The times are of the closing block, and of 100 empty ones after it."""
+    hashed = numbers(reader, "hashes 10000")[-1]
+    few, few_after = numbers(reader, "preimages 10 1000")
+    many, many_after = numbers(reader, "preimages 10000 1")
+    print(f"10,000 hashes of 32 bytes: {hashed / 1e6:.2f} ms")
+    print(f"a close, 10 known preimages: {few / 1e6:.2f} ms, 10,000: {many / 1e6:.2f} ms; 100 empty blocks after it: {few_after / 1e3:.1f} and {many_after / 1e3:.1f} us")
+    bounded("what 10,000 known preimages add to a close to 10,000 hashes", (many - few) / hashed, 3)
+    bounded("100 empty blocks after a close, with 10,000 known preimages to 10", many_after / few_after, 1.5)
+
+
+def main(words):
+    program, reader = words or (built("enforce"), built("reader_costs"))
+    time_looks(program)
+    time_channels(reader)
+    time_preimages(reader)
 
 
 if __name__ == "__main__":
