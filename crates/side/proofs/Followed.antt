@@ -1,5 +1,6 @@
 -- The channels that a reader follows, by what was seen of each and what is known of it.
-use Rattle.std.proofs.Common.{◌≡◌, ℕ, ◌+◌, ◌<◌, ◌≤◌, List, [], ◌∷◌, ◌++◌, length, map, set, get_or, replicate, Bool, if◌then◌else◌, Option, Some, None, refl, sym, ap, ◌∙◌, arith}
+use Rattle.std.proofs.Common.{◌≡◌, ℕ, ◌+◌, ◌<◌, ◌≤◌, List, [], ◌∷◌, ◌++◌, length, map, set, get_or, replicate, Bool, true, false, if◌then◌else◌, Option, Some, None, refl, sym, ap, ◌∙◌, append-nil, arith}
+use Rattle.std.specs.Bool.{OnTrue}
 use Rattle.std.proofs.Math.Seq.{map-set_same}
 use Rattle.std.proofs.lemmas.List.{get_or-map, map-set, length-map}
 use Rattle.tx.specs.declared.input.OutPoint.{OutPoint}
@@ -11,8 +12,8 @@ use Rattle.side.specs.declared.following.Followed.{Followed}
 use Rattle.side.specs.declared.following.Followed.TheVariants.{Alone, Known as Told}
 use Rattle.side.specs.Due.{FindsIf, taught}
 use Rattle.side.specs.Reading.{begun, is_to_ask, numbers_to_ask, with_answer}
-use Rattle.side.specs.Following.{seen_in, known_in, unanswered, told, taught_in, reader_of}
-use Rattle.side.specs.Reading.{FindsBlock}
+use Rattle.side.specs.Following.{seen_in, known_in, AreOpen, unanswered, told, taught_in, reader_of}
+use Rattle.side.specs.Reading.{FindsBlock, no_more, channel, IsRead}
 use Rattle.side.proofs.Readings.{asked_from, asked_step, Onward, onward_step, onward_end}
 
 -- ---- channels without an answer
@@ -28,6 +29,10 @@ none_known (x ∷ xs) = ap (λ (ys : List (Option Known)). None ∷ ys) (none_kn
 pub begins : (fundings : List OutPoint) (watches : List Seen) (channels : List Followed) (learnt : List (List ℕ)) (due : List DueClaim) → channels ≡ map unanswered watches → due ≡ []
     → reader_of fundings channels learnt due ≡ begun fundings watches learnt
 begins fundings watches channels learnt due e d = rw (e, d, seen_unanswered watches, none_known watches) refl
+
+pub are_open : (xs : List Seen) → AreOpen (map unanswered xs)
+are_open [] = tt
+are_open (x ∷ xs) = (refl, are_open xs)
 
 -- ---- one channel of many
 
@@ -97,3 +102,33 @@ pub asked_of_followed : (fundings : List OutPoint) (fs : List Followed) (txs : L
 asked_of_followed fundings fs txs i o f asks found more s l e d a m h =
     asked_step fundings (map seen_in fs) (map known_in fs) txs i o (seen_in f) (known_in f) asks found more (numbers_to_ask 0 fundings (map seen_in fs) (map known_in fs) txs) (omega (arith, s, l))
     (omega (arith, l, length-map fs seen_in)) (omega (arith, l, length-map fs known_in)) e (seen_at fs i f l d) (known_at fs i f l d) a m h
+
+-- ---- no answers
+
+finds_none : (height : ℕ) (txs : List Transaction) (c : ℕ) (fs : List Followed) → AreOpen fs → FindsBlock height txs c (map known_in fs) (map seen_in fs) (map seen_in fs) [] []
+finds_none height txs c [] h = no_more
+finds_none height txs c (Alone s ∷ fs) h = channel [] [] (refl, refl, refl) (finds_none height txs (c + 1) fs h.1)
+finds_none height txs c (Told l ∷ fs) h = absurd (cc)
+
+none_taught : (fs : List Followed) → AreOpen fs → map known_in fs ≡ map (taught []) (map known_in fs)
+none_taught [] h = refl
+none_taught (Alone s ∷ fs) h = ap (λ (ys : List (Option Known)). None ∷ ys) (none_taught fs h.1)
+none_taught (Told l ∷ fs) h = absurd (cc)
+
+pub when_quiet : (b : Bool) (fs : List Followed) → b ≡ true → OnTrue b (AreOpen fs) → AreOpen fs
+when_quiet true fs e h = h
+when_quiet false fs e h = absurd (cc)
+
+-- a block gives nothing where no channel has an answer
+pub reads_nothing : (height : ℕ) (txs : List Transaction) (fundings : List OutPoint) (fs : List Followed) (learnt : List (List ℕ)) (due : List DueClaim) → AreOpen fs
+    → IsRead height txs (reader_of fundings fs learnt due) (reader_of fundings fs learnt due)
+reads_nothing height txs fundings fs learnt due h =
+    record {
+      jobs = [];
+      shown = [];
+      channels = finds_none height txs 0 fs h;
+      jobs_are = sym (append-nil due);
+      learnt_is = sym (append-nil learnt);
+      knowns_are = none_taught fs h;
+      fundings_are = refl;
+    }

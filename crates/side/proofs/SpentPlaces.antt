@@ -1,6 +1,8 @@
 -- The outpoints that transactions spend, as a set holds them.
-use Rattle.std.proofs.Common.{◌≡◌, ℕ, ◌+◌, ◌<◌, Bool, true, false, ◌||◌, cond, List, ◌∷◌, length, drop, refl, sym, ap, ◌∙◌, get_or, add-one, drop-cons}
-use Rattle.std.specs.List.{list_any}
+use Rattle.std.proofs.Common.{◌≡◌, ℕ, ◌+◌, ◌<◌, Bool, true, false, ◌||◌, cond, List, ◌∷◌, length, drop, refl, sym, ap, subst, ◌∙◌, get_or, add-one, drop-cons}
+use Rattle.std.specs.List.{All, list_any, list_all}
+use Rattle.std.proofs.lemmas.List.{get_or_default}
+use Rattle.std.proofs.lemmas.List.Folds.{list_all_at}
 use Rattle.std.specs.Ordering.{is_eq}
 use Rattle.tx.specs.declared.input.OutPoint.{OutPoint}
 use Rattle.tx.specs.declared.input.TxIn.{TxIn}
@@ -54,3 +56,19 @@ tx_added is_marked old new txs i d t inputs whole l e s u v o m =
     ∙ regrouped (names o t) (list_any (names o) (drop (i + 1) txs)) (old o)
     ∙ ap (λ (ts : List Transaction). list_any (names o) ts || old o) (sym (split txs i d t l e))
     ∙ v o m
+
+-- ---- for the funding outputs, all of which are marked
+
+pub of_marked : (is_marked : OutPoint → Bool) (P : OutPoint → Type 0) (os : List OutPoint) → list_all is_marked os ≡ true → ((o : OutPoint) → is_marked o ≡ true → P o) → All P os
+of_marked is_marked P os a h k d l = h (get_or os k d) (marked (is_marked (get_or os k d)) refl)
+  where
+    marked : (b : Bool) → is_marked (get_or os k d) ≡ b → is_marked (get_or os k d) ≡ true
+    marked true e = e
+    marked false e = e ∙ sym (list_all_at is_marked os k d l e) ∙ a
+
+-- the set tells of a channel's funding output
+pub tells : (has : OutPoint → Bool) (txs : List Transaction) (os : List OutPoint) (c : ℕ) (o f : OutPoint) → All (λ x. has x ≡ list_any (names x) txs) os → c < length os → o ≡ get_or os c o
+    → f ≡ get_or os c f → has f ≡ list_any (names o) txs
+tells has txs os c o f h l e d =
+    let same : f ≡ o = d ∙ get_or_default os c f o l ∙ sym e in
+    subst (λ x. has x ≡ list_any (names x) txs) (sym d) (h c f l) ∙ ap (λ x. list_any (names x) txs) same

@@ -19,11 +19,6 @@ abbrev pub wanted_by : List (List ℕ) → Slot → Option (List ℕ)
 wanted_by preimages (Preimage hash) = find (λ p. bytes_eq (sha256 p) hash) preimages
 wanted_by preimages slot = None
 
--- whether a slot asks for a preimage
-abbrev pub asks : Slot → Bool
-asks (Preimage hash) = true
-asks slot = false
-
 -- the first known preimage of a hash
 abbrev pub first_of : List (List ℕ) → List ℕ → Option (List ℕ)
 first_of preimages hash = find (λ p. bytes_eq (sha256 p) hash) preimages

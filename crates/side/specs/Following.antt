@@ -1,5 +1,5 @@
 -- A channel as a reader follows it: what was seen of it, and what is known of it, once that was answered.
-use Rattle.std.specs.Prelude.{ℕ, List, map, Option, Some, None}
+use Rattle.std.specs.Prelude.{◌≡◌, ℕ, ⊤, List, [], ◌∷◌, map, Option, Some, None}
 use Rattle.tx.specs.declared.input.OutPoint.{OutPoint}
 use Rattle.resolve.specs.declared.known.Known.{Known}
 use Rattle.watch.specs.Watching.{Seen}
@@ -16,6 +16,11 @@ seen_in (Told l) = l.seen
 abbrev pub known_in : Followed → Option Known
 known_in (Alone seen) = None
 known_in (Told l) = Some l.known
+
+-- no channel has an answer yet
+abbrev pub AreOpen : List Followed → Type 0
+AreOpen [] = ⊤
+AreOpen (f ∷ fs) = (known_in f ≡ None) × AreOpen fs
 
 -- the channel has no answer yet
 abbrev pub unanswered : Seen → Followed

@@ -28,6 +28,11 @@ begun fundings seen learnt = record { fundings = fundings; seen = seen; knowns =
 
 -- ---- what is asked
 
+-- a block that is read for channels: their funding outputs, and its transactions
+pub record Spends : Type 0 where
+  pub fundings : List OutPoint
+  pub txs : List Transaction
+
 -- a channel is asked about if it has no answer yet, and a transaction that spends its funding output was read or is one of these
 abbrev pub is_to_ask : OutPoint → Seen → Option Known → List Transaction → Bool
 is_to_ask o seen None txs = is_spent o seen txs

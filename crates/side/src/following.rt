@@ -7,7 +7,6 @@ use crate::spent::Spent;
 use resolve::Known;
 use std::alloc::{AllocError, Global};
 use std::mem;
-use tx::OutPoint;
 use watch::{Lookout, Watch};
 
 /// A channel as a reader follows it.
@@ -20,16 +19,19 @@ pub(crate) enum Followed {
 }
 
 impl Followed {
-    ghost use Rattle.std.specs.Prelude.{◌≡◌, OnOk};
+    ghost use Rattle.std.specs.Prelude.{◌≡◌, ◌<◌, length, get_or, OnOk};
+    ghost use Rattle.tx.specs.declared.input.OutPoint.{OutPoint as Place};
     ghost use Rattle.side.specs.Reading.{is_to_ask};
     ghost use Rattle.side.specs.Following.{seen_in, known_in, taught_in};
 
-    /// Whether to ask what is known of the channel before a block is read that spends these.
-    pub(crate) fn is_to_ask(&self, funding: &OutPoint, spent: &Spent<'_>) -> bool
-        ensures { result ≡ is_to_ask funding.now (seen_in self.now) (known_in self.now) spent.now }
+    /// Whether to ask what is known of the channel, which has this number, before a block is read that spends these.
+    pub(crate) fn is_to_ask(&self, channel: usize, spent: &Spent<'_>) -> bool
+        requires { channel < length spent.now.fundings }
+        ensures { (o : Place) → o ≡ get_or spent.now.fundings channel o → result ≡ is_to_ask o
+            (seen_in self.now) (known_in self.now) spent.now.txs }
     {
         match self {
-            Followed::Alone(watch) => spent.is_spent(funding, watch),
+            Followed::Alone(watch) => spent.is_spent(channel, watch),
             Followed::Known(_) => false,
         }
     }

@@ -30,6 +30,7 @@ mod acts;
 pub mod batches;
 mod due;
 mod following;
+mod fundings;
 pub mod laws;
 mod marks;
 mod preimages;

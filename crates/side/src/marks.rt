@@ -9,9 +9,6 @@ use tx::OutPoint;
 // One place for each value of two bytes.
 const PLACES: usize = 65_536;
 
-/// From this number of outpoints on, a block is gone over once for all of them, by marks.
-const MANY_OUTPOINTS: usize = 2;
-
 /// Marks for outpoints, in two tables by two bytes each of a transaction's id. An outpoint without its marks is none of those that were marked. Of 1,000 marked ones and random ids, one of some
 /// 4,000 others has both marks too.
 #[derive(Drop)]
@@ -57,10 +54,11 @@ fn set(table: &mut [bool], place: usize) {
 
 impl Marks {
     ghost use Rattle.std.specs.Prelude.{◌≡◌};
+    ghost use Rattle.std.specs.List.{list_all};
     ghost use Rattle.side.specs.Marks.{is_marked};
 
-    // Marks for these outpoints. The only error is that memory ran out.
-    fn of(alloc: Global, outpoints: &[OutPoint]) -> Result<Marks, AllocError> {
+    /// Marks for these outpoints. The only error is that memory ran out.
+    pub(crate) fn of(alloc: Global, outpoints: &[OutPoint]) -> Result<Marks, AllocError> {
         let mut first = vec![in alloc; false; PLACES]?;
         let mut second = vec![in alloc; false; PLACES]?;
         for outpoint in outpoints {
@@ -70,22 +68,19 @@ impl Marks {
         Ok(Marks { first, second })
     }
 
-    /// Marks for these outpoints, if they are many. The only error is that memory ran out.
-    pub(crate) fn of_many(
-        alloc: Global,
-        outpoints: &[OutPoint],
-    ) -> Result<Option<Marks>, AllocError> {
-        if outpoints.len() < MANY_OUTPOINTS {
-            return Ok(None);
-        }
-        Ok(Some(Marks::of(alloc, outpoints)?))
-    }
-
     /// Whether an outpoint has both of its marks.
     pub(crate) fn has(&self, outpoint: &OutPoint) -> bool
         ensures { result ≡ is_marked self.now.first.items self.now.second.items outpoint.now }
     {
         is_set(&self.first, place_in(&outpoint.txid, 0, 1))
             && is_set(&self.second, place_in(&outpoint.txid, 2, 3))
+    }
+
+    /// Whether all of these outpoints have both of their marks.
+    pub(crate) fn has_all(&self, outpoints: &[OutPoint]) -> bool
+        ensures { result ≡ list_all (is_marked self.now.first.items self.now.second.items)
+            outpoints.now }
+    {
+        outpoints.iter().all(|outpoint| self.has(outpoint))
     }
 }

@@ -3,13 +3,13 @@
 ghost use Rattle.std.specs.Prelude.{◌≡◌, ◌≤◌, if◌then◌else◌, ◌∷◌, ◌++◌, [], filter, length, map, reverse, IfOk, OnOk};
 ghost use Rattle.std.specs.List.{AllByRecursion, cons_option, filter_map, list_any};
 ghost use Rattle.claim.specs.Claims.{IsWhole};
-ghost use Rattle.side.specs.Due.{wanted_by, asks, due_claims_of, Finds, FindsMore, with_preimages};
+ghost use Rattle.side.specs.Due.{wanted_by, due_claims_of, Finds, FindsMore, with_preimages};
 ghost use Rattle.side.specs.Reading.{FindsBlock};
 ghost use Rattle.side.specs.Following.{seen_in, known_in};
 
 use crate::due::DueClaim;
 use crate::following::{Followed, teach_all, tell, unanswered, watches_of};
-use crate::marks::Marks;
+use crate::fundings::Fundings;
 use crate::preimages::Preimages;
 use crate::spent::Spent;
 use chain::Block;
@@ -17,7 +17,7 @@ use claim::{Claim, Slot};
 use lists::List;
 use resolve::Known;
 use std::alloc::{AllocError, Global};
-use std::collections::VecDeque;
+use std::collections::{BTreeSet, VecDeque};
 use std::marker::Model;
 use tx::OutPoint;
 use watch::{Lookout, Watch};
@@ -28,23 +28,26 @@ use watch::{Lookout, Watch};
 /// Before a block is read, [`to_ask`](Reader::to_ask) says of which channels it wants to know more, and each is answered. A channel without an answer is read as one that is still open.
 #[derive(Drop)]
 pub struct Reader {
-    fundings: Vec<OutPoint>,
-    marks: Option<Marks>,
+    fundings: Fundings,
     channels: Vec<Followed>,
+    // Whether no channel has an answer, so that blocks give nothing.
+    is_quiet: bool,
     learnt: Vec<[u8; 32]>,
     due: VecDeque<DueClaim>,
 }
 
 impl Model for Reader {
     ghost use Rattle.std.specs.Prelude.{◌≡◌, length};
+    ghost use Rattle.std.specs.Bool.{OnTrue};
     ghost use Rattle.side.specs.Reading.{Reader as ReaderParts};
-    ghost use Rattle.side.specs.Following.{reader_of};
+    ghost use Rattle.side.specs.Following.{AreOpen, reader_of};
 
     ghost Value = { ReaderParts };
 
-    ghost view = { λ r. reader_of r.fundings.items r.channels.items r.learnt.items r.due.items };
+    ghost view = { λ r. reader_of r.fundings r.channels.items r.learnt.items r.due.items };
 
-    ghost invariant = { λ r. length r.fundings.items ≡ length r.channels.items };
+    ghost invariant = { λ r. (length r.fundings ≡ length r.channels.items)
+        × OnTrue r.is_quiet (AreOpen r.channels.items) };
 }
 
 /// What a reader holds at the end.
@@ -132,27 +135,26 @@ fn due_claims_by(
     Ok(due)
 }
 
-// Whether one of the slots asks for a preimage.
-fn some_asks(slots: &[Slot]) -> bool
-    ensures { result ≡ list_any asks slots.now }
-{
-    slots.iter().any(|slot| matches!(slot, Slot::Preimage(_)))
-}
-
-// The number of claims with such a slot. It decides how a preimage is found, and not which.
-fn asking_among(claims: &[Claim]) -> usize
-    ensures { result ≤ length claims.now }
-{
-    let mut asking = 0;
-    for index in 0..claims.len() {
-        if some_asks(claims[index].slots()) {
-            asking += 1;
+// Adds the hashes of which slots ask for preimages. They decide how a preimage is found, and not which.
+fn insert_asked(asked: &mut BTreeSet<[u8; 32]>, slots: &[Slot]) -> Result<(), AllocError> {
+    for slot in slots {
+        if let Slot::Preimage(hash) = slot {
+            asked.insert(*hash)?;
         }
     }
-    asking
+    Ok(())
 }
 
-// The same, where the preimages are not sorted yet. They are only if several claims ask for one, so that none is hashed twice; if none does, none is hashed.
+// The hashes of which claims ask for preimages.
+fn asked_by(alloc: Global, claims: &[Claim]) -> Result<BTreeSet<[u8; 32]>, AllocError> {
+    let mut asked = BTreeSet::new(alloc);
+    for claim in claims {
+        insert_asked(&mut asked, claim.slots())?;
+    }
+    Ok(asked)
+}
+
+// The same, where the preimages are a list. Where claims ask for several hashes, each preimage is hashed once; if none does, none is hashed.
 fn due_claims_of(
     alloc: Global,
     channel: u64,
@@ -161,7 +163,8 @@ fn due_claims_of(
 ) -> Result<VecDeque<DueClaim>, AllocError>
     ensures { IfOk result (λ due. due.items ≡ due_claims_of channel preimages.now claims.items) }
 {
-    let preimages = Preimages::new(alloc, preimages, asking_among(&claims) > 1)?;
+    let asked = asked_by(alloc, &claims)?;
+    let preimages = Preimages::new(alloc, preimages, &asked)?;
     due_claims_by(alloc, channel, &preimages, claims)
 }
 
@@ -300,11 +303,11 @@ impl Reader {
         ensures { IfOk result (λ r. r ≡ begun fundings.items watches.items learnt.items) }
     {
         let channels = unanswered(alloc, watches)?;
-        let marks = Marks::of_many(alloc, &fundings)?;
+        let fundings = Fundings::new(alloc, fundings)?;
         Ok(Reader {
             fundings,
-            marks,
             channels,
+            is_quiet: true,
             learnt,
             due: VecDeque::new(alloc),
         })
@@ -318,12 +321,11 @@ impl Reader {
         ensures within { IfOk result (λ v. All (λ c. c < length self.now.seen) v.items) }
         ensures in_step { IsInStep self.now }
     {
-        let spent = Spent::by(alloc, block, &self.marks)?;
+        let spent = Spent::by(alloc, block, &self.fundings)?;
         let mut channels = Vec::new(alloc);
         for index in 0..self.channels.len() {
-            let funding = &self.fundings[index];
             let followed = &self.channels[index];
-            let asks = followed.is_to_ask(funding, &spent);
+            let asks = followed.is_to_ask(index, &spent);
             push_if(&mut channels, index as u64, asks)?;
         }
         Ok(channels)
@@ -337,6 +339,7 @@ impl Reader {
     {
         let alloc = *self.channels.allocator();
         let known = with_preimages(alloc, &self.learnt, known)?;
+        self.is_quiet = false;
         tell(alloc, &mut self.channels[channel as usize], known);
         Ok(())
     }
@@ -345,6 +348,9 @@ impl Reader {
     fn read_on(&mut self, alloc: Global, height: u64, block: &Block) -> Result<(), AllocError>
         ensures { OnOk result (IsRead height (reverse block.now.transactions) self.old self.new) }
     {
+        if self.is_quiet {
+            return Ok(());
+        }
         let mut found = read_channels(alloc, height, block, &mut self.channels)?;
         teach_all(&mut self.channels, &found.learnt)?;
         self.due.append(&mut found.due)?;

@@ -1,7 +1,7 @@
 //! Which funding outputs a block spends.
 
 ghost use Rattle.std.specs.Prelude.{◌≡◌, ◌||◌, cond, true, IfOk, IfSome, OnOk};
-ghost use Rattle.std.specs.List.{list_any};
+ghost use Rattle.std.specs.List.{All, list_any};
 ghost use Rattle.std.specs.Ordering.{is_eq};
 ghost use Rattle.std.specs.BTreeSet.{contains};
 ghost use Rattle.tx.specs.declared.input.OutPoint.{OutPoint as Place};
@@ -10,6 +10,7 @@ ghost use Rattle.chain.specs.Blocks.{names};
 ghost use Rattle.chain.specs.Indexing.{outpoint_cmp};
 ghost use Rattle.side.specs.Marks.{is_marked};
 
+use crate::fundings::Fundings;
 use crate::marks::Marks;
 use chain::{Block, Confirmed};
 use std::alloc::{AllocError, Global};
@@ -18,37 +19,30 @@ use std::marker::Model;
 use tx::{OutPoint, TxIn};
 use watch::Watch;
 
-/// What a block spends. For many channels their funding outputs are marked, and of what it spends only outpoints that have marks are kept, so that each is found at once.
-/// A contract sees the transactions of the block.
+/// What a block spends. For many channels only outpoints that have marks of funding outputs are kept, so that each channel's is found at once.
+/// A contract sees the funding outputs of the channels, and the transactions of the block.
 #[derive(Drop)]
 pub(crate) struct Spent<'a> {
     block: &'a Block,
     txs: &'a [Confirmed],
-    marked: Option<Marked<'a>>,
-}
-
-/// Marks, and what a block spends of the outpoints that have them.
-#[derive(Drop)]
-struct Marked<'a> {
-    marks: &'a Marks,
-    outpoints: BTreeSet<OutPoint>,
+    fundings: &'a Fundings,
+    // Among them is each funding output that the block spends.
+    outpoints: Option<BTreeSet<OutPoint>>,
 }
 
 impl<'a> Model for Spent<'a> {
-    ghost use Rattle.std.specs.Prelude.{◌≡◌, List, true, IfSome, reverse};
-    ghost use Rattle.std.specs.List.{list_any};
+    ghost use Rattle.std.specs.Prelude.{◌≡◌, IfSome, reverse};
+    ghost use Rattle.std.specs.List.{All, list_any};
     ghost use Rattle.std.specs.BTreeSet.{contains};
-    ghost use Rattle.tx.specs.declared.input.OutPoint.{OutPoint as Place};
-    ghost use Rattle.tx.specs.Fields.{Transaction};
     ghost use Rattle.chain.specs.Blocks.{names};
     ghost use Rattle.chain.specs.Indexing.{outpoint_cmp};
-    ghost use Rattle.side.specs.Marks.{is_marked};
+    ghost use Rattle.side.specs.Reading.{Spends};
 
-    ghost Value = { List Transaction };
+    ghost Value = { Spends };
 
-    ghost view = { λ a. a.txs.now };
+    ghost view = { λ a. record { fundings = a.fundings.now; txs = a.txs.now } };
 
-    ghost invariant = { λ a. (a.txs.now ≡ reverse a.block.now.transactions) × IfSome a.marked (λ m. (o : Place) → is_marked m.marks.now.first.items m.marks.now.second.items o ≡ true → contains outpoint_cmp m.outpoints o ≡ list_any (names o) a.txs.now) };
+    ghost invariant = { λ a. (a.txs.now ≡ reverse a.block.now.transactions) × IfSome a.outpoints (λ s. All (λ o. contains outpoint_cmp s o ≡ list_any (names o) a.txs.now) a.fundings.now) };
 }
 
 // Adds an outpoint, if it is marked.
@@ -100,51 +94,58 @@ fn outpoints_of(
     Ok(outpoints)
 }
 
-// What transactions spend of the outpoints that are marked, if there are marks. The only error is that memory ran out.
-fn marked_in<'a>(
+// What transactions spend of the outpoints that have marks of funding outputs, if these are marked. The only error is that memory ran out.
+fn marked_in(
     alloc: Global,
+    fundings: &Fundings,
     txs: &[Confirmed],
-    marks: &'a Option<Marks>,
-) -> Result<Option<Marked<'a>>, AllocError>
-    ensures { IfOk result (λ found. IfSome found (λ m. (o : Place) → is_marked
-        m.marks.now.first.items m.marks.now.second.items o ≡ true → contains outpoint_cmp
-        m.outpoints o ≡ list_any (names o) txs.now)) }
+) -> Result<Option<BTreeSet<OutPoint>>, AllocError>
+    ensures { IfOk result (λ found. IfSome found (λ s. All (λ o. contains outpoint_cmp s o
+        ≡ list_any (names o) txs.now) fundings.now)) }
 {
-    match marks {
+    match fundings.marks() {
         None => Ok(None),
-        Some(marks) => {
-            let outpoints = outpoints_of(alloc, marks, txs)?;
-            Ok(Some(Marked { marks, outpoints }))
-        }
+        Some(marks) => Ok(Some(outpoints_of(alloc, marks, txs)?)),
     }
 }
 
 impl<'a> Spent<'a> {
-    ghost use Rattle.std.specs.Prelude.{◌≡◌, reverse, IfOk};
+    ghost use Rattle.std.specs.Prelude.{◌≡◌, ◌<◌, length, get_or, reverse, IfOk};
+    ghost use Rattle.tx.specs.declared.input.OutPoint.{OutPoint as Place};
     ghost use Rattle.watch.specs.Watching.{is_spent};
 
-    /// What a block spends, to be asked for channels whose funding outputs have these marks. The only error is that memory ran out.
+    /// What a block spends, to be asked for channels with these funding outputs. The only error is that memory ran out.
     pub(crate) fn by(
         alloc: Global,
         block: &'a Block,
-        marks: &'a Option<Marks>,
+        fundings: &'a Fundings,
     ) -> Result<Self, AllocError>
-        ensures { IfOk result (λ s. s ≡ reverse block.now.transactions) }
+        ensures { IfOk result (λ s. s ≡ record {
+          fundings = fundings.now;
+          txs = reverse
+              block.now.transactions;
+        }) }
     {
         let txs = block.transactions();
-        let marked = marked_in(alloc, txs, marks)?;
-        Ok(Spent { block, txs, marked })
+        let outpoints = marked_in(alloc, fundings, txs)?;
+        Ok(Spent {
+            block,
+            txs,
+            fundings,
+            outpoints,
+        })
     }
 
     /// Whether a transaction that spends a channel's funding output was read by its watch or is in the block.
-    pub(crate) fn is_spent(&self, funding: &OutPoint, watch: &Watch) -> bool
-        ensures { result ≡ is_spent funding.now watch.now self.now }
+    pub(crate) fn is_spent(&self, channel: usize, watch: &Watch) -> bool
+        requires { channel < length self.now.fundings }
+        ensures { (o : Place) → o ≡ get_or self.now.fundings channel o → result
+            ≡ is_spent o watch.now self.now.txs }
     {
-        match &self.marked {
-            Some(marked) if marked.marks.has(funding) => {
-                watch.has_spends() || marked.outpoints.contains(funding)
-            }
-            _ => watch.is_spent(funding, self.block),
+        let funding = self.fundings.of_channel(channel);
+        match &self.outpoints {
+            Some(outpoints) => watch.has_spends() || outpoints.contains(funding),
+            None => watch.is_spent(funding, self.block),
         }
     }
 }
