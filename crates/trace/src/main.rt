@@ -1,9 +1,14 @@
 //! The program `trace` explains scripts, and who can spend an output to one, what becomes of the inputs of a transaction,
 //! what each event of a scenario changes, and what a book has, for programs and for people.
 //!
-//! `trace_words`, `trace_witness`, `trace_scenario` and `trace_dump` do what the words say, and return a status of at most
-//! 2. This file has only the streams and the arguments.
+//! The library `trace_words` explains scripts, and the modules `witnesses`, `scenarios` and `dumps` do what the other words
+//! say. Each returns a status of at most 2. This file has only the streams and the arguments.
 #![tactic(auto)]
+
+mod dumps;
+mod names;
+mod scenarios;
+mod witnesses;
 
 use std::alloc::Global;
 use std::env;
@@ -16,7 +21,7 @@ fn words(rt: &HostRuntime) -> io::Result<Vec<String>> {
     Ok(env::args(rt)?.skip(1).collect(rt.alloc())?)
 }
 
-/// Does what the words say. The first word names the library that does it. Arguments that are not UTF-8 are wrong words.
+/// Does what the words say. The first word says which. Arguments that are not UTF-8 are wrong words.
 fn run(
     alloc: Global,
     words: &io::Result<Vec<String>>,
@@ -32,10 +37,10 @@ fn run(
         },
     };
     match words {
-        [word] if word.as_str() == "scenario" => trace_scenario::run(alloc, input, out),
-        [word] if word.as_str() == "dump" => trace_dump::run(alloc, input, out),
+        [word] if word.as_str() == "scenario" => scenarios::run(alloc, input, out),
+        [word] if word.as_str() == "dump" => dumps::run(alloc, input, out),
         [word, rest @ ..] if word.as_str() == "witness" => {
-            trace_witness::run_words(alloc, rest, input, out, err)
+            witnesses::run_words(alloc, rest, input, out, err)
         }
         [word, rest @ ..] if word.as_str() == "script" => {
             trace_words::run_words(alloc, rest, input, out, err)

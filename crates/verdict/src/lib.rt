@@ -5,14 +5,14 @@
 //! `chain` takes transactions). The path is the first listed one that the witness meets ([`met_path`]), and the elements
 //! are those that the definition has before that opcode.
 //!
-//! `machine` runs the scripts, and `paths` lists the ways. `trace_witness` prints the verdicts.
+//! `machine` runs the scripts, and `paths` lists the ways. The program `trace` prints the verdicts.
 //!
 //! ```rust
 //! let cache = SighashCache::new(tx);
 //! let verdict = judge(alloc, tx, &cache, index, input, output)?;
 //! ```
 //!
-//! `trace_witness` calls it so for each input. What it says of inputs of each kind is tested by `bench/witnesses.py`.
+//! The program `trace` calls it so for each input. What it says of inputs of each kind is tested by `bench/witnesses.py`.
 #![tactic(auto)]
 
 mod judging;

@@ -1,0 +1,4 @@
+pub mod Loading
+pub mod Standing
+pub mod Claims
+pub mod Refusals

@@ -1,0 +1,69 @@
+//! The word `dump` of the program `trace`: it loads a book's dump, and writes what the book has as JSON, channel by channel.
+//!
+//! [`run`] loads the dump in the input, the JSON text that `Book::dump` writes. It writes one JSON object a line. Each channel has its commitments and
+//! the HTLCs in them, and what this side can claim if the peer closes now, or broadcasts a revoked commitment. The last line is the book's. [`run`]
+//! returns a status of at most 1. What is loaded, which commitments stand and what can be claimed is exact: `load_dump`, `commitment`, `claims_of`.
+//! The layout of the lines is tested, not proved.
+//!
+//! `book` loads the dump, `channel` has the commitments, and `commit` the amounts of their outputs. The program `trace` passes its streams.
+//!
+//! ```rust
+//! let status = run(alloc, &mut input, &mut out);
+//! ```
+//!
+//! Tested by `bench/dumps.py`, which finds anew what it has to write, and by the calls of `bench/answers.py`.
+
+ghost use Rattle.std.specs.Prelude.{◌≤◌};
+
+mod claims;
+mod loading;
+mod standing;
+mod telling;
+
+use crate::dumps::telling::tell_book;
+use book::Book;
+use book::errors::LoadError;
+use loading::load_dump;
+use std::alloc::Global;
+use std::io::{Read, Write};
+use trace_words::{InputError, Line, read_all, refuse_memory, write_refusal, write_told};
+
+/// Writes the lines of the dump in the input, and returns the status: 0 when all are written, 1 for a refused dump, a failed write, or if memory ran out. All lines
+/// are made before the first byte is written. A refusal is written with its number: that of the book's, or for input that can't be read one after them.
+pub fn run(alloc: Global, input: &mut dyn Read, out: &mut dyn Write) -> u8
+    ensures { result ≤ 1 }
+{
+    match read_all(alloc, input) {
+        Ok(bytes) => tell_dump(alloc, bytes.as_slice(), out),
+        Err(InputError::NoMemory) => refuse_memory(out),
+        Err(error) => {
+            let number = u64::from(error.number()) + 4;
+            write_refusal(alloc, out, error.text(), Some(number))
+        }
+    }
+}
+
+// Writes the lines of the dump in the bytes, and returns the status.
+fn tell_dump(alloc: Global, bytes: &[u8], out: &mut dyn Write) -> u8
+    ensures { result ≤ 1 }
+{
+    match load_dump(alloc, bytes) {
+        Ok(book) => tell_loaded(alloc, &book, out),
+        Err(error) => match error {
+            LoadError::NoMemory => refuse_memory(out),
+            _ => {
+                let number = u64::from(error.number());
+                write_refusal(alloc, out, error, Some(number))
+            }
+        },
+    }
+}
+
+// Writes the lines of a book, and returns the status.
+fn tell_loaded(alloc: Global, book: &Book, out: &mut dyn Write) -> u8
+    ensures { result ≤ 1 }
+{
+    let mut line = Line::new(alloc);
+    tell_book(alloc, &mut line, book);
+    write_told(out, &mut line, 0)
+}

@@ -1,0 +1,83 @@
+//! The claims of a side.
+
+use crate::names::side_name;
+use crate::scenarios::coins::Told;
+use claim::Shell;
+use side::DueClaim;
+use sighash::programs::is_key_hash_program;
+use terms::Side;
+use trace_words::Line;
+use trace_words::Piece::{Count, Hash, Text};
+use world::World;
+
+// The name of the way in which a claim spends its output.
+fn way(due: &DueClaim) -> &'static str {
+    let claim = &due.claim;
+    let path = claim.path();
+    if path.age.is_some() {
+        return "delay";
+    }
+    if !due.preimages.is_empty() {
+        return "preimage";
+    }
+    if path.lock.is_some() || matches!(claim.shell(), Shell::Fixed(_)) {
+        return "timeout";
+    }
+    if is_key_hash_program(claim.place().program.bytes()) {
+        return "key";
+    }
+    "revocation"
+}
+
+// Writes a claim of a side. It is due in the first block that can take it, if the claimed output is on the chain.
+fn tell_claim(line: &mut Line, told: &Told, side: Side, due: &DueClaim) {
+    let place = due.claim.place();
+    let txid = place.outpoint.txid;
+    let height = match told.coin(&place.outpoint) {
+        Some(coin) => {
+            let aged = coin.height.saturating_add(u64::from(due.claim.needs_age()));
+            match due.claim.needs_height() {
+                0 => Count(aged),
+                lock => Count(aged.max(lock.saturating_add(1))),
+            }
+        }
+        None => Text("null"),
+    };
+    line.element(
+        r#"{"side":"%","channel":%,"outpoint":"%:%","value":%,"by":"%","due":%}"#,
+        &[
+            side_name(side),
+            Count(due.channel),
+            Hash(txid),
+            Count(u64::from(place.outpoint.index)),
+            Count(place.value),
+            Text(way(due)),
+            height,
+        ],
+    );
+}
+
+/// Writes the claims that a look gave.
+pub fn tell_claims(line: &mut Line, told: &Told, world: &World, side: Side, count: u64) {
+    let jobs = world.jobs(side);
+    let before = (jobs.len() as u64).saturating_sub(count);
+    line.push(r#","claims":["#);
+    for index in before as usize..jobs.len() {
+        if let Some(due) = jobs.get(index) {
+            tell_claim(line, told, side, due);
+        }
+    }
+    line.push("]");
+}
+
+/// Writes how many jobs a side has, and how many claims it took and did not release yet.
+pub fn tell_jobs(line: &mut Line, world: &World, side: Side) {
+    line.write(
+        r#","jobs":{"side":"%","jobs":%,"taken":%}"#,
+        &[
+            side_name(side),
+            Count(world.jobs(side).len() as u64),
+            Count(world.taken(side).len() as u64),
+        ],
+    );
+}

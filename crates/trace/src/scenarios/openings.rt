@@ -1,0 +1,59 @@
+//! The line that opens a trace.
+
+use crate::names::side_name;
+use crate::scenarios::coins::{Coin, Kind, Told};
+use terms::{Side, Terms};
+use trace_words::Line;
+use trace_words::Piece::{Count, Hash};
+use world::World;
+
+// Writes the terms of a new channel, whose funding output is on the chain.
+fn tell_channel(line: &mut Line, told: &mut Told, channel: u64, terms: &Terms) {
+    let (a, b) = (&terms.a, &terms.b);
+    let txid = terms.funding.txid;
+    line.element(
+        r#"{"funding":"%:%","capacity":%,"opener":"%","feerate":%,"dust":[%,%],"delay":[%,%],"minimum":[%,%],"start":[%,%]}"#,
+        &[
+            Hash(txid),
+            Count(u64::from(terms.funding.index)),
+            Count(terms.capacity),
+            side_name(terms.opener),
+            Count(u64::from(terms.feerate)),
+            Count(a.dust),
+            Count(b.dust),
+            Count(u64::from(a.delay)),
+            Count(u64::from(b.delay)),
+            Count(a.minimum),
+            Count(b.minimum),
+            Count(a.start),
+            Count(b.start),
+        ],
+    );
+    let coin = Coin {
+        channel,
+        value: terms.capacity,
+        kind: Kind::Funding,
+        owner: terms.opener,
+        holder: terms.opener,
+        is_revoked: false,
+        height: 0,
+        due: 0,
+    };
+    told.begin(line, &terms.funding, coin);
+}
+
+/// Writes the opening: the terms of each channel,
+/// whose funding outputs are on the chain.
+pub fn tell_opening(line: &mut Line, told: &mut Told, world: &World, events: usize) {
+    let book = world.book(Side::A);
+    line.write(
+        r#"{"opening":{"events":%,"channels":["#,
+        &[Count(events as u64)],
+    );
+    for index in 0..book.channel_count() {
+        if let Some(channel) = book.channel(index) {
+            tell_channel(line, told, index, channel.terms());
+        }
+    }
+    line.push("]}}\n");
+}

@@ -1,0 +1,103 @@
+//! Plays events one after another, and writes what they change.
+
+ghost use Rattle.std.specs.Prelude.{IfOk, ◌∷◌, []};
+ghost use Rattle.world.specs.Theorem.{IsPlay};
+
+use crate::names::side_name;
+use crate::scenarios::claims::{tell_claims, tell_jobs};
+use crate::scenarios::coins::Told;
+use crate::scenarios::messages::{tell_delivered, tell_own, tell_signed};
+use crate::scenarios::mining::tell_mined;
+use chain::Coins as _;
+use scenario::Event;
+use std::alloc::{AllocError, Global};
+use std::slice;
+use trace_words::Line;
+use trace_words::Piece::Count;
+use world::{Outcome, World};
+
+impl Told {
+    // Writes what an accepted event changed. The chain had height `before` when it came.
+    fn tell_changes(
+        &mut self,
+        alloc: Global,
+        line: &mut Line,
+        world: &World,
+        before: u64,
+        event: &Event,
+        outcome: &Outcome,
+    ) {
+        match *event {
+            Event::Own { side, channel, .. } => tell_own(line, world, side, channel),
+            Event::Sign { side, channel } => tell_signed(line, world, side, channel),
+            Event::Deliver { side, channel } => tell_delivered(line, world, side, channel),
+            Event::Keep {
+                side,
+                channel,
+                number,
+            } => line.write(
+                r#","kept":{"side":"%","channel":%,"number":%}"#,
+                &[side_name(side), Count(channel), Count(number)],
+            ),
+            Event::Broadcast { .. } | Event::BroadcastHtlc { .. } => {
+                self.tell_joined(line, world.pool())
+            }
+            Event::Blocks { .. } => {
+                self.tell_left(line, world.pool());
+                tell_mined(alloc, world, self, line, before);
+            }
+            Event::Look { side } => {
+                if let Outcome::Looked { claims } = outcome {
+                    tell_claims(line, self, world, side, *claims);
+                }
+                tell_jobs(line, world, side);
+            }
+            Event::Take { side, .. } => tell_jobs(line, world, side),
+            Event::Release { side, .. } => {
+                tell_jobs(line, world, side);
+                self.tell_joined(line, world.pool());
+            }
+            Event::Reorg { depth, .. } => {
+                let above = before.saturating_sub(depth);
+                self.tell_left(line, &[]);
+                self.tell_joined(line, world.pool());
+                line.push(r#","undone":["#);
+                self.back_to(line, above);
+                line.push("]");
+                tell_mined(alloc, world, self, line, above);
+            }
+        }
+    }
+
+    /// Ends the line of an event that was played: its outcome, the height, and what it changed. The chain had height `before` when it came.
+    pub fn tell_played(
+        &mut self,
+        alloc: Global,
+        line: &mut Line,
+        world: &World,
+        before: u64,
+        event: &Event,
+        outcomes: &[Outcome],
+    ) {
+        let [outcome] = outcomes else {
+            line.fail();
+            return;
+        };
+        line.push(r#","answer":""#);
+        line.push_shown(outcome);
+        line.write(r#"","height":%"#, &[Count(world.chain().height())]);
+        if !matches!(outcome, Outcome::Refused(_)) {
+            self.tell_changes(alloc, line, world, before, event, outcome);
+        }
+        line.push("}\n");
+    }
+}
+
+/// Plays an event, and returns its outcome as the only element of a list. The only error is that there was no memory for the list: then the
+/// event was not played.
+pub fn played(world: &mut World, event: &Event) -> Result<Vec<Outcome>, AllocError>
+    ensures { IfOk result
+        (λ outcomes. IsPlay world.old (event.now ∷ []) outcomes.items world.new) }
+{
+    world.play(slice::from_ref(event))
+}

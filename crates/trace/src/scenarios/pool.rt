@@ -1,0 +1,56 @@
+//! The transactions that wait for a block.
+
+use crate::scenarios::coins::Told;
+use crate::scenarios::outputs::tell_spends;
+use std::mem;
+use trace_words::Line;
+use trace_words::Piece::Hash;
+use tx::{Tx, txid};
+
+impl Told {
+    /// Adds the transactions of the pool after those that wait already, and writes them.
+    pub fn tell_joined(&mut self, line: &mut Line, pool: &[Tx]) {
+        if self.waiting.len() >= pool.len() {
+            return;
+        }
+        line.push(r#","joined":["#);
+        for tx in pool.iter().skip(self.waiting.len()) {
+            let id = txid(tx);
+            line.element(r#"{"txid":"%","spends":["#, &[Hash(id)]);
+            tell_spends(line, tx);
+            line.push("]}");
+            if self.waiting.push(id).is_err() {
+                line.fail();
+            }
+        }
+        line.push("]");
+    }
+
+    /// Removes the transactions that left the pool, and writes them; `pool` has the others, in order.
+    pub fn tell_left(&mut self, line: &mut Line, pool: &[Tx]) {
+        if self.waiting.len() == pool.len() {
+            return;
+        }
+        let mut kept = Vec::new(*self.waiting.allocator());
+        line.push(r#","left":["#);
+        for id in &self.waiting {
+            keep_or_tell(line, pool, &mut kept, id);
+        }
+        line.push("]");
+        drop(mem::replace(&mut self.waiting, kept));
+    }
+}
+
+// Keeps a transaction that still waits, which is then the next of the pool after those kept; else
+// writes that it left.
+fn keep_or_tell(line: &mut Line, pool: &[Tx], kept: &mut Vec<[u8; 32]>, id: &[u8; 32]) {
+    let is_next = match pool.get(kept.len()) {
+        Some(tx) => txid(tx) == *id,
+        None => false,
+    };
+    if !is_next {
+        line.element(r#""%""#, &[Hash(*id)]);
+    } else if kept.push(*id).is_err() {
+        line.fail();
+    }
+}

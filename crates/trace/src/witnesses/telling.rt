@@ -1,0 +1,137 @@
+// Writes the verdict on an input.
+
+use crate::witnesses::causes::cause_sentence;
+use lists::ByteString;
+use trace_words::Piece::{Count, Hash, Text};
+use trace_words::{Form, Line, byte_of, opcode_name};
+use verdict::{Clean, Fault, Stopped, Verdict};
+
+// Writes a clean run.
+fn tell_clean(line: &mut Line, form: Form, clean: &Clean) {
+    let digest = clean.digest;
+    let counted = Count(clean.run.counted as u64);
+    let height = Count(clean.run.height as u64);
+    match form {
+        Form::Json => {
+            let path = match clean.path {
+                Some(path) => Count(path as u64),
+                None => Text("null"),
+            };
+            line.write(
+                ",\"path\":%,\"counted\":%,\"height\":%,\"digest\":\"%\"}\n",
+                &[path, counted, height, Hash(digest)],
+            );
+        }
+        Form::Text => {
+            match clean.path {
+                Some(path) => line.write(" runs clean on path %", &[Count(path as u64)]),
+                None => line.push(" runs clean, its paths are not listed"),
+            }
+            line.write(
+                ": % opcodes counted, % elements at most\n",
+                &[counted, height],
+            );
+        }
+    }
+}
+
+// Writes the elements of a stack, the top first: of an array, or a line each, where the empty element is `-`.
+fn tell_stack(line: &mut Line, form: Form, items: &[ByteString]) {
+    for item in items.iter().rev() {
+        match form {
+            Form::Json => line.element("\"", &[]),
+            Form::Text if item.is_empty() => line.push("  stack   -"),
+            Form::Text => line.push("  stack   "),
+        }
+        line.push_hex(item.bytes());
+        line.push(match form {
+            Form::Json => "\"",
+            Form::Text => "\n",
+        });
+    }
+}
+
+// Writes where a run stops, why, and the stack there.
+fn tell_stopped(line: &mut Line, form: Form, stopped: &Stopped) {
+    let digest = stopped.digest;
+    let (cause, index) = (stopped.cause, stopped.index);
+    let ops = stopped.script.ops();
+    let (end, after) = match form {
+        Form::Json => ("null", "],\"digest\":\"%\"}\n"),
+        Form::Text => ("end", "  digest  %\n"),
+    };
+    let (op, quote) = match ops.get(index) {
+        Some(op) => (opcode_name(op), "\""),
+        None => (end, ""),
+    };
+    let (opcode, byte) = (Count(index as u64), Count(byte_of(ops, index)));
+    let says = Text(cause_sentence(cause));
+    match form {
+        Form::Json => {
+            line.push(r#","stopped":""#);
+            line.push_shown(cause);
+            line.write(
+                r#"","opcode":%,"op":%%%,"byte":%,"says":"%","stack":["#,
+                &[opcode, Text(quote), Text(op), Text(quote), byte, says],
+            );
+        }
+        Form::Text => {
+            line.write(
+                " stops at opcode % (%), byte %: ",
+                &[opcode, Text(op), byte],
+            );
+            line.push_shown(cause);
+            line.write(": %\n", &[says]);
+        }
+    }
+    if let Some(stack) = &stopped.stack {
+        tell_stack(line, form, stack.values());
+    }
+    line.write(after, &[Hash(digest)]);
+}
+
+// Writes why no script runs.
+fn tell_fault(line: &mut Line, form: Form, fault: &Fault) {
+    let (before, after) = match form {
+        Form::Json => (r#","refused":"%"#, "\",\"says\":\"%\"}\n"),
+        Form::Text => (" is refused: %", ": %\n"),
+    };
+    let (name, says) = match fault {
+        Fault::OtherProgram => (
+            "OtherProgram",
+            "the program is not of version 0 with the hash of a key or of a script",
+        ),
+        Fault::NotTwoItems => (
+            "NotTwoItems",
+            "the program has the hash of a key, and the witness has not two items",
+        ),
+        Fault::NoScript => (
+            "NoScript",
+            "the program has the hash of a script, and the witness has no item",
+        ),
+        Fault::OtherScript => (
+            "OtherScript",
+            "the last item of the witness has another hash than the program",
+        ),
+        Fault::BadScript(_) => ("", "the last item of the witness is not a script"),
+    };
+    line.write(before, &[Text(name)]);
+    if let Fault::BadScript(error) = fault {
+        line.push_shown(error);
+    }
+    line.write(after, &[Text(says)]);
+}
+
+/// Writes the verdict on an input: an object on a line, or lines for people.
+pub fn tell_verdict(line: &mut Line, form: Form, input: usize, verdict: &Verdict) {
+    let before = match form {
+        Form::Json => r#"{"input":%"#,
+        Form::Text => "input %",
+    };
+    line.write(before, &[Count(input as u64)]);
+    match verdict {
+        Verdict::Refused(fault) => tell_fault(line, form, fault),
+        Verdict::Stopped(stopped) => tell_stopped(line, form, stopped),
+        Verdict::Clean(clean) => tell_clean(line, form, clean),
+    }
+}

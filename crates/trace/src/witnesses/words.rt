@@ -1,0 +1,137 @@
+// The word `witness`.
+
+ghost use Rattle.std.specs.Prelude.{◌≡◌, ◌≤◌, Some, slice_get};
+
+use crate::witnesses::errors::SpentError;
+use crate::witnesses::reading::{read_outputs, read_tx};
+use crate::witnesses::telling::tell_verdict;
+use sighash::SighashCache;
+use std::alloc::Global;
+use std::io::{Read, Write};
+use trace_words::Piece::Count;
+use trace_words::{Form, InputError, Line, read_all, refuse_memory, refuse_words, write_told};
+use tx::{Tx, TxIn, TxOut};
+use verdict::{Verdict, judge};
+
+/// Runs the word `witness` on the words after it and returns its status: 0 when each input runs clean, 1 for an input that does not, refused text or a failed
+/// write, 2 for wrong words, which are detected before any input is read. The verdict on an input is written before the next input is judged.
+pub fn run_words(
+    alloc: Global,
+    words: &[String],
+    input: &mut dyn Read,
+    out: &mut dyn Write,
+    err: &mut dyn Write,
+) -> u8
+    ensures { result ≤ 2 }
+{
+    let (form, rest) = Form::read(words);
+    if !rest.is_empty() {
+        return refuse_words(err);
+    }
+    match read_all(alloc, input) {
+        Ok(bytes) => tell_bytes(alloc, form, bytes.as_slice(), out),
+        Err(error) => refuse(alloc, form, &SpentError::Input(error), out),
+    }
+}
+
+// Judges the inputs of the transaction in the bytes of a text, and returns the status.
+fn tell_bytes(alloc: Global, form: Form, bytes: &[u8], out: &mut dyn Write) -> u8
+    ensures { result ≤ 1 }
+{
+    let Ok(text) = str::from_utf8(bytes) else {
+        return refuse(alloc, form, &SpentError::Input(InputError::BadHex), out);
+    };
+    match read_tx(alloc, text) {
+        Ok(tx) => tell_tx(alloc, form, text, &tx, out),
+        Err(error) => refuse(alloc, form, &error, out),
+    }
+}
+
+// The same, where the first line of the text is this transaction.
+fn tell_tx(alloc: Global, form: Form, text: &str, tx: &Tx, out: &mut dyn Write) -> u8
+    ensures { result ≤ 1 }
+{
+    let mut outputs = Vec::new(alloc);
+    match read_outputs(alloc, &mut outputs, text, tx.inputs().len()) {
+        Ok(()) => tell_inputs(alloc, form, tx, outputs.as_slice(), out),
+        Err(error) => refuse(alloc, form, &error, out),
+    }
+}
+
+// Reports that a text is refused.
+fn refuse(alloc: Global, form: Form, error: &SpentError, out: &mut dyn Write) -> u8
+    ensures { result ≤ 1 }
+{
+    let (before, after) = match form {
+        Form::Json => (r#"{"refused":""#, "\"}\n"),
+        Form::Text => ("refused ", "\n"),
+    };
+    let mut line = Line::new(alloc);
+    line.push(before);
+    match error {
+        SpentError::Input(InputError::NoMemory) => line.fail(),
+        SpentError::Input(error) => line.push(error.text()),
+        SpentError::Decode(error) => line.push_shown(error),
+        SpentError::BadCount => line.push("BadCount"),
+        SpentError::BadLine(number) => line.write("BadLine %", &[Count(*number as u64)]),
+    }
+    line.push(after);
+    write_told(out, &mut line, 1)
+}
+
+// Judges each input, writes each verdict at once, and returns the greatest status.
+fn tell_inputs(alloc: Global, form: Form, tx: &Tx, outputs: &[TxOut], out: &mut dyn Write) -> u8
+    ensures { result ≤ 1 }
+{
+    let cache = SighashCache::new(tx);
+    let inputs = tx.inputs();
+    let mut status = 0;
+    for (index, input) in inputs.iter().enumerate() {
+        if let Some(output) = outputs.get(index) {
+            if tell_input(alloc, form, tx, &cache, index, input, output, out) == 1 {
+                status = 1;
+            }
+        }
+    }
+    status
+}
+
+// Judges an input, and returns 0 if it runs clean.
+fn tell_input(
+    alloc: Global,
+    form: Form,
+    tx: &Tx,
+    cache: &SighashCache<'_>,
+    index: usize,
+    input: &TxIn,
+    output: &TxOut,
+    out: &mut dyn Write,
+) -> u8
+    requires cached { cache.now ≡ tx.now }
+    requires indexed { slice_get tx.now.inputs index ≡ Some input.now }
+    ensures { result ≤ 1 }
+{
+    match judge(alloc, tx, cache, index, input, output) {
+        Ok(verdict) => write_verdict(alloc, form, index, &verdict, out),
+        Err(_) => refuse_memory(out),
+    }
+}
+
+// Writes the verdict on an input, and returns 0 if it runs clean.
+fn write_verdict(
+    alloc: Global,
+    form: Form,
+    input: usize,
+    verdict: &Verdict,
+    out: &mut dyn Write,
+) -> u8
+    ensures { result ≤ 1 }
+{
+    let mut line = Line::new(alloc);
+    tell_verdict(&mut line, form, input, verdict);
+    let status = match verdict {
+        Verdict::Clean(_) => 0,
+        _ => 1,
+    };
+    write_told(out, &mut line, status)
+}
