@@ -1,11 +1,12 @@
 #!/usr/bin/env bash
 # Runs every benchmark on proved programs, one after another, and prints one table: what was measured, its bound, and whether it was held.
-# `.ci/program` proves what is not proved yet, in a copy of the repository; on an idle machine the rest takes some minutes. Status 1 where a bound was passed or a benchmark failed.
+# First `.ci/program --all` proves what is not proved yet, in a copy of the repository; on an idle machine the rest takes some minutes. Status 1 where a bound was passed or a benchmark failed.
 set -uo pipefail
 cd "$(dirname "$0")/.."
 BOUNDS=$(mktemp)
 export BOUNDS
 trap 'rm -f "$BOUNDS"' EXIT
+.ci/program --all || exit 1
 failed=()
 for benchmark in ripemd160.sh costs.sh instances.py commitments.py channels.py penalties.py books.py growth.py worlds.py looks.py calls.py; do
   echo "== bench/$benchmark"
