@@ -74,7 +74,7 @@ def time_looks(program):
 def time_channels(reader):
     """A block of 3,000 transactions for a reader of so many open channels."""
     alone, many = (numbers(reader, f"channels {channels}")[-1] for channels in (1, 1000))
-    print(f"a block of 3,000 transactions, 1 open channel: {alone / 1e6:.2f} ms, 1,000: {many / 1e6:.2f} ms")
+    print(f"a block of 3,000 transactions, 1 open channel: {alone / 1e3:.1f} us, 1,000: {many / 1e3:.1f} us")
     bounded("a block of 3,000 transactions for 1,000 open channels to one", many / alone, 3)
 
 
