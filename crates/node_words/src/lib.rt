@@ -14,7 +14,9 @@
 //! ```
 #![tactic(auto)]
 
-ghost use Rattle.std.specs.Prelude.{◌<◌, ◌≤◌, IfSome};
+ghost use Rattle.std.specs.Prelude.{◌≡◌, ◌<◌, ◌≤◌, IfSome, bytes_eq, map};
+ghost use Rattle.std.specs.List.{position_from};
+ghost use Rattle.node_words.specs.Words.{place_of, count_of, workers_of};
 
 mod gates;
 mod lines;
@@ -33,21 +35,40 @@ const COUNTS: [&str; 16] = [
     "1", "2", "3", "4", "5", "6", "7", "8", "9", "10", "11", "12", "13", "14", "15", "16",
 ];
 
-// The number that a text spells, from 1 to 16, without a sign or a leading 0.
-fn count_in(text: &str) -> Option<u16>
-    ensures { IfSome result (λ n. (0 < n) × (n ≤ 16)) }
+// The place of the first of these texts that is this one.
+fn place_in(texts: &[&str], text: &str) -> Option<usize>
+    ensures { result ≡ position_from (λ s. bytes_eq s.now text.now) 0 texts.now }
 {
-    for index in 0..16u16 {
-        if COUNTS[usize::from(index)] == text {
-            return Some(index + 1);
+    for (place, one) in texts.iter().enumerate() {
+        if *one == text {
+            return Some(place);
         }
     }
     None
 }
 
+// The place of a text among the numbers.
+fn place_of(text: &str) -> Option<usize>
+    ensures { result ≡ place_of text.now }
+{
+    place_in(&COUNTS, text)
+}
+
+// The number that a text spells, from 1 to 16, without a sign or a leading 0.
+fn count_in(text: &str) -> Option<u16>
+    ensures few { IfSome result (λ n. (0 < n) × (n ≤ 16)) }
+    ensures count { result ≡ count_of text.now }
+{
+    match place_of(text) {
+        Some(index) => Some(index as u16 + 1),
+        None => None,
+    }
+}
+
 /// The number of workers a side, if the words are `node N`.
 pub fn workers_in(words: &[String]) -> Option<u16>
-    ensures { IfSome result (λ n. (0 < n) × (n ≤ 16)) }
+    ensures few { IfSome result (λ n. (0 < n) × (n ≤ 16)) }
+    ensures workers { result ≡ workers_of (map (λ w. w.bytes.items) words.now) }
 {
     match words {
         [name, count] if name.as_str() == "node" => count_in(count.as_str()),
