@@ -1,7 +1,9 @@
 //! Worked calls of the crates that a node calls, as tests: a script is listed, a claim accepted and filled, a channel
 //! and a book go a few steps, and a watch reads a block.
 //!
-//! Each block of code of `docs/LIBRARY.md` stands here word for word.
+//! Each block of code of `docs/LIBRARY.md` stands here word for word, but the one on threads, which `desk_tests` has.
+//!
+//! The calls are of `paths`, `claim`, `filling`, `channel`, `book` and `watch`, and `book_peers` makes the peers.
 #![tactic(auto)]
 
 #[cfg(test)]
