@@ -11,6 +11,7 @@ use channel::laws::sides_are_sound;
 use channel::{Channel, Message};
 use claim::Claim;
 use filling::{FillError, Filled};
+use forms::SharedPatterns;
 use indexmap::IndexMap;
 use keys::Key;
 use lists::List;
@@ -41,6 +42,14 @@ impl Model for Book {
     ghost view = { λ b. b.entries.items };
 
     ghost invariant = { λ b. AreBeside b.entries.items b.channels.entries (kept_by b.fulfils) };
+}
+
+// The first channel, if there is one.
+fn first_channel(channels: &IndexMap<OutPoint, OpenChannel>) -> Option<&OpenChannel> {
+    match channels.get_index(0) {
+        Some((_, open)) => Some(open),
+        None => None,
+    }
 }
 
 impl Book {
@@ -85,6 +94,14 @@ impl Book {
         ensures { result ≡ length (replay self.now) }
     {
         self.channels.len() as u64
+    }
+
+    /// The patterns of the scripts, which the channels share. They are listed where there is no channel yet. The only error is that memory ran out.
+    pub fn patterns(&self) -> Result<SharedPatterns, AllocError> {
+        match first_channel(&self.channels) {
+            Some(open) => open.patterns().share(),
+            None => SharedPatterns::new(self.alloc),
+        }
     }
 
     /// The channel with this index, if there is one.
@@ -136,7 +153,7 @@ impl Book {
             Ok(()) => {}
             Err(_) => return Err(OpenError::NoMemory),
         }
-        let open = match OpenChannel::open(self.alloc, &opening) {
+        let open = match OpenChannel::open(self.alloc, &opening, first_channel(&self.channels)) {
             Ok(open) => open,
             Err(error) => return Err(error),
         };

@@ -10,6 +10,7 @@ ghost use Rattle.book.specs.Penalties.{claimable_in, are_claims_on};
 use crate::matching::is_set;
 use channel::CommitmentState;
 use claim::Claim;
+use forms::Patterns;
 use penalty::{PenaltySet, RevokedState, penalties};
 use std::alloc::{AllocError, Global};
 use terms::{Side, Terms};
@@ -17,6 +18,7 @@ use terms::{Side, Terms};
 // The penalties of a commitment that this secret revokes. The only error is that memory ran out.
 fn penalties_of(
     alloc: Global,
+    patterns: &Patterns,
     terms: &Terms,
     owner: Side,
     commitment: &CommitmentState,
@@ -28,7 +30,7 @@ fn penalties_of(
 {
     let view = commitment.view.copy()?;
     match RevokedState::new(*terms, view, owner, commitment.number, secret) {
-        Ok(state) => penalties(alloc, &state),
+        Ok(state) => penalties(alloc, patterns, &state),
         Err(_) => unreachable!(),
     }
 }
@@ -36,6 +38,7 @@ fn penalties_of(
 /// Whether the claims are the penalties, in order, of a commitment that this secret revokes. The only error is that memory ran out.
 pub(crate) fn are_penalties(
     alloc: Global,
+    patterns: &Patterns,
     terms: &Terms,
     owner: Side,
     commitment: &CommitmentState,
@@ -47,6 +50,6 @@ pub(crate) fn are_penalties(
         (claimable_in (commitment_of terms.now commitment.now.view owner commitment.now.number
         (point_of secret))) claims.now) }
 {
-    let set = penalties_of(alloc, terms, owner, commitment, secret)?;
+    let set = penalties_of(alloc, patterns, terms, owner, commitment, secret)?;
     Ok(is_set(&set, claims))
 }

@@ -11,6 +11,7 @@ ghost use Rattle.resolve.specs.Numbered.{is_next};
 ghost use Rattle.book.specs.Knowing.{below, signed_parts, signed_by_peer, own_at, theirs_at, revoked_parts, revoked_by, revoked_at, flag_at, IsKnownOf};
 
 use channel::{Channel, CommitmentState, Tokens};
+use forms::SharedPatterns;
 use keys::Signer;
 use lists::List;
 use penalty::RevokedState;
@@ -46,7 +47,7 @@ fn known_commitment(
     }
 }
 
-// A commitment that the channel recorded, with the tokens of its owner's peer.
+// A commitment that the channel recorded, with the tokens of its owner's peer. They are the right ones by what is required, so no digest is worked out.
 fn signed_by(
     alloc: Global,
     terms: &Terms,
@@ -57,21 +58,14 @@ fn signed_by(
     requires tokens { tokens ≡ peer_tokens terms.now state.now }
     ensures { IfOk result (λ s. signed_parts s ≡ signed_by_peer terms.now state.now) }
 {
-    let known = known_commitment(alloc, terms, state)?;
-    match SignedCommitment::new(
-        alloc,
-        terms,
-        state.owner,
-        known,
-        tokens.commitment,
-        tokens.htlcs,
-    ) {
-        Ok(signed) => Ok(signed),
-        Err(error) => match error {
-            KnownError::NoMemory => Err(AllocError),
-            _ => unreachable!(),
-        },
-    }
+    let commitment = known_commitment(alloc, terms, state)?;
+    Ok(SignedCommitment {
+        commitment,
+        terms: *terms,
+        owner: state.owner,
+        token: tokens.commitment,
+        htlc_tokens: tokens.htlcs,
+    })
 }
 
 // This side's commitment of a number, with the peer's tokens.
@@ -293,6 +287,7 @@ fn peers_of(
 /// The only error is that memory ran out.
 pub(crate) fn known_of(
     alloc: Global,
+    patterns: SharedPatterns,
     channel: &Channel,
     flags: &[bool],
     preimages: Vec<[u8; 32]>,
@@ -302,6 +297,7 @@ pub(crate) fn known_of(
     let own = own_of(alloc, channel)?;
     let peers = peers_of(alloc, channel, flags)?;
     Ok(Known {
+        patterns,
         terms: *channel.terms(),
         side: channel.side(),
         signer: own.signer,

@@ -8,8 +8,9 @@
 //! [`Book::load`] reads what [`Book::dump`] writes as the same history.
 //!
 //! Long work is done outside the book. [`Book::revoked`] hands out the state from which a penalty set is built, and
-//! [`Book::keep_set`] keeps the set that was built, as `keep` does its claims. [`Book::known`] hands out what the
-//! node knows of a channel. [`filled`] fills a batch with any signer, as `release` does with the channel's.
+//! [`Book::patterns`] the patterns by which it is built. [`Book::keep_set`] keeps the set that was built, as `keep`
+//! does its claims. [`Book::known`] hands out what the node knows of a channel. [`filled`] fills a batch with any
+//! signer, as `release` does with the channel's.
 //!
 //! `channel` does what each call says, `texts` has the JSON shapes of a dump, and `filling` builds the transactions
 //! of a release. `side` stands between the book and the chain, and `world` plays two books.

@@ -18,6 +18,7 @@ use crate::revoking::state_at;
 use channel::{Channel, Message, Tokens};
 use claim::Claim;
 use filling::{FillError, Filled};
+use forms::SharedPatterns;
 use keys::{Key, Signer};
 use penalty::RevokedState;
 use resolve::Known;
@@ -29,6 +30,8 @@ use updates::ChannelError;
 #[derive(Drop)]
 pub(crate) struct OpenChannel {
     channel: Channel,
+    // the patterns of the scripts, which the channels of a book share
+    patterns: SharedPatterns,
     // in the order in which they were kept
     kept: Vec<u64>,
     // by number, whether its penalties are kept
@@ -107,6 +110,17 @@ fn take(channel: &mut Channel, step: Step) -> Result<Taken, ChannelError>
     }
 }
 
+// The patterns that another channel has, for one more channel. They are listed where there is no other. The only error is that memory ran out.
+fn patterns_beside(
+    alloc: Global,
+    another: Option<&OpenChannel>,
+) -> Result<SharedPatterns, AllocError> {
+    match another {
+        Some(another) => another.patterns.share(),
+        None => SharedPatterns::new(alloc),
+    }
+}
+
 impl OpenChannel {
     ghost use Rattle.std.specs.Prelude.{◌<◌, length};
     ghost use Rattle.std.specs.Option.{ForSome};
@@ -124,21 +138,23 @@ impl OpenChannel {
     ghost use Rattle.book.specs.Signers.{fill_refusal};
 
     /// A channel without revoked commitments.
-    pub(crate) fn new(alloc: Global, channel: Channel) -> OpenChannel
+    pub(crate) fn new(alloc: Global, channel: Channel, patterns: SharedPatterns) -> OpenChannel
         requires { channel.secrets ≡ [] }
         ensures { result ≡ record { state = channel; kept = [] } }
     {
         OpenChannel {
             channel,
+            patterns,
             kept: Vec::new(alloc),
             flags: Vec::new(alloc),
             below: 0,
         }
     }
 
-    /// The channel of an opening: `BadSignature` where its token is not the peer's on this side's commitment 0.
-    pub(crate) fn open(alloc: Global, opening: &Opening) -> Result<OpenChannel, OpenError>
-        ensures ok { IfOk result (λ ch. ch ≡ opened_by opening.now) }
+    // The channel of an opening.
+    fn channel_of(alloc: Global, opening: &Opening) -> Result<Channel, OpenError>
+        ensures ok { IfOk result (λ c. record { state = c; kept = [] } ≡ opened_by opening.now) }
+        ensures new { IfOk result (λ c. c.secrets ≡ []) }
         ensures tested { let first = token_refusal opening.now
             in MatchResult result (λ _. first ≡ None) (IsOpenRefusal first) }
     {
@@ -152,11 +168,32 @@ impl OpenChannel {
             opening.next_point,
             &opening.token,
         ) {
-            Ok(channel) => Ok(OpenChannel::new(alloc, channel)),
+            Ok(channel) => Ok(channel),
             Err(refusal) => match refusal {
                 ChannelError::NoMemory => Err(OpenError::NoMemory),
                 _ => Err(OpenError::BadSignature),
             },
+        }
+    }
+
+    /// The channel of an opening: `BadSignature` where its token is not the peer's on this side's commitment 0. It shares the patterns of another channel of the
+    /// book, and lists them where there is no other.
+    pub(crate) fn open(
+        alloc: Global,
+        opening: &Opening,
+        another: Option<&OpenChannel>,
+    ) -> Result<OpenChannel, OpenError>
+        ensures ok { IfOk result (λ ch. ch ≡ opened_by opening.now) }
+        ensures tested { let first = token_refusal opening.now
+            in MatchResult result (λ _. first ≡ None) (IsOpenRefusal first) }
+    {
+        let channel = match OpenChannel::channel_of(alloc, opening) {
+            Ok(channel) => channel,
+            Err(error) => return Err(error),
+        };
+        match patterns_beside(alloc, another) {
+            Ok(patterns) => Ok(OpenChannel::new(alloc, channel, patterns)),
+            Err(_) => Err(OpenError::NoMemory),
         }
     }
 
@@ -287,6 +324,7 @@ impl OpenChannel {
         let owner = self.channel.side().other();
         are_penalties(
             alloc,
+            self.patterns.get(),
             self.channel.terms(),
             owner,
             commitment,
@@ -393,7 +431,13 @@ impl OpenChannel {
     pub(crate) fn known(&self, alloc: Global, preimages: Vec<[u8; 32]>) -> Result<Known, AllocError>
         ensures { IfOk result (IsKnownOf self.now.state (is_kept self.now.kept) preimages.items) }
     {
-        known_of(alloc, &self.channel, &self.flags, preimages)
+        let patterns = self.patterns.share()?;
+        known_of(alloc, patterns, &self.channel, &self.flags, preimages)
+    }
+
+    /// The patterns of the scripts.
+    pub(crate) fn patterns(&self) -> &SharedPatterns {
+        &self.patterns
     }
 
     /// The channel itself.

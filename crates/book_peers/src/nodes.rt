@@ -7,6 +7,7 @@ use book::errors::{KeepError, SignError, StepError};
 use book::{Batch, Book, Step};
 use channel::{Channel, Message};
 use claim::Claim;
+use forms::patterns;
 use keys::Key;
 use lists::List;
 use penalty::{RevokedState, penalties};
@@ -42,7 +43,8 @@ fn revoked_state(channel: &Channel, number: u64, secret: [u8; 32]) -> Result<Rev
 }
 
 fn claims_on(alloc: Global, state: &RevokedState) -> Result<List<Claim>> {
-    Ok(List::from_vec(penalties(alloc, state)?.into_claims()))
+    let patterns = patterns(alloc)?;
+    Ok(List::from_vec(penalties(alloc, &patterns, state)?.into_claims()))
 }
 
 fn claims_by(

@@ -62,6 +62,7 @@ const EMPTY: &str = "{\"history\":[],\"version\":2}";
 
 fn empty_dump(rt: &impl Abort, alloc: Global) -> String {
     let book = Book::new(alloc);
+    assert!(rt; book.patterns().is_ok());
     book.dump(alloc).expect(rt, "memory")
 }
 

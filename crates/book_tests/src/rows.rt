@@ -131,6 +131,7 @@ fn has_one_channel(rt: &impl Abort, alloc: Global, book: &Book) -> bool {
         && book.channel(0).is_some()
         && book.channel(1).is_none()
         && knows_no_other(book)
+        && book.patterns().is_ok()
         && has_the_funding(rt, alloc, book)
 }
 

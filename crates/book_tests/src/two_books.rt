@@ -8,6 +8,7 @@ ghost use Rattle.terms.specs.Sides.{other};
 
 use book::{Book, Opening, Step};
 use channel::{Message, opening_points, opening_token};
+use forms::patterns;
 use keys::{Key, Signer};
 use parties::{FUNDING, party, view};
 use penalty::{PenaltySet, RevokedState, penalties};
@@ -147,5 +148,6 @@ pub(crate) fn penalties_of(
     secret: [u8; 32],
 ) -> PenaltySet {
     let state = state_of(rt, alloc, balances, number, secret);
-    penalties(alloc, &state).expect(rt, "memory")
+    let patterns = patterns(alloc).expect(rt, "memory");
+    penalties(alloc, &patterns, &state).expect(rt, "memory")
 }

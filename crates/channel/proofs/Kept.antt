@@ -11,8 +11,10 @@ use Rattle.terms.specs.Sides.{other}
 use Rattle.updates.specs.Steady.{Held, holding_signed, holding_signature, holding_revocation}
 use Rattle.channel.specs.declared.limits.TheConstants.{LAST_NUMBER}
 use Rattle.channel.specs.declared.commitments.CommitmentState.{CommitmentState}
+use Rattle.channel.specs.declared.messages.Tokens.{Tokens}
 use Rattle.channel.specs.Points.{point_at}
-use Rattle.channel.specs.States.{State, state_at_opening}
+use Rattle.channel.specs.States.{State, state_at_opening, first_of}
+use Rattle.channel.specs.Tokens.{peer_tokens}
 use Rattle.channel.specs.Rights.{rights_of}
 use Rattle.channel.specs.Keeping.{HasBases, CanOpen, HaveSame, IsSignedIf, IsChannel, one_if}
 use Rattle.channel.specs.Numbered.{IsNumbered, AreNumbered}
@@ -43,10 +45,22 @@ bases_same terms terms' side side' seed seed' t s d b = subst (λ x. HasBases x 
 signed_same : (b b' : Bool) (p p' : List ℕ) (l l' : List CommitmentState) → b' ≡ b → p' ≡ p → l' ≡ l → IsSignedIf b p l → IsSignedIf b' p' l'
 signed_same b b' p p' l l' e f g h = subst (λ x. IsSignedIf x p' l') (sym e) (subst (λ x. IsSignedIf b x l') (sym f) (subst (λ x. IsSignedIf b p x) (sym g) h))
 
-pub kept_opened : (s : State) (terms : Terms) (side : Side) (signer r : Rights) (first next : Key) → s ≡ state_at_opening terms side signer.seed first next → r.seed ≡ signer.seed
-    → r.points ≡ first.bytes ∷ next.bytes ∷ (point_at signer.seed 0).bytes ∷ (point_at signer.seed 1).bytes ∷ [] → r.secrets ≡ signer.secrets → CanOpen terms side signer → IsChannel s r
-kept_opened s terms side signer r first next e seed points secrets can =
-    subst (λ (t : State). IsChannel t r) (sym e)
+-- the peer's tokens on one's own commitments, as these stay the same
+tokens_same : (terms terms' : Terms) (mine mine' : List CommitmentState) (ts : List Tokens) → terms' ≡ terms → mine' ≡ mine → ts ≡ map (peer_tokens terms) mine → ts ≡ map (peer_tokens terms') mine'
+tokens_same terms terms' mine mine' ts t m kept = kept ∙ (λ j. map (peer_tokens (sym t j)) (sym m j))
+
+-- and as one comes to them
+tokens_push : (terms terms' : Terms) (mine mine' : List CommitmentState) (c : CommitmentState) (ts ts' : List Tokens) → terms' ≡ terms → mine' ≡ mine ++ c ∷ []
+    → ts ≡ map (peer_tokens terms) mine → ts' ≡ ts ++ peer_tokens terms c ∷ [] → ts' ≡ map (peer_tokens terms') mine'
+tokens_push terms terms' mine mine' c ts ts' t m kept pushed =
+    tokens_same terms terms' (mine ++ c ∷ []) mine' ts' t m
+    (pushed ∙ ap (λ l. l ++ peer_tokens terms c ∷ []) kept ∙ sym (map-append (peer_tokens terms) mine (c ∷ [])))
+
+pub kept_opened : (s : State) (terms : Terms) (side : Side) (signer r : Rights) (ts : List Tokens) (first next : Key) → s ≡ state_at_opening terms side signer.seed first next → r.seed ≡ signer.seed
+    → r.points ≡ first.bytes ∷ next.bytes ∷ (point_at signer.seed 0).bytes ∷ (point_at signer.seed 1).bytes ∷ [] → r.secrets ≡ signer.secrets
+    → ts ≡ peer_tokens terms (first_of terms side (point_at signer.seed 0)) ∷ [] → CanOpen terms side signer → IsChannel s r ts
+kept_opened s terms side signer r ts first next e seed points secrets tokens can =
+    subst (λ (t : State). IsChannel t r ts) (sym e)
     (record {
       bases = can.bases;
       points =
@@ -60,12 +74,13 @@ kept_opened s terms side signer r first next e seed points secrets can =
       secrets = refl;
       mine = numbered_first terms side (point_at signer.seed 0);
       signed = numbered_first terms (other side) first;
+      kept = tokens;
     })
 
-pub kept_signed : (s t : State) (r : Rights) (c : CommitmentState) → IsChannel s r → s.peer_number < LAST_NUMBER → t.held ≡ holding_signed s.held → t.seed ≡ s.seed → t.awaiting ≡ true → t.number ≡ s.number
+pub kept_signed : (s t : State) (r : Rights) (ts : List Tokens) (c : CommitmentState) → IsChannel s r ts → s.peer_number < LAST_NUMBER → t.held ≡ holding_signed s.held → t.seed ≡ s.seed → t.awaiting ≡ true → t.number ≡ s.number
     → t.peer_number ≡ s.peer_number → t.next_point ≡ s.next_point → t.secrets ≡ s.secrets → t.mine ≡ s.mine → t.signed ≡ s.signed ++ c ∷ [] → c.point ≡ s.next_point
-    → s.awaiting ≡ false → IsNumbered s.held.terms (other s.held.side) (s.peer_number + 1) c → IsChannel t r
-kept_signed s t r c i below held seed awaiting number peer_number next secrets mine signed point waits one_more =
+    → s.awaiting ≡ false → IsNumbered s.held.terms (other s.held.side) (s.peer_number + 1) c → IsChannel t r ts
+kept_signed s t r ts c i below held seed awaiting number peer_number next secrets mine signed point waits one_more =
     let own = (point_at s.seed (s.number + 1)).bytes in
     let pushed = points_push s.signed t.signed c s.next_point signed point in
     let same = points_same s t own s.next_point (points_of s.mine) (points_of s.signed ++ s.next_point.bytes ∷ []) (λ j. (point_at (seed j) (number j + 1)).bytes) next (ap points_of mine) pushed in
@@ -92,12 +107,14 @@ kept_signed s t r c i below held seed awaiting number peer_number next secrets m
           numbered_same s.held.terms t.held.terms (other s.held.side) (other t.held.side) (s.peer_number + 1 + 1) (t.peer_number + 1 + one_if t.awaiting) t.signed t.signed terms (ap other side) later refl
           (numbered_push s.held.terms (other s.held.side) (s.peer_number + 1) s.signed t.signed c
           (subst (λ n. AreNumbered s.held.terms (other s.held.side) n s.signed) (sym before) i.signed) signed one_more);
+      kept = tokens_same s.held.terms t.held.terms s.mine t.mine ts terms mine i.kept;
     }
 
-pub kept_signature : (s t : State) (r r' : Rights) (c : CommitmentState) → IsChannel s r → s.number < LAST_NUMBER → t.held ≡ holding_signature s.held → t.seed ≡ s.seed → t.awaiting ≡ s.awaiting
+pub kept_signature : (s t : State) (r r' : Rights) (ts ts' : List Tokens) (c : CommitmentState) → IsChannel s r ts → s.number < LAST_NUMBER → t.held ≡ holding_signature s.held → t.seed ≡ s.seed → t.awaiting ≡ s.awaiting
     → t.number ≡ s.number + 1 → t.peer_number ≡ s.peer_number → t.next_point ≡ s.next_point → t.secrets ≡ s.secrets → t.mine ≡ s.mine ++ c ∷ [] → t.signed ≡ s.signed
-    → c.point ≡ point_at s.seed (s.number + 1) → r' ≡ with_point r (point_at s.seed (s.number + 2)).bytes → IsNumbered s.held.terms s.held.side (s.number + 1) c → IsChannel t r'
-kept_signature s t r r' c i below held seed awaiting number peer_number next secrets mine signed point e one_more =
+    → c.point ≡ point_at s.seed (s.number + 1) → r' ≡ with_point r (point_at s.seed (s.number + 2)).bytes → IsNumbered s.held.terms s.held.side (s.number + 1) c
+    → ts' ≡ ts ++ peer_tokens s.held.terms c ∷ [] → IsChannel t r' ts'
+kept_signature s t r r' ts ts' c i below held seed awaiting number peer_number next secrets mine signed point e one_more tokens =
     let own = (point_at s.seed (s.number + 1)).bytes in
     let later = (point_at s.seed (s.number + 2)).bytes in
     let step : t.number + 1 ≡ s.number + 2 = omega (arith, number) in
@@ -125,11 +142,12 @@ kept_signature s t r r' c i below held seed awaiting number peer_number next sec
       signed =
           numbered_same s.held.terms t.held.terms (other s.held.side) (other t.held.side) (s.peer_number + 1 + one_if s.awaiting) (t.peer_number + 1 + one_if t.awaiting) s.signed t.signed terms (ap other side)
           (λ j. peer_number j + 1 + wait j) signed i.signed;
+      kept = tokens_push s.held.terms t.held.terms s.mine t.mine c ts ts' terms mine i.kept tokens;
     }
 
-pub kept_revocation : (s t : State) (r r' : Rights) (secret : List ℕ) → IsChannel s r → s.awaiting ≡ true → t.held ≡ holding_revocation s.held → t.seed ≡ s.seed → t.awaiting ≡ false → t.number ≡ s.number
-    → t.peer_number ≡ s.peer_number + 1 → t.secrets ≡ s.secrets ++ secret ∷ [] → t.mine ≡ s.mine → t.signed ≡ s.signed → r' ≡ with_revocation r secret t.next_point.bytes → IsChannel t r'
-kept_revocation s t r r' secret i awaited held seed awaiting number peer_number secrets mine signed e =
+pub kept_revocation : (s t : State) (r r' : Rights) (ts : List Tokens) (secret : List ℕ) → IsChannel s r ts → s.awaiting ≡ true → t.held ≡ holding_revocation s.held → t.seed ≡ s.seed → t.awaiting ≡ false → t.number ≡ s.number
+    → t.peer_number ≡ s.peer_number + 1 → t.secrets ≡ s.secrets ++ secret ∷ [] → t.mine ≡ s.mine → t.signed ≡ s.signed → r' ≡ with_revocation r secret t.next_point.bytes → IsChannel t r' ts
+kept_revocation s t r r' ts secret i awaited held seed awaiting number peer_number secrets mine signed e =
     let own = (point_at s.seed (s.number + 1)).bytes in
     let same = points_same s t own t.next_point (points_of s.mine) (points_of s.signed) (λ j. (point_at (seed j) (number j + 1)).bytes) refl (ap points_of mine) (ap points_of signed) in
     let given = subst (λ b. IsSignedIf b s.next_point.bytes s.signed) awaited i.awaited in
@@ -156,4 +174,5 @@ kept_revocation s t r r' secret i awaited held seed awaiting number peer_number 
       signed =
           numbered_same s.held.terms t.held.terms (other s.held.side) (other t.held.side) (s.peer_number + 1 + one_if s.awaiting) (t.peer_number + 1 + one_if t.awaiting) s.signed t.signed terms (ap other side)
           same_count signed i.signed;
+      kept = tokens_same s.held.terms t.held.terms s.mine t.mine ts terms mine i.kept;
     }

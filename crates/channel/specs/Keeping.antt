@@ -9,7 +9,9 @@ use Rattle.terms.specs.Agreement.{party}
 use Rattle.terms.specs.Sides.{other}
 use Rattle.channel.specs.declared.limits.TheConstants.{LAST_NUMBER}
 use Rattle.channel.specs.declared.commitments.CommitmentState.{CommitmentState}
+use Rattle.channel.specs.declared.messages.Tokens.{Tokens}
 use Rattle.channel.specs.States.{State}
+use Rattle.channel.specs.Tokens.{peer_tokens}
 use Rattle.channel.specs.Rights.{rights_of}
 use Rattle.channel.specs.Numbered.{AreNumbered}
 
@@ -39,8 +41,8 @@ IsSignedIf true point signed = Contains (map (λ c. c.point.bytes) signed) point
 IsSignedIf false point signed = Unit {0}
 
 -- the signer knows what the state says, and the peer's next commitment is signed while its revocation is awaited. No number exceeds the last. The store
--- has a secret for each revoked commitment, and the commitments of both sides stand by number
-pub record IsChannel (s : State) (r : Rights) : Type 0 where
+-- has a secret for each revoked commitment, the commitments of both sides stand by number, and the tokens kept are the peer's on one's own
+pub record IsChannel (s : State) (r : Rights) (tokens : List Tokens) : Type 0 where
   pub bases : HasBases s.held.terms s.held.side s.seed
   pub points : HaveSame r.points (rights_of s).points
   pub count : length r.points ≡ s.number + s.peer_number + 4
@@ -51,3 +53,4 @@ pub record IsChannel (s : State) (r : Rights) : Type 0 where
   pub secrets : length s.secrets ≡ s.peer_number
   pub mine : AreNumbered s.held.terms s.held.side (s.number + 1) s.mine
   pub signed : AreNumbered s.held.terms (other s.held.side) (s.peer_number + 1 + one_if s.awaiting) s.signed
+  pub kept : tokens ≡ map (peer_tokens s.held.terms) s.mine

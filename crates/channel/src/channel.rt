@@ -16,8 +16,9 @@ use updates::{ChannelError, Ledger, OwnUpdate, Update};
 /// One side of a channel: its updates, the numbers of both sides' commitments, the peer's points and secrets, and every commitment that was signed. A
 /// contract sees it as its `State`.
 ///
-/// It keeps every update, about 64 bytes each. A signature, given or received, takes about 120 bytes, and 56 for each HTLC in its commitment. In the signer, a
-/// received signature takes about 300 bytes, at most about 520, and a received revocation twice as much. The time of a call depends on the HTLCs that stand and
+/// It keeps every update, about 64 bytes each. A signature, given or received, takes about 120 bytes, and 56 for each HTLC in its commitment. Of a received one
+/// the tokens take about 100 bytes more, and 66 for each HTLC that isn't trimmed. In the signer, a received signature takes about 300 bytes, at most about 520,
+/// and a received revocation twice as much. The time of a call depends on the HTLCs that stand and
 /// on the logarithm of the number of revocations, and on nothing else.
 #[derive(Drop)]
 pub struct Channel {
@@ -30,6 +31,8 @@ pub struct Channel {
     next_point: Key,
     secrets: Store,
     mine: Vec<CommitmentState>,
+    // the peer's tokens on each of them
+    tokens: Vec<Tokens>,
     signed: Vec<CommitmentState>,
 }
 
@@ -63,7 +66,14 @@ impl Model for Channel {
       secrets = c.secrets;
       mine = c.mine.items;
       signed = c.signed.items;
-    }) c.signer };
+    }) c.signer c.tokens.items };
+}
+
+// This side's next commitment, and the peer's tokens on it.
+#[derive(Drop)]
+struct NextCommitment {
+    commitment: CommitmentState,
+    tokens: Tokens,
 }
 
 impl Channel {
@@ -116,7 +126,8 @@ impl Channel {
             point: first_point,
             next_point,
             secrets: Store::new(),
-            mine: first.mine,
+            mine: first.own.mine,
+            tokens: first.own.tokens,
             signed: first.signed,
         })
     }
@@ -197,14 +208,11 @@ impl Channel {
         ensures { IfOk result (λ t. t ≡ option_map (tokens_of self.now.held.terms)
             (slice_get self.now.mine number)) }
     {
-        let Some(commitment) = self.own_commitment(number) else {
+        let Some(tokens) = self.tokens.get(number as usize) else {
             return Ok(None);
         };
-        let alloc = *self.mine.allocator();
-        match peer_tokens(alloc, self.ledger.terms(), commitment) {
-            Ok(tokens) => Ok(Some(tokens)),
-            Err(_) => Err(AllocError),
-        }
+        let copy = tokens.copy()?;
+        Ok(Some(copy))
     }
 
     /// The peer's commitment of a number, if it was signed.
@@ -445,9 +453,11 @@ impl Channel {
         }
     }
 
-    // This side's next commitment, if the peer's tokens are for it.
-    fn check_signature(&self, tokens: &Tokens) -> Result<CommitmentState, ChannelError>
-        ensures ok { IfOk result (λ c. c ≡ own_next self.now) }
+    // This side's next commitment, and the peer's tokens on it. Other tokens are refused as BadSignature.
+    fn check_signature(&self, tokens: &Tokens) -> Result<NextCommitment, ChannelError>
+        ensures ok { IfOk result (λ n. n.commitment ≡ own_next self.now) }
+        ensures kept { IfOk result (λ n. n.tokens
+            ≡ tokens_of self.now.held.terms (own_next self.now)) }
         ensures tested { let first = receive_refusal tokens_of self.now
             (CommitmentSigned tokens.now) in MatchResult result (λ _. first ≡ None)
             (IsRefusal first) }
@@ -473,7 +483,10 @@ impl Channel {
         if !same_tokens(tokens, &expected) {
             return Err(ChannelError::BadSignature);
         }
-        Ok(next)
+        Ok(NextCommitment {
+            commitment: next,
+            tokens: expected,
+        })
     }
 
     // Receives a signature, and returns the revocation that answers it.
@@ -494,13 +507,18 @@ impl Channel {
             Ok(()) => {}
             Err(_) => return Err(ChannelError::NoMemory),
         }
+        match self.tokens.reserve(1) {
+            Ok(()) => {}
+            Err(_) => return Err(ChannelError::NoMemory),
+        }
         let secret = own_secret(&self.signer, self.number);
         let next_point = own_point(&self.signer, self.number + 2);
         match self.signer.learn_point(&next_point) {
             Ok(()) => {}
             Err(_) => return Err(ChannelError::NoMemory),
         }
-        self.mine.push(next).unwrap();
+        self.mine.push(next.commitment).unwrap();
+        self.tokens.push(next.tokens).unwrap();
         self.ledger.receive_signature();
         self.number += 1;
         Ok(Message::RevokeAndAck { secret, next_point })

@@ -3,6 +3,7 @@
 use keys::Key;
 use lists::List;
 use sighash::Token;
+use std::alloc::AllocError;
 use updates::Update;
 
 /// The tokens that stand for the signatures of a `commitment_signed` (BOLT 2).
@@ -12,6 +13,21 @@ pub struct Tokens {
     pub commitment: Token,
     /// On the HTLC transactions of its untrimmed HTLCs, in the order of its outputs (`htlc_signature`).
     pub htlcs: List<Token>,
+}
+
+impl Tokens {
+    ghost use Rattle.std.specs.Prelude.{◌≡◌, IfOk};
+
+    /// A copy. The only error is that memory ran out.
+    pub fn copy(&self) -> Result<Tokens, AllocError>
+        ensures { IfOk result (λ t. t ≡ self.now) }
+    {
+        let htlcs = Vec::from_slice(self.htlcs.allocator(), self.htlcs.values())?;
+        Ok(Tokens {
+            commitment: self.commitment,
+            htlcs: List::from_vec(htlcs),
+        })
+    }
 }
 
 /// A message of a channel (BOLT 2, "Normal Operation").

@@ -13,6 +13,7 @@ ghost use Rattle.keys.specs.declared.bases.Base.TheVariants.{Funding};
 ghost use Rattle.keys.specs.Derivation.{base_key};
 
 use crate::commitments::CommitmentState;
+use crate::messages::Tokens;
 use crate::tokens::{peer_tokens, sign_commitment};
 use keys::{Key, Signer, point};
 use secrets::from_seed;
@@ -126,29 +127,37 @@ pub(crate) fn first_commitment(
     }
 }
 
-// Commitment 0 of each side, as a channel's lists begin.
+// Commitment 0 of each side, as a channel's lists begin, and the peer's tokens on this side's.
 #[derive(Drop)]
 pub(crate) struct FirstCommitments {
-    pub(crate) mine: Vec<CommitmentState>,
+    pub(crate) own: OwnFirst,
     pub(crate) signed: Vec<CommitmentState>,
 }
 
-// Checks a token on a commitment: BadSignature unless it is that of the owner's peer.
-fn test_token(
+// This side's commitment 0, and the peer's tokens on it.
+#[derive(Drop)]
+pub(crate) struct OwnFirst {
+    pub(crate) mine: Vec<CommitmentState>,
+    pub(crate) tokens: Vec<Tokens>,
+}
+
+// The tokens of the owner's peer on a commitment: BadSignature unless this token is the one on the commitment itself.
+fn tokens_by_peer(
     alloc: Global,
     terms: &Terms,
     commitment: &CommitmentState,
     token: &Token,
-) -> Result<(), ChannelError>
+) -> Result<Tokens, ChannelError>
     requires { IsBuilt terms.now commitment.now }
-    ensures { let first = first_refusal
+    ensures ok { IfOk result (λ t. t ≡ peer_tokens terms.now commitment.now) }
+    ensures tested { let first = first_refusal
         ((not (bytes_eq token.now (peer_tokens terms.now commitment.now).commitment), BadSignature)
         ∷ []) in MatchResult result (λ _. first ≡ None) (IsRefusal first) }
 {
     match peer_tokens(alloc, terms, commitment) {
         Ok(expected) => {
             if token.bytes() == expected.commitment.bytes() {
-                Ok(())
+                Ok(expected)
             } else {
                 Err(ChannelError::BadSignature)
             }
@@ -166,16 +175,27 @@ fn alone(alloc: Global, commitment: CommitmentState) -> Result<Vec<CommitmentSta
     Ok(list)
 }
 
-// The list of a side's own commitment 0, on which the token must be the peer's.
+// A list with only these tokens.
+fn tokens_alone(alloc: Global, tokens: Tokens) -> Result<Vec<Tokens>, AllocError>
+    ensures { IfOk result (λ v. v.items ≡ tokens ∷ []) }
+{
+    let mut list = Vec::new(alloc);
+    list.push(tokens)?;
+    Ok(list)
+}
+
+// A list of a side's commitment 0, and one of the peer's tokens on it. The token must be the one on the commitment itself.
 fn first_of_own(
     alloc: Global,
     terms: Terms,
     side: Side,
     signer: &Signer,
     token: &Token,
-) -> Result<Vec<CommitmentState>, ChannelError>
-    ensures ok { IfOk result (λ v. v.items ≡ first_of terms side (point_at signer.now.seed 0)
+) -> Result<OwnFirst, ChannelError>
+    ensures mine { IfOk result (λ f. f.mine.items ≡ first_of terms side (point_at signer.now.seed 0)
         ∷ []) }
+    ensures tokens { IfOk result (λ f. f.tokens.items ≡ peer_tokens terms
+        (first_of terms side (point_at signer.now.seed 0)) ∷ []) }
     ensures tested { let first = first_refusal (opening_tests terms side signer.now.seed token.now)
         in MatchResult result (λ _. first ≡ None) (IsRefusal first) }
 {
@@ -183,10 +203,13 @@ fn first_of_own(
         Ok(first) => first,
         Err(_) => return Err(ChannelError::NoMemory),
     };
-    match test_token(alloc, &terms, &first, token) {
-        Ok(()) => Ok(alone(alloc, first)?),
-        Err(refusal) => Err(refusal),
-    }
+    let tokens = match tokens_by_peer(alloc, &terms, &first, token) {
+        Ok(tokens) => tokens,
+        Err(refusal) => return Err(refusal),
+    };
+    let tokens = tokens_alone(alloc, tokens)?;
+    let mine = alone(alloc, first)?;
+    Ok(OwnFirst { mine, tokens })
 }
 
 // The list of the peer's commitment 0.
@@ -204,7 +227,7 @@ fn first_of_peer(
     }
 }
 
-/// Commitment 0 of the signer's side, and of the peer by its point. BadSignature unless the token is the peer's on the first.
+/// Commitment 0 of the signer's side with the peer's tokens, and of the peer by its point. BadSignature unless the token is the peer's on the first.
 pub(crate) fn first_commitments(
     alloc: Global,
     terms: Terms,
@@ -213,16 +236,18 @@ pub(crate) fn first_commitments(
     peers: Key,
     token: &Token,
 ) -> Result<FirstCommitments, ChannelError>
-    ensures mine { IfOk result (λ f. f.mine.items ≡ first_of terms side (point_at signer.now.seed 0)
-        ∷ []) }
+    ensures mine { IfOk result (λ f. f.own.mine.items ≡ first_of terms side
+        (point_at signer.now.seed 0) ∷ []) }
+    ensures tokens { IfOk result (λ f. f.own.tokens.items ≡ peer_tokens terms
+        (first_of terms side (point_at signer.now.seed 0)) ∷ []) }
     ensures signed { IfOk result (λ f. f.signed.items ≡ first_of terms (other side) peers ∷ []) }
     ensures tested { let first = first_refusal (opening_tests terms side signer.now.seed token.now)
         in MatchResult result (λ _. first ≡ None) (IsRefusal first) }
 {
-    let mine = match first_of_own(alloc, terms, side, signer, token) {
-        Ok(mine) => mine,
+    let own = match first_of_own(alloc, terms, side, signer, token) {
+        Ok(own) => own,
         Err(refusal) => return Err(refusal),
     };
     let signed = first_of_peer(alloc, terms, side.other(), peers)?;
-    Ok(FirstCommitments { mine, signed })
+    Ok(FirstCommitments { own, signed })
 }

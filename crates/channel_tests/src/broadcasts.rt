@@ -2,6 +2,7 @@
 
 use crate::opening::{deliver, offered, opened};
 use channel::Channel;
+use forms::{SharedPatterns, patterns};
 use lists::List;
 use publish::{signed_commitment, signed_commitment_in, signed_htlc_tx, signed_htlc_tx_in};
 use resolve::{Known, KnownCommitment, RevokedCommitments, SignedCommitment};
@@ -12,7 +13,7 @@ use tx::Tx;
 
 /// The example of the page of `publish`.
 fn closing_tx(alloc: Global, channel: &Channel) -> Result<Option<Tx>, AllocError> {
-    signed_commitment(alloc, channel, channel.number())
+    signed_commitment(alloc, &patterns(alloc)?, channel, channel.number())
 }
 
 // A's side of a channel with an HTLC that it offered, on the commitments of both sides.
@@ -66,6 +67,7 @@ fn known(rt: &impl Abort, alloc: Global, side: &Channel) -> Known {
     let mut older = List::new(alloc);
     older.push(own(rt, alloc, side, 0)).expect(rt, "memory");
     Known {
+        patterns: SharedPatterns::new(alloc).expect(rt, "memory"),
         terms: *side.terms(),
         side: side.side(),
         signer: side.signer().copy().expect(rt, "memory"),
@@ -99,9 +101,10 @@ fn closes_by_what_is_known(rt: &impl Abort, alloc: Global, side: &Channel) -> bo
 
 // Pays both sides and the HTLC. The HTLC's timeout has one output, and there is no second HTLC.
 fn closes(rt: &impl Abort, alloc: Global, side: &Channel) {
+    let patterns = patterns(alloc).expect(rt, "memory");
     assert!(rt; outputs(closing_tx(alloc, side)) == Some(3));
-    assert!(rt; outputs(signed_htlc_tx(alloc, side, 1, 0, &[])) == Some(1));
-    assert!(rt; outputs(signed_htlc_tx(alloc, side, 1, 1, &[])) == Some(0));
+    assert!(rt; outputs(signed_htlc_tx(alloc, &patterns, side, 1, 0, &[])) == Some(1));
+    assert!(rt; outputs(signed_htlc_tx(alloc, &patterns, side, 1, 1, &[])) == Some(0));
     assert!(rt; closes_by_what_is_known(rt, alloc, side));
 }
 

@@ -1,6 +1,7 @@
 //! The penalty set of a small state. The contents of sets are tested with the vectors of penalties.
 
 use crate::fixtures::{key, one_key_party};
+use forms::patterns;
 use parties::{FUNDING, htlc, terms_of, view};
 use penalty::{
     PenaltySet, RevokedState, Side, StateError, Terms, View, payable_commitment, penalties, refusal,
@@ -23,7 +24,8 @@ fn offered(rt: &impl Abort, alloc: Global) -> View {
 fn set_of_a(rt: &impl Abort, alloc: Global) -> PenaltySet {
     let view = offered(rt, alloc);
     let state = RevokedState::new(terms(rt), view, Side::A, 7, [5; 32]).expect(rt, "a state");
-    penalties(alloc, &state).expect(rt, "memory")
+    let patterns = patterns(alloc).expect(rt, "memory");
+    penalties(alloc, &patterns, &state).expect(rt, "memory")
 }
 
 // The number of outputs of that commitment.

@@ -2,6 +2,8 @@
 
 ghost use Rattle.std.specs.Prelude.{◌≡◌, ◌≤◌, ◌++◌, [], map, IfOk, OnOk};
 ghost use Rattle.std.specs.List.{cons_option};
+ghost use Rattle.script.specs.Spelling.{spelling};
+ghost use Rattle.terms.specs.Scripts.{funding};
 ghost use Rattle.tx.specs.declared.limits.TheConstants.{MAX_VALUE as max_value};
 ghost use Rattle.commit.specs.Fees.{satoshis_of};
 ghost use Rattle.commit.specs.Outputs.{htlc_script};
@@ -12,6 +14,7 @@ use crate::commitments::{Commitment, htlc_at};
 use crate::fees::satoshis;
 use crate::outputs::{CommitmentOutput, HtlcOutput};
 use crate::scripts::two_of_two;
+use keys::Key;
 use lists::List;
 use sighash::digest_of;
 use std::alloc::{AllocError, Global};
@@ -27,18 +30,23 @@ pub struct Digests {
     pub htlcs: List<[u8; 32]>,
 }
 
-// The script of the funding output.
+/// The bytes of the script of the output that two funding keys share (BOLT 3, "Funding Transaction Output"): both keys sign, the lesser one first. The only error is that memory ran out.
+pub fn funding_script(alloc: Global, key: &Key, other: &Key) -> Result<Vec<u8>, AllocError>
+    ensures { IfOk result (λ v. v.items ≡ spelling (funding key.now.bytes other.now.bytes)) }
+{
+    if other.bytes.cmp(&key.bytes) == Ordering::Less {
+        two_of_two(alloc, other, key)
+    } else {
+        two_of_two(alloc, key, other)
+    }
+}
+
+// The script of the funding output of these terms.
 #[tactic(auto, unfolding(crate::specs::Signing::funding_script))]
-fn funding_script(alloc: Global, terms: &Terms) -> Result<Vec<u8>, AllocError>
+fn funding_script_in(alloc: Global, terms: &Terms) -> Result<Vec<u8>, AllocError>
     ensures { IfOk result (λ v. v.items ≡ funding_script_of terms.now) }
 {
-    let a = terms.a.bases.funding;
-    let b = terms.b.bases.funding;
-    if b.bytes.cmp(&a.bytes) == Ordering::Less {
-        two_of_two(alloc, &b, &a)
-    } else {
-        two_of_two(alloc, &a, &b)
-    }
+    funding_script(alloc, &terms.a.bases.funding, &terms.b.bases.funding)
 }
 
 // The digest of the commitment.
@@ -50,7 +58,7 @@ fn commitment_digest(
 ) -> Result<[u8; 32], AllocError>
     ensures { IfOk result (λ d. d ≡ commitment_digest_of terms.now commitment.now) }
 {
-    let script = funding_script(alloc, terms)?;
+    let script = funding_script_in(alloc, terms)?;
     match digest_of(commitment.tx(), 0, script.as_slice(), terms.capacity) {
         Ok(digest) => Ok(digest),
         Err(_) => unreachable!(),

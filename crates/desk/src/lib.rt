@@ -15,10 +15,11 @@
 //! workers call one book.
 //!
 //! ```text
-//! let (desk, mut seats) = Desk::new(&rt, alloc, Book::new(alloc), 2)?;
+//! let patterns = book.patterns()?; // by which penalties are built, while the desk has the book
+//! let (desk, mut seats) = Desk::new(&rt, alloc, book, 2)?;
 //! assert!(rt; sign(&rt, &desk, &mut seat, 0).err() == Some(SignError::PenaltiesMissing(0)));
 //! let state = desk.revoked(&rt, &mut worker, 0, 0)?;
-//! let set = penalties(alloc, &state)?;
+//! let set = penalties(alloc, patterns.get(), &state)?;
 //! assert!(rt; desk.keep_set(&rt, &mut worker, 0, 0, set) == Ok(()));
 //! assert!(rt; sign(&rt, &desk, &mut seat, 0).is_ok());
 //! let book = desk.close(&rt, &mut seat);

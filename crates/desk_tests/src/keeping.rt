@@ -5,6 +5,7 @@ ghost use Rattle.desk.specs.Seats.{IsSeatOf};
 use crate::books::{Revocation, awaited, opened};
 use crate::desks::{Row, calls, desk_over, next_seat};
 use desk::{Desk, Seat};
+use forms::patterns;
 use penalty::penalties;
 use std::alloc::Global;
 use std::process::Abort;
@@ -16,7 +17,8 @@ fn keeps<R: Wait + Abort>(rt: &R, alloc: Global, desk: &Desk, seat: &mut Seat) -
     ensures { IsSeatOf desk.now seat.new }
 {
     let state = desk.revoked(rt, seat, 0, 0).expect(rt, "a revoked state");
-    let set = penalties(alloc, &state).expect(rt, "memory");
+    let patterns = patterns(alloc).expect(rt, "memory");
+    let set = penalties(alloc, &patterns, &state).expect(rt, "memory");
     desk.keep_set(rt, seat, 0, 0, set).is_ok()
 }
 

@@ -1,6 +1,6 @@
 //! The scripts of BOLT 3, checked for all parameters, and the slots with which claims on them are accepted.
 //!
-//! [`patterns`] lists the ways through each script once. From these, [`funding`], [`to_local`], [`key_hash`] (the
+//! [`patterns`] lists the ways through each script once, and [`SharedPatterns`] shares them. From these, [`funding`], [`to_local`], [`key_hash`] (the
 //! script of to_remote), [`offered`] and [`received`] give the script of an output with exactly its ways. The ways
 //! are in the text order of their branches. [`accepted_slots`] fills the slots of a [`ClaimKind`], with which
 //! `claim::accept` takes a claim on any output of that kind's form. The only error of these calls is that memory ran
@@ -28,6 +28,7 @@ mod kinds;
 mod parameters;
 mod pattern_set;
 mod scripts;
+mod shared;
 
 pub use checking::patterns;
 pub use htlc_scripts::{offered, received};
@@ -35,3 +36,4 @@ pub use kinds::{ClaimKind, accepted_slots};
 pub use parameters::{Expiry, HtlcKeys};
 pub use pattern_set::Patterns;
 pub use scripts::{funding, key_hash, to_local};
+pub use shared::SharedPatterns;

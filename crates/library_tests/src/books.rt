@@ -40,7 +40,8 @@ fn sign<W: Write>(alloc: Global, book: &mut Book, store: &mut W) -> Result<Messa
 /// Builds and keeps the penalties for the peer's revoked commitment of a number.
 fn keep_penalties(alloc: Global, book: &mut Book, number: u64) -> Result<()> {
     let state = book.revoked(0, number)?;
-    let set = penalties(alloc, &state)?;
+    let patterns = book.patterns()?;
+    let set = penalties(alloc, patterns.get(), &state)?;
     book.keep_set(SEAT, 0, number, set)?;
     Ok(())
 }

@@ -4,6 +4,7 @@ use crate::pools::Pool;
 use crate::work::Job;
 use board::Board;
 use desk::Desk;
+use forms::Patterns;
 use jobs::Pass;
 use keys::Key;
 use std::sync::Mutex;
@@ -15,6 +16,8 @@ pub struct Shared<'a> {
     pub desk: &'a Desk,
     /// The board from which tickets are drawn.
     pub board: &'a Board,
+    /// The patterns of the scripts, by which penalties are built.
+    pub patterns: &'a Patterns,
     /// The side's payment key in each channel, by the channel's index. A release pays to its hash.
     pub payments: &'a [Key],
     /// The chain and its pool, to which released fillings are added.

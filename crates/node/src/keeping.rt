@@ -7,6 +7,7 @@ ghost use Rattle.node.specs.Entering.{Adds};
 
 use book::errors::KeepError;
 use desk::{Desk, Seat};
+use forms::Patterns;
 use penalty::{RevokedState, penalties};
 use std::alloc::Global;
 use std::sync::Wait;
@@ -16,6 +17,7 @@ use std::thread;
 fn keep_set_of<R: Wait>(
     rt: &R,
     alloc: Global,
+    patterns: &Patterns,
     desk: &Desk,
     seat: &mut Seat,
     channel: u64,
@@ -28,7 +30,7 @@ fn keep_set_of<R: Wait>(
         (calls_in seat.old) (calls_in seat.new) }
     ensures err { OnErr result (calls_in seat.new ≡ calls_in seat.old) }
 {
-    match penalties(alloc, state) {
+    match penalties(alloc, patterns, state) {
         Ok(set) => desk.keep_set(rt, seat, channel, number, set),
         Err(_) => Err(KeepError::NoMemory),
     }
@@ -38,6 +40,7 @@ fn keep_set_of<R: Wait>(
 fn try_to_keep<R: Wait>(
     rt: &R,
     alloc: Global,
+    patterns: &Patterns,
     desk: &Desk,
     seat: &mut Seat,
     channel: u64,
@@ -50,7 +53,7 @@ fn try_to_keep<R: Wait>(
     ensures err { OnErr result (calls_in seat.new ≡ calls_in seat.old) }
 {
     match desk.revoked(rt, seat, channel, number) {
-        Ok(state) => keep_set_of(rt, alloc, desk, seat, channel, number, &state),
+        Ok(state) => keep_set_of(rt, alloc, patterns, desk, seat, channel, number, &state),
         Err(error) => Err(error),
     }
 }
@@ -59,6 +62,7 @@ fn try_to_keep<R: Wait>(
 pub(crate) fn keep<R: Wait>(
     rt: &R,
     alloc: Global,
+    patterns: &Patterns,
     desk: &Desk,
     seat: &mut Seat,
     channel: u64,
@@ -70,7 +74,7 @@ pub(crate) fn keep<R: Wait>(
         (calls_in seat.old) (calls_in seat.new) }
 {
     for _ in rt.forever() {
-        match try_to_keep(rt, alloc, desk, seat, channel, number) {
+        match try_to_keep(rt, alloc, patterns, desk, seat, channel, number) {
             Err(KeepError::NoMemory) => thread::yield_now(),
             _ => return,
         }

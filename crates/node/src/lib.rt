@@ -18,7 +18,14 @@
 //! It stands on `desk`, `board`, `jobs` and `side`. `running` starts its workers.
 //!
 //! ```text
-//! let shared = Shared { desk: &desk, board: &board, payments: &payments, pool: &pool };
+//! let patterns = patterns(alloc)?;
+//! let shared = Shared {
+//!     desk: &desk,
+//!     board: &board,
+//!     patterns: &patterns,
+//!     payments: &payments,
+//!     pool: &pool,
+//! };
 //! assert!(rt; sender.put(&rt, &mut pass, Job::Keep { channel: 0, number: 0 }).is_ok());
 //! drop(sender);
 //! let done = worker(&rt, alloc, &shared, &taker, &mut hands, &gate);

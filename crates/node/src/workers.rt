@@ -46,7 +46,15 @@ fn do_job<R: Wait>(rt: &R, alloc: Global, shared: &Shared<'_>, seat: &mut Seat, 
         (calls_in seat.old) (calls_in seat.new) }
 {
     match job {
-        Job::Keep { channel, number } => keep(rt, alloc, shared.desk, seat, *channel, *number),
+        Job::Keep { channel, number } => keep(
+            rt,
+            alloc,
+            shared.patterns,
+            shared.desk,
+            seat,
+            *channel,
+            *number,
+        ),
         Job::Claims(due) => release_each(rt, alloc, shared, seat, due),
     }
 }

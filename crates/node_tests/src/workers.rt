@@ -12,6 +12,7 @@ use book::errors::{KeepError, SignError};
 use book::{Book, Call, Reply};
 use chain::Index;
 use desk::{Desk, Seat};
+use forms::patterns;
 use jobs::{JobSender, Pass, job_queue};
 use keys::Key;
 use lists::List;
@@ -57,7 +58,8 @@ fn set_of<R: Wait + Abort>(rt: &R, alloc: Global, desk: &Desk, seat: &mut Seat) 
     ensures { IsSeatOf desk.now seat.new }
 {
     let state = desk.revoked(rt, seat, 0, 0).expect(rt, "a state");
-    penalties(alloc, &state).expect(rt, "memory")
+    let patterns = patterns(alloc).expect(rt, "memory");
+    penalties(alloc, &patterns, &state).expect(rt, "memory")
 }
 
 // Keeps the penalties of B's commitment 0.
@@ -113,9 +115,11 @@ fn run_one<R: Wait + Abort>(
     let (sender, taker, mut pass) = job_queue(alloc).expect(rt, "memory");
     put(rt, &sender, &mut pass, job);
     drop(sender);
+    let patterns = patterns(alloc).expect(rt, "memory");
     let shared = Shared {
         desk,
         board: &board,
+        patterns: &patterns,
         payments,
         pool,
     };
@@ -201,9 +205,11 @@ fn run_two<R: Wait + Abort + Threads + Sync>(
         pass,
     };
     drop(sender);
+    let patterns = patterns(alloc).expect(rt, "memory");
     let shared = Shared {
         desk,
         board: &board,
+        patterns: &patterns,
         payments: &[],
         pool,
     };

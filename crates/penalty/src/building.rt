@@ -16,7 +16,7 @@ use crate::sets::PenaltySet;
 use crate::states::RevokedState;
 use claim::{Claim, Place};
 use commit::{BuildError, Commitment, CommitmentOutput, OutputKind, build, htlc_tx};
-use forms::{Patterns, patterns};
+use forms::Patterns;
 use keys::{Key, point};
 use lists::List;
 use std::alloc::{AllocError, Global};
@@ -75,8 +75,8 @@ fn push_claims_on(
     }
 }
 
-// The claims on all outputs, with the patterns of the scripts.
-fn claims_with(
+// The claims on all outputs.
+fn claims_of(
     alloc: Global,
     patterns: &Patterns,
     commitment: &Commitment,
@@ -102,15 +102,6 @@ fn claims_with(
     // They may be kept for as long as the channel lives.
     claims.shrink_to_fit();
     Ok(List::from_vec(claims))
-}
-
-// The claims on all outputs.
-fn claims_of(alloc: Global, commitment: &Commitment) -> Result<List<Claim>, AllocError>
-    requires { AreOutputs commitment.now }
-    ensures { IfOk result (AreClaimsOn (claims_from commitment.now 0 commitment.now.outputs)) }
-{
-    let patterns = patterns(alloc)?;
-    claims_with(alloc, &patterns, commitment)
 }
 
 /// The owner's commitment of a view that the terms can pay, as `commit::build` gives it. The only error is that memory ran out.
@@ -155,21 +146,29 @@ pub fn revoked_commitment(alloc: Global, state: &RevokedState) -> Result<Commitm
 
 // The claims on all outputs of the revoked commitment.
 #[tactic(auto, unfolding(crate::specs::Claimable::claimable_of))]
-fn revoked_claims(alloc: Global, state: &RevokedState) -> Result<List<Claim>, AllocError>
+fn revoked_claims(
+    alloc: Global,
+    patterns: &Patterns,
+    state: &RevokedState,
+) -> Result<List<Claim>, AllocError>
     ensures { IfOk result (AreClaimsOn (claimable_of state.now)) }
 {
     let commitment = revoked_commitment(alloc, state)?;
-    claims_of(alloc, &commitment)
+    claims_of(alloc, patterns, &commitment)
 }
 
 /// All that a revoked state lets the owner's peer claim (BOLT 5, "Revoked Transaction Close Handling"). These are accepted claims on to_local and to_remote if they
 /// are outputs, and on each HTLC that isn't trimmed. For each such HTLC there is another claim, on the output of the HTLC transaction that the peer signed for it.
 /// That is HTLC-timeout where the owner offered the HTLC, and HTLC-success where it was offered to the owner. They are in the order of the outputs, and each HTLC's
 /// claim is followed by that on its HTLC transaction. The only error is that memory ran out.
-pub fn penalties(alloc: Global, state: &RevokedState) -> Result<PenaltySet, AllocError>
+pub fn penalties(
+    alloc: Global,
+    patterns: &Patterns,
+    state: &RevokedState,
+) -> Result<PenaltySet, AllocError>
     ensures state { IfOk result (λ p. p.state ≡ state.now) }
     ensures claims { IfOk result (λ p. AreClaimsOn (claimable_of state.now) p.claims) }
 {
-    let claims = revoked_claims(alloc, state)?;
+    let claims = revoked_claims(alloc, patterns, state)?;
     Ok(PenaltySet::new(state.copy()?, claims))
 }

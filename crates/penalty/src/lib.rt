@@ -11,7 +11,7 @@
 //!
 //! ```rust
 //! let state = RevokedState::new(terms, view, Side::A, 7, secret)?; // of a view with one HTLC
-//! let set = penalties(alloc, &state)?;
+//! let set = penalties(alloc, &patterns(alloc)?, &state)?;
 //! assert_eq!(rt; set.claims().len(), 4);
 //! ```
 //!

@@ -34,6 +34,7 @@ pub fn signed_commitment_in(
         None => Ok(None),
         Some(own) => signed_by_both(
             alloc,
+            known.patterns.get(),
             &own.terms,
             own.owner,
             &known.signer,
@@ -67,6 +68,7 @@ pub fn signed_htlc_tx_in(
         None => Ok(None),
         Some(own) => second_stage_by_both(
             alloc,
+            known.patterns.get(),
             &own.terms,
             &known.signer,
             own.commitment.commitment(),

@@ -14,7 +14,7 @@
 //! ```rust
 //! /// What closes a channel: this side's newest commitment.
 //! fn closing_tx(alloc: Global, channel: &Channel) -> Result<Option<Tx>, AllocError> {
-//!     signed_commitment(alloc, channel, channel.number())
+//!     signed_commitment(alloc, &patterns(alloc)?, channel, channel.number())
 //! }
 //! ```
 //!

@@ -7,12 +7,14 @@ ghost use Rattle.publish.specs.Published.{signed_transaction, signed_commitment_
 use crate::recorded::recorded_commitment;
 use crate::signatures::{second_stage_by_both, signed_by_both};
 use channel::{Channel, CommitmentState};
+use forms::Patterns;
 use std::alloc::{AllocError, Global};
 use tx::Tx;
 
 // A commitment of this side, with both signatures.
 fn signed(
     alloc: Global,
+    patterns: &Patterns,
     channel: &Channel,
     number: u64,
     state: &CommitmentState,
@@ -27,6 +29,7 @@ fn signed(
     let recorded = recorded_commitment(alloc, channel, number, state)?;
     signed_by_both(
         alloc,
+        patterns,
         channel.terms(),
         state.owner,
         channel.signer(),
@@ -39,6 +42,7 @@ fn signed(
 /// that its peer signed. The only error is that memory ran out.
 pub fn signed_commitment(
     alloc: Global,
+    patterns: &Patterns,
     channel: &Channel,
     number: u64,
 ) -> Result<Option<Tx>, AllocError>
@@ -46,13 +50,14 @@ pub fn signed_commitment(
 {
     match channel.own_commitments().get(number as usize) {
         None => Ok(None),
-        Some(state) => signed(alloc, channel, number, state),
+        Some(state) => signed(alloc, patterns, channel, number, state),
     }
 }
 
 // The HTLC transaction of the `k`-th HTLC of a commitment of this side, with both signatures.
 fn signed_second_stage(
     alloc: Global,
+    patterns: &Patterns,
     channel: &Channel,
     number: u64,
     state: &CommitmentState,
@@ -68,6 +73,7 @@ fn signed_second_stage(
     let recorded = recorded_commitment(alloc, channel, number, state)?;
     second_stage_by_both(
         alloc,
+        patterns,
         channel.terms(),
         channel.signer(),
         &recorded.commitment,
@@ -86,6 +92,7 @@ fn signed_second_stage(
 /// - the HTLC was offered to this side, and none of the preimages is its own.
 pub fn signed_htlc_tx(
     alloc: Global,
+    patterns: &Patterns,
     channel: &Channel,
     number: u64,
     k: usize,
@@ -96,5 +103,5 @@ pub fn signed_htlc_tx(
     let Some(state) = channel.own_commitments().get(number as usize) else {
         return Ok(None);
     };
-    signed_second_stage(alloc, channel, number, state, k, preimages)
+    signed_second_stage(alloc, patterns, channel, number, state, k, preimages)
 }

@@ -15,6 +15,7 @@ ghost use Rattle.publish.specs.Known.{IsSignedWhere};
 use crate::preimages::preimage_among;
 use crate::witnesses::{funding_witness, htlc_witness};
 use commit::{Commitment, Direction, HtlcOutput, htlc_tx, signing_digests};
+use forms::Patterns;
 use keys::Signer;
 use lists::ByteString;
 use sighash::Token;
@@ -36,6 +37,7 @@ fn with_witness(tx: Tx, witness: Witness) -> Tx
 // A commitment with the token of each side.
 fn commitment_with(
     alloc: Global,
+    patterns: &Patterns,
     terms: &Terms,
     commitment: &Commitment,
     of_a: &Token,
@@ -48,13 +50,14 @@ fn commitment_with(
     ensures { IfOk result (λ t. t ≡ signed_transaction terms.now commitment.now) }
 {
     let tx = commitment.tx().copy()?;
-    let witness = funding_witness(alloc, terms, of_a, of_b)?;
+    let witness = funding_witness(alloc, patterns, terms, of_a, of_b)?;
     Ok(with_witness(tx, witness))
 }
 
 // A commitment with the token of its owner and that of the owner's peer.
 fn commitment_by_both(
     alloc: Global,
+    patterns: &Patterns,
     terms: &Terms,
     owner: Side,
     commitment: &Commitment,
@@ -67,14 +70,15 @@ fn commitment_by_both(
     ensures { IfOk result (λ t. t ≡ signed_transaction terms.now commitment.now) }
 {
     match owner {
-        Side::A => commitment_with(alloc, terms, commitment, own, peers),
-        Side::B => commitment_with(alloc, terms, commitment, peers, own),
+        Side::A => commitment_with(alloc, patterns, terms, commitment, own, peers),
+        Side::B => commitment_with(alloc, patterns, terms, commitment, peers, own),
     }
 }
 
 /// An owner's commitment with the token of its peer and the signer's. `None` exactly if the signer may not sign for the owner's funding key. The only error is that memory ran out.
 pub(crate) fn signed_by_both(
     alloc: Global,
+    patterns: &Patterns,
     terms: &Terms,
     owner: Side,
     signer: &Signer,
@@ -89,7 +93,9 @@ pub(crate) fn signed_by_both(
     let key = terms.party(owner).bases.funding;
     let digest = signing_digests(alloc, terms, commitment)?.commitment;
     match signer.sign(&key, &digest) {
-        Ok(own) => Ok(Some(commitment_by_both(alloc, terms, owner, commitment, &own, peers)?)),
+        Ok(own) => Ok(Some(commitment_by_both(
+            alloc, patterns, terms, owner, commitment, &own, peers,
+        )?)),
         Err(_) => Ok(None),
     }
 }
@@ -116,6 +122,7 @@ fn branch_item(
 // The HTLC transaction of the `k`-th HTLC of a commitment, with both tokens and what its branch takes.
 fn second_stage_with(
     alloc: Global,
+    patterns: &Patterns,
     commitment: &Commitment,
     k: usize,
     htlc: &HtlcOutput,
@@ -132,7 +139,15 @@ fn second_stage_with(
     requires short { length item ≤ 32 }
     ensures { IfOk result (λ t. t ≡ signed_second_stage commitment.now htlc.now item) }
 {
-    let witness = htlc_witness(alloc, commitment.keys(), htlc, remote, local, item)?;
+    let witness = htlc_witness(
+        alloc,
+        patterns,
+        commitment.keys(),
+        htlc,
+        remote,
+        local,
+        item,
+    )?;
     match htlc_tx(alloc, commitment, k)? {
         Some(tx) => Ok(with_witness(tx, witness)),
         None => unreachable!(),
@@ -157,6 +172,7 @@ fn htlc_digest(
 // The HTLC transaction of the `k`-th HTLC of a commitment, with its peer's token and the owner's, if what its branch takes is known.
 fn second_stage_by(
     alloc: Global,
+    patterns: &Patterns,
     commitment: &Commitment,
     k: usize,
     htlc: &HtlcOutput,
@@ -175,13 +191,14 @@ fn second_stage_by(
         return Ok(None);
     };
     let remote = peers[k];
-    Ok(Some(second_stage_with(alloc, commitment, k, htlc, &remote, local, item)?))
+    Ok(Some(second_stage_with(alloc, patterns, commitment, k, htlc, &remote, local, item)?))
 }
 
 /// The HTLC transaction of the `k`-th HTLC of an owner's commitment, with the token of its peer and the signer's. `None` exactly if there is no such HTLC, or no such preimage, or if the
 /// signer may not sign for the owner's HTLC key. The only error is that memory ran out.
 pub(crate) fn second_stage_by_both(
     alloc: Global,
+    patterns: &Patterns,
     terms: &Terms,
     signer: &Signer,
     commitment: &Commitment,
@@ -200,7 +217,9 @@ pub(crate) fn second_stage_by_both(
     };
     let digest = htlc_digest(alloc, terms, commitment, k, htlc)?;
     match signer.sign(&commitment.keys().local_htlc, &digest) {
-        Ok(local) => second_stage_by(alloc, commitment, k, htlc, peers, &local, preimages),
+        Ok(local) => second_stage_by(
+            alloc, patterns, commitment, k, htlc, peers, &local, preimages,
+        ),
         Err(_) => Ok(None),
     }
 }

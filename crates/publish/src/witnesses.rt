@@ -11,7 +11,7 @@ ghost use Rattle.penalty.specs.Claimable.{htlc_form};
 ghost use Rattle.publish.specs.Published.{in_key_order};
 
 use commit::{CommitmentKeys, HtlcOutput};
-use forms::{funding, patterns};
+use forms::{Patterns, funding};
 use lists::ByteString;
 use paths::Checked;
 use penalty::claiming::htlc_script;
@@ -53,14 +53,13 @@ fn funding_tokens(
 }
 
 // The funding script, checked. The only error is that memory ran out.
-fn checked_funding(alloc: Global, terms: &Terms) -> Result<Checked, AllocError>
+fn checked_funding(alloc: Global, patterns: &Patterns, terms: &Terms) -> Result<Checked, AllocError>
     ensures { IfOk result (λ c. c ≡ funding_form terms.now.a.bases.funding.bytes
         terms.now.b.bases.funding.bytes) }
 {
-    let patterns = patterns(alloc)?;
     funding(
         alloc,
-        &patterns,
+        patterns,
         &terms.a.bases.funding,
         &terms.b.bases.funding,
     )
@@ -68,17 +67,18 @@ fn checked_funding(alloc: Global, terms: &Terms) -> Result<Checked, AllocError>
 
 // The bytes of the funding script, the last item of the witness (BIP 141).
 #[tactic(auto, unfolding(commit::specs::Signing::funding_script))]
-fn funding_item(alloc: Global, terms: &Terms) -> Result<ByteString, AllocError>
+fn funding_item(alloc: Global, patterns: &Patterns, terms: &Terms) -> Result<ByteString, AllocError>
     ensures value { IfOk result (λ s. s ≡ funding_script terms.now) }
     ensures short { IfOk result (λ s. length s ≤ max_bytes) }
 {
-    let checked = checked_funding(alloc, terms)?;
+    let checked = checked_funding(alloc, patterns, terms)?;
     ByteString::from_slice(alloc, checked.script().bytes())
 }
 
 /// The witness that spends the funding output, with the token of each side. The only error is that memory ran out.
 pub(crate) fn funding_witness(
     alloc: Global,
+    patterns: &Patterns,
     terms: &Terms,
     of_a: &Token,
     of_b: &Token,
@@ -87,7 +87,7 @@ pub(crate) fn funding_witness(
         ∷ in_key_order terms.now.a.bases.funding.bytes of_a.now terms.now.b.bases.funding.bytes
         of_b.now) ++ funding_script terms.now ∷ []) }
 {
-    let script = funding_item(alloc, terms)?;
+    let script = funding_item(alloc, patterns, terms)?;
     let mut witness = funding_tokens(alloc, terms, of_a, of_b)?;
     witness.push_within_limit(script)?;
     Ok(witness)
@@ -96,6 +96,7 @@ pub(crate) fn funding_witness(
 // The script of an HTLC's output, checked. The only error is that memory ran out.
 fn checked_htlc(
     alloc: Global,
+    patterns: &Patterns,
     keys: &CommitmentKeys,
     htlc: &HtlcOutput,
 ) -> Result<Checked, AllocError>
@@ -103,14 +104,14 @@ fn checked_htlc(
     ensures { IfOk result (λ c. c ≡ htlc_form
         (bytes_of keys.now) htlc.now.direction htlc.now.htlc) }
 {
-    let patterns = patterns(alloc)?;
-    htlc_script(alloc, &patterns, keys, htlc.direction, &htlc.htlc)
+    htlc_script(alloc, patterns, keys, htlc.direction, &htlc.htlc)
 }
 
 // The bytes of an HTLC's script, the last item of the witness (BIP 141).
 #[tactic(auto, using(crate::proofs::Witnessed::spelt))]
 fn htlc_item(
     alloc: Global,
+    patterns: &Patterns,
     keys: &CommitmentKeys,
     htlc: &HtlcOutput,
 ) -> Result<ByteString, AllocError>
@@ -119,13 +120,14 @@ fn htlc_item(
         (bytes_of keys.now) htlc.now.direction htlc.now.htlc) }
     ensures short { IfOk result (λ s. length s ≤ max_bytes) }
 {
-    let checked = checked_htlc(alloc, keys, htlc)?;
+    let checked = checked_htlc(alloc, patterns, keys, htlc)?;
     ByteString::from_slice(alloc, checked.script().bytes())
 }
 
 /// The witness of an HTLC transaction: both tokens, what its branch takes, and the script. The only error is that memory ran out.
 pub(crate) fn htlc_witness(
     alloc: Global,
+    patterns: &Patterns,
     keys: &CommitmentKeys,
     htlc: &HtlcOutput,
     remote: &Token,
@@ -139,6 +141,6 @@ pub(crate) fn htlc_witness(
 {
     let mut witness = two_tokens(alloc, remote, local)?;
     witness.push_within_limit(item)?;
-    witness.push_within_limit(htlc_item(alloc, keys, htlc)?)?;
+    witness.push_within_limit(htlc_item(alloc, patterns, keys, htlc)?)?;
     Ok(witness)
 }

@@ -16,7 +16,7 @@ use crate::known::{Known, KnownCommitment, RevokedCommitment, SignedCommitment};
 use crate::verdicts::Verdict;
 use claim::{Claim, Place};
 use commit::{CommitmentOutput, HtlcOutput, OutputKind, htlc_tx};
-use forms::{Patterns, patterns};
+use forms::Patterns;
 use penalty::claiming::payment_on;
 use penalty::penalties;
 use penalty::places::{first_place, htlc_count, place_of};
@@ -191,39 +191,44 @@ pub fn revoked_at(known: &Known, n: u64) -> Option<&RevokedCommitment>
 }
 
 // The penalty set of the revoked commitment of a number.
-fn revoked_due(alloc: Global, known: &Known, n: u64) -> Result<Vec<Claim>, AllocError>
+fn revoked_due(
+    alloc: Global,
+    patterns: &Patterns,
+    known: &Known,
+    n: u64,
+) -> Result<Vec<Claim>, AllocError>
     ensures { IfOk result (λ v. AreClaimsOn (penalties_if (revoked_at known.now n)) v.items) }
 {
     match revoked_at(known, n) {
         None => Ok(Vec::new(alloc)),
-        Some(revoked) => Ok(penalties(alloc, &revoked.state)?.into_claims()),
+        Some(revoked) => Ok(penalties(alloc, patterns, &revoked.state)?.into_claims()),
     }
 }
 
 // What one's own commitment lets its owner claim by these preimages, each of which is hashed once.
 fn due_on_own(
     alloc: Global,
+    patterns: &Patterns,
     own: &SignedCommitment,
     preimages: &[[u8; 32]],
 ) -> Result<Vec<Claim>, AllocError>
     ensures { IfOk result (λ v. AreClaimsOn (owners_due preimages.now own.now.commitment) v.items) }
 {
     let hashes = KnownHashes::new(alloc, preimages)?;
-    let patterns = patterns(alloc)?;
-    owners_due(alloc, &patterns, own, &hashes)
+    owners_due(alloc, patterns, own, &hashes)
 }
 
 // What a commitment of the peer lets one claim by these preimages, each of which is hashed once.
 fn due_on_theirs(
     alloc: Global,
+    patterns: &Patterns,
     theirs: &KnownCommitment,
     preimages: &[[u8; 32]],
 ) -> Result<Vec<Claim>, AllocError>
     ensures { IfOk result (λ v. AreClaimsOn (peers_due preimages.now theirs.now) v.items) }
 {
     let hashes = KnownHashes::new(alloc, preimages)?;
-    let patterns = patterns(alloc)?;
-    peers_due(alloc, &patterns, theirs, &hashes)
+    peers_due(alloc, patterns, theirs, &hashes)
 }
 
 /// The claims that are due by a verdict, each accepted, in the order of the commitment's outputs (BOLT 5):
@@ -240,15 +245,16 @@ fn due_on_theirs(
 pub fn due_claims(alloc: Global, known: &Known, verdict: Verdict) -> Result<Vec<Claim>, AllocError>
     ensures { IfOk result (λ v. AreClaimsOn (due_of known.now verdict) v.items) }
 {
+    let patterns = known.patterns.get();
     let preimages = known.preimages.values();
     match verdict {
-        Verdict::Ours => due_on_own(alloc, &known.own, preimages),
-        Verdict::Theirs => due_on_theirs(alloc, &known.theirs, preimages),
+        Verdict::Ours => due_on_own(alloc, patterns, &known.own, preimages),
+        Verdict::Theirs => due_on_theirs(alloc, patterns, &known.theirs, preimages),
         Verdict::TheirsNext => match &known.next {
             None => Ok(Vec::new(alloc)),
-            Some(next) => due_on_theirs(alloc, next, preimages),
+            Some(next) => due_on_theirs(alloc, patterns, next, preimages),
         },
-        Verdict::Revoked(n) => revoked_due(alloc, known, n),
+        Verdict::Revoked(n) => revoked_due(alloc, patterns, known, n),
         Verdict::Unknown => Ok(Vec::new(alloc)),
     }
 }

@@ -10,6 +10,7 @@ use crate::numbers::MAX_NUMBER;
 use crate::revoked::RevokedCommitments;
 use crate::tokens::{are_tokens, is_token};
 use commit::{Commitment, signing_digests};
+use forms::SharedPatterns;
 use keys::{Key, Signer};
 use lists::List;
 use penalty::{RevokedState, payable_commitment, refusal, revoked_commitment};
@@ -225,9 +226,11 @@ impl RevokedCommitment {
     }
 }
 
-/// What one side knows of a channel: a plain value.
+/// What one side knows of a channel, with the patterns that it shares with other channels.
 #[derive(Drop)]
 pub struct Known {
+    /// The patterns of the scripts, by which its claims are made.
+    pub patterns: SharedPatterns,
     pub terms: Terms,
     /// Which side it is.
     pub side: Side,
@@ -330,10 +333,12 @@ impl Known {
     pub fn copy(&self) -> Result<Known, AllocError>
         ensures { IfOk result (λ k. k ≡ self.now) }
     {
+        let patterns = self.patterns.share()?;
         let preimages = Vec::from_slice(self.preimages.allocator(), self.preimages.values())?;
         let own = copied_own(self)?;
         let peers = copied_peers(self)?;
         Ok(Known {
+            patterns,
             terms: self.terms,
             side: self.side,
             signer: own.signer,

@@ -1,6 +1,7 @@
 //! What is known of a small channel.
 
 use commit::signing_digests;
+use forms::SharedPatterns;
 use keys::{Key, Signer};
 use lists::List;
 use parties::{FUNDING, htlc, key_of, one_key, party_with, terms_of, view};
@@ -159,6 +160,7 @@ fn two_revoked(rt: &impl Abort, alloc: Global, terms: &Terms) -> RevokedCommitme
 /// What A knows on these terms, with two revoked commitments of B. The peer's next commitment has the last number.
 pub fn known_with(rt: &impl Abort, alloc: Global, terms: &Terms, theirs: KnownCommitment) -> Known {
     Known {
+        patterns: SharedPatterns::new(alloc).expect(rt, "memory"),
         terms: *terms,
         side: Side::A,
         older: older(rt, alloc, terms),

@@ -12,6 +12,7 @@ use crate::houses::Office;
 use crate::progress::Progress;
 use book::Book;
 use desk::{Desk, DeskError, Seat};
+use forms::SharedPatterns;
 use jobs::job_queue;
 use keys::{Base, Key};
 use scenario::Scenario;
@@ -60,6 +61,8 @@ fn payments_of(alloc: Global, book: &Book) -> Result<Vec<Key>, AllocError>
 /// What is read from a side's book before its desk has it.
 #[derive(Drop)]
 struct Told {
+    /// The patterns of the scripts, which the channels share.
+    patterns: SharedPatterns,
     /// The funding output of each channel.
     fundings: Vec<OutPoint>,
     /// The side's payment key in each channel.
@@ -72,9 +75,14 @@ fn told_by(alloc: Global, book: &Book) -> Result<Told, AllocError>
     ensures payments { IfOk result (λ t. map (λ k. k.bytes) t.payments.items
         ≡ payments_in (replay book.now)) }
 {
+    let patterns = book.patterns()?;
     let fundings = book.fundings(alloc)?;
     let payments = payments_of(alloc, book)?;
-    Ok(Told { fundings, payments })
+    Ok(Told {
+        patterns,
+        fundings,
+        payments,
+    })
 }
 
 // A desk over a book, with this number of seats. The only error is that memory ran out.
@@ -117,7 +125,11 @@ fn open_with<R: Wait>(
     ensures fundings { IfOk result (λ o. o.office.fundings.items ≡ told.fundings.items) }
     ensures payments { IfOk result (λ o. o.office.payments.items ≡ told.payments.items) }
 {
-    let Told { fundings, payments } = told;
+    let Told {
+        patterns,
+        fundings,
+        payments,
+    } = told;
     let (desk, mut seats) = desk_over(rt, alloc, book, seats)?;
     let (sender, taker, pass) = job_queue(alloc)?;
     let Some(closer) = seats.pop() else {
@@ -125,6 +137,7 @@ fn open_with<R: Wait>(
     };
     let office = Office {
         desk,
+        patterns,
         fundings,
         payments,
         learnt: Mutex::new(Vec::new(alloc)),

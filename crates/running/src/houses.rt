@@ -4,6 +4,7 @@ use crate::progress::Progress;
 use crate::stages::Stage;
 use board::Board;
 use desk::{Desk, Seat};
+use forms::SharedPatterns;
 use keys::Key;
 use std::sync::Mutex;
 use tx::OutPoint;
@@ -13,6 +14,8 @@ use tx::OutPoint;
 pub(crate) struct Office {
     /// The side's book, behind its lock.
     pub(crate) desk: Desk,
+    /// The patterns of the scripts, which the side's channels share.
+    pub(crate) patterns: SharedPatterns,
     /// The funding output of each channel.
     pub(crate) fundings: Vec<OutPoint>,
     /// The side's payment key in each channel.

@@ -62,6 +62,7 @@ pub(crate) fn work<R: Wait, G: Gate>(
     let shared = Shared {
         desk: &office.desk,
         board: &house.board,
+        patterns: office.patterns.get(),
         payments: office.payments.as_slice(),
         pool: &house.stage.pool,
     };

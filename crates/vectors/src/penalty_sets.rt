@@ -8,6 +8,7 @@ mod printing;
 mod reading;
 mod spending;
 
+use forms::patterns;
 use page::Page;
 use penalty::{PenaltySet, RevokedState, StateError, Terms, penalties};
 use printing::show_claims;
@@ -27,7 +28,11 @@ fn show_spends(page: &mut Page, state: &RevokedState, set: &PenaltySet) {
 
 /// Shows what a state lets claim.
 fn show_state(page: &mut Page, state: &RevokedState) {
-    match penalties(page.alloc(), state) {
+    let Ok(patterns) = patterns(page.alloc()) else {
+        page.fail();
+        return;
+    };
+    match penalties(page.alloc(), &patterns, state) {
         Ok(set) => {
             show_claims(page, &set);
             show_spends(page, state, &set);

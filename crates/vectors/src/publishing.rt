@@ -5,6 +5,7 @@
 
 use crate::plays::{Peers, open, play_words};
 use channel::Channel;
+use forms::{Patterns, patterns};
 use page::Page;
 use publish::{signed_commitment, signed_htlc_tx};
 use terms::Side;
@@ -32,13 +33,28 @@ fn show_bytes(page: &mut Page, tx: &Tx) {
 }
 
 /// Shows the HTLC transaction of an HTLC, with these known preimages.
-fn show_htlc(page: &mut Page, channel: &Channel, number: u64, k: u64, preimages: &[[u8; 32]]) {
+fn show_htlc(
+    page: &mut Page,
+    patterns: &Patterns,
+    channel: &Channel,
+    number: u64,
+    k: u64,
+    preimages: &[[u8; 32]],
+) {
     page.debug(&channel.side());
     page.count(" ", number);
     page.count(" HTLC ", k);
     page.count(", preimages ", preimages.len() as u64);
     page.push(": ");
-    match signed_htlc_tx(page.alloc(), channel, number, k as usize, preimages) {
+    let shown = signed_htlc_tx(
+        page.alloc(),
+        patterns,
+        channel,
+        number,
+        k as usize,
+        preimages,
+    );
+    match shown {
         Ok(Some(tx)) => show_bytes(page, &tx),
         Ok(None) => page.push("none"),
         Err(_) => page.fail(),
@@ -47,11 +63,11 @@ fn show_htlc(page: &mut Page, channel: &Channel, number: u64, k: u64, preimages:
 }
 
 /// Shows a commitment of a number.
-fn show_commitment(page: &mut Page, channel: &Channel, number: u64) {
+fn show_commitment(page: &mut Page, patterns: &Patterns, channel: &Channel, number: u64) {
     page.debug(&channel.side());
     page.count(" ", number);
     page.push(": ");
-    match signed_commitment(page.alloc(), channel, number) {
+    match signed_commitment(page.alloc(), patterns, channel, number) {
         Ok(Some(tx)) => show_bytes(page, &tx),
         Ok(None) => page.push("none"),
         Err(_) => page.fail(),
@@ -60,31 +76,35 @@ fn show_commitment(page: &mut Page, channel: &Channel, number: u64) {
 }
 
 /// Shows what a side can broadcast.
-fn show_side(page: &mut Page, channel: &Channel) {
+fn show_side(page: &mut Page, patterns: &Patterns, channel: &Channel) {
     for number in 0..=SHOWN {
-        show_commitment(page, channel, number);
+        show_commitment(page, patterns, channel, number);
         for k in 0..SHOWN {
-            show_htlc(page, channel, number, k, &[]);
-            show_htlc(page, channel, number, k, &[[1; 32], PREIMAGE]);
+            show_htlc(page, patterns, channel, number, k, &[]);
+            show_htlc(page, patterns, channel, number, k, &[[1; 32], PREIMAGE]);
         }
     }
 }
 
 /// Plays the channel, and shows what both sides can broadcast.
-fn show_played(page: &mut Page, peers: &mut Peers) {
+fn show_played(page: &mut Page, patterns: &Patterns, peers: &mut Peers) {
     if play_words(page.alloc(), &mut peers.pair, &PREIMAGE, OFFERS) != 6
         || play_words(page.alloc(), &mut peers.pair, &PREIMAGE, SIGNATURES) != 9
     {
         page.fail();
     }
-    show_side(page, peers.pair.channel(Side::A));
-    show_side(page, peers.pair.channel(Side::B));
+    show_side(page, patterns, peers.pair.channel(Side::A));
+    show_side(page, patterns, peers.pair.channel(Side::B));
 }
 
 /// Shows what both sides of that channel can broadcast.
 pub fn show_all(page: &mut Page) {
+    let Ok(patterns) = patterns(page.alloc()) else {
+        page.fail();
+        return;
+    };
     match open(page.alloc()) {
-        Some(mut peers) => show_played(page, &mut peers),
+        Some(mut peers) => show_played(page, &patterns, &mut peers),
         None => page.fail(),
     }
 }

@@ -1,17 +1,28 @@
 //! Penalties that a side keeps.
 
-ghost use Rattle.std.specs.Prelude.{◌≡◌, None, MatchResult};
+ghost use Rattle.std.specs.Prelude.{◌≡◌, None, IfOk, MatchResult};
+ghost use Rattle.penalty.specs.Claimable.{claimable_of};
+ghost use Rattle.penalty.specs.Sets.{AreClaimsOn};
 ghost use Rattle.world.specs.Worlds.{channel_of};
 ghost use Rattle.world.specs.Refusing.{IsRefusal};
 ghost use Rattle.world.specs.Keeping.{keep_refusal, IsSetFor, IsKept};
 
 use crate::errors::EventError;
 use crate::nodes::Node;
-use book::Call;
+use book::{Book, Call};
 use claim::Claim;
 use lists::List;
+use penalty::RevokedState;
 use side::set_of;
-use std::alloc::Global;
+use std::alloc::{AllocError, Global};
+
+// Builds the penalty set of a revoked commitment by the patterns that a book's channels share. The only error is that memory ran out.
+fn set_by(alloc: Global, book: &Book, state: &RevokedState) -> Result<List<Claim>, AllocError>
+    ensures { IfOk result (AreClaimsOn (claimable_of state.now)) }
+{
+    let patterns = book.patterns()?;
+    set_of(alloc, patterns.get(), state)
+}
 
 // The claims that a side is to keep for the peer's commitment of a number. Refused, in this order, with `NoSuchChannel`, `NotRevoked` and `AlreadyKept`.
 fn set_for(alloc: Global, me: &Node, channel: u64, number: u64) -> Result<List<Claim>, EventError>
@@ -19,7 +30,7 @@ fn set_for(alloc: Global, me: &Node, channel: u64, number: u64) -> Result<List<C
         (IsRefusal (keep_refusal number (channel_of me.now channel))) }
 {
     match me.book.revoked(channel, number) {
-        Ok(state) => match set_of(alloc, &state) {
+        Ok(state) => match set_by(alloc, &me.book, &state) {
             Ok(claims) => Ok(claims),
             Err(_) => Err(EventError::NoMemory),
         },

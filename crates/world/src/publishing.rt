@@ -22,7 +22,8 @@ pub(crate) fn commitment(
     let Some(state) = me.book.channel(channel) else {
         return Err(EventError::NoSuchChannel);
     };
-    match signed_commitment(alloc, state, number)? {
+    let patterns = me.book.patterns()?;
+    match signed_commitment(alloc, patterns.get(), state, number)? {
         Some(tx) => Ok(tx),
         None => Err(EventError::NoSuchTx),
     }
@@ -53,7 +54,15 @@ pub(crate) fn htlc_tx(
         return Err(EventError::NoSuchChannel);
     };
     let preimages = preimages_known(alloc, me, channel)?;
-    match signed_htlc_tx(alloc, state, number, htlc as usize, &preimages)? {
+    let patterns = me.book.patterns()?;
+    match signed_htlc_tx(
+        alloc,
+        patterns.get(),
+        state,
+        number,
+        htlc as usize,
+        &preimages,
+    )? {
         Some(tx) => Ok(tx),
         None => Err(EventError::NoSuchTx),
     }

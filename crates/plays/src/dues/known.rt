@@ -3,6 +3,7 @@
 use crate::dues::settings::Setting;
 use crate::dues::sides::{informed_signer, point_of, secret_of};
 use commit::signing_digests;
+use forms::SharedPatterns;
 use keys::{Key, Signer};
 use lists::List;
 use penalty::RevokedState;
@@ -183,7 +184,14 @@ fn own_of(
 }
 
 /// Joins what a side knows on its own with the peer's commitments.
-fn joined(alloc: Global, terms: &Terms, side: Side, own: Own, theirs: PeersCommitments) -> Known {
+fn joined(
+    alloc: Global,
+    patterns: SharedPatterns,
+    terms: &Terms,
+    side: Side,
+    own: Own,
+    theirs: PeersCommitments,
+) -> Known {
     let Own {
         signer,
         commitment,
@@ -195,6 +203,7 @@ fn joined(alloc: Global, terms: &Terms, side: Side, own: Own, theirs: PeersCommi
         revoked,
     } = theirs;
     Known {
+        patterns,
         terms: *terms,
         side,
         signer,
@@ -215,9 +224,10 @@ pub fn known(
     newest: u64,
     preimage: Option<[u8; 32]>,
 ) -> Option<Known> {
+    let patterns = SharedPatterns::new(alloc).ok()?;
     let own = own_of(alloc, setting, side, newest, preimage)?;
     match peers_commitments(alloc, setting, side.other(), newest) {
-        Some(theirs) => Some(joined(alloc, &setting.terms, side, own, theirs)),
+        Some(theirs) => Some(joined(alloc, patterns, &setting.terms, side, own, theirs)),
         None => {
             drop(own);
             None

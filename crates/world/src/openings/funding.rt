@@ -7,7 +7,7 @@ ghost use Rattle.sighash.specs.Programs.{script_hash_program as script_hash_prog
 ghost use Rattle.world.specs.Opening.{funding_if_within};
 
 use super::signers::bases_in;
-use forms::{Patterns, funding, patterns};
+use commit::funding_script;
 use keys::Key;
 use lists::ByteString;
 use scenario::Seeds;
@@ -17,26 +17,12 @@ use terms::ProposedTerms;
 use tx::TxOut;
 
 // The program (P2WSH) of the output that two funding keys share (BOLT 3, "Funding Transaction Output").
-fn program_by(
-    alloc: Global,
-    patterns: &Patterns,
-    key: &Key,
-    other: &Key,
-) -> Result<ByteString, AllocError>
-    ensures { IfOk result (λ s. s ≡ script_hash_program_of
-        (spelling (funding_of key.now.bytes other.now.bytes))) }
-{
-    let checked = funding(alloc, patterns, key, other)?;
-    script_hash_program(alloc, checked.script().bytes())
-}
-
-// The same, with patterns that are listed for it.
 fn funding_program(alloc: Global, key: &Key, other: &Key) -> Result<ByteString, AllocError>
     ensures { IfOk result (λ s. s ≡ script_hash_program_of
         (spelling (funding_of key.now.bytes other.now.bytes))) }
 {
-    let patterns = patterns(alloc)?;
-    program_by(alloc, &patterns, key, other)
+    let script = funding_script(alloc, key, other)?;
+    script_hash_program(alloc, &script)
 }
 
 /// The funding output of the channel with this index (BOLT 3, "Funding Transaction Output"): the capacity in satoshis, for both sides' funding keys in that channel. `None` if the

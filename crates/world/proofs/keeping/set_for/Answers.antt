@@ -5,12 +5,12 @@ use Rattle.world.specs.Keeping.{keep_refusal, IsSetFor}
 use Rattle.world.proofs.Keeps.{set_for, refused_so}
 use Rattle.world.proofs.keeping.set_for.Goals as goal
 
-pub returns-in-Ok-set_of : goal.returns-in-Ok-set_of
-returns-in-Ok-set_of c =
+pub returns-in-Ok-set_by : goal.returns-in-Ok-set_by
+returns-in-Ok-set_by c =
     let i = c.me.inside in
     let n : Node = record { history = i.book; lines = i.lines.items; read = i.read; learnt = i.learnt.items; jobs = i.jobs.items; taken = i.taken.items } in
-    subst (λ (m : Node). IsSetFor m c.args.channel c.args.number c.in-Ok-set_of.claims) c.me.view_is
-    (set_for n c.args.channel c.args.number c.in-Ok.state c.in-Ok-set_of.claims c.in-Ok.ensures c.in-Ok-set_of.ensures)
+    subst (λ (m : Node). IsSetFor m c.args.channel c.args.number c.in-Ok-set_by.claims) c.me.view_is
+    (set_for n c.args.channel c.args.number c.in-Ok.state c.in-Ok-set_by.claims c.in-Ok.ensures c.in-Ok-set_by.ensures)
 
 pub returns : goal.returns
 returns c =

@@ -36,4 +36,4 @@ invariant_of-self-2 c =
     let waits = ap (λ (s : State). s.awaiting) c.self.view_is ∙ c.in-Ok.ensures.waits in
     let P : State → Type 0 = λ s. IsNumbered s.held.terms (other s.held.side) (s.peer_number + 1) next in
     let one_more = subst P (sym c.self.view_is) (numbered_peers c.args.self.now next c.in-Ok-peers_next.ensures.ok c.in-Ok-peers_next.ensures.sound) in
-    kept_signed _ _ c.self.inside.signer next c.self.invariant below c.sign.ensures refl refl refl refl refl refl refl c.in-Ok-push.ensures.items point waits one_more
+    kept_signed _ _ c.self.inside.signer c.self.inside.tokens.items next c.self.invariant below c.sign.ensures refl refl refl refl refl refl refl c.in-Ok-push.ensures.items point waits one_more

@@ -1,6 +1,6 @@
 use Rattle.penalty.specs.Claimable.{claims_on}
 use Rattle.penalty.proofs.Collecting.{Collects}
-use Rattle.penalty.proofs.building.claims_with.Given as goal
+use Rattle.penalty.proofs.building.claims_of.Given as goal
 
 -- what is left gives the whole
 abbrev pub invariant-loop-index : goal.invariant-loop-index

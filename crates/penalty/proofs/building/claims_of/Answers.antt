@@ -2,7 +2,7 @@ use Rattle.std.proofs.Common.{◌+◌, subst, sym, ap, ◌∙◌}
 use Rattle.penalty.specs.Claimable.{claims_on, claims_from}
 use Rattle.penalty.specs.Sets.{AreClaimsOn}
 use Rattle.penalty.proofs.Collecting.{collects_none, is_kth, collects_on, collects_all}
-use Rattle.penalty.proofs.building.claims_with.Goals as goal
+use Rattle.penalty.proofs.building.claims_of.Goals as goal
 
 pub loop-index-init : goal.loop-index-init
 loop-index-init c = collects_none (claims_on c.args.commitment.now) c.args.commitment.now c.outputs-outputs.result.now _ c.outputs-outputs.ensures.value c.new-claims.ensures.items
