@@ -1,1 +1,4 @@
 mod Texts
+pub mod SentenceExamples
+pub mod Items
+pub mod Piles

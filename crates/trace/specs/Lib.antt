@@ -1,4 +1,13 @@
 pub mod Loading
 pub mod Standing
 pub mod Claims
+pub mod Names
+pub mod Looks
+pub mod Weights
+pub mod Sentences
+pub mod InputRefusals
+pub mod Meeting
+pub mod Verdicts
+pub mod VerdictRefusals
+pub mod Faults
 pub mod Refusals

@@ -21,12 +21,14 @@ mod standing;
 mod telling;
 
 use crate::dumps::telling::tell_book;
+use crate::input::{InputError, read_all};
+use crate::replies::{refuse_memory, write_refusal, write_told};
+use crate::writer::Line;
 use book::Book;
 use book::errors::LoadError;
 use loading::load_dump;
 use std::alloc::Global;
 use std::io::{Read, Write};
-use trace_words::{InputError, Line, read_all, refuse_memory, write_refusal, write_told};
 
 /// Writes the lines of the dump in the input, and returns the status: 0 when all are written, 1 for a refused dump, a failed write, or if memory ran out. All lines
 /// are made before the first byte is written. A refusal is written with its number: that of the book's, or for input that can't be read one after them.

@@ -1,8 +1,8 @@
 //! The names of the sides.
 
+use crate::pieces::Piece;
+use crate::pieces::Piece::Text;
 use terms::Side;
-use trace_words::Piece;
-use trace_words::Piece::Text;
 
 /// The name of a side.
 pub fn side_name(side: Side) -> Piece {

@@ -26,17 +26,19 @@ mod outputs;
 mod playing;
 mod pool;
 
+use crate::input::{InputError, read_all};
+use crate::pieces::Piece::Count;
+use crate::replies::{refuse_memory, write_refusal, write_told};
 use crate::scenarios::coins::Told;
 use crate::scenarios::endings::tell_end;
 use crate::scenarios::openings::tell_opening;
 use crate::scenarios::playing::played;
+use crate::writer::Line;
 use chain::Coins as _;
 use scenario::{Event, Scenario, ScenarioError};
 use serde_json::Value;
 use std::alloc::Global;
 use std::io::{Read, Write};
-use trace_words::Piece::Count;
-use trace_words::{InputError, Line, read_all, refuse_memory, write_refusal, write_told};
 use world::World;
 use world::errors::WorldError;
 
@@ -92,21 +94,6 @@ fn tell_events(
     write_told(out, line, 0)
 }
 
-// Writes the lines of a world and its events, and returns the status.
-fn tell_world(
-    alloc: Global,
-    out: &mut dyn Write,
-    world: &mut World,
-    events: &[Event],
-    words: &[Value],
-) -> u8
-    ensures { result ≤ 1 }
-{
-    let mut line = Line::new(alloc);
-    let mut told = Told::new(alloc);
-    tell_events(alloc, out, &mut line, world, &mut told, events, words)
-}
-
 // The events of a scenario as JSON values.
 fn words_in(value: &Value) -> &[Value] {
     match value.get("events") {
@@ -118,17 +105,39 @@ fn words_in(value: &Value) -> &[Value] {
     }
 }
 
+// Writes the lines of a world and the events of its scenario, and returns the status.
+fn tell_world(
+    alloc: Global,
+    out: &mut dyn Write,
+    world: &mut World,
+    scenario: &Scenario,
+    value: &Value,
+) -> u8
+    ensures { result ≤ 1 }
+{
+    let (events, words) = (scenario.events.values(), words_in(value));
+    let mut line = Line::new(alloc);
+    let mut told = Told::new(alloc);
+    tell_events(alloc, out, &mut line, world, &mut told, events, words)
+}
+
+// Reports why a scenario has no world, and returns the status.
+fn refuse_world(alloc: Global, out: &mut dyn Write, error: WorldError) -> u8
+    ensures { result ≤ 1 }
+{
+    match error {
+        WorldError::NoMemory => refuse_memory(out),
+        _ => write_refusal(alloc, out, error, None),
+    }
+}
+
 // Writes the lines of a scenario, of which `value` is the JSON, and returns the status.
 fn tell_scenario(alloc: Global, out: &mut dyn Write, scenario: &Scenario, value: &Value) -> u8
     ensures { result ≤ 1 }
 {
-    let words = words_in(value);
     match World::new(alloc, &scenario.seeds, scenario.channels.values()) {
-        Ok(mut world) => tell_world(alloc, out, &mut world, scenario.events.values(), words),
-        Err(error) => match error {
-            WorldError::NoMemory => refuse_memory(out),
-            _ => write_refusal(alloc, out, error, None),
-        },
+        Ok(mut world) => tell_world(alloc, out, &mut world, scenario, value),
+        Err(error) => refuse_world(alloc, out, error),
     }
 }
 

@@ -4,10 +4,9 @@
 //! The input has a transaction in hexadecimal on its first line, and on each line after it the output that an input
 //! spends: its value in satoshis and its program in hexadecimal. [`run_words`] prints of each input which listed path its
 //! witness takes, or at which opcode its script stops, why, and the stack there. It returns a status of at most 2. The
-//! verdicts are those of `verdict`, whose contract is exact. Their layout is tested, not proved.
+//! verdicts are those of `judge`, whose contract is exact. Their layout is tested, not proved.
 //!
-//! `verdict` judges the inputs, and `trace_words` reads the input and writes the lines. The program `trace` passes it the
-//! words.
+//! The module `verdict` judges the inputs. The program `trace` passes it the words.
 //!
 //! ```rust
 //! let status = run_words(alloc, words, &mut input, &mut out, &mut err);

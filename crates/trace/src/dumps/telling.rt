@@ -3,13 +3,14 @@
 use crate::dumps::claims::{Alone, Claimable, Close, OutputName, Way, claims_of, hashes_of};
 use crate::dumps::standing::{Source, commitment, htlcs, is_new, stands};
 use crate::names::side_name;
+use crate::pieces::Piece;
+use crate::pieces::Piece::{Count, Hash, Text};
+use crate::writer::Line;
 use book::Book;
 use channel::{Channel, CommitmentState};
 use commit::{Amounts, commitment_amounts};
 use std::alloc::Global;
 use terms::{Htlc, Side};
-use trace_words::Piece::{Count, Hash, Text};
-use trace_words::{Line, Piece};
 
 // Writes a commitment of a channel as its side sees it, if there is one. The text begins the member.
 fn tell_source(line: &mut Line, channel: &Channel, before: &'static str, source: Source) {

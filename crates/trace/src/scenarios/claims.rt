@@ -1,13 +1,13 @@
 //! The claims of a side.
 
 use crate::names::side_name;
+use crate::pieces::Piece::{Count, Hash, Text};
 use crate::scenarios::coins::Told;
+use crate::writer::Line;
 use claim::Shell;
 use side::DueClaim;
 use sighash::programs::is_key_hash_program;
 use terms::Side;
-use trace_words::Line;
-use trace_words::Piece::{Count, Hash, Text};
 use world::World;
 
 // The name of the way in which a claim spends its output.

@@ -1,15 +1,16 @@
 //! Commitments that close a channel, when a block takes them.
 
 use crate::names::side_name;
+use crate::pieces::Piece;
+use crate::pieces::Piece::Count;
 use crate::scenarios::coins::{Coin, Kind, Told};
 use crate::scenarios::outputs::tell_output;
+use crate::writer::Line;
 use chain::Confirmed;
 use channel::CommitmentState;
 use commit::{Commitment, CommitmentOutput, Direction, OutputKind, build};
 use std::alloc::Global;
 use terms::{Side, Terms, number_of};
-use trace_words::Piece::Count;
-use trace_words::{Line, Piece};
 use world::World;
 
 // The coin of an output of a commitment, by that of its holder's own balance.

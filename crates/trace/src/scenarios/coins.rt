@@ -1,11 +1,11 @@
 //! What was written so far, as far as later lines depend on it: the outputs on the chain and the pool, and how to undo the changes of a block that is
 //! disconnected.
 
+use crate::pieces::Piece::{Count, Hash};
+use crate::writer::Line;
 use std::alloc::Global;
 use std::collections::BTreeMap;
 use terms::Side;
-use trace_words::Line;
-use trace_words::Piece::{Count, Hash};
 use tx::OutPoint;
 
 /// The kind of an output.

@@ -1,9 +1,9 @@
 //! What changes with a side's newest commitment.
 
 use crate::names::side_name;
+use crate::pieces::Piece::Count;
+use crate::writer::Line;
 use terms::{Htlc, Side};
-use trace_words::Line;
-use trace_words::Piece::Count;
 use world::World;
 
 // Writes those of a side's HTLCs that are not among others of it.

@@ -1,11 +1,11 @@
 //! The line that ends a trace.
 
+use crate::pieces::Piece::{Count, Sum};
 use crate::scenarios::coins::Told;
+use crate::writer::Line;
 use book::Book;
 use chain::{Coins as _, Index};
 use terms::Side;
-use trace_words::Line;
-use trace_words::Piece::{Count, Sum};
 use world::World;
 
 // Writes the chain's height, its unspent outputs and its fees, and begins the penalties that are kept.

@@ -1,12 +1,12 @@
 //! Messages between the sides, and their effects.
 
 use crate::names::side_name;
+use crate::pieces::Piece::{Count, Hash, Text};
 use crate::scenarios::commitments::tell_held;
+use crate::writer::Line;
 use book::{Call, Step};
 use channel::Message;
 use terms::Side;
-use trace_words::Line;
-use trace_words::Piece::{Count, Hash, Text};
 use updates::Update;
 use world::World;
 

@@ -1,15 +1,15 @@
 //! The transactions of new blocks, and the kinds of their outputs.
 
 use crate::names::side_name;
+use crate::pieces::Piece::{Count, Hash, Text};
 use crate::scenarios::closing::tell_commitment;
 use crate::scenarios::coins::{Change, Coin, Kind, Told};
 use crate::scenarios::outputs::{tell_output, tell_spends};
+use crate::writer::Line;
 use chain::{Block, Coins as _, Confirmed};
 use sighash::programs::{is_script_hash_program, key_hash_program};
 use std::alloc::Global;
 use terms::Side;
-use trace_words::Line;
-use trace_words::Piece::{Count, Hash, Text};
 use tx::{TxOut, total_value};
 use world::World;
 

@@ -1,10 +1,10 @@
 //! The line that opens a trace.
 
 use crate::names::side_name;
+use crate::pieces::Piece::{Count, Hash};
 use crate::scenarios::coins::{Coin, Kind, Told};
+use crate::writer::Line;
 use terms::{Side, Terms};
-use trace_words::Line;
-use trace_words::Piece::{Count, Hash};
 use world::World;
 
 // Writes the terms of a new channel, whose funding output is on the chain.

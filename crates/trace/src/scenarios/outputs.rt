@@ -1,10 +1,10 @@
 //! Spent outputs, and new ones with who can spend them when.
 
 use crate::names::side_name;
+use crate::pieces::Piece::{Count, Hash, Text};
 use crate::scenarios::coins::{Coin, Kind, Told};
+use crate::writer::Line;
 use chain::Confirmed;
-use trace_words::Line;
-use trace_words::Piece::{Count, Hash, Text};
 use tx::{OutPoint, Tx};
 
 /// Writes the outputs that a transaction spends, as elements of an array.

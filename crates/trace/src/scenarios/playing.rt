@@ -4,16 +4,16 @@ ghost use Rattle.std.specs.Prelude.{IfOk, ◌∷◌, []};
 ghost use Rattle.world.specs.Theorem.{IsPlay};
 
 use crate::names::side_name;
+use crate::pieces::Piece::Count;
 use crate::scenarios::claims::{tell_claims, tell_jobs};
 use crate::scenarios::coins::Told;
 use crate::scenarios::messages::{tell_delivered, tell_own, tell_signed};
 use crate::scenarios::mining::tell_mined;
+use crate::writer::Line;
 use chain::Coins as _;
 use scenario::Event;
 use std::alloc::{AllocError, Global};
 use std::slice;
-use trace_words::Line;
-use trace_words::Piece::Count;
 use world::{Outcome, World};
 
 impl Told {

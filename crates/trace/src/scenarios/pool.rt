@@ -1,10 +1,10 @@
 //! The transactions that wait for a block.
 
+use crate::pieces::Piece::Hash;
 use crate::scenarios::coins::Told;
 use crate::scenarios::outputs::tell_spends;
+use crate::writer::Line;
 use std::mem;
-use trace_words::Line;
-use trace_words::Piece::Hash;
 use tx::{Tx, txid};
 
 impl Told {

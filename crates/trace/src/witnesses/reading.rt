@@ -1,10 +1,10 @@
 // Reads a transaction with the outputs that it spends.
 
+use crate::input::InputError;
 use crate::witnesses::errors::SpentError;
 use hex::FromHexError;
 use lists::ByteString;
 use std::alloc::Global;
-use trace_words::InputError;
 use tx::{DecodeError, Tx, TxOut, decode};
 
 // Decodes a transaction.

@@ -1,10 +1,14 @@
 // Writes the verdict on an input.
 
+use crate::formats::Form;
+use crate::pieces::Piece;
+use crate::pieces::Piece::{Count, Hash, Text};
+use crate::scripts::{byte_of, opcode_name};
+use crate::verdict::{Clean, Fault, Stopped, Verdict};
 use crate::witnesses::causes::cause_sentence;
+use crate::writer::Line;
 use lists::ByteString;
-use trace_words::Piece::{Count, Hash, Text};
-use trace_words::{Form, Line, byte_of, opcode_name};
-use verdict::{Clean, Fault, Stopped, Verdict};
+use script::Op;
 
 // Writes a clean run.
 fn tell_clean(line: &mut Line, form: Form, clean: &Clean) {
@@ -51,42 +55,50 @@ fn tell_stack(line: &mut Line, form: Form, items: &[ByteString]) {
     }
 }
 
-// Writes where a run stops, why, and the stack there.
-fn tell_stopped(line: &mut Line, form: Form, stopped: &Stopped) {
-    let digest = stopped.digest;
+// The name of the opcode of this index, or the other text if the script has no such opcode. The quote stands on both sides of a name.
+fn op_name(ops: &[Op], index: usize, quote: &'static str, end: &'static str) -> (Piece, Piece) {
+    match ops.get(index) {
+        Some(op) => (Text(quote), Text(opcode_name(op))),
+        None => (Text(""), Text(end)),
+    }
+}
+
+// Writes at which opcode a run stops, and why.
+fn tell_stop(line: &mut Line, form: Form, stopped: &Stopped) {
     let (cause, index) = (stopped.cause, stopped.index);
     let ops = stopped.script.ops();
-    let (end, after) = match form {
-        Form::Json => ("null", "],\"digest\":\"%\"}\n"),
-        Form::Text => ("end", "  digest  %\n"),
-    };
-    let (op, quote) = match ops.get(index) {
-        Some(op) => (opcode_name(op), "\""),
-        None => (end, ""),
-    };
     let (opcode, byte) = (Count(index as u64), Count(byte_of(ops, index)));
     let says = Text(cause_sentence(cause));
     match form {
         Form::Json => {
+            let (quote, op) = op_name(ops, index, "\"", "null");
             line.push(r#","stopped":""#);
             line.push_shown(cause);
             line.write(
                 r#"","opcode":%,"op":%%%,"byte":%,"says":"%","stack":["#,
-                &[opcode, Text(quote), Text(op), Text(quote), byte, says],
+                &[opcode, quote, op, quote, byte, says],
             );
         }
         Form::Text => {
-            line.write(
-                " stops at opcode % (%), byte %: ",
-                &[opcode, Text(op), byte],
-            );
+            let (_, op) = op_name(ops, index, "", "end");
+            line.write(" stops at opcode % (%), byte %: ", &[opcode, op, byte]);
             line.push_shown(cause);
             line.write(": %\n", &[says]);
         }
     }
+}
+
+// Writes where a run stops, why, and the stack there.
+fn tell_stopped(line: &mut Line, form: Form, stopped: &Stopped) {
+    let digest = stopped.digest;
+    tell_stop(line, form, stopped);
     if let Some(stack) = &stopped.stack {
         tell_stack(line, form, stack.values());
     }
+    let after = match form {
+        Form::Json => "],\"digest\":\"%\"}\n",
+        Form::Text => "  digest  %\n",
+    };
     line.write(after, &[Hash(digest)]);
 }
 

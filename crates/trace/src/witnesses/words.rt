@@ -2,16 +2,19 @@
 
 ghost use Rattle.std.specs.Prelude.{◌≡◌, ◌≤◌, Some, slice_get};
 
+use crate::formats::Form;
+use crate::input::{InputError, read_all};
+use crate::pieces::Piece::Count;
+use crate::replies::{refuse_memory, refuse_words, write_told};
+use crate::verdict::{Verdict, judge};
 use crate::witnesses::errors::SpentError;
 use crate::witnesses::reading::{read_outputs, read_tx};
 use crate::witnesses::telling::tell_verdict;
+use crate::writer::Line;
 use sighash::SighashCache;
 use std::alloc::Global;
 use std::io::{Read, Write};
-use trace_words::Piece::Count;
-use trace_words::{Form, InputError, Line, read_all, refuse_memory, refuse_words, write_told};
 use tx::{Tx, TxIn, TxOut};
-use verdict::{Verdict, judge};
 
 /// Runs the word `witness` on the words after it and returns its status: 0 when each input runs clean, 1 for an input that does not, refused text or a failed
 /// write, 2 for wrong words, which are detected before any input is read. The verdict on an input is written before the next input is judged.

@@ -1,0 +1,96 @@
+-- The sentences of facts: of each kind in both polarities, and of locks on both sides of each limit.
+use Rattle.std.proofs.Common.{◌≡◌, ℕ, true, false, List, [], ◌∷◌, ◌++◌, map, refl}
+use Rattle.std.specs.Prelude.{codes, decimal}
+use Rattle.facts.specs.declared.symbols.KeySourceOver.TheVariants.{Const as FixedKey, Slot as SlotKey}
+use Rattle.facts.specs.Symbols.{Fact}
+use Rattle.facts.specs.declared.symbols.FactOver.TheVariants.{Hash, Size, Truth, Is, KeyForm, Form, Token, Assigned, Lock, Age}
+use Rattle.facts.specs.Symbols.{Stated}
+use Rattle.trace.specs.Sentences.{sentence_of, role_of}
+use Rattle.trace.specs.declared.scripts.sentences.Role.TheVariants.{Who, With, When}
+
+abbrev yes : Fact → Stated
+yes f = record { fact = f; holds = true }
+
+abbrev no : Fact → Stated
+no f = record { fact = f; holds = false }
+
+-- the number of a fact's kind; no kind is left out
+abbrev kind_of : Fact → ℕ
+kind_of (Hash i h) = 0
+kind_of (Size i n) = 1
+kind_of (Truth i) = 2
+kind_of (Is i b) = 3
+kind_of (KeyForm i) = 4
+kind_of (Form i) = 5
+kind_of (Token i key) = 6
+kind_of (Assigned slots keys) = 7
+kind_of (Lock n) = 8
+kind_of (Age n) = 9
+
+-- a fact of each kind, about slots i and j
+abbrev facts : ℕ → ℕ → List Fact
+facts i j =
+    Hash i (0x0a ∷ 0xff ∷ []) ∷ Size i 32 ∷ Truth i ∷ Is i (0x0a ∷ 0xff ∷ []) ∷ KeyForm i ∷ Form i ∷ Token i (FixedKey (0x0a ∷ 0xff ∷ []))
+    ∷ Assigned (i ∷ j ∷ []) (FixedKey (0x0a ∷ 0xff ∷ []) ∷ SlotKey j ∷ []) ∷ Lock 500 ∷ Age 144 ∷ []
+
+each_kind : (i j : ℕ) → map kind_of (facts i j) ≡ 0 ∷ 1 ∷ 2 ∷ 3 ∷ 4 ∷ 5 ∷ 6 ∷ 7 ∷ 8 ∷ 9 ∷ []
+each_kind i j = refl
+
+-- decimal digits are defined by std
+abbrev slot : ℕ → List ℕ → List ℕ
+slot i rest = codes "slot " ++ (decimal i ++ rest)
+
+abbrev slots : ℕ → ℕ → List ℕ → List ℕ
+slots i j verb = codes "slots " ++ ((decimal i ++ (codes "," ++ (decimal j ++ []))) ++ (verb ++ ((codes "0aff" ++ (codes "," ++ ((codes "slot " ++ decimal j) ++ []))) ++ codes " in their order")))
+
+holding : (i j : ℕ) → map sentence_of (map yes (facts i j)) ≡
+    slot i (codes " is a preimage of the HASH160 0aff")
+    ∷ slot i (codes " is " ++ (decimal 32 ++ codes " bytes long"))
+    ∷ slot i (codes " is true")
+    ∷ slot i (codes " is the bytes 0aff")
+    ∷ slot i (codes " is a public key of 33 bytes")
+    ∷ slot i (codes " is a signature or the empty item")
+    ∷ slot i (codes " is a signature by the key 0aff")
+    ∷ slots i j (codes " are signatures by keys of ")
+    ∷ (codes "in block " ++ (decimal 501 ++ codes " at the earliest"))
+    ∷ (codes "after " ++ (decimal 144 ++ codes " blocks"))
+    ∷ []
+holding i j = refl
+
+failing : (i j : ℕ) → map sentence_of (map no (facts i j)) ≡
+    slot i (codes " is not a preimage of the HASH160 0aff")
+    ∷ slot i (codes " is not " ++ (decimal 32 ++ codes " bytes long"))
+    ∷ slot i (codes " is false, as the empty item is")
+    ∷ slot i (codes " is not the bytes 0aff")
+    ∷ slot i (codes " is not a public key of 33 bytes")
+    ∷ slot i (codes " is not a signature or the empty item")
+    ∷ slot i (codes " is not a signature by the key 0aff")
+    ∷ slots i j (codes " are not signatures by keys of ")
+    ∷ (codes "while the check of the lock time " ++ (decimal 500 ++ codes " fails"))
+    ∷ (codes "while the check of the relative lock " ++ (decimal 144 ++ codes " fails"))
+    ∷ []
+failing i j = refl
+
+-- an empty item, and a key that the witness brings
+others : (i j : ℕ) → map sentence_of (yes (Is i []) ∷ no (Is i []) ∷ yes (Token i (SlotKey j)) ∷ no (Token i (SlotKey j)) ∷ []) ≡
+    slot i (codes " is the empty item")
+    ∷ slot i (codes " is not the empty item")
+    ∷ slot i (codes " is a signature by the key in slot " ++ decimal j)
+    ∷ slot i (codes " is not a signature by the key in slot " ++ decimal j)
+    ∷ []
+others i j = refl
+
+-- the greatest lock by height and the least by time, the greatest number of blocks, and units of time
+locks : map sentence_of (yes (Lock 499999999) ∷ yes (Lock 500000000) ∷ yes (Age 0xffff) ∷ yes (Age 0x10003) ∷ yes (Age 0x400003) ∷ []) ≡
+    (codes "in block " ++ (decimal 500000000 ++ codes " at the earliest"))
+    ∷ (codes "at the time " ++ (decimal 500000000 ++ codes " in seconds since 1970, which this profile never reaches"))
+    ∷ (codes "after " ++ (decimal 65535 ++ codes " blocks"))
+    ∷ (codes "after " ++ (decimal 3 ++ codes " blocks"))
+    ∷ (codes "after " ++ (decimal 3 ++ codes " units of 512 seconds, which this profile never reaches"))
+    ∷ []
+locks = refl
+
+-- a signature that must be there says who, a lock says when, all else says with what
+roles : (i j : ℕ) → (map role_of (map yes (facts i j)) ≡ With ∷ With ∷ With ∷ With ∷ With ∷ With ∷ Who ∷ Who ∷ When ∷ When ∷ [])
+    × (map role_of (map no (facts i j)) ≡ With ∷ With ∷ With ∷ With ∷ With ∷ With ∷ With ∷ With ∷ When ∷ When ∷ [])
+roles i j = (refl, refl)

@@ -1,0 +1,51 @@
+// Paths as text for people.
+
+use crate::pieces::Piece::{Count, Sum};
+use crate::scripts::sentences::{Role, Sentence};
+use crate::scripts::weights::{SIGNATURE_SIZE, TOKEN_SIZE, witness_weight};
+use crate::writer::Line;
+use facts::Stated;
+use paths::Path;
+
+// Writes the sentences of one role after a label, a line each, or another line if there are none.
+fn tell_role(line: &mut Line, facts: &[Stated], role: &str, label: &str, otherwise: &str) {
+    let mut is_told = false;
+    for stated in facts {
+        if Role::of(stated).text() == role {
+            line.push(label);
+            line.push_shown(Sentence(stated));
+            line.push("\n");
+            is_told = true;
+        }
+    }
+    if !is_told {
+        line.push(otherwise);
+    }
+}
+
+// Writes the path of this number through a script of this number of bytes.
+fn tell_path(line: &mut Line, path: &Path, number: usize, size: usize) {
+    let facts = path.facts.values();
+    line.write(
+        "path %: % items, % weight units (% with tokens)\n",
+        &[
+            Count(number as u64),
+            Count(path.arity as u64),
+            Sum(witness_weight(facts, path.arity, size, SIGNATURE_SIZE)),
+            Sum(witness_weight(facts, path.arity, size, TOKEN_SIZE)),
+        ],
+    );
+    tell_role(line, facts, "who", "  who   ", "  who   anyone\n");
+    tell_role(line, facts, "with", "  with  ", "");
+    tell_role(line, facts, "when", "  when  ", "  when  at once\n");
+}
+
+/// Writes the paths through a script of this number of bytes, each with its number.
+pub fn tell_paths(line: &mut Line, paths: &[Path], size: usize) {
+    if paths.is_empty() {
+        line.push("no path: no witness opens this script\n");
+    }
+    for (number, path) in paths.iter().enumerate() {
+        tell_path(line, path, number, size);
+    }
+}

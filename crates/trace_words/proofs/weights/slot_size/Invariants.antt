@@ -1,6 +1,0 @@
-use Rattle.std.proofs.Common.{◌≡◌, drop}
-use Rattle.trace_words.specs.Weights.{size_in}
-use Rattle.trace_words.proofs.weights.slot_size.Given as goal
-
-abbrev pub invariant-loop-stated : goal.invariant-loop-stated
-invariant-loop-stated l = size_in (drop l.stated-index l.facts) l.slot l.signature l.least ≡ size_in l.facts l.slot l.signature 0

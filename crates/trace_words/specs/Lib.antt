@@ -1,5 +1,0 @@
-pub mod Names
-pub mod Looks
-pub mod Weights
-pub mod Sentences
-pub mod Refusals

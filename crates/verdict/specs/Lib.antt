@@ -1,4 +1,0 @@
-pub mod Meeting
-pub mod Verdicts
-pub mod Refusals
-pub mod Faults
