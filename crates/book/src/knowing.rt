@@ -16,8 +16,8 @@ use keys::Signer;
 use lists::List;
 use penalty::RevokedState;
 use resolve::{
-    Known, KnownCommitment, KnownError, RevokedCommitment, RevokedCommitments, RevokedError,
-    SignedCommitment,
+    Known, KnownCommitment, KnownError, KnownPreimages, RevokedCommitment, RevokedCommitments,
+    RevokedError, SignedCommitment,
 };
 use std::alloc::{AllocError, Global};
 use terms::Terms;
@@ -306,6 +306,6 @@ pub(crate) fn known_of(
         theirs: peers.newest,
         next: peers.next,
         revoked: peers.revoked,
-        preimages: List::from_vec(preimages),
+        preimages: KnownPreimages::from_vec(preimages),
     })
 }

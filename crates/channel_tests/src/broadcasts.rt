@@ -5,7 +5,7 @@ use channel::Channel;
 use forms::{SharedPatterns, patterns};
 use lists::List;
 use publish::{signed_commitment, signed_commitment_in, signed_htlc_tx, signed_htlc_tx_in};
-use resolve::{Known, KnownCommitment, RevokedCommitments, SignedCommitment};
+use resolve::{Known, KnownCommitment, KnownPreimages, RevokedCommitments, SignedCommitment};
 use std::alloc::{AllocError, Global};
 use std::process::Abort;
 use terms::Side;
@@ -76,7 +76,7 @@ fn known(rt: &impl Abort, alloc: Global, side: &Channel) -> Known {
         theirs: theirs(rt, alloc, side),
         next: None,
         revoked: RevokedCommitments::new(alloc),
-        preimages: List::new(alloc),
+        preimages: KnownPreimages::from_vec(Vec::new(alloc)),
     }
 }
 

@@ -19,13 +19,8 @@
 //!
 //! ```text
 //! let patterns = patterns(alloc)?;
-//! let shared = Shared {
-//!     desk: &desk,
-//!     board: &board,
-//!     patterns: &patterns,
-//!     payments: &payments,
-//!     pool: &pool,
-//! };
+//! let (desk, board, patterns, payments, pool) = (&desk, &board, &patterns, &payments, &pool);
+//! let shared = Shared { desk, board, patterns, payments, pool };
 //! assert!(rt; sender.put(&rt, &mut pass, Job::Keep { channel: 0, number: 0 }).is_ok());
 //! drop(sender);
 //! let done = worker(&rt, alloc, &shared, &taker, &mut hands, &gate);

@@ -17,8 +17,8 @@ use Rattle.penalty.specs.Claimable.{Claimable, claims_by, claimable_of}
 use Rattle.resolve.specs.declared.known.RevokedCommitment.{RevokedCommitment}
 use Rattle.resolve.specs.declared.known.Known.{Known}
 use Rattle.resolve.specs.declared.verdicts.Verdict.TheVariants.{Revoked}
-use Rattle.resolve.specs.Due.{can_time_out, can_pay, is_known, owners_due, peers_due, penalties_if, due_of}
-use Rattle.resolve.specs.Preimages.{shown_by, if_32, is_deep}
+use Rattle.resolve.specs.Due.{can_time_out, can_pay, owners_due, peers_due, penalties_if, due_of}
+use Rattle.resolve.specs.Preimages.{is_known, first_of, shown_by, if_32, is_deep}
 
 -- the lock time of the transaction round a claim, where it is fixed
 abbrev fixed_at : Shell → ℕ
@@ -82,6 +82,12 @@ module _ (x y hash : List ℕ) where
   either : bytes_eq (sha256 x) hash ≡ true → bytes_eq (sha256 y) hash ≡ false
       → map (λ known. is_known known hash) ((x ∷ y ∷ []) ∷ (y ∷ x ∷ []) ∷ (x ∷ []) ∷ (y ∷ y ∷ []) ∷ [] ∷ []) ≡ true ∷ true ∷ true ∷ false ∷ false ∷ []
   either e f = rw (e, f) refl
+
+-- the first one counts where several have the hash
+module _ (x y z hash : List ℕ) where
+  first : bytes_eq (sha256 x) hash ≡ true → bytes_eq (sha256 y) hash ≡ false → bytes_eq (sha256 z) hash ≡ true
+      → map (λ known. first_of known hash) ((y ∷ x ∷ z ∷ []) ∷ (z ∷ y ∷ x ∷ []) ∷ (y ∷ y ∷ []) ∷ [] ∷ []) ≡ Some x ∷ Some z ∷ None ∷ None ∷ []
+  first e f g = rw (e, f, g) refl
 
 -- the penalties of a revoked commitment are due by its number alone, whether they are kept or not
 module _ (known : Known) (kept bare : RevokedCommitment) where

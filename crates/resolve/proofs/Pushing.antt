@@ -23,7 +23,8 @@ use Rattle.penalty.specs.Claimable.{Claimable, place_in, claims_by}
 use Rattle.penalty.specs.Sets.{IsClaimOn, AreClaimsOn}
 use Rattle.penalty.specs.Outputs.{HasHeight, program_of, IsOutput}
 use Rattle.script.specs.declared.limits.TheConstants.{LOCKTIME_THRESHOLD}
-use Rattle.resolve.specs.Due.{can_time_out, can_pay, is_known, is_owners, is_peers, direct_on, second_stage_on, delayed_second_stage, owners_on, peers_on, owners_due, peers_due}
+use Rattle.resolve.specs.Preimages.{is_known}
+use Rattle.resolve.specs.Due.{can_time_out, can_pay, is_owners, is_peers, direct_on, second_stage_on, delayed_second_stage, owners_on, peers_on, owners_due, peers_due}
 use Rattle.resolve.specs.Kinds.{IsDirect, IsSecondStage, IsHtlcPlace}
 use Rattle.resolve.specs.Signed.{AreHtlcTokens}
 

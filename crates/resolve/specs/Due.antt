@@ -1,8 +1,6 @@
 -- What is due on the chain, by the commitment that closed the channel (BOLT 5, "Unilateral Close Handling").
 use Rattle.std.specs.Prelude.{ℕ, Bool, ◌&&◌, not, ◌==◌, if◌then◌else◌, List, [], ◌∷◌, Option, Some, None, slice_get}
-use Rattle.std.specs.List.{list_any}
 use Rattle.std.specs.Str.{bytes_eq}
-use Rattle.sha2.specs.Sha256.{sha256}
 use Rattle.digest.specs.Hash.{hash160}
 use Rattle.digest.specs.Ripemd160.{ripemd160}
 use Rattle.script.specs.Token.{token_of}
@@ -24,10 +22,7 @@ use Rattle.resolve.specs.declared.verdicts.Verdict.{Verdict}
 use Rattle.resolve.specs.declared.verdicts.Verdict.TheVariants.{Ours, Theirs, TheirsNext, Revoked, Unknown}
 use Rattle.resolve.specs.declared.known.RevokedCommitment.{RevokedCommitment}
 use Rattle.resolve.specs.declared.known.Known.{Known}
-
--- one of these is a preimage of the hash
-abbrev pub is_known : List (List ℕ) → List ℕ → Bool
-is_known preimages hash = list_any (λ x. bytes_eq (sha256 x) hash) preimages
+use Rattle.resolve.specs.Preimages.{is_known}
 
 -- Two claims are refused, and so never due. One is a timeout where the revocation key's hash is that of the empty item: the script would take the
 -- empty item for the revocation key.

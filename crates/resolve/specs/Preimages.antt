@@ -1,7 +1,18 @@
--- Preimages that spends of HTLCs show, and what a reorganisation no longer undoes.
+-- Preimages of payment hashes: those that are known, those that spends of HTLCs show, and what a reorganisation no longer undoes.
 use Rattle.std.specs.Prelude.{ℕ, ◌+◌, ◌==◌, nat_le, Bool, if◌then◌else◌, List, [], ◌∷◌, length, Option, Some, None, slice_get}
+use Rattle.std.specs.List.{find, list_any}
+use Rattle.std.specs.Str.{bytes_eq}
+use Rattle.sha2.specs.Sha256.{sha256}
 use Rattle.tx.specs.declared.input.TxIn.{TxIn}
 use Rattle.tx.specs.Fields.{Transaction}
+
+-- one of these is a preimage of the hash
+abbrev pub is_known : List (List ℕ) → List ℕ → Bool
+is_known preimages hash = list_any (λ x. bytes_eq (sha256 x) hash) preimages
+
+-- the first of these that is one
+abbrev pub first_of : List (List ℕ) → List ℕ → Option (List ℕ)
+first_of preimages hash = find (λ x. bytes_eq (sha256 x) hash) preimages
 
 -- the second to last item of a witness. Three items spend an HTLC of the peer's commitment, and five are those of an HTLC-success transaction
 abbrev pub shown_by : List (List ℕ) → Option (List ℕ)

@@ -12,7 +12,7 @@ ghost use Rattle.penalty.specs.Sets.{IsClaimOn};
 ghost use Rattle.resolve.specs.Due.{can_time_out, can_pay, is_owners, is_peers, delayed_on, direct_on, second_stage_on};
 ghost use Rattle.resolve.specs.Kinds.{direct_kind_of, second_stage_kind_of, IsDirect, IsSecondStage, IsHtlcPlace};
 
-use crate::hashes::KnownHashes;
+use crate::known_preimages::KnownPreimages;
 use claim::{Claim, Place, Shell};
 use commit::{Commitment, CommitmentKeys, Direction, HtlcOutput};
 use digest::{hash160, ripemd160};
@@ -39,7 +39,7 @@ fn can_pay(keys: &CommitmentKeys, htlc: &Htlc) -> bool
 
 /// Whether the owner of a commitment may claim an HTLC of it.
 pub(crate) fn is_owners(
-    known: &KnownHashes<'_>,
+    known: &KnownPreimages,
     keys: &CommitmentKeys,
     direction: Direction,
     htlc: &Htlc,
@@ -54,7 +54,7 @@ pub(crate) fn is_owners(
 
 /// Whether the owner's peer may claim an HTLC.
 pub(crate) fn is_peers(
-    known: &KnownHashes<'_>,
+    known: &KnownPreimages,
     keys: &CommitmentKeys,
     direction: Direction,
     htlc: &Htlc,

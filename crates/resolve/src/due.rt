@@ -11,8 +11,8 @@ ghost use Rattle.resolve.specs.Kinds.{IsSecondStage, IsHtlcPlace};
 ghost use Rattle.resolve.specs.Due.{owners_on, peers_on, owners_due, peers_due, penalties_if, revoked_at, second_stage_on, delayed_second_stage, due_of};
 
 use crate::claiming::{delayed_on, direct_on, is_owners, is_peers, second_stage_on};
-use crate::hashes::KnownHashes;
 use crate::known::{Known, KnownCommitment, RevokedCommitment, SignedCommitment};
+use crate::known_preimages::KnownPreimages;
 use crate::verdicts::Verdict;
 use claim::{Claim, Place};
 use commit::{CommitmentOutput, HtlcOutput, OutputKind, htlc_tx};
@@ -56,7 +56,7 @@ fn push_owners(
     alloc: Global,
     patterns: &Patterns,
     own: &SignedCommitment,
-    known: &KnownHashes<'_>,
+    known: &KnownPreimages,
     index: u32,
     k: usize,
     output: &CommitmentOutput,
@@ -99,7 +99,7 @@ fn owners_due(
     alloc: Global,
     patterns: &Patterns,
     own: &SignedCommitment,
-    known: &KnownHashes<'_>,
+    known: &KnownPreimages,
 ) -> Result<Vec<Claim>, AllocError>
     ensures { IfOk result (λ v. AreClaimsOn (owners_due known.now own.now.commitment) v.items) }
 {
@@ -128,7 +128,7 @@ fn push_peers(
     alloc: Global,
     patterns: &Patterns,
     theirs: &KnownCommitment,
-    known: &KnownHashes<'_>,
+    known: &KnownPreimages,
     index: u32,
     output: &CommitmentOutput,
     claims: &mut Vec<Claim>,
@@ -162,7 +162,7 @@ fn peers_due(
     alloc: Global,
     patterns: &Patterns,
     theirs: &KnownCommitment,
-    known: &KnownHashes<'_>,
+    known: &KnownPreimages,
 ) -> Result<Vec<Claim>, AllocError>
     ensures { IfOk result (λ v. AreClaimsOn (peers_due known.now theirs.now) v.items) }
 {
@@ -205,30 +205,36 @@ fn revoked_due(
     }
 }
 
-// What one's own commitment lets its owner claim by these preimages, each of which is hashed once.
+// What one's own commitment lets its owner claim. Preimages that aren't indexed are copied and indexed, so that each is hashed once.
 fn due_on_own(
     alloc: Global,
     patterns: &Patterns,
     own: &SignedCommitment,
-    preimages: &[[u8; 32]],
+    known: &KnownPreimages,
 ) -> Result<Vec<Claim>, AllocError>
-    ensures { IfOk result (λ v. AreClaimsOn (owners_due preimages.now own.now.commitment) v.items) }
+    ensures { IfOk result (λ v. AreClaimsOn (owners_due known.now own.now.commitment) v.items) }
 {
-    let hashes = KnownHashes::new(alloc, preimages)?;
-    owners_due(alloc, patterns, own, &hashes)
+    if known.is_indexed() {
+        return owners_due(alloc, patterns, own, known);
+    }
+    let indexed = known.to_indexed()?;
+    owners_due(alloc, patterns, own, &indexed)
 }
 
-// What a commitment of the peer lets one claim by these preimages, each of which is hashed once.
+// What a commitment of the peer lets one claim, in the same way.
 fn due_on_theirs(
     alloc: Global,
     patterns: &Patterns,
     theirs: &KnownCommitment,
-    preimages: &[[u8; 32]],
+    known: &KnownPreimages,
 ) -> Result<Vec<Claim>, AllocError>
-    ensures { IfOk result (λ v. AreClaimsOn (peers_due preimages.now theirs.now) v.items) }
+    ensures { IfOk result (λ v. AreClaimsOn (peers_due known.now theirs.now) v.items) }
 {
-    let hashes = KnownHashes::new(alloc, preimages)?;
-    peers_due(alloc, patterns, theirs, &hashes)
+    if known.is_indexed() {
+        return peers_due(alloc, patterns, theirs, known);
+    }
+    let indexed = known.to_indexed()?;
+    peers_due(alloc, patterns, theirs, &indexed)
 }
 
 /// The claims that are due by a verdict, each accepted, in the order of the commitment's outputs (BOLT 5):
@@ -246,7 +252,7 @@ pub fn due_claims(alloc: Global, known: &Known, verdict: Verdict) -> Result<Vec<
     ensures { IfOk result (λ v. AreClaimsOn (due_of known.now verdict) v.items) }
 {
     let patterns = known.patterns.get();
-    let preimages = known.preimages.values();
+    let preimages = &known.preimages;
     match verdict {
         Verdict::Ours => due_on_own(alloc, patterns, &known.own, preimages),
         Verdict::Theirs => due_on_theirs(alloc, patterns, &known.theirs, preimages),

@@ -6,6 +6,7 @@ ghost use Rattle.penalty.specs.Claimable.{commitment_in};
 ghost use Rattle.resolve.specs.Signed.{IsCommitmentToken, AreHtlcTokens};
 
 use crate::errors::{KnownError, of_view};
+use crate::known_preimages::KnownPreimages;
 use crate::numbers::MAX_NUMBER;
 use crate::revoked::RevokedCommitments;
 use crate::tokens::{are_tokens, is_token};
@@ -246,8 +247,8 @@ pub struct Known {
     pub next: Option<KnownCommitment>,
     /// The commitments that the peer revoked.
     pub revoked: RevokedCommitments,
-    /// Preimages of HTLCs, 32 bytes each.
-    pub preimages: List<[u8; 32]>,
+    /// Preimages of HTLCs.
+    pub preimages: KnownPreimages,
 }
 
 // Copies of commitments with their tokens.
@@ -334,7 +335,7 @@ impl Known {
         ensures { IfOk result (λ k. k ≡ self.now) }
     {
         let patterns = self.patterns.share()?;
-        let preimages = Vec::from_slice(self.preimages.allocator(), self.preimages.values())?;
+        let preimages = self.preimages.copy()?;
         let own = copied_own(self)?;
         let peers = copied_peers(self)?;
         Ok(Known {
@@ -347,7 +348,7 @@ impl Known {
             theirs: peers.newest,
             next: peers.next,
             revoked: peers.revoked,
-            preimages: List::from_vec(preimages),
+            preimages,
         })
     }
 }

@@ -4,8 +4,8 @@
 //! channel. Barring out-of-memory, it gives exactly the claims of the definition `due_of`, in the order of the
 //! commitment's outputs, each accepted. The types of `Known` guarantee that the commitments can be paid. They also
 //! guarantee that one's own have the peer's tokens on them ([`SignedCommitment`]), and that the i-th revoked one has
-//! number i ([`RevokedCommitments`]). [`preimage_in`] reads a preimage off a spend of an HTLC, and [`is_final`]
-//! tells what is buried deep enough.
+//! number i ([`RevokedCommitments`]). [`KnownPreimages`] finds a preimage by its hash, and hashes each once.
+//! [`preimage_in`] reads a preimage off a spend of an HTLC, and [`is_final`] tells what is buried deep enough.
 //!
 //! `penalty` hands it the claims of a revoked commitment. `book` makes the `Known` of each channel, and `watch` asks
 //! what is due by its verdict on what it saw.
@@ -22,8 +22,8 @@
 mod claiming;
 mod due;
 mod errors;
-mod hashes;
 mod known;
+mod known_preimages;
 mod numbers;
 mod preimages;
 mod revoked;
@@ -33,6 +33,7 @@ mod verdicts;
 pub use due::{due_claims, revoked_at};
 pub use errors::{KnownError, RevokedError};
 pub use known::{Known, KnownCommitment, RevokedCommitment, SignedCommitment};
+pub use known_preimages::KnownPreimages;
 pub use numbers::MAX_NUMBER;
 pub use preimages::{is_final, preimage_in};
 pub use revoked::RevokedCommitments;

@@ -7,8 +7,8 @@ use lists::List;
 use parties::{FUNDING, htlc, key_of, one_key, party_with, terms_of, view};
 use penalty::RevokedState;
 use resolve::{
-    Known, KnownCommitment, KnownError, MAX_NUMBER, RevokedCommitment, RevokedCommitments,
-    SignedCommitment,
+    Known, KnownCommitment, KnownError, KnownPreimages, MAX_NUMBER, RevokedCommitment,
+    RevokedCommitments, SignedCommitment,
 };
 use sighash::Token;
 use std::alloc::Global;
@@ -165,7 +165,7 @@ pub fn known_with(rt: &impl Abort, alloc: Global, terms: &Terms, theirs: KnownCo
         side: Side::A,
         older: older(rt, alloc, terms),
         revoked: two_revoked(rt, alloc, terms),
-        preimages: List::new(alloc),
+        preimages: KnownPreimages::from_vec(Vec::new(alloc)),
         signer: Signer::new(alloc, &[1; 32]),
         own: signed(rt, alloc, terms),
         theirs,

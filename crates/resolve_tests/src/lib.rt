@@ -10,6 +10,8 @@ mod knowledge;
 #[cfg(test)]
 mod lookouts;
 #[cfg(test)]
+mod preimages;
+#[cfg(test)]
 mod readers;
 #[cfg(test)]
 mod watches;

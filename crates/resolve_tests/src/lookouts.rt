@@ -124,7 +124,7 @@ fn answers(
             gives(rt, alloc, lookout, height, block, claims)
         }
         Row::Learn(preimage) => lookout.learn(&[preimage]).is_ok(),
-        Row::Knows(preimages) => lookout.known().preimages.len() == preimages,
+        Row::Knows(preimages) => lookout.known().preimages.values().len() == preimages,
         Row::Back(height) => {
             lookout.back(height);
             true

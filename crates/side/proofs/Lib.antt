@@ -4,5 +4,4 @@ pub mod ReadingExamples
 pub mod BatchExamples
 pub mod ActExamples
 mod Broadcasts
-mod Hashed
 mod SpentPlaces

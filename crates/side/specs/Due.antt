@@ -1,13 +1,12 @@
 -- The claims that a block makes due, by what is known of a channel.
 use Rattle.std.specs.Prelude.{◌≡◌, ℕ, Bool, true, false, List, [], ◌++◌, map, Option, Some, None}
-use Rattle.std.specs.List.{find, filter_map}
-use Rattle.std.specs.Str.{bytes_eq}
-use Rattle.sha2.specs.Sha256.{sha256}
+use Rattle.std.specs.List.{filter_map}
 use Rattle.tx.specs.Fields.{Transaction}
 use Rattle.claim.specs.declared.parts.Slot.{Slot}
 use Rattle.claim.specs.declared.parts.Slot.TheVariants.{Preimage}
 use Rattle.claim.specs.Claims.{ClaimParts}
 use Rattle.resolve.specs.declared.known.Known.{Known}
+use Rattle.resolve.specs.Preimages.{first_of}
 use Rattle.watch.specs.Watching.{Seen, seen_after}
 use Rattle.watch.specs.Sights.{IsSight}
 use Rattle.side.specs.declared.due.DueClaim.{DueClaim}
@@ -16,12 +15,8 @@ use Rattle.side.specs.declared.due.DueClaim.{DueClaim}
 
 -- the first known preimage of the hash that a slot asks for; other slots ask for none
 abbrev pub wanted_by : List (List ℕ) → Slot → Option (List ℕ)
-wanted_by preimages (Preimage hash) = find (λ p. bytes_eq (sha256 p) hash) preimages
+wanted_by preimages (Preimage hash) = first_of preimages hash
 wanted_by preimages slot = None
-
--- the first known preimage of a hash
-abbrev pub first_of : List (List ℕ) → List ℕ → Option (List ℕ)
-first_of preimages hash = find (λ p. bytes_eq (sha256 p) hash) preimages
 
 -- claims on a channel's outputs, as due claims, each with the known preimages that its slots need
 abbrev pub due_claims_of : ℕ → List (List ℕ) → List ClaimParts → List DueClaim

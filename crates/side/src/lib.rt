@@ -33,7 +33,6 @@ mod following;
 mod fundings;
 pub mod laws;
 mod marks;
-mod preimages;
 mod reading;
 mod sets;
 mod spent;

@@ -10,14 +10,13 @@ ghost use Rattle.side.specs.Following.{seen_in, known_in};
 use crate::due::DueClaim;
 use crate::following::{Followed, teach_all, tell, unanswered, watches_of};
 use crate::fundings::Fundings;
-use crate::preimages::Preimages;
 use crate::spent::Spent;
 use chain::Block;
 use claim::{Claim, Slot};
 use lists::List;
-use resolve::Known;
+use resolve::{Known, KnownPreimages};
 use std::alloc::{AllocError, Global};
-use std::collections::{BTreeSet, VecDeque};
+use std::collections::VecDeque;
 use std::marker::Model;
 use tx::OutPoint;
 use watch::{Lookout, Watch};
@@ -80,7 +79,7 @@ fn nothing_found(alloc: Global) -> Found
 }
 
 // The first of the preimages that has the hash a slot asks for.
-fn wanted_by(preimages: &Preimages<'_>, slot: &Slot) -> Option<[u8; 32]>
+fn wanted_by(preimages: &KnownPreimages, slot: &Slot) -> Option<[u8; 32]>
     ensures { result ≡ wanted_by preimages.now slot.now }
 {
     let Slot::Preimage(hash) = slot else {
@@ -102,7 +101,7 @@ fn push_some(preimages: &mut List<[u8; 32]>, preimage: Option<[u8; 32]>) -> Resu
 // The preimages that slots ask for, in order. The only error is that memory ran out.
 fn wanted_in(
     alloc: Global,
-    preimages: &Preimages<'_>,
+    preimages: &KnownPreimages,
     slots: &[Slot],
 ) -> Result<List<[u8; 32]>, AllocError>
     ensures { IfOk result (λ w. w ≡ filter_map (wanted_by preimages.now) slots.now) }
@@ -115,10 +114,10 @@ fn wanted_in(
 }
 
 // Claims on a channel's outputs, as due claims. The only error is that memory ran out.
-fn due_claims_by(
+fn due_claims_of(
     alloc: Global,
     channel: u64,
-    preimages: &Preimages<'_>,
+    preimages: &KnownPreimages,
     claims: Vec<Claim>,
 ) -> Result<VecDeque<DueClaim>, AllocError>
     ensures { IfOk result (λ due. due.items ≡ due_claims_of channel preimages.now claims.items) }
@@ -135,55 +134,12 @@ fn due_claims_by(
     Ok(due)
 }
 
-// Adds the hashes of which slots ask for preimages. They decide how a preimage is found, and not which.
-fn insert_asked(asked: &mut BTreeSet<[u8; 32]>, slots: &[Slot]) -> Result<(), AllocError> {
-    for slot in slots {
-        if let Slot::Preimage(hash) = slot {
-            asked.insert(*hash)?;
-        }
-    }
-    Ok(())
-}
-
-// The hashes of which claims ask for preimages.
-fn asked_by(alloc: Global, claims: &[Claim]) -> Result<BTreeSet<[u8; 32]>, AllocError> {
-    let mut asked = BTreeSet::new(alloc);
-    for claim in claims {
-        insert_asked(&mut asked, claim.slots())?;
-    }
-    Ok(asked)
-}
-
-// The same, where the preimages are a list. Where claims ask for several hashes, each preimage is hashed once; if none does, none is hashed.
-fn due_claims_of(
-    alloc: Global,
-    channel: u64,
-    preimages: &[[u8; 32]],
-    claims: Vec<Claim>,
-) -> Result<VecDeque<DueClaim>, AllocError>
-    ensures { IfOk result (λ due. due.items ≡ due_claims_of channel preimages.now claims.items) }
-{
-    let asked = asked_by(alloc, &claims)?;
-    let preimages = Preimages::new(alloc, preimages, &asked)?;
-    due_claims_by(alloc, channel, &preimages, claims)
-}
-
-// Appends preimages. The only error is that memory ran out.
-fn push_all(preimages: &mut List<[u8; 32]>, more: &[[u8; 32]]) -> Result<(), AllocError>
-    ensures { OnOk result (preimages.new ≡ preimages.old ++ more.now) }
-{
-    for preimage in more {
-        preimages.push(*preimage)?;
-    }
-    Ok(())
-}
-
 // Adds preimages to what is known of a channel. The only error is that memory ran out.
 fn with_preimages(alloc: Global, shown: &[[u8; 32]], known: Known) -> Result<Box<Known>, AllocError>
     ensures { IfOk result (λ k. k.value ≡ with_preimages shown.now known) }
 {
     let mut known = known;
-    push_all(&mut known.preimages, shown)?;
+    known.preimages.extend(shown)?;
     Ok(Box::new(alloc, known)?)
 }
 
@@ -201,7 +157,7 @@ fn look_by(
     ensures known { OnOk result (lookout.new.known ≡ lookout.old.known) }
 {
     let sight = lookout.look(alloc, height, block)?;
-    let preimages = lookout.known().preimages.values();
+    let preimages = &lookout.known().preimages;
     let due = due_claims_of(alloc, channel, preimages, sight.claims)?;
     Ok(Found {
         due,

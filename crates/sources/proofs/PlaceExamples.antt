@@ -15,7 +15,8 @@ use Rattle.penalty.specs.Claimable.{Claimable, claims_by, claims_from, commitmen
 use Rattle.resolve.specs.declared.verdicts.Verdict.TheVariants.{TheirsNext, Revoked, Unknown}
 use Rattle.resolve.specs.declared.known.RevokedCommitment.{RevokedCommitment}
 use Rattle.resolve.specs.declared.known.Known.{Known}
-use Rattle.resolve.specs.Due.{can_time_out, is_known, delayed_on, delayed_second_stage, owners_due, peers_due, due_of}
+use Rattle.resolve.specs.Preimages.{is_known}
+use Rattle.resolve.specs.Due.{can_time_out, delayed_on, delayed_second_stage, owners_due, peers_due, due_of}
 use Rattle.safety.proofs.Slots.{contains_first}
 use Rattle.sources.specs.Places.{place_at, IsHtlcAt, IsOwners, delayed, delayed_second, IsKnownDue, on_revoked}
 

@@ -16,7 +16,8 @@ use Rattle.penalty.specs.Claimable.{Claimable, claims_by}
 use Rattle.resolve.specs.declared.verdicts.Verdict.{Verdict}
 use Rattle.resolve.specs.declared.verdicts.Verdict.TheVariants.{Ours, Theirs, TheirsNext, Revoked, Unknown}
 use Rattle.resolve.specs.declared.known.Known.{Known}
-use Rattle.resolve.specs.Due.{is_known, owners_on, peers_on, owners_due, peers_due, peers_due_if, due_of}
+use Rattle.resolve.specs.Preimages.{is_known}
+use Rattle.resolve.specs.Due.{owners_on, peers_on, owners_due, peers_due, peers_due_if, due_of}
 use Rattle.watch.specs.declared.spends.Spend.{Spend}
 use Rattle.watch.specs.declared.learning.CommitmentHtlcs.{CommitmentHtlcs}
 use Rattle.watch.specs.Verdicts.{verdict_of}

@@ -9,19 +9,18 @@ ghost use Rattle.watch.specs.Lookouts.{pays, some_is_paid, changes, some_changes
 
 use crate::learning::{CommitmentHtlcs, htlcs_by, learnt_in};
 use crate::spends::{Spend, some_spends};
-use crate::verdicts::verdict;
+use crate::verdicts::{is_current, verdict};
 use crate::watching::{Sight, Watch};
 use chain::{Block, Confirmed};
 use commit::HtlcOutput;
 use digest::sha256;
-use lists::List;
 use resolve::{Known, Verdict};
 use std::alloc::{AllocError, Global};
 use std::marker::Model;
-use std::mem;
+use tx::txid;
 
 /// A watch that reads many blocks by what is known of its channel, and works out once what stays the same from one to the next. Once all that is due was
-/// given, a block without a transaction on the funding output costs one pass over its inputs.
+/// given, a block without a transaction on the funding output costs one pass over its inputs. Known preimages are hashed once, at the close.
 #[derive(Drop)]
 pub struct Lookout {
     watch: Watch,
@@ -113,16 +112,15 @@ fn some_changes(known: &Known, preimages: &[[u8; 32]], spends: &[Spend]) -> bool
     spends.iter().any(|spend| changes(known, preimages, verdict(known, &spend.tx)))
 }
 
-// Appends preimages. The only error is that memory ran out, which leaves them as they were.
-fn push_all(preimages: &mut List<[u8; 32]>, more: &[[u8; 32]]) -> Result<(), AllocError>
-    ensures ok { OnOk result (preimages.new ≡ preimages.old ++ more.now) }
-    ensures err { OnErr result (preimages.new ≡ preimages.old) }
-{
-    let none = List::new(preimages.allocator());
-    let mut items = mem::replace(preimages, none).into_vec();
-    let pushed = items.extend_from_slice(more);
-    *preimages = List::from_vec(items);
-    pushed
+// Whether a known commitment that isn't revoked is among transactions that were read or are in a block, so that what is due may depend on preimages. It
+// decides whether they are indexed, and not what is found.
+fn some_is_current(known: &Known, spends: &[Spend], txs: &[Confirmed]) -> bool {
+    spends
+        .iter()
+        .any(|spend| is_current(known, &txid(&spend.tx)))
+        || txs
+            .iter()
+            .any(|confirmed| is_current(known, confirmed.id()))
 }
 
 impl Lookout {
@@ -182,6 +180,36 @@ impl Lookout {
         Ok(sight)
     }
 
+    // Hashes each known preimage once, if what is due after a block may depend on them.
+    fn index_preimages(&mut self, block: &Block) -> Result<(), AllocError>
+        ensures { self.new ≡ self.old }
+    {
+        if some_is_current(&self.known, self.watch.spends(), block.transactions()) {
+            self.known.preimages.index()?;
+        }
+        Ok(())
+    }
+
+    // The same as `look_anew`, with preimages that are found by their hashes.
+    fn look_indexed(
+        &mut self,
+        alloc: Global,
+        height: u64,
+        block: &Block,
+    ) -> Result<Sight, AllocError>
+        ensures sight { IfOk result (λ s. IsSight self.old.seen height
+            (reverse block.now.transactions) self.old.known s.claims.items s.learnt.items) }
+        ensures ok { OnOk result (self.new
+            ≡ record self.old {
+              seen = seen_after self.old.seen height
+                  (reverse block.now.transactions) self.old.known;
+            }) }
+        ensures err { OnErr result (self.new ≡ self.old) }
+    {
+        self.index_preimages(block)?;
+        self.look_anew(alloc, height, block)
+    }
+
     /// Reads the block at a height, above the blocks that it read before, by what is known: as `Watch::look` does. If no transaction of the block spends
     /// the funding output and all that is due was given, it costs one pass over the block's inputs.
     ///
@@ -198,7 +226,7 @@ impl Lookout {
     {
         let txs = block.transactions();
         if !self.is_settled || some_spends(&self.known.terms.funding, txs) {
-            return self.look_anew(alloc, height, block);
+            return self.look_indexed(alloc, height, block);
         }
         let spends = self.watch.spends();
         let learnt = shown(alloc, &self.known, spends, &mut self.commitments, txs)?;
@@ -218,7 +246,7 @@ impl Lookout {
             return Ok(());
         }
         let changes = some_changes(&self.known, preimages, self.watch.spends());
-        push_all(&mut self.known.preimages, preimages)?;
+        self.known.preimages.extend(preimages)?;
         if changes {
             self.is_settled = false;
         }

@@ -1,6 +1,6 @@
 //! Which commitment a transaction is.
 
-ghost use Rattle.std.specs.Prelude.{◌≡◌};
+ghost use Rattle.std.specs.Prelude.{◌≡◌, ◌||◌};
 ghost use Rattle.penalty.specs.Claimable.{commitment_in};
 ghost use Rattle.watch.specs.Verdicts.{number_in, is_of, is_of_next, revoked_by, verdict_of};
 
@@ -51,6 +51,14 @@ fn revoked_by(known: &Known, id: &[u8; 32], number: Option<u64>) -> Verdict
         Some(revoked) if is_of_revoked(id, revoked) => Verdict::Revoked(n),
         _ => Verdict::Unknown,
     }
+}
+
+/// Whether an id is that of one's own newest commitment, the peer's newest, or the peer's next.
+pub(crate) fn is_current(known: &Known, id: &[u8; 32]) -> bool
+    ensures { result ≡ (is_of id.now known.now.own.commitment || is_of id.now known.now.theirs
+        || is_of_next id.now known.now.next) }
+{
+    is_of(id, &known.own.commitment) || is_of(id, &known.theirs) || is_of_next(id, &known.next)
 }
 
 /// Which commitment a transaction is, by its id. It is the first match of one's own newest, the peer's newest, the peer's next, and the revoked one

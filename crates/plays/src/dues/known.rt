@@ -7,7 +7,9 @@ use forms::SharedPatterns;
 use keys::{Key, Signer};
 use lists::List;
 use penalty::RevokedState;
-use resolve::{Known, KnownCommitment, RevokedCommitment, RevokedCommitments, SignedCommitment};
+use resolve::{
+    Known, KnownCommitment, KnownPreimages, RevokedCommitment, RevokedCommitments, SignedCommitment,
+};
 use sighash::Token;
 use std::alloc::Global;
 use terms::{Side, Terms};
@@ -162,7 +164,7 @@ fn peers_commitments(
 struct Own {
     signer: Signer,
     commitment: SignedCommitment,
-    preimages: List<[u8; 32]>,
+    preimages: KnownPreimages,
 }
 
 /// What a side knows on its own, and a preimage if it knows one.
@@ -179,7 +181,7 @@ fn own_of(
     Some(Own {
         signer,
         commitment,
-        preimages: List::from_vec(preimages),
+        preimages: KnownPreimages::from_vec(preimages),
     })
 }
 
