@@ -62,16 +62,16 @@ def hostile(before, middle, after):
     return before + times * middle + after
 
 
-def run(program, line):
-    """The output of the program for a line, its processor seconds, and its peak memory in MiB."""
+def run(program, line, *words):
+    """The output of the program, called with these words, for a line; its processor seconds, and its peak memory in MiB."""
     with tempfile.TemporaryFile("w+") as given:
         given.write(line)
         given.seek(0)
-        started = subprocess.Popen([program], stdin=given, stdout=subprocess.PIPE, text=True)
+        started = subprocess.Popen([program, *words], stdin=given, stdout=subprocess.PIPE, stderr=subprocess.DEVNULL, text=True)
     with started.stdout as printed:
         text = printed.read().strip()
     _, status, usage = os.wait4(started.pid, 0)
-    if status != 0:
+    if status != 0 and not text:
         text = f"status {status}"
     return text, usage.ru_utime + usage.ru_stime, usage.ru_maxrss / 1024
 
