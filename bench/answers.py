@@ -35,13 +35,13 @@ path 0: 1 items, 12 weight units (12 with tokens)
     0  PUSH 81 (number -1)
 refused BadOpcode 2 at byte 2
     0  PUSH - (the empty item, number 0)
-no path: no witness opens this script
+no path: no witness satisfies this script
 refused BadHex
 """
 PAGE = """    0  PUSH 0aff (number -32522)
     3  DROP
     4  PUSH - (the empty item, number 0)
-no path: no witness opens this script
+no path: no witness satisfies this script
 """
 LINES = """{"opening":{"events":2,"channels":[]}}
 {"event":0,"words":["blocks",2],"answer":"ok height 2 txs 0","height":2,"mined":[]}

@@ -16,6 +16,8 @@ from bounds import bounded
 TOP = os.path.dirname(os.path.dirname(os.path.abspath(__file__)))
 SIZE = 4 << 20
 TURNS = 5
+# the entries of a dump of 4,183,757 bytes
+WHOLE = 15_600
 
 # a text: the part before, the middle, which is repeated, and the part after; and the expected refusal
 SIGN = '{"call":["sign",0],"seat":0}'
@@ -127,6 +129,14 @@ def time_loads(program):
     bounded("a byte of a dump of 16,000 entries to one of 1,000", costs[-1] / costs[0], 1.5)
 
 
+def load_whole(program):
+    """A dump of just below 4 MiB, which is loaded. The memory is that of the program, in which two nodes made it."""
+    length, took = load_cost(program, WHOLE)
+    print(f"load of {WHOLE:,} entries: {length} bytes, {took * 1e3:.1f} ms")
+    bounded("load of 4 MiB, a whole dump", took, 2, unit=" s")
+    bounded("load of 4 MiB, a whole dump, memory", run(program, f"loads {WHOLE}\n")[2], 256, unit=" MiB")
+
+
 def load_hostile(program):
     for name, (before, middle, after, wanted) in HOSTILE.items():
         answer, took, memory = run(program, "load " + hostile(before, middle, after) + "\n")
@@ -144,6 +154,7 @@ def main():
     time_revoked(program)
     time_known(program)
     time_loads(program)
+    load_whole(program)
     load_hostile(program)
 
 

@@ -16,7 +16,10 @@ from bounds import bounded
 from worlds import TOP, built
 
 # by the HTLCs that stand, after how many rounds a book is looked at, and for how many it is estimated: those would take minutes and gigabytes
-LOOKS = {0: ((10, 1000, 10_000), ()), 10: ((10, 1000, 10_000), ()), 966: ((10, 100), (1000, 10_000))}
+LOOKS = {0: ((10, 1000, 10_000), ()), 10: ((10, 1000, 10_000), ()), 966: ((10, 1000), (10_000,))}
+
+# the most bytes that an HTLC which stands adds to a round: to both commitments, to the tokens on them, and to the penalties that are kept
+FOR_AN_HTLC = 2400
 
 # of kept sets: the HTLCs, and the most bytes of a claim. On 512 HTLCs there are 1,026 claims: a list that grows would just have doubled its room
 KEPT = {966: 1024, 512: 1024, 10: 1024}
@@ -54,6 +57,7 @@ def on_wire(htlcs):
 
 
 def count_rounds(look):
+    bare = None
     for htlcs, (played, estimated) in LOOKS.items():
         live = {rounds: look(f"rounds {rounds} {htlcs}")[0].live for rounds in played}
         for rounds, count in live.items():
@@ -61,6 +65,10 @@ def count_rounds(look):
         first, last = played[0], played[-1]
         each = (live[last] - live[first]) / (last - first)
         print(f"{htlcs} HTLCs: {each:,.0f} bytes for one of each, of {on_wire(htlcs):,} on the wire: {each / on_wire(htlcs):.1f} times as many")
+        if htlcs == 0:
+            bare = each
+        else:
+            bounded(f"what an HTLC that stands adds to a round, of {htlcs}", (each - bare) / htlcs, FOR_AN_HTLC, unit=" bytes")
         for rounds in estimated:
             print(f"{htlcs} HTLCs, {rounds:,} commitments of each side: not played; by these {(live[last] + (rounds - last) * each) / 1e6:,.0f} MB")
 

@@ -12,7 +12,7 @@ use std::alloc::{AllocError, Global};
 use std::collections::BTreeMap;
 use std::marker::Model;
 
-/// Known preimages of HTLCs, 32 bytes each, in order. Once they are [indexed](KnownPreimages::index), each was hashed once, and the one of a hash is found in a time logarithmic in their number. Until
+/// Known preimages of HTLCs, 32 bytes each, in the order in which they came. [`index`](KnownPreimages::index) hashes each once; from then on the one of a hash is found in a time logarithmic in their number. Until
 /// then a search hashes one after another. A contract sees them as their list.
 #[derive(Drop)]
 pub struct KnownPreimages {

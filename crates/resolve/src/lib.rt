@@ -4,7 +4,7 @@
 //! channel. Barring out-of-memory, it gives exactly the claims of the definition `due_of`, in the order of the
 //! commitment's outputs, each accepted. The types of `Known` guarantee that the commitments can be paid. They also
 //! guarantee that one's own have the peer's tokens on them ([`SignedCommitment`]), and that the i-th revoked one has
-//! number i ([`RevokedCommitments`]). [`KnownPreimages`] finds a preimage by its hash, and hashes each once.
+//! number i ([`RevokedCommitments`]). [`KnownPreimages`] finds a preimage by its hash, once they are indexed.
 //! [`preimage_in`] reads a preimage off a spend of an HTLC, and [`is_final`] tells what is buried deep enough.
 //!
 //! `penalty` hands it the claims of a revoked commitment. `book` makes the `Known` of each channel, and `watch` asks

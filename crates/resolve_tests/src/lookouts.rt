@@ -17,7 +17,7 @@ use watch::{Lookout, Watch};
 const SCRIPT: [u8; 1] = [0x51];
 
 // The preimage of the HTLC.
-const PREIMAGE: [u8; 32] = [3; 32];
+pub(crate) const PREIMAGE: [u8; 32] = [3; 32];
 
 // The funding output.
 fn funding_output(rt: &impl Abort, alloc: Global) -> TxOut {
@@ -38,7 +38,7 @@ fn theirs(rt: &impl Abort, alloc: Global, terms: &Terms) -> KnownCommitment {
 }
 
 // What A knows of a channel whose funding output the chain creates by a grant.
-fn funded(rt: &impl Abort, alloc: Global, chain: &mut Index) -> Known {
+pub(crate) fn funded(rt: &impl Abort, alloc: Global, chain: &mut Index) -> Known {
     let granted = chain.grant(funding_output(rt, alloc));
     let terms = terms_on(rt, granted.expect(rt, "a grant"));
     known_with(rt, alloc, &terms, theirs(rt, alloc, &terms))
@@ -61,7 +61,7 @@ fn closing_tx(rt: &impl Abort, alloc: Global, known: &Known) -> Tx {
 }
 
 // The block after the first closes the channel, and the next one, which is the last, is empty.
-fn close(rt: &impl Abort, alloc: Global, chain: &mut Index, known: &Known) {
+pub(crate) fn close(rt: &impl Abort, alloc: Global, chain: &mut Index, known: &Known) {
     let mut txs = Vec::new(alloc);
     txs.push(closing_tx(rt, alloc, known)).expect(rt, "memory");
     let closed = chain.connect(txs).is_ok();

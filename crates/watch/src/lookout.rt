@@ -20,7 +20,7 @@ use std::marker::Model;
 use tx::txid;
 
 /// A watch that reads many blocks by what is known of its channel, and works out once what stays the same from one to the next. Once all that is due was
-/// given, a block without a transaction on the funding output costs one pass over its inputs. Known preimages are hashed once, at the close.
+/// given, a block without a transaction on the funding output costs one pass over its inputs. Where a commitment that isn't revoked closes the channel, the preimages known then are hashed once.
 #[derive(Drop)]
 pub struct Lookout {
     watch: Watch,
