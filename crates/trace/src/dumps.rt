@@ -29,6 +29,7 @@ use book::errors::LoadError;
 use loading::load_dump;
 use std::alloc::Global;
 use std::io::{Read, Write};
+use std::mem;
 
 /// Writes the lines of the dump in the input, and returns the status: 0 when all are written, 1 for a refused dump, a failed write, or if memory ran out. All lines
 /// are made before the first byte is written. A refusal is written with its number: that of the book's, or for input that can't be read one after them.
@@ -50,7 +51,12 @@ fn tell_dump(alloc: Global, bytes: &[u8], out: &mut dyn Write) -> u8
     ensures { result ≤ 1 }
 {
     match load_dump(alloc, bytes) {
-        Ok(book) => tell_loaded(alloc, &book, out),
+        Ok(book) => {
+            let status = tell_loaded(alloc, &book, out);
+            // the program ends now, which frees it at once
+            mem::forget(book);
+            status
+        }
         Err(error) => match error {
             LoadError::NoMemory => refuse_memory(out),
             _ => {

@@ -39,6 +39,7 @@ use scenario::{Event, Scenario, ScenarioError};
 use serde_json::Value;
 use std::alloc::Global;
 use std::io::{Read, Write};
+use std::mem;
 use world::World;
 use world::errors::WorldError;
 
@@ -136,7 +137,12 @@ fn tell_scenario(alloc: Global, out: &mut dyn Write, scenario: &Scenario, value:
     ensures { result ≤ 1 }
 {
     match World::new(alloc, &scenario.seeds, scenario.channels.values()) {
-        Ok(mut world) => tell_world(alloc, out, &mut world, scenario, value),
+        Ok(mut world) => {
+            let status = tell_world(alloc, out, &mut world, scenario, value);
+            // the program ends now, which frees it at once
+            mem::forget(world);
+            status
+        }
         Err(error) => refuse_world(alloc, out, error),
     }
 }
