@@ -53,7 +53,7 @@ fn tell_dump(alloc: Global, bytes: &[u8], out: &mut dyn Write) -> u8
     match load_dump(alloc, bytes) {
         Ok(book) => {
             let status = tell_loaded(alloc, &book, out);
-            // the program ends now, which frees it at once
+            // not dropped: the program ends now, which frees all at once
             mem::forget(book);
             status
         }

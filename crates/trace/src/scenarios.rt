@@ -139,7 +139,7 @@ fn tell_scenario(alloc: Global, out: &mut dyn Write, scenario: &Scenario, value:
     match World::new(alloc, &scenario.seeds, scenario.channels.values()) {
         Ok(mut world) => {
             let status = tell_world(alloc, out, &mut world, scenario, value);
-            // the program ends now, which frees it at once
+            // not dropped: the program ends now, which frees all at once
             mem::forget(world);
             status
         }
