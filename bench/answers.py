@@ -61,6 +61,8 @@ ROWS = [
     ("dump", "", '{"refused":"NotJson","number":1}\n', 1),
     ("dump", '{"history":[{"call":["sign",0],"seat":0}],"version":2}', '{"refused":"BadHistory 0","number":4}\n', 1),
     ("dump", '{"history":[],"version":3}', '{"refused":"BadShape","number":2}\n', 1),
+    ("dump", '{"history":[{"call":["close",0],"seat":0}],"version":2}', '{"refused":"BadShape","number":2}\n', 1),
+    ("dump", '{"history":[{"call":["close",0],"seat":0}],"version":3}', '{"refused":"BadHistory 0","number":4}\n', 1),
     ("witness", "", '{"refused":"Truncated"}\n', 1),
     # the lines after a transaction: how many there are, and what each has
     ("witness --text", ONE, "refused BadCount\n", 1),

@@ -5,7 +5,8 @@
   bench/dumps.py --tell   prints what is told of the dump on standard input
   bench/dumps.py FILE     compares it of the dumps of a file
 
-bench/dumps.txt has books of the examples as they stand at the end: of each kind of claim and of HTLC the shortest dump, and one dump with a claim that no script has.
+bench/dumps.txt has books of the examples as they stand at the end: of each kind of claim and of HTLC the shortest dump, and one dump with a claim that no script has. Three of them stand there again with
+a close of the channel: before a fulfil, before a signature (which is refused), and twice at the end.
 Commitments, balances, HTLCs and amounts are found here by rules of this file's own, from BOLT 2, 3 and 5 and docs/TRACE.md: a commitment is how many updates of each side it has.
 """
 import hashlib
@@ -21,6 +22,8 @@ REFUSED = {
     "{": ("NotJson", 1),
     "[]": ("BadShape", 2),
     '{"history":[],"version":3}': ("BadShape", 2),
+    '{"history":[{"call":["close",0],"seat":0}],"version":2}': ("BadShape", 2),
+    '{"history":[{"call":["close",0],"seat":0}],"version":3}': ("BadHistory 0", 4),
     '{"history":[{"call":["sign",0],"seat":0}],"version":2}': ("BadHistory 0", 4),
 }
 
@@ -32,7 +35,7 @@ class Channel:
         self.terms, self.funding, self.side = terms, funding, side
         self.updates = ([], [])
         self.ours, self.theirs, self.next = [(0, 0)], [(0, 0)], None
-        self.preimages, self.kept = [], set()
+        self.preimages, self.kept, self.closed = [], set(), None
 
     def add(self, whose, update):
         self.updates[whose].append(update)
@@ -46,6 +49,10 @@ class Channel:
     def signed(self):
         """This side's next has all of the peer's, and those of this side that the peer's newest has."""
         self.ours.append((self.theirs[-1][0], len(self.updates[1])))
+
+    def close(self):
+        """This side closes the channel with its newest commitment, which stays the newest."""
+        self.closed = len(self.ours) - 1
 
     def revoke(self):
         self.theirs.append(self.next)
@@ -139,6 +146,7 @@ class Channel:
         return {
             "channel": index, "funding": self.funding, "side": self.side, "opener": self.terms["opener"], "capacity": self.terms["capacity"],
             "peer_delay": self.terms["delay"][self.index(1)],
+            **({} if self.closed is None else {"closed": self.closed}),
             "ours": self.commitment(len(self.ours) - 1, self.ours[-1]),
             "theirs": self.commitment(len(self.theirs) - 1, self.theirs[-1]),
             "next": self.next and self.commitment(len(self.theirs), self.next),
@@ -179,6 +187,8 @@ def told(dump):
             channels[call[1]].revoke()
         elif call[0] == "keep":
             channels[call[1]].kept.add(call[2])
+        elif call[0] == "close":
+            channels[call[1]].close()
     found = [channel.told(index) for index, channel in enumerate(channels)]
     return [*found, {"entries": len(dump["history"]), "channels": len(channels)}]
 
@@ -192,13 +202,23 @@ def claims_in(call):
     return {"keep": call[3:4], "release": call[2:3]}.get(call[0], [[]])[0]
 
 
+def is_shut_out(call):
+    """Whether a call is one that a closed channel does not take: it signs, takes a signature, or makes an update of this side's own other than a fulfil."""
+    return call[0] == "sign" or call[0] == "step" and (call[2] in ("offer", "fail", "fee") or call[2] == "receive" and call[3][0] == "signed")
+
+
 def refusal_of(line):
-    """Why a line is refused, with the number, if it is: a claim by path 9 is one that no script of a channel has."""
+    """Why a line is refused, with the number, if it is: a claim by path 9 is one that no script of a channel has, and a closed channel stays closed."""
     if line in REFUSED:
         return REFUSED[line]
-    for index, entry in enumerate(json.loads(line)["history"]):
-        if any(claim["path"] == 9 for claim in claims_in(entry["call"])):
+    closed = set()
+    for index, call in enumerate(entry["call"] for entry in json.loads(line)["history"]):
+        if any(claim["path"] == 9 for claim in claims_in(call)):
             return f"BadClaim {index}", 3
+        if is_shut_out(call) and call[1] in closed:
+            return f"BadHistory {index}", 4
+        if call[0] == "close":
+            closed.add(call[1])
     return None
 
 

@@ -3,8 +3,6 @@
 # within 10 seconds and print the whole answer, or that memory ran out. Prints how many runs did which. Wants a C compiler.
 #
 #   bench/node_refusals.sh PROGRAM [STEP]   the program itself, not the command ./enforce; every STEP-th allocation alone
-#
-# An unproved program has a heap of its own, so that of it threads alone are refused.
 set -uo pipefail
 cd "$(dirname "$0")/.." || exit 1
 program=$1
@@ -37,7 +35,7 @@ try_all() {
   "$program" node 2 <"$scenario" >"$room/whole" || exit 1
   most=$(how_many "$1" "$2")
   if [[ ! $most =~ ^[0-9]+$ ]]; then
-    echo "$1: left out, since the program has a heap of its own"
+    echo "$1: left out, since the program tells of none"
     return
   fi
   whole=0 refused=0 failed=0

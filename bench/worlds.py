@@ -62,9 +62,9 @@ def signed(updater, other, channel):
     ]
 
 
-def closes(payments):
+def closes():
     """One side closes each channel, and what is due is claimed."""
-    events = [["broadcast", "AB"[channel % 2], channel, 2 * payments[channel]] for channel in range(CHANNELS)]
+    events = [["close", "AB"[channel % 2], channel] for channel in range(CHANNELS)]
     events += [["blocks", 1], ["look", "A"], ["look", "B"]]
     for side in "AB":
         events += [["take", side, CHANNELS], *CHANNELS * [["release", side, 1]]]
@@ -75,7 +75,7 @@ def scenario(length):
     """A scenario of this number of events: payments over the channels in turn, after every eight of them a block that both sides read, and closes at the end."""
     payments = CHANNELS * [0]
     events, turn = [], 0
-    end = len(closes(payments))
+    end = len(closes())
     while len(events) + 18 + 3 + end <= length:
         channel = turn % CHANNELS
         events += payment("AB"[payments[channel] % 2], channel, payments[channel])
@@ -83,7 +83,7 @@ def scenario(length):
         turn += 1
         if turn % CHANNELS == 0:
             events += [["blocks", 1], ["look", "A"], ["look", "B"]]
-    events += closes(payments)
+    events += closes()
     events += (length - len(events)) * [["blocks", 0]]
     return {"seeds": ["0a" * 32, "0b" * 32], "channels": CHANNELS * [TERMS], "events": events}
 

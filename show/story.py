@@ -101,6 +101,7 @@ class Channel:
         self.newest = {side: {"number": 0, "balance": start, "on": set()} for side in SIDES}
         self.revoked = {side: -1 for side in SIDES}
         self.signed = {side: 0 for side in SIDES}
+        self.closed = {side: False for side in SIDES}
         self.htlcs, self.stages, self.queue = {}, {}, {side: deque() for side in SIDES}
         # HTLCs that some newest commitment has or will have, in the order in which they were offered
         self.live = {}
@@ -138,7 +139,8 @@ class Channel:
     def told_side(self, side):
         revoked = f", {self.revoked[side]} and older revoked" if self.revoked[side] > 0 else ", 0 revoked" if self.revoked[side] == 0 else ""
         signed = f", {self.signed[side]} signed" if self.signed[side] > self.newest[side]["number"] else ""
-        return f"{side} holds {self.newest[side]['number']}{signed}{revoked}"
+        closed = ", closed the channel" if self.closed[side] else ""
+        return f"{side} holds {self.newest[side]['number']}{signed}{revoked}{closed}"
 
 
 def listed(items, named=str):
@@ -215,6 +217,9 @@ class Story:
         if "revoked" in line:
             it = line["revoked"]
             self.channels[it["channel"]].revoked[it["owner"]] = it["number"]
+        if "closed" in line:
+            it = line["closed"]
+            self.channels[it["channel"]].closed[it["owner"]] = True
         if "kept" in line:
             self.kept[line["kept"]["side"]] += 1
         if "jobs" in line:
@@ -304,6 +309,8 @@ def name_of(story, event, joined):
     if event[0] == "broadcast":
         of = f"commitment {event[3]}" if len(event) == 4 else f"HTLC transaction {event[4]} of commitment {event[3]}"
         return f"{event[1]}'s {of}{story.place(event[2])}"
+    if event[0] == "close":
+        return f"{event[1]}'s commitment {story.channels[event[2]].newest[event[1]]['number']}{story.place(event[2])}"
     if event[0] == "release":
         return f"{event[1]}'s claim of {what(story, joined['spends'])}"
     return "a transaction"
@@ -330,7 +337,7 @@ def tell(story, line, before):
     """An event as a row."""
     event = line["words"]
     name, side = event[0], event[1] if isinstance(event[1], str) else "chain"
-    channel = event[2] if name in ("offer", "fulfil", "fail", "fee", "sign", "deliver", "keep", "broadcast") else None
+    channel = event[2] if name in ("offer", "fulfil", "fail", "fee", "sign", "deliver", "keep", "broadcast", "close") else None
     answer = line["answer"]
     if answer.startswith("refused"):
         said = f"{side}: {wanted(event)}" if side in SIDES else wanted(event)
@@ -397,6 +404,11 @@ def tell_broadcast(story, line, event, before):
     return f"{side} broadcasts HTLC transaction {event[4]} of commitment {number}", [], [("to chain", side)]
 
 
+def tell_close(story, line, event, before):
+    number = line["closed"]["number"]
+    return f"{event[1]} closes the channel: broadcasts its commitment {number}", [], [("to chain", event[1])]
+
+
 def tell_blocks(story, line, event, before):
     after = line["height"]
     said = "no block" if after == before else f"block {after:,}" if after == before + 1 else f"blocks {before + 1:,} to {after:,}"
@@ -440,7 +452,7 @@ def tell_release(story, line, event, before):
 
 TELL = {
     "offer": tell_offer, "fulfil": tell_fulfil, "fail": tell_fail, "fee": tell_fee, "sign": tell_sign, "deliver": tell_deliver, "keep": tell_keep,
-    "broadcast": tell_broadcast, "blocks": tell_blocks, "look": tell_look, "take": tell_take, "release": tell_release, "reorg": tell_reorg,
+    "broadcast": tell_broadcast, "close": tell_close, "blocks": tell_blocks, "look": tell_look, "take": tell_take, "release": tell_release, "reorg": tell_reorg,
 }
 
 

@@ -1,12 +1,18 @@
 -- What is true where a call is accepted.
-use Rattle.std.proofs.Common.{◌≡◌, ℕ, ◌<◌, Bool, true, false, not, true≢false, List, Option, Some, None, Result, refl, sym, ap}
-use Rattle.std.specs.Prelude.{is_ok, length}
+use Rattle.std.proofs.Common.{◌≡◌, ℕ, ◌<◌, ◌||◌, Bool, true, false, not, true≢false, List, Option, Some, None, option_map, Result, refl, sym, ap}
+use Rattle.std.specs.Prelude.{is_ok, nat_le, length}
 use Rattle.std.proofs.lemmas.Bool.{ltb-true}
 use Rattle.claim.specs.Claims.{ClaimParts}
+use Rattle.updates.specs.Refusals.{covers_nothing}
+use Rattle.channel.specs.declared.limits.TheConstants.{LAST_NUMBER}
+use Rattle.channel.specs.States.{Signing}
+use Rattle.book.specs.declared.calls.Step.{Step}
+use Rattle.book.specs.declared.errors.StepError.TheVariants.{Refused}
 use Rattle.book.specs.declared.errors.SignError.{SignError}
+use Rattle.book.specs.declared.errors.SignError.TheVariants.{AwaitingRevocation, NoUpdates, ChannelClosed}
 use Rattle.book.specs.Penalties.{is_penalty_set}
-use Rattle.book.specs.Books.{ChannelBook, is_kept, first_missing}
-use Rattle.book.specs.Replies.{asked, unless, if_so, if_missing, keep_refusal, sign_refusal}
+use Rattle.book.specs.Books.{ChannelBook, is_closed, is_kept, first_missing}
+use Rattle.book.specs.Replies.{asked, unless, if_so, if_missing, step_refusal, book_step_refusal, keep_refusal, sign_refusal}
 
 -- the channel is there
 pub asked_ok : {A E : Type 0} (none : E) (o : Option ChannelBook) (answer : ChannelBook → Result A E) → is_ok (asked none o answer) ≡ true
@@ -45,10 +51,21 @@ keeps ch n claims none =
     let other = passed _ _ _ new.1 in
     (ltb-true _ _ (not_false _ revoked.0), new.0, not_false _ other.0)
 
+-- the channel does not refuse a step that the book takes
+pub step_passes : (ch : ChannelBook) (step : Step) (tokens_of : Signing) → book_step_refusal tokens_of ch step ≡ None → step_refusal tokens_of ch.state step ≡ None
+step_passes ch step tokens_of none = unmapped Refused (step_refusal tokens_of ch.state step) (passed _ _ _ none).1
+  where
+    unmapped : {A B : Type 0} (f : A → B) (o : Option A) → option_map f o ≡ None → o ≡ None
+    unmapped f None e = refl
+    unmapped f (Some x) e = absurd (some_none _ e)
+
 -- a book that signs has no penalties missing
 pub none_missing : (ch : ChannelBook) → sign_refusal ch ≡ None → first_missing ch ≡ None
-none_missing ch none = by (first_missing ch) _ (passed _ _ _ none).1
+none_missing ch none =
+    by (is_closed ch) (ch.state.awaiting || nat_le LAST_NUMBER ch.state.peer_number) (first_missing ch) (if_so (covers_nothing ch.state.held.own ch.state.held.theirs) NoUpdates None) none
   where
-    by : (o : Option ℕ) (later : Option SignError) → if_missing o later ≡ None → o ≡ None
-    by None later e = refl
-    by (Some n) later e = absurd (some_none _ e)
+    by : (shut waits : Bool) (o : Option ℕ) (later : Option SignError) → if_so shut ChannelClosed (if_so waits AwaitingRevocation (if_missing o later)) ≡ None → o ≡ None
+    by true waits o later e = absurd (some_none _ e)
+    by false true o later e = absurd (some_none _ e)
+    by false false None later e = refl
+    by false false (Some n) later e = absurd (some_none _ e)

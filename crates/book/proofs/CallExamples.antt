@@ -20,15 +20,16 @@ use Rattle.book.specs.declared.calls.Opening.{Opening}
 use Rattle.book.specs.declared.calls.Batch.{Batch}
 use Rattle.book.specs.declared.calls.Step.TheVariants.{Own, Updated, Signed}
 use Rattle.book.specs.declared.calls.Call.{Call}
-use Rattle.book.specs.declared.calls.Call.TheVariants.{Open, Step as Stepping, Sign, Revoke, Keep, Release}
+use Rattle.book.specs.declared.calls.Call.TheVariants.{Open, Step as Stepping, Sign, Revoke, Keep, Release, Close}
 use Rattle.book.specs.declared.calls.Entry.{Entry}
 use Rattle.book.specs.declared.errors.OpenError.TheVariants as opens
 use Rattle.book.specs.declared.errors.SignError.TheVariants as signs
 use Rattle.book.specs.declared.errors.KeepError.TheVariants as keeps
+use Rattle.book.specs.declared.errors.CloseError.TheVariants as closes
 use Rattle.book.specs.declared.errors.KnowError.TheVariants as knows
 use Rattle.book.specs.declared.errors.LoadError.TheVariants as loads
 use Rattle.book.specs.declared.errors.OpenError.TheVariants.{BookFull, SameFunding, BadSignature}
-use Rattle.book.specs.declared.errors.StepError.TheVariants.{Refused, NoSuchChannel as NoChannelToStep}
+use Rattle.book.specs.declared.errors.StepError.TheVariants.{Refused, NoSuchChannel as NoChannelToStep, ChannelClosed as ClosedToSteps}
 use Rattle.book.specs.declared.errors.SignError.TheVariants.{PenaltiesMissing, AwaitingRevocation, NoUpdates, NoSuchChannel as NoChannelToSign}
 use Rattle.book.specs.declared.errors.KeepError.TheVariants.{NotRevoked, AlreadyKept, OtherState, NoSuchChannel as NoChannelToKeep}
 use Rattle.book.specs.declared.errors.ReleaseError.TheVariants.{Unfilled, NoSuchChannel as NoChannelToRelease}
@@ -36,21 +37,22 @@ use Rattle.book.specs.declared.limits.TheConstants.{MAX_CHANNELS}
 use Rattle.terms.specs.Bases.{IsSeedOf}
 use Rattle.book.specs.Penalties.{is_penalty_set}
 use Rattle.book.specs.Books.{ChannelBook, Channels, opened_by, missing_from}
-use Rattle.book.specs.Refusals.{open_error_number, step_error_number, sign_error_number, keep_error_number, release_error_number, know_error_number, load_error_number}
-use Rattle.book.specs.Replies.{answer_of, open_refusal, Reply, opened, stepped, signed, revoked, kept, released, reply_of, sign_refusal, keep_refusal, history_after}
+use Rattle.book.specs.Refusals.{open_error_number, step_error_number, sign_error_number, keep_error_number, release_error_number, close_error_number, know_error_number, load_error_number}
+use Rattle.book.specs.Replies.{answer_of, open_refusal, Reply, opened, stepped, signed, revoked, kept, released, closed, reply_of, sign_refusal, keep_refusal, history_after}
 use Rattle.book.specs.Accepted.{all_accepted, first_refused}
 use Rattle.book.specs.Guarding.{is_set_in, number_kept, is_guarded}
 use Rattle.channel.proofs.Samples.{key, secret, point_is, point_key, tokens_of, tokens}
 
 -- the numbers of the refusals; those of channels and fillings are unchanged
 numbers : (map open_error_number (opens.NoMemory ∷ opens.BookFull ∷ opens.SameFunding ∷ opens.BadSignature ∷ []) ≡ 0 ∷ 1 ∷ 2 ∷ 3 ∷ [])
-    × (map step_error_number (Refused NothingCovered ∷ Refused WrongSecret ∷ Refused NotYourTurn ∷ NoChannelToStep ∷ []) ≡ 9 ∷ 11 ∷ 12 ∷ 9 ∷ [])
-    × (map sign_error_number (signs.NoMemory ∷ signs.PenaltiesMissing 7 ∷ signs.AwaitingRevocation ∷ signs.NoUpdates ∷ signs.NoSuchChannel ∷ []) ≡ 0 ∷ 1 ∷ 2 ∷ 3 ∷ 9 ∷ [])
+    × (map step_error_number (Refused NothingCovered ∷ Refused WrongSecret ∷ Refused NotYourTurn ∷ NoChannelToStep ∷ ClosedToSteps ∷ []) ≡ 9 ∷ 11 ∷ 12 ∷ 9 ∷ 19 ∷ [])
+    × (map sign_error_number (signs.NoMemory ∷ signs.PenaltiesMissing 7 ∷ signs.AwaitingRevocation ∷ signs.NoUpdates ∷ signs.NoSuchChannel ∷ signs.ChannelClosed ∷ []) ≡ 0 ∷ 1 ∷ 2 ∷ 3 ∷ 9 ∷ 19 ∷ [])
     × (map keep_error_number (keeps.NoMemory ∷ keeps.NotRevoked ∷ keeps.OtherState ∷ keeps.AlreadyKept ∷ keeps.NoSuchChannel ∷ []) ≡ 0 ∷ 1 ∷ 2 ∷ 3 ∷ 9 ∷ [])
     × (map release_error_number (Unfilled NoRight ∷ Unfilled SameOutpoint ∷ NoChannelToRelease ∷ []) ≡ 1 ∷ 5 ∷ 9 ∷ [])
+    × (map close_error_number (closes.NoMemory ∷ closes.NoSuchChannel ∷ []) ≡ 0 ∷ 9 ∷ [])
     × (map know_error_number (knows.NoMemory ∷ knows.NoSuchChannel ∷ []) ≡ 0 ∷ 9 ∷ [])
     × (map load_error_number (loads.NoMemory ∷ loads.NotJson ∷ loads.BadShape ∷ loads.BadClaim 7 ∷ loads.BadHistory 7 ∷ []) ≡ 0 ∷ 1 ∷ 2 ∷ 3 ∷ 4 ∷ [])
-numbers = (refl, refl, refl, refl, refl, refl, refl)
+numbers = (refl, refl, refl, refl, refl, refl, refl, refl)
 
 limit : MAX_CHANNELS ≡ 65536
 limit = refl
@@ -206,10 +208,11 @@ module _ (bases : BaseKeys) (seed : List ℕ) (own : IsSeedOf seed bases) where
       × (reply_of tokens_of first_history (Revoke 1 secret (key 2)) ≡ revoked (Err NoChannelToStep))
       × (reply_of tokens_of first_history (Keep 1 5 []) ≡ kept (Err NoChannelToKeep))
       × (reply_of tokens_of first_history (Release 1 batch) ≡ released (Err NoChannelToRelease))
-  strangers batch = (refl, refl, refl, refl, refl)
+      × (reply_of tokens_of first_history (Close 1) ≡ closed (Err closes.NoSuchChannel))
+  strangers batch = (refl, refl, refl, refl, refl, refl)
 
   abbrev channel : State → List ℕ → ChannelBook
-  channel state kept_ones = record { state = state; kept = kept_ones }
+  channel state kept_ones = record { state = state; kept = kept_ones; closed = None }
 
   -- an awaited revocation is reported before missing penalties, and these before a signature that covers nothing
   orders : (sign_refusal (channel (record then { awaiting = true }) []) ≡ Some AwaitingRevocation)

@@ -25,12 +25,12 @@ use Rattle.channel.specs.States.{after, after_sign, receive_refusal, signature_m
 use Rattle.book.specs.declared.calls.Step.{Step}
 use Rattle.book.specs.declared.calls.Step.TheVariants.{Own, Updated, Signed}
 use Rattle.book.specs.declared.calls.Call.{Call}
-use Rattle.book.specs.declared.calls.Call.TheVariants.{Open, Step as Stepping, Sign, Revoke, Keep, Release}
+use Rattle.book.specs.declared.calls.Call.TheVariants.{Open, Step as Stepping, Sign, Revoke, Keep, Release, Close}
 use Rattle.book.specs.declared.calls.Entry.{Entry}
 use Rattle.book.specs.declared.errors.OpenError.{OpenError}
 use Rattle.book.specs.declared.errors.OpenError.TheVariants.{NoMemory as out_of_memory, BookFull, SameFunding, BadSignature}
-use Rattle.book.specs.Books.{ChannelBook, Channels, at_index, stepped as state_stepped, with_state, with_kept, opened_by, channels_after, replayed, replay}
-use Rattle.book.specs.Replies.{Reply, opened, stepped, signed, revoked, kept, released, is_accepted, answer_of, reply_of, extended, step_refusal, messages_of, sign_refusal, keep_refusal}
+use Rattle.book.specs.Books.{ChannelBook, Channels, at_index, stepped as state_stepped, with_state, with_kept, with_closed, opened_by, channels_after, replayed, replay}
+use Rattle.book.specs.Replies.{Reply, opened, stepped, signed, revoked, kept, released, closed, is_accepted, answer_of, reply_of, extended, book_step_refusal, messages_of, sign_refusal, keep_refusal}
 use Rattle.book.specs.Accepted.{all_accepted, claims_by, AreWhole}
 use Rattle.book.specs.Kept.{by_funding, AreLeft}
 use Rattle.book.specs.Calling.{IsCall, IsOpenRefusal, token_refusal, filling_by}
@@ -76,7 +76,7 @@ step_leaves_terms (Signed tokens) ch = refl
 
 -- ---- the answers of accepted calls
 
-pub step_answer : (chs : Channels) (c : ℕ) (ch : ChannelBook) (step : Step) (m : Option Message) → slice_get chs c ≡ Some ch → step_refusal peer_tokens ch.state step ≡ None
+pub step_answer : (chs : Channels) (c : ℕ) (ch : ChannelBook) (step : Step) (m : Option Message) → slice_get chs c ≡ Some ch → book_step_refusal peer_tokens ch step ≡ None
     → cons_option m [] ≡ messages_of ch.state step → answer_of peer_tokens chs (Stepping c step) ≡ stepped (Ok (cons_option m []))
 step_answer chs c ch step m found none e = rw (found, none) (ap (λ ms. stepped (Ok ms)) (sym e))
 
@@ -94,6 +94,9 @@ keep_answer chs c n ch claims found none = rw (found, none) refl
 pub release_answer : (chs : Channels) (c : ℕ) (ch : ChannelBook) (b : Batch) (f : Filling) → slice_get chs c ≡ Some ch → fill_refusal b.claims b.outputs (rights_of ch.state) b.preimages ≡ None → f ≡ filling_by b
     → answer_of peer_tokens chs (Release c b) ≡ released (Ok f)
 release_answer chs c ch b f found none filled = rw (found, none) (ap (λ g. released (Ok g)) (sym filled))
+
+close_answer : (chs : Channels) (c : ℕ) (ch : ChannelBook) (n : ℕ) → slice_get chs c ≡ Some ch → n ≡ ch.state.number → answer_of peer_tokens chs (Close c) ≡ closed (Ok n)
+close_answer chs c ch n found e = rw found (ap (λ k. closed (Ok k)) (sym e))
 
 -- a channel has the outpoint as its funding output
 abbrev is_funding : Channels → OutPoint → Bool
@@ -123,7 +126,7 @@ pub record IsDone (no_memory reply : Reply) (history new : List Entry) (channels
   pub keeps : AreLeft new channels'
 
 pub step_done : (history new : List Entry) (channels : List (OutPoint × ChannelBook)) (seat c : ℕ) (x y : ChannelBook) (step : Step) (m : Option Message) (no_memory : Reply) → AreLeft history channels
-    → slice_get (values_of channels) c ≡ Some x → step_refusal peer_tokens x.state step ≡ None → cons_option m [] ≡ messages_of x.state step → y ≡ with_state (state_stepped step) x
+    → slice_get (values_of channels) c ≡ Some x → book_step_refusal peer_tokens x step ≡ None → cons_option m [] ≡ messages_of x.state step → y ≡ with_state (state_stepped step) x
     → new ≡ history ++ entry seat (Stepping c step) ∷ [] → IsDone no_memory (stepped (Ok (cons_option m []))) history new (set_value_at channels c y) seat (Stepping c step)
 step_done history new channels seat c x y step m no_memory k found none message written_as is =
     let answer = step_answer (replay history) c x step m (stands history channels k c x found) none message in
@@ -162,6 +165,16 @@ open_done history new channels channels' seat n o no_memory k room absent token 
     record {
       called = taken history new seat (Open o) (opened (Ok n)) no_memory answer refl is;
       keeps = keeping history new channels channels' seat (Open o) (opened (Ok n)) k answer refl is (more ∙ joined history channels k (opened_by o)) tt;
+    }
+
+pub close_done : (history new : List Entry) (channels : List (OutPoint × ChannelBook)) (seat c : ℕ) (x y : ChannelBook) (n : ℕ) (no_memory : Reply) → AreLeft history channels
+    → slice_get (values_of channels) c ≡ Some x → n ≡ x.state.number → y ≡ with_closed x
+    → new ≡ history ++ entry seat (Close c) ∷ [] → IsDone no_memory (closed (Ok n)) history new (set_value_at channels c y) seat (Close c)
+close_done history new channels seat c x y n no_memory k found number written_as is =
+    let answer = close_answer (replay history) c x n (stands history channels k c x found) number in
+    record {
+      called = taken history new seat (Close c) (closed (Ok n)) no_memory answer refl is;
+      keeps = keeping_at with_closed (λ ch. refl) history new channels seat (Close c) (closed (Ok n)) c x y refl k answer refl is found written_as tt;
     }
 
 -- ---- refused calls

@@ -1,4 +1,4 @@
--- The replies of the six calls as one: which call each belongs to, what it returns if accepted, and the numbers of the refusals.
+-- The replies of the seven calls as one: which call each belongs to, what it returns if accepted, and the numbers of the refusals.
 use Rattle.std.proofs.Common.{◌≡◌, ℕ, true, List, [], ◌∷◌, map, Option, Some, None, Result, Ok, Err, refl}
 use Rattle.updates.specs.declared.errors.ChannelError.TheVariants as refuses
 use Rattle.filling.specs.Filled.{Filling}
@@ -11,14 +11,15 @@ use Rattle.book.specs.declared.calls.Batch.{Batch}
 use Rattle.book.specs.declared.calls.Step.{Step}
 use Rattle.book.specs.declared.calls.Call.TheVariants as calls
 use Rattle.book.specs.declared.calling.Reply.{Reply as Answer}
-use Rattle.book.specs.declared.calling.Reply.TheVariants.{Opened, Stepped, Signed, Revoked, Kept, Released}
+use Rattle.book.specs.declared.calling.Reply.TheVariants.{Opened, Stepped, Signed, Revoked, Kept, Released, Closed}
 use Rattle.book.specs.declared.errors.OpenError.TheVariants as opens
 use Rattle.book.specs.declared.errors.StepError.TheVariants as steps
 use Rattle.book.specs.declared.errors.SignError.TheVariants as signs
 use Rattle.book.specs.declared.errors.KeepError.TheVariants as keeps
 use Rattle.book.specs.declared.errors.ReleaseError.TheVariants as releases
-use Rattle.book.specs.Refusals.{open_error_number, step_error_number, sign_error_number, keep_error_number, release_error_number}
-use Rattle.book.specs.Replies.{Reply, opened, stepped, signed, revoked, kept, released, is_accepted}
+use Rattle.book.specs.declared.errors.CloseError.TheVariants as closes
+use Rattle.book.specs.Refusals.{open_error_number, step_error_number, sign_error_number, keep_error_number, release_error_number, close_error_number}
+use Rattle.book.specs.Replies.{Reply, opened, stepped, signed, revoked, kept, released, closed, is_accepted}
 use Rattle.book.specs.Dispatch.{reply_form, no_memory_of}
 
 -- the names of the calls
@@ -29,6 +30,7 @@ data Name : Type 0 where
   revoking : Name
   keeping : Name
   releasing : Name
+  closing : Name
 
 abbrev number_of : {A E : Type 0} → (E → ℕ) → Result A E → Option ℕ
 number_of number (Ok x) = None
@@ -42,22 +44,23 @@ shown (signed r) = (signing, number_of sign_error_number r)
 shown (revoked r) = (revoking, number_of step_error_number r)
 shown (kept r) = (keeping, number_of keep_error_number r)
 shown (released r) = (releasing, number_of release_error_number r)
+shown (closed r) = (closing, number_of close_error_number r)
 
 -- out of memory has number 0 for each call
 module _ (o : Opening) (taken : Step) (secret : List ℕ) (point : Key) (claims : List ClaimParts) (batch : Batch) where
   no_memory : map shown (map no_memory_of
-      (calls.Open o ∷ calls.Step 1 taken ∷ calls.Sign 2 ∷ calls.Revoke 3 secret point ∷ calls.Keep 4 5 claims ∷ calls.Release 6 batch ∷ []))
-      ≡ (opening, Some 0) ∷ (stepping, Some 0) ∷ (signing, Some 0) ∷ (revoking, Some 0) ∷ (keeping, Some 0) ∷ (releasing, Some 0) ∷ []
+      (calls.Open o ∷ calls.Step 1 taken ∷ calls.Sign 2 ∷ calls.Revoke 3 secret point ∷ calls.Keep 4 5 claims ∷ calls.Release 6 batch ∷ calls.Close 7 ∷ []))
+      ≡ (opening, Some 0) ∷ (stepping, Some 0) ∷ (signing, Some 0) ∷ (revoking, Some 0) ∷ (keeping, Some 0) ∷ (releasing, Some 0) ∷ (closing, Some 0) ∷ []
   no_memory = refl
 
--- a channel's index, the messages of a step, the message of a signature, the number that is revoked, nothing, and a filling
+-- a channel's index, the messages of a step, the message of a signature, the number that is revoked, nothing, a filling, and the number of a commitment
 module _ (message : Message) (filling : Filling) where
-  given : map reply_form (Opened (Ok 7) ∷ Stepped (Ok None) ∷ Stepped (Ok (Some message)) ∷ Signed (Ok message) ∷ Revoked (Ok 8) ∷ Kept (Ok tt) ∷ Released (Ok filling) ∷ [])
-      ≡ opened (Ok 7) ∷ stepped (Ok []) ∷ stepped (Ok (message ∷ [])) ∷ signed (Ok message) ∷ revoked (Ok 8) ∷ kept (Ok tt) ∷ released (Ok filling) ∷ []
+  given : map reply_form (Opened (Ok 7) ∷ Stepped (Ok None) ∷ Stepped (Ok (Some message)) ∷ Signed (Ok message) ∷ Revoked (Ok 8) ∷ Kept (Ok tt) ∷ Released (Ok filling) ∷ Closed (Ok 9) ∷ [])
+      ≡ opened (Ok 7) ∷ stepped (Ok []) ∷ stepped (Ok (message ∷ [])) ∷ signed (Ok message) ∷ revoked (Ok 8) ∷ kept (Ok tt) ∷ released (Ok filling) ∷ closed (Ok 9) ∷ []
   given = refl
 
   accepted : map (λ r. is_accepted (reply_form r))
-      (Opened (Ok 0) ∷ Stepped (Ok None) ∷ Signed (Ok message) ∷ Revoked (Ok 0) ∷ Kept (Ok tt) ∷ Released (Ok filling) ∷ []) ≡ true ∷ true ∷ true ∷ true ∷ true ∷ true ∷ []
+      (Opened (Ok 0) ∷ Stepped (Ok None) ∷ Signed (Ok message) ∷ Revoked (Ok 0) ∷ Kept (Ok tt) ∷ Released (Ok filling) ∷ Closed (Ok 0) ∷ []) ≡ true ∷ true ∷ true ∷ true ∷ true ∷ true ∷ true ∷ []
   accepted = refl
 
 abbrev refusals : List Answer
@@ -79,6 +82,10 @@ refusals =
     ∷ Kept (Err keeps.NoSuchChannel)
     ∷ Released (Err (releases.Unfilled fills.NoMemory))
     ∷ Released (Err releases.NoSuchChannel)
+    ∷ Stepped (Err steps.ChannelClosed)
+    ∷ Signed (Err signs.ChannelClosed)
+    ∷ Closed (Err closes.NoMemory)
+    ∷ Closed (Err closes.NoSuchChannel)
     ∷ []
 
 refused : map shown (map reply_form refusals)
@@ -99,5 +106,9 @@ refused : map shown (map reply_form refusals)
     ∷ (keeping, Some 9)
     ∷ (releasing, Some 0)
     ∷ (releasing, Some 9)
+    ∷ (stepping, Some 19)
+    ∷ (signing, Some 19)
+    ∷ (closing, Some 0)
+    ∷ (closing, Some 9)
     ∷ []
 refused = refl

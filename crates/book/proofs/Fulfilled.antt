@@ -14,11 +14,11 @@ use Rattle.channel.specs.States.{Signing}
 use Rattle.channel.specs.Tokens.{peer_tokens}
 use Rattle.book.specs.declared.calls.Step.{Step}
 use Rattle.book.specs.declared.calls.Call.{Call}
-use Rattle.book.specs.declared.calls.Call.TheVariants.{Open, Step as Stepping, Sign, Revoke, Keep, Release}
+use Rattle.book.specs.declared.calls.Call.TheVariants.{Open, Step as Stepping, Sign, Revoke, Keep, Release, Close}
 use Rattle.book.specs.declared.calls.Entry.{Entry}
 use Rattle.book.specs.Books.{ChannelBook, Channels, at_index, opened_by, channels_after, replayed}
-use Rattle.book.specs.declared.errors.StepError.TheVariants.{Refused, NoSuchChannel as NoChannelToStep}
-use Rattle.book.specs.Replies.{is_accepted, answer_of, unless, step_refusal, messages_of}
+use Rattle.book.specs.declared.errors.StepError.TheVariants.{NoSuchChannel as NoChannelToStep}
+use Rattle.book.specs.Replies.{is_accepted, answer_of, unless, book_step_refusal, messages_of}
 use Rattle.book.specs.Accepted.{is_taken, are_accepted}
 use Rattle.book.specs.Kept.{AreLeft}
 use Rattle.book.specs.Knowing.{preimage_in, preimage_of, preimages_in}
@@ -116,6 +116,7 @@ many_after (Sign c) ps chs same = same ∙ sym (as_long _ c chs)
 many_after (Revoke c secret next_point) ps chs same = same ∙ sym (as_long _ c chs)
 many_after (Keep c n claims) ps chs same = same ∙ sym (as_long _ c chs)
 many_after (Release c batch) ps chs same = same
+many_after (Close c) ps chs same = same ∙ sym (as_long _ c chs)
 
 many : (es : List Entry) → length (preimages_replayed es) ≡ length (replayed es)
 many [] = refl
@@ -124,7 +125,7 @@ many (e ∷ es) = many_after e.call (preimages_replayed es) (replayed es) (many 
 -- the channel that a step is taken in is there
 taken_within : (tokens_of : Signing) (chs : Channels) (d : ℕ) (step : Step) → is_accepted (answer_of tokens_of chs (Stepping d step)) ≡ true → d < length chs
 taken_within tokens_of chs d step ok =
-    let there = asked_ok NoChannelToStep (slice_get chs d) (λ ch. unless Refused (step_refusal tokens_of ch.state step) (messages_of ch.state step)) ok in
+    let there = asked_ok NoChannelToStep (slice_get chs d) (λ ch. unless (λ e. e) (book_step_refusal tokens_of ch step) (messages_of ch.state step)) ok in
     slice_get_within chs d there.0 there.1
 
 chosen : (b : Bool) (o : Option (List ℕ)) → (if b then cons_option o [] else []) ≡ cons_option (if b then o else None) []
@@ -142,6 +143,7 @@ added tokens_of chs c (Sign d) ps same ok = sym (append-nil (at_or ps c))
 added tokens_of chs c (Revoke d secret next_point) ps same ok = sym (append-nil (at_or ps c))
 added tokens_of chs c (Keep d n claims) ps same ok = sym (append-nil (at_or ps c))
 added tokens_of chs c (Release d batch) ps same ok = sym (append-nil (at_or ps c))
+added tokens_of chs c (Close d) ps same ok = sym (append-nil (at_or ps c))
 
 none_there : (c : ℕ) → at_or [] c ≡ []
 none_there zero = refl

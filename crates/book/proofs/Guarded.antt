@@ -9,10 +9,10 @@ use Rattle.channel.specs.States.{Signing, State}
 use Rattle.book.specs.declared.calls.Step.{Step}
 use Rattle.book.specs.declared.calls.Step.TheVariants.{Own, Updated, Signed}
 use Rattle.book.specs.declared.calls.Call.{Call}
-use Rattle.book.specs.declared.calls.Call.TheVariants.{Open, Step as Stepping, Sign, Revoke, Keep, Release}
+use Rattle.book.specs.declared.calls.Call.TheVariants.{Open, Step as Stepping, Sign, Revoke, Keep, Release, Close}
 use Rattle.book.specs.declared.calls.Entry.{Entry}
 use Rattle.book.specs.Penalties.{is_penalty_set}
-use Rattle.book.specs.Books.{ChannelBook, Channels, stepped, opened_by, with_state, with_kept, channels_after, replayed, is_kept, first_missing}
+use Rattle.book.specs.Books.{ChannelBook, Channels, stepped, opened_by, with_state, with_kept, with_closed, channels_after, replayed, is_kept, first_missing}
 use Rattle.book.specs.Replies.{is_accepted, answer_of}
 use Rattle.book.specs.Accepted.{is_taken, are_accepted}
 use Rattle.book.specs.Guarding.{is_revocation, revocations, number_kept, are_answered, is_allowed, all_allowed, AcceptedIsGuarded}
@@ -63,6 +63,7 @@ counted_once c (Sign d) tokens_of chs ok = ap (λ o. unwrap_or o 0) (unseen (λ 
 counted_once c (Revoke d secret next_point) tokens_of chs ok = let found = asked_ok _ (slice_get chs d) _ ok in revoked_once c d secret next_point chs found.0 found.1 (d == c) refl
 counted_once c (Keep d n claims) tokens_of chs ok = ap (λ o. unwrap_or o 0) (unseen (λ (ch : ChannelBook). length ch.state.secrets) (with_kept n) (λ ch. refl) d c chs)
 counted_once c (Release d batch) tokens_of chs ok = refl
+counted_once c (Close d) tokens_of chs ok = ap (λ o. unwrap_or o 0) (unseen (λ (ch : ChannelBook). length ch.state.secrets) with_closed (λ ch. refl) d c chs)
 
 counted : (c : ℕ) (tokens_of : Signing) (es : List Entry) → AreAccepted tokens_of es → count_of (at c es) ≡ revocations c es
 counted c tokens_of [] ok = refl
@@ -108,6 +109,7 @@ kept_once c n (Keep d m claims) tokens_of chs ok =
     let keeping = keeps found.0 m claims (unless_ok _ _ _ found.2) in
     keep_once c n d m claims chs found.0 found.1 keeping.0 keeping.2 (d == c) refl
 kept_once c n (Release d batch) tokens_of chs ok = inl
+kept_once c n (Close d) tokens_of chs ok = unchanged c n (Close d) chs (ap (λ o. unwrap_or o []) (unseen (λ (ch : ChannelBook). ch.kept) with_closed (λ ch. refl) d c chs))
 
 -- only numbers of revoked commitments are kept
 kept_below : (c n : ℕ) (tokens_of : Signing) (es : List Entry) → AreAccepted tokens_of es → is_kept (kept_of (at c es)) n ≡ true → n < revocations c es
@@ -138,6 +140,7 @@ revokes_alone c n chs (Sign d) e kept = true≢false (sym e)
 revokes_alone c n chs (Revoke d secret next_point) e kept = some_none n (sym kept)
 revokes_alone c n chs (Keep d m claims) e kept = true≢false (sym e)
 revokes_alone c n chs (Release d batch) e kept = true≢false (sym e)
+revokes_alone c n chs (Close d) e kept = true≢false (sym e)
 
 joins_old : (o : Option ℕ) (later : List ℕ) (n : ℕ) → is_kept later n ≡ true → is_kept (cons_option o later) n ≡ true
 joins_old None later n h = h
@@ -204,6 +207,7 @@ allowed tokens_of (Sign c) es before ok =
 allowed tokens_of (Revoke d secret next_point) es before ok = refl
 allowed tokens_of (Keep d n claims) es before ok = refl
 allowed tokens_of (Release d batch) es before ok = refl
+allowed tokens_of (Close d) es before ok = refl
 
 all_are : (tokens_of : Signing) (es : List Entry) → AreAccepted tokens_of es → all_allowed es ≡ true
 all_are tokens_of [] ok = refl

@@ -93,7 +93,7 @@ pub beside_kept : (ch : ChannelBook) (flags : List Bool) (below n next : ℕ) (k
     → next ≤ length (set flags n true)
     → ((m : ℕ) → below ≤ m → m < next → slice_get (set flags n true) m ≡ Some true)
     → (next < length (set flags n true) → slice_get (set flags n true) next ≡ Some false)
-    → IsBeside (record { state = ch.state; kept = kept }) (set flags n true) next
+    → IsBeside (record { state = ch.state; kept = kept; closed = ch.closed }) (set flags n true) next
 beside_kept ch flags below n next kept b within is from to passed stopped = record {
   count = length-set flags n true ∙ b.count;
   are = subst (λ ks. AreFlags ks (set flags n true) next) (sym is) (kept_one ch.kept flags below n next b.are (subst (λ k. n < k) (sym b.count) within) from to passed stopped);

@@ -22,7 +22,7 @@ use Rattle.book.specs.declared.calls.Batch.{Batch}
 use Rattle.book.specs.declared.calls.Step.{Step}
 use Rattle.book.specs.declared.calls.Step.TheVariants.{Own, Updated, Signed}
 use Rattle.book.specs.declared.calls.Call.{Call}
-use Rattle.book.specs.declared.calls.Call.TheVariants.{Open, Step as Stepping, Sign, Revoke, Keep, Release}
+use Rattle.book.specs.declared.calls.Call.TheVariants.{Open, Step as Stepping, Sign, Revoke, Keep, Release, Close}
 use Rattle.book.specs.declared.calls.Entry.{Entry}
 use Rattle.book.specs.declared.errors.ReleaseError.TheVariants.{Unfilled, NoSuchChannel}
 use Rattle.terms.specs.Bases.{IsSeedOf}
@@ -66,6 +66,7 @@ call_owns (Sign c) chs h = all_changed OwnsBases _ (λ ch k. k) c chs h
 call_owns (Revoke c secret next_point) chs h = all_changed OwnsBases _ (λ ch k. k) c chs h
 call_owns (Keep c n claims) chs h = all_changed OwnsBases _ (λ ch k. k) c chs h
 call_owns (Release c batch) chs h = h
+call_owns (Close c) chs h = all_changed OwnsBases _ (λ ch k. k) c chs h
 
 all_own : (es : List Entry) → AllByRecursion OwnsBases (replayed es)
 all_own [] = tt
@@ -110,6 +111,7 @@ later (Sign d) c chs ch at = changed _ (λ x. record { seed = refl; secrets = λ
 later (Revoke d secret next_point) c chs ch at = changed _ (λ x. record { seed = refl; secrets = λ s h. Contains-append_left x.state.secrets (secret ∷ []) s h }) d c chs ch at
 later (Keep d n claims) c chs ch at = changed _ (λ x. record { seed = refl; secrets = λ secret h. h }) d c chs ch at
 later (Release d batch) c chs ch at = record { new = ch; there = at; grew = same_knowledge ch }
+later (Close d) c chs ch at = changed _ (λ x. record { seed = refl; secrets = λ secret h. h }) d c chs ch at
 
 signs_later : (old new : ChannelBook) → Grew old new → (key : List ℕ) → MaySign (knowledge_of old.state) key → MaySign (knowledge_of new.state) key
 signs_later old new g key (own b e) = own b (e ∙ ap (λ s. base_key s b) (sym g.seed))

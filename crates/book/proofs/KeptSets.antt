@@ -29,17 +29,17 @@ use Rattle.texts.specs.Values.{◌>>=◌}
 use Rattle.book.specs.declared.calls.Step.{Step}
 use Rattle.book.specs.declared.calls.Step.TheVariants.{Own, Updated, Signed}
 use Rattle.book.specs.declared.calls.Call.{Call}
-use Rattle.book.specs.declared.calls.Call.TheVariants.{Open, Step as Stepping, Sign, Revoke, Keep, Release}
+use Rattle.book.specs.declared.calls.Call.TheVariants.{Open, Step as Stepping, Sign, Revoke, Keep, Release, Close}
 use Rattle.book.specs.declared.calls.Entry.{Entry}
 use Rattle.book.specs.declared.errors.SignError.TheVariants.{AwaitingRevocation, NoUpdates}
 use Rattle.book.specs.declared.errors.KeepError.TheVariants.{NoMemory}
 use Rattle.book.specs.Penalties.{revoked_contents, claimable_in, claimable_at, is_penalty_set, IsChecked}
-use Rattle.book.specs.Books.{ChannelBook, Channels, at_index, stepped, opened_by, with_state, with_kept, first_missing, channels_after, replayed}
+use Rattle.book.specs.Books.{ChannelBook, Channels, at_index, stepped, opened_by, with_state, with_kept, with_closed, first_missing, channels_after, replayed}
 use Rattle.book.specs.Replies.{kept, is_accepted, answer_of, if_so, if_missing, step_refusal, sign_refusal}
 use Rattle.book.specs.Accepted.{is_taken, are_accepted, all_accepted, claims_by}
 use Rattle.book.specs.Guarding.{revocations, claimable_by, is_set_in, ArePenaltiesIn, KeptAreExact, GuardedMeans}
 use Rattle.book.specs.Calling.{IsCall}
-use Rattle.book.proofs.Accepting.{asked_ok, unless_ok, keeps}
+use Rattle.book.proofs.Accepting.{asked_ok, unless_ok, passed, keeps, step_passes}
 use Rattle.book.proofs.CheckedForms.{forms_are_checked}
 use Rattle.book.proofs.Sets.{claims_are, ways_are_checked}
 use Rattle.book.proofs.Accepted.{earlier as accepted_before}
@@ -54,12 +54,12 @@ abbrev Lives : Signing → ChannelBook → Type 0
 Lives tokens_of ch = IsLived tokens_of ch.state
 
 -- the element at an index changes
-all_set : {A : Type 0} (P : A → Type 0) (f : A → A) (n : ℕ) (xs : List A) → AllByRecursion P xs → ((x : A) → slice_get xs n ≡ Some x → P (f x)) → AllByRecursion P (at_index f n xs)
+pub all_set : {A : Type 0} (P : A → Type 0) (f : A → A) (n : ℕ) (xs : List A) → AllByRecursion P xs → ((x : A) → slice_get xs n ≡ Some x → P (f x)) → AllByRecursion P (at_index f n xs)
 all_set P f n [] h g = tt
 all_set P f zero (x ∷ xs) h g = (g x refl, h.1)
 all_set P f (suc n) (x ∷ xs) h g = (h.0, all_set P f n xs h.1 g)
 
-at_found : {A : Type 0} (P : A → Type 0) (o : Option A) (y : A) → o ≡ Some y → P y → (x : A) → o ≡ Some x → P x
+pub at_found : {A : Type 0} (P : A → Type 0) (o : Option A) (y : A) → o ≡ Some y → P y → (x : A) → o ≡ Some x → P x
 at_found P o y there p x same = subst P (same_Some y x (sym there ∙ same)) p
 
 step_lives : (tokens_of : Signing) (step : Step) (s : State) → step_refusal tokens_of s step ≡ None → IsLived tokens_of s → IsLived tokens_of (stepped step s)
@@ -69,7 +69,7 @@ step_lives tokens_of (Signed tokens) s none l = received_once (CommitmentSigned 
 
 -- the channel does not refuse to sign what the book does not refuse
 channel_signs : (ch : ChannelBook) → sign_refusal ch ≡ None → channel_refusal ch.state ≡ None
-channel_signs ch none = by (ch.state.awaiting || nat_le LAST_NUMBER ch.state.peer_number) (first_missing ch) (covers_nothing ch.state.held.own ch.state.held.theirs) none
+channel_signs ch none = by (ch.state.awaiting || nat_le LAST_NUMBER ch.state.peer_number) (first_missing ch) (covers_nothing ch.state.held.own ch.state.held.theirs) (passed _ _ _ none).1
   where
     by : (waits : Bool) (missing : Option ℕ) (nothing : Bool)
         → if_so waits AwaitingRevocation (if_missing missing (if_so nothing NoUpdates None)) ≡ None
@@ -85,7 +85,7 @@ call_lives tokens_of (Stepping c step) chs h ok =
     let found = asked_ok _ (slice_get chs c) _ ok in
     let lives = all_at (Lives tokens_of) chs c found.0 h found.1 in
     all_set (Lives tokens_of) (with_state (stepped step)) c chs h
-    (at_found (λ x. Lives tokens_of (with_state (stepped step) x)) (slice_get chs c) found.0 found.1 (step_lives tokens_of step found.0.state (unless_ok _ _ _ found.2) lives))
+    (at_found (λ x. Lives tokens_of (with_state (stepped step) x)) (slice_get chs c) found.0 found.1 (step_lives tokens_of step found.0.state (step_passes found.0 step tokens_of (unless_ok _ _ _ found.2)) lives))
 call_lives tokens_of (Sign c) chs h ok =
     let found = asked_ok _ (slice_get chs c) _ ok in
     let lives = all_at (Lives tokens_of) chs c found.0 h found.1 in
@@ -99,6 +99,7 @@ call_lives tokens_of (Revoke c secret next_point) chs h ok =
     (at_found (λ x. Lives tokens_of (with_state revoked x)) (slice_get chs c) found.0 found.1 (received_once (RevokeAndAck secret next_point) (unless_ok _ _ _ found.2) lives))
 call_lives tokens_of (Keep c n claims) chs h ok = all_changed (Lives tokens_of) (with_kept n) (λ ch k. k) c chs h
 call_lives tokens_of (Release c batch) chs h ok = h
+call_lives tokens_of (Close c) chs h ok = all_changed (Lives tokens_of) with_closed (λ ch k. k) c chs h
 
 all_live : (tokens_of : Signing) (es : List Entry) → are_accepted tokens_of es ≡ true → AllByRecursion (Lives tokens_of) (replayed es)
 all_live tokens_of [] ok = tt
@@ -191,6 +192,7 @@ still_lets (Revoke d secret next_point) n os c chs h =
     still_changed n os (with_state (λ s. after s (RevokeAndAck secret next_point))) (λ ch e. after_revocation n os secret next_point ch.state e) d c chs h
 still_lets (Keep d m claims) n os c chs h = still_changed n os (with_kept m) (λ ch e. e) d c chs h
 still_lets (Release d batch) n os c chs h = h
+still_lets (Close d) n os c chs h = still_changed n os with_closed (λ ch e. e) d c chs h
 
 -- ---- a set is exact as it is kept, and from then on
 

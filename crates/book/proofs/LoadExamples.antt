@@ -9,6 +9,7 @@ use Rattle.texts.specs.declared.calls.PlainCall.{PlainCall}
 use Rattle.texts.specs.declared.calls.PlainCall.TheVariants as plain
 use Rattle.texts.specs.declared.calls.PlainEntry.{PlainEntry}
 use Rattle.texts.specs.Calls.{dump_of as dump_in_data}
+use Rattle.book.specs.declared.calls.Call.TheVariants.{Close}
 use Rattle.book.specs.declared.errors.EntryError.TheVariants as entries
 use Rattle.book.specs.declared.errors.LoadError.TheVariants.{NotJson, BadShape, BadClaim, BadHistory}
 use Rattle.claim.specs.Opcodes.{ops_in, ops_of}
@@ -47,6 +48,10 @@ releases : (call_of (plain.Release 3 [] [] []) ≡ Err entries.BadShape)
 unfolding call_of claims_of claim_of checked_of ops_of ops_in batch_of
 releases = (refl, refl)
 
+closes : call_of (plain.Close 3) ≡ Ok (Close 3)
+unfolding call_of
+closes = refl
+
 abbrev entry : PlainCall → PlainEntry
 entry call = record { call = call; seat = 4 }
 
@@ -55,18 +60,20 @@ module _ (tokens_of : Signing) where
   histories : (history_after_plain tokens_of 0 [] [] ≡ Ok [])
       × (history_after_plain tokens_of 0 [] (entry (plain.Sign 0) ∷ []) ≡ Err (BadHistory 0))
       × (history_after_plain tokens_of 5 [] (entry (plain.Sign 0) ∷ []) ≡ Err (BadHistory 5))
+      × (history_after_plain tokens_of 0 [] (entry (plain.Close 0) ∷ []) ≡ Err (BadHistory 0))
       × (history_after_plain tokens_of 0 [] (entry (plain.Keep 0 0 (bad_claim (0x50 ∷ []) ∷ [])) ∷ []) ≡ Err (BadClaim 0))
       × (history_after_plain tokens_of 0 [] (entry (plain.Keep 0 0 []) ∷ []) ≡ Err (BadHistory 0))
       × (history_after_plain tokens_of 0 [] (entry (plain.Sign 0) ∷ entry (plain.Keep 0 0 (bad_claim (0x50 ∷ []) ∷ [])) ∷ []) ≡ Err (BadHistory 0))
   unfolding entry_of call_of claims_of claim_of checked_of ops_of ops_in
-  histories = (refl, refl, refl, refl, refl, refl)
+  histories = (refl, refl, refl, refl, refl, refl, refl)
 
 -- texts
 texts : (dump_in (codes "{\"history\":[],\"version\":2}") ≡ Ok (record { history = [] }))
     × (dump_in (codes "{\"history\":[],\"version\":1}") ≡ Ok (record { history = [] }))
+    × (dump_in (codes "{\"history\":[],\"version\":3}") ≡ Err BadShape)
     × (dump_in (codes "{\"history\":[],\"version\":9}") ≡ Err BadShape)
     × (dump_in (codes "{}") ≡ Err BadShape)
     × (dump_in (codes "{\"history\":[],\"version\":2") ≡ Err NotJson)
     × (dump_in [] ≡ Err NotJson)
 unfolding dump_in_data serde_json_on_literals
-texts = (refl, refl, refl, refl, refl, refl)
+texts = (refl, refl, refl, refl, refl, refl, refl)

@@ -25,7 +25,7 @@ use Rattle.texts.specs.Values.{each_of}
 use Rattle.texts.specs.Messages.{update_of}
 use Rattle.texts.specs.Steps.{received_of}
 use Rattle.terms.specs.Proposals.{can_agree, party_of}
-use Rattle.texts.specs.Calls.{are_within, call_of as call_in, entry_of as entry_in}
+use Rattle.texts.specs.Calls.{are_within, call_of as call_in, entry_of as entry_in, has_close, any_close as any_plain_close}
 use Rattle.texts.specs.Writing.{update_data}
 use Rattle.texts.specs.ClaimWriting.{plain_claim}
 use Rattle.texts.specs.CallWriting.{CanOpen, open_data, receive_data, release_data, entry_data}
@@ -34,7 +34,7 @@ use Rattle.terms.specs.Bases.{IsSeedOf}
 use Rattle.book.specs.declared.calls.Opening.{Opening}
 use Rattle.book.specs.declared.calls.Batch.{Batch}
 use Rattle.book.specs.declared.calls.Call.{Call}
-use Rattle.book.specs.declared.calls.Call.TheVariants.{Open, Step as Stepping, Sign, Revoke, Keep, Release}
+use Rattle.book.specs.declared.calls.Call.TheVariants.{Open, Step as Stepping, Sign, Revoke, Keep, Release, Close}
 use Rattle.book.specs.declared.calls.Step.{Step}
 use Rattle.book.specs.declared.calls.Step.TheVariants.{Own, Updated, Signed}
 use Rattle.book.specs.declared.calls.Entry.{Entry}
@@ -42,7 +42,7 @@ use Rattle.book.specs.declared.errors.LoadError.TheVariants as loads
 use Rattle.book.specs.Accepted.{is_taken, first_refused_after, all_accepted}
 use Rattle.book.specs.Openings.{bases_of, own_or_others, terms_with, owns, opening_if, opening_of, batch_of}
 use Rattle.book.specs.Loading.{checked_of, claim_of, claims_of, call_of, with_seat, entry_of}
-use Rattle.book.specs.Dumping.{plain_party, plain_terms, plain_opening, plain_step, plain_call, plain_entry, step_data, call_data, history_entry_data, history_data}
+use Rattle.book.specs.Dumping.{plain_party, plain_terms, plain_opening, plain_step, plain_call, plain_entry, step_data, call_data, history_entry_data, is_close, any_close, history_data}
 use Rattle.book.specs.Loaded.{with_entry, history_after_plain, loaded}
 use Rattle.book.specs.Again.{IsWhole, HasWholeClaims, HasStepTokens, HasTokens, ComesBack, ClaimsComeBack, OpeningsComeBack, EntriesComeBack}
 use Rattle.claim.proofs.OpcodesRead.{reads}
@@ -107,6 +107,7 @@ call_back (Sign channel) h = refl
 call_back (Revoke channel secret next_point) h = refl
 call_back (Keep channel number claims) h = rw (each_claim claims h) refl
 call_back (Release channel batch) h = rw (each_claim batch.claims h, same_batches batch) refl
+call_back (Close channel) h = refl
 
 pub entries_come_back : EntriesComeBack
 unfolding entry_of
@@ -173,13 +174,27 @@ are_read : (es : List Entry) → AllByRecursion ComesBack es → AllByRecursion 
 are_read [] back tokens = refl
 are_read (e ∷ es) back tokens = rw (back.0.read tokens.0, are_read es back.1 tokens.1) refl
 
+-- the plain calls have a close exactly where the calls do
+same_close : (c : Call) → has_close (plain_call c) ≡ is_close c
+same_close (Open o) = refl
+same_close (Stepping channel step) = refl
+same_close (Sign channel) = refl
+same_close (Revoke channel secret next_point) = refl
+same_close (Keep channel number claims) = refl
+same_close (Release channel batch) = refl
+same_close (Close channel) = refl
+
+same_closes : (es : List Entry) → any_plain_close (map plain_entry es) ≡ any_close es
+same_closes [] = refl
+same_closes (e ∷ es) = rw (same_close e.call, same_closes es) refl
+
 -- a text with the JSON of accepted entries is loaded as their history
 loads_again : (history : List Entry) (text : List ℕ) → all_accepted peer_tokens history ≡ true → AllByRecursion ComesBack history → read text ≡ Some (history_data history)
     → loaded peer_tokens text ≡ Ok history
 unfolding loaded
 loads_again history text accepted back readable =
     let none = (accepted_means.none_refused peer_tokens history).1 accepted in
-    let shape = dump_text (map history_entry_data history) (map plain_entry history) (are_read history back (each_token [] history none)) in
+    let shape = dump_text (any_close history) (map history_entry_data history) (map plain_entry history) (are_read history back (each_token [] history none)) (same_closes history) in
     rw (readable, shape) (from_each peer_tokens 0 [] history (are_whole history back) none)
 
 pub loaded_again : {S E : Type 0} (bytes : S → List ℕ) (history : List Entry) (r : Result S E) → AllByRecursion ComesBack history

@@ -10,7 +10,7 @@ use Rattle.penalty.specs.Claimable.{Claimable}
 use Rattle.channel.specs.declared.commitments.CommitmentState.{CommitmentState}
 use Rattle.channel.specs.States.{State}
 use Rattle.book.specs.declared.calls.Call.{Call}
-use Rattle.book.specs.declared.calls.Call.TheVariants.{Open, Step, Sign, Revoke, Keep, Release}
+use Rattle.book.specs.declared.calls.Call.TheVariants.{Open, Step, Sign, Revoke, Keep, Release, Close}
 use Rattle.book.specs.declared.calls.Entry.{Entry}
 use Rattle.texts.specs.Values.{◌>>=◌}
 use Rattle.book.specs.Penalties.{revoked_contents, claimable_in, claimable_at, are_claims_on}
@@ -60,6 +60,7 @@ tested_of c n chs (Keep d m claims) e = by (d == c && is_set_in (slice_get chs c
         subst (λ x. IsTested c n chs (Keep x m claims)) (sym (eqb-true d c parts.0))
         (subst (λ y. IsTested c n chs (Keep c y claims)) (sym same) (tested_set c n chs claims (subst (λ y. is_set_in (slice_get chs c) y claims ≡ true) same parts.1)))
 tested_of c n chs (Release d batch) e = absurd (none-some n e)
+tested_of c n chs (Close d) e = absurd (none-some n e)
 
 -- ---- where it stands
 

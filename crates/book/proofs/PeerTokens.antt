@@ -30,7 +30,7 @@ use Rattle.book.specs.declared.calls.Opening.{Opening}
 use Rattle.book.specs.declared.calls.Step.{Step}
 use Rattle.book.specs.declared.calls.Step.TheVariants.{Own, Updated, Signed}
 use Rattle.book.specs.declared.calls.Call.{Call}
-use Rattle.book.specs.declared.calls.Call.TheVariants.{Open, Step as Stepping, Sign, Revoke, Keep, Release}
+use Rattle.book.specs.declared.calls.Call.TheVariants.{Open, Step as Stepping, Sign, Revoke, Keep, Release, Close}
 use Rattle.book.specs.declared.calls.Entry.{Entry}
 use Rattle.book.specs.declared.limits.TheConstants.{MAX_CHANNELS}
 use Rattle.book.specs.declared.errors.OpenError.TheVariants.{BookFull, SameFunding, BadSignature as WrongToken}
@@ -40,7 +40,7 @@ use Rattle.book.specs.Accepted.{is_taken, first_refused_after}
 use Rattle.book.specs.Dumping.{plain_tokens}
 use Rattle.book.specs.Again.{HasStepTokens, HasTokens}
 use Rattle.book.proofs.CheckedForms.{derived_form}
-use Rattle.book.proofs.Accepting.{asked_ok, unless_ok, some_none, passed, not_false}
+use Rattle.book.proofs.Accepting.{asked_ok, unless_ok, some_none, passed, not_false, step_passes}
 
 -- ---- the peer's tokens
 
@@ -123,11 +123,12 @@ step_tokens s (Signed tokens) none = signature_tokens s tokens none
 
 call_tokens : (chs : Channels) (call : Call) → is_accepted (answer_of peer_tokens chs call) ≡ true → HasTokens call
 call_tokens chs (Open o) ok = opening_token chs o (unless_ok (λ e. e) (open_refusal peer_tokens chs o) (length chs) ok)
-call_tokens chs (Stepping c step) ok = let found = asked_ok _ (slice_get chs c) _ ok in step_tokens found.0.state step (unless_ok _ _ _ found.2)
+call_tokens chs (Stepping c step) ok = let found = asked_ok _ (slice_get chs c) _ ok in step_tokens found.0.state step (step_passes found.0 step peer_tokens (unless_ok _ _ _ found.2))
 call_tokens chs (Sign c) ok = tt
 call_tokens chs (Revoke c secret next_point) ok = tt
 call_tokens chs (Keep c number claims) ok = tt
 call_tokens chs (Release c batch) ok = tt
+call_tokens chs (Close c) ok = tt
 
 -- so the tokens of each entry of an accepted history have their form
 pub each_token : (before es : List Entry) → first_refused_after peer_tokens before es ≡ None → AllByRecursion (λ e. HasTokens e.call) es

@@ -19,7 +19,8 @@ use Rattle.book.specs.declared.calls.Step.{Step}
 use Rattle.book.specs.declared.calls.Call.{Call}
 use Rattle.book.specs.declared.calls.Call.TheVariants.{Step as Stepping, Sign, Revoke, Keep, Release}
 use Rattle.book.specs.declared.calls.Entry.{Entry}
-use Rattle.book.specs.declared.errors.StepError.TheVariants.{Refused}
+use Rattle.book.specs.declared.errors.StepError.{StepError}
+use Rattle.book.specs.declared.errors.StepError.TheVariants.{Refused, NoSuchChannel, ChannelClosed}
 use Rattle.book.specs.declared.errors.SignError.{SignError}
 use Rattle.book.specs.declared.errors.SignError.TheVariants as signs
 use Rattle.book.specs.declared.errors.KeepError.{KeepError}
@@ -27,9 +28,9 @@ use Rattle.book.specs.declared.errors.KeepError.TheVariants as keeps
 use Rattle.book.specs.declared.errors.ReleaseError.TheVariants.{Unfilled}
 use Rattle.book.specs.Signers.{fill_refusal}
 use Rattle.book.specs.Books.{ChannelBook, Channels, replay}
-use Rattle.book.specs.Replies.{Reply, stepped, signed, revoked, kept, released, is_accepted, answer_of, reply_of, extended, step_refusal, sign_refusal, keep_refusal}
+use Rattle.book.specs.Replies.{Reply, stepped, signed, revoked, kept, released, is_accepted, answer_of, reply_of, extended, book_step_refusal, sign_refusal, keep_refusal}
 use Rattle.book.specs.Kept.{AreLeft}
-use Rattle.book.specs.Calling.{IsCall, IsSignRefusal, IsKeepRefusal, IsFillRefusal}
+use Rattle.book.specs.Calling.{IsCall, IsStepRefusal, IsSignRefusal, IsKeepRefusal, IsFillRefusal}
 use Rattle.book.proofs.Fundings.{stands}
 
 -- memory ran out, or a refusal is the first that applies
@@ -50,12 +51,31 @@ to_take first refuses.WrongSecret is = inr is
 to_take first refuses.NotYourTurn is = inr is
 to_take first refuses.NotOpener is = inr is
 
+to_step : (first : Option StepError) (e : StepError) → IsStepRefusal first e → (e ≡ Refused refuses.NoMemory) ⊎ (first ≡ Some e)
+to_step first (Refused refuses.NoMemory) is = inl refl
+to_step first (Refused refuses.AmountZero) is = inr is
+to_step first (Refused refuses.BelowMinimum) is = inr is
+to_step first (Refused refuses.ExpiryTooLarge) is = inr is
+to_step first (Refused refuses.WrongId) is = inr is
+to_step first (Refused refuses.TooManyHtlcs) is = inr is
+to_step first (Refused refuses.OverBalance) is = inr is
+to_step first (Refused refuses.UnknownHtlc) is = inr is
+to_step first (Refused refuses.WrongPreimage) is = inr is
+to_step first (Refused refuses.NoUpdates) is = inr is
+to_step first (Refused refuses.BadSignature) is = inr is
+to_step first (Refused refuses.WrongSecret) is = inr is
+to_step first (Refused refuses.NotYourTurn) is = inr is
+to_step first (Refused refuses.NotOpener) is = inr is
+to_step first NoSuchChannel is = inr is
+to_step first ChannelClosed is = inr is
+
 to_sign : (first : Option SignError) (r : SignError) → IsSignRefusal first r → (r ≡ signs.NoMemory) ⊎ (first ≡ Some r)
 to_sign first signs.NoMemory is = inl refl
 to_sign first (signs.PenaltiesMissing n) is = inr is
 to_sign first signs.AwaitingRevocation is = inr is
 to_sign first signs.NoUpdates is = inr is
 to_sign first signs.NoSuchChannel is = inr is
+to_sign first signs.ChannelClosed is = inr is
 
 to_keep : (first : Option KeepError) (r : KeepError) → IsKeepRefusal first r → (r ≡ keeps.NoMemory) ⊎ (first ≡ Some r)
 to_keep first keeps.NoMemory is = inl refl
@@ -74,9 +94,9 @@ to_fill first fills.SameOutpoint is = inr is
 
 -- ---- the answers of refused calls
 
-step_answer : (chs : Channels) (c : ℕ) (ch : ChannelBook) (step : Step) (r : ChannelError) → slice_get chs c ≡ Some ch → step_refusal peer_tokens ch.state step ≡ Some r
-    → answer_of peer_tokens chs (Stepping c step) ≡ stepped (Err (Refused r))
-step_answer chs c ch step r found is = rw (found, is) refl
+step_answer : (chs : Channels) (c : ℕ) (ch : ChannelBook) (step : Step) (e : StepError) → slice_get chs c ≡ Some ch → book_step_refusal peer_tokens ch step ≡ Some e
+    → answer_of peer_tokens chs (Stepping c step) ≡ stepped (Err e)
+step_answer chs c ch step e found is = rw (found, is) refl
 
 revoke_answer : (chs : Channels) (c : ℕ) (ch : ChannelBook) (secret : List ℕ) (next_point : Key) (r : ChannelError) → slice_get chs c ≡ Some ch
     → receive_refusal peer_tokens ch.state (RevokeAndAck secret next_point) ≡ Some r → answer_of peer_tokens chs (Revoke c secret next_point) ≡ revoked (Err (Refused r))
@@ -106,10 +126,10 @@ module _ (history new : List Entry) (channels : List (OutPoint × ChannelBook)) 
   there : slice_get (replay history) c ≡ Some x
   there = stands history channels k c x found
 
-  pub step_refused : (step : Step) (r : ChannelError) → IsRefusal (step_refusal peer_tokens x.state step) r → IsCall (stepped (Err (Refused refuses.NoMemory))) (stepped (Err (Refused r))) history new seat (Stepping c step)
-  step_refused step r is =
-      let first = step_refusal peer_tokens x.state step in
-      by_first (Stepping c step) (λ e. stepped (Err (Refused e))) refuses.NoMemory r first (λ e. refl) (step_answer (replay history) c x step r there) (to_take first r is)
+  pub step_refused : (step : Step) (e : StepError) → IsStepRefusal (book_step_refusal peer_tokens x step) e → IsCall (stepped (Err (Refused refuses.NoMemory))) (stepped (Err e)) history new seat (Stepping c step)
+  step_refused step e is =
+      let first = book_step_refusal peer_tokens x step in
+      by_first (Stepping c step) (λ r. stepped (Err r)) (Refused refuses.NoMemory) e first (λ r. refl) (step_answer (replay history) c x step e there) (to_step first e is)
 
   pub revoke_refused : (secret : List ℕ) (next_point : Key) (r : ChannelError) → IsRefusal (receive_refusal peer_tokens x.state (RevokeAndAck secret next_point)) r
       → IsCall (revoked (Err (Refused refuses.NoMemory))) (revoked (Err (Refused r))) history new seat (Revoke c secret next_point)

@@ -23,7 +23,7 @@ module _ (first second : Opening) where
 
 -- a channel with two revoked commitments; `kept` are the numbers whose penalties are kept
 abbrev channel : State → List ℕ → ChannelBook
-channel s kept = record { state = record s { secrets = replicate 32 7 ∷ replicate 32 8 ∷ [] }; kept = kept }
+channel s kept = record { state = record s { secrets = replicate 32 7 ∷ replicate 32 8 ∷ [] }; kept = kept; closed = None }
 
 abbrev refusal : State → List ℕ → ℕ → Option ℕ
 refusal s kept n = option_map keep_error_number (early_keep_refusal n (Some (channel s kept)))

@@ -25,7 +25,7 @@ use Rattle.texts.specs.Terms.{terms_of}
 use Rattle.texts.specs.Claims.{claim_of as claim_in}
 use Rattle.texts.specs.Steps.{revocation_of, step_of as step_in}
 use Rattle.terms.specs.Proposals.{can_agree}
-use Rattle.texts.specs.Calls.{are_within, opening_of as opening_in, open_of, step_call_of, sign_of, revoke_of, keep_of, release_of as release_in, call_named, call_of as call_in, entry_of as entry_in, is_version, dump_of}
+use Rattle.texts.specs.Calls.{are_within, opening_of as opening_in, open_of, step_call_of, sign_of, revoke_of, keep_of, release_of as release_in, close_of, call_named, call_of as call_in, entry_of as entry_in, is_version, dump_of}
 use Rattle.book.specs.declared.errors.EntryError.{EntryError}
 use Rattle.book.specs.declared.errors.EntryError.TheVariants as entries
 use Rattle.book.specs.declared.errors.LoadError.{LoadError}
@@ -75,6 +75,7 @@ IsShaped (plain.Sign channel) = ⊤
 IsShaped (plain.Revoke channel r) = ⊤
 IsShaped (plain.Keep channel number claims) = ⊤
 IsShaped (plain.Release channel claims outputs preimages) = are_within (length claims) (length outputs) ≡ true
+IsShaped (plain.Close channel) = ⊤
 
 abbrev IsShapedEntry : PlainEntry → Type 0
 IsShapedEntry e = IsShaped e.call
@@ -129,6 +130,10 @@ shaped_release d =
     gives_any IsShaped (item_of 4 (list_of (bytes_of_len 32)) form) _ (λ preimages.
     gives_if IsShaped (are_within (length claims) (length outputs)) _ (λ within. within))))))
 
+shaped_close : (d : Data) → Gives IsShaped (close_of d)
+unfolding close_of
+shaped_close d = gives_any IsShaped (array_of 2 d) _ (λ form. gives_any IsShaped (item_of 1 u64_of form) _ (λ channel. tt))
+
 shaped_named : (name : List ℕ) (d : Data) → Gives IsShaped (call_named name d)
 unfolding call_named
 shaped_named name d =
@@ -137,7 +142,8 @@ shaped_named name d =
     (gives_either IsShaped (bytes_eq name (codes "sign")) _ _ (shaped_sign d)
     (gives_either IsShaped (bytes_eq name (codes "revoke")) _ _ (shaped_revoke d)
     (gives_either IsShaped (bytes_eq name (codes "keep")) _ _ (shaped_keep d)
-    (gives_either IsShaped (bytes_eq name (codes "release")) _ _ (shaped_release d) tt)))))
+    (gives_either IsShaped (bytes_eq name (codes "release")) _ _ (shaped_release d)
+    (gives_either IsShaped (bytes_eq name (codes "close")) _ _ (shaped_close d) tt))))))
 
 shaped_call : (d : Data) → Gives IsShaped (call_in d)
 unfolding call_in
@@ -220,6 +226,7 @@ sound_call (plain.Sign channel) is = tt
 sound_call (plain.Revoke channel r) is = tt
 sound_call (plain.Keep channel number claims) is = sound_keep channel number (claims_of claims)
 sound_call (plain.Release channel claims outputs preimages) is = sound_release channel (length claims) (claims_of claims) outputs preimages (same_length claims) is
+sound_call (plain.Close channel) is = tt
 
 sound_entry : (p : PlainEntry) → IsShapedEntry p → IsSound (entry_of p)
 unfolding entry_of

@@ -19,11 +19,11 @@ use Rattle.updates.specs.declared.changes.OwnUpdate.{OwnUpdate}
 use Rattle.updates.specs.declared.changes.OwnUpdate.TheVariants.{Offer, Fulfil, Fail, SetFee}
 use Rattle.texts.specs.Writing.{bytes_data, side_data, terms_data, output_data, add_data, update_data}
 use Rattle.texts.specs.ClaimWriting.{outpoint_data, slot_data, shell_data, claim_data}
-use Rattle.texts.specs.CallWriting.{signature_data, revocation_data, open_data, own_data, receive_data, sign_data, revoke_data, keep_data, release_data, entry_data, dump_data}
+use Rattle.texts.specs.CallWriting.{signature_data, revocation_data, open_data, own_data, receive_data, sign_data, revoke_data, keep_data, release_data, close_data, entry_data, dump_data}
 use Rattle.book.specs.declared.calls.Step.{Step}
 use Rattle.book.specs.declared.calls.Step.TheVariants.{Own, Updated, Signed}
 use Rattle.book.specs.declared.calls.Call.{Call}
-use Rattle.book.specs.declared.calls.Call.TheVariants.{Open, Step as Stepping, Sign, Revoke, Keep, Release}
+use Rattle.book.specs.declared.calls.Call.TheVariants.{Open, Step as Stepping, Sign, Revoke, Keep, Release, Close}
 use Rattle.book.specs.declared.calls.Entry.{Entry}
 use Rattle.book.specs.Dumping.{step_data, call_data, history_entry_data, history_data, dump_of}
 
@@ -80,7 +80,7 @@ whole_step channel (Updated u) = whole_update channel u
 whole_step channel (Signed tokens) = rw (each_whole bytes_data whole_bytes tokens.htlcs) refl
 
 whole_call : (c : Call) → has_float (call_data c) ≡ false
-unfolding open_data terms_data outpoint_data sign_data revoke_data revocation_data keep_data release_data
+unfolding open_data terms_data outpoint_data sign_data revoke_data revocation_data keep_data release_data close_data
 whole_call (Open o) = rw (whole_side o.terms.opener, whole_side o.side) refl
 whole_call (Stepping channel step) = whole_step channel step
 whole_call (Sign channel) = refl
@@ -88,6 +88,7 @@ whole_call (Revoke channel secret next_point) = refl
 whole_call (Keep channel number claims) = rw (each_whole claim_data whole_claim claims) refl
 whole_call (Release channel batch) =
     rw (each_whole claim_data whole_claim batch.claims, each_whole output_data whole_output batch.outputs, each_whole bytes_data whole_bytes batch.preimages) refl
+whole_call (Close channel) = refl
 
 whole_entry : (e : Entry) → has_float (history_entry_data e) ≡ false
 unfolding entry_data
@@ -165,7 +166,7 @@ deep_step channel (Signed tokens) = go _ (each_deep bytes_data 0 flat_bytes toke
     go d h = let z : d ≡ 0 = omega arith in rw z (omega arith)
 
 deep_call : (c : Call) → depth (call_data c) ≤ 5
-unfolding open_data terms_data outpoint_data sign_data revoke_data revocation_data keep_data release_data
+unfolding open_data terms_data outpoint_data sign_data revoke_data revocation_data keep_data release_data close_data
 deep_call (Open o) = rw (flat_side o.terms.opener, flat_side o.side) (omega arith)
 deep_call (Stepping channel step) = deep_step channel step
 deep_call (Sign channel) = omega arith
@@ -179,6 +180,7 @@ deep_call (Release channel batch) =
   where
     go : (d e f : ℕ) → d ≤ 3 → e ≤ 1 → f ≤ 0 → suc (max 0 (max 0 (max (suc d) (max (suc e) (max (suc f) 0))))) ≤ 5
     go d e f h i j = up _ 4 (both _ _ 4 (omega arith) (both _ _ 4 (omega arith) (both _ _ 4 (omega arith) (both _ _ 4 (omega arith) (both _ _ 4 (omega arith) (omega arith))))))
+deep_call (Close channel) = omega arith
 
 deep_entry : (e : Entry) → depth (history_entry_data e) ≤ 6
 unfolding entry_data

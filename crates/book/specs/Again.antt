@@ -12,7 +12,7 @@ use Rattle.texts.specs.ClaimWriting.{plain_claim}
 use Rattle.texts.specs.CallWriting.{AreTokens}
 use Rattle.book.specs.declared.calls.Opening.{Opening}
 use Rattle.book.specs.declared.calls.Call.{Call}
-use Rattle.book.specs.declared.calls.Call.TheVariants.{Open, Step as Stepping, Sign, Revoke, Keep, Release}
+use Rattle.book.specs.declared.calls.Call.TheVariants.{Open, Step as Stepping, Sign, Revoke, Keep, Release, Close}
 use Rattle.book.specs.declared.calls.Step.{Step}
 use Rattle.book.specs.declared.calls.Step.TheVariants.{Own, Updated, Signed}
 use Rattle.book.specs.declared.calls.Entry.{Entry}
@@ -35,6 +35,7 @@ HasWholeClaims (Sign channel) = ⊤
 HasWholeClaims (Revoke channel secret next_point) = ⊤
 HasWholeClaims (Keep channel number claims) = AllByRecursion IsWhole claims
 HasWholeClaims (Release channel batch) = AllByRecursion IsWhole batch.claims
+HasWholeClaims (Close channel) = ⊤
 
 -- received tokens have a token's form
 abbrev pub HasStepTokens : Step → Type 0
@@ -49,6 +50,7 @@ HasTokens (Sign channel) = ⊤
 HasTokens (Revoke channel secret next_point) = ⊤
 HasTokens (Keep channel number claims) = ⊤
 HasTokens (Release channel batch) = ⊤
+HasTokens (Close channel) = ⊤
 
 -- an accepted claim comes back from its plain form as the same
 abbrev pub ClaimsComeBack : Type 0

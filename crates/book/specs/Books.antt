@@ -1,20 +1,22 @@
 -- What a book knows, as a function of its history.
-use Rattle.std.specs.Prelude.{ℕ, zero, suc, ◌+◌, ◌==◌, nat_lt, Bool, if◌then◌else◌, List, [], ◌∷◌, ◌++◌, length, map, reverse, Option, Some, None}
+use Rattle.std.specs.Prelude.{ℕ, zero, suc, ◌+◌, ◌==◌, nat_lt, Bool, true, false, if◌then◌else◌, List, [], ◌∷◌, ◌++◌, length, map, reverse, Option, Some, None, is_some}
 use Rattle.std.specs.List.{list_any}
 use Rattle.tx.specs.declared.input.OutPoint.{OutPoint}
+use Rattle.updates.specs.declared.changes.OwnUpdate.TheVariants.{Offer, Fulfil, Fail, SetFee}
 use Rattle.channel.specs.declared.messages.Message.TheVariants.{Updated as UpdateMessage, CommitmentSigned, RevokeAndAck}
 use Rattle.channel.specs.States.{State, update_of, state_at_opening, after_update, after_sign, after}
 use Rattle.book.specs.declared.calls.Opening.{Opening}
 use Rattle.book.specs.declared.calls.Step.{Step}
 use Rattle.book.specs.declared.calls.Step.TheVariants.{Own, Updated, Signed}
 use Rattle.book.specs.declared.calls.Call.{Call}
-use Rattle.book.specs.declared.calls.Call.TheVariants.{Open, Step as Stepping, Sign, Revoke, Keep, Release}
+use Rattle.book.specs.declared.calls.Call.TheVariants.{Open, Step as Stepping, Sign, Revoke, Keep, Release, Close}
 use Rattle.book.specs.declared.calls.Entry.{Entry}
 
--- a channel of a book: its state, and the numbers of the peer's revoked commitments whose penalties are kept
+-- a channel of a book: its state, the numbers of the peer's revoked commitments whose penalties are kept, and the number of the commitment with which this side closed the channel, if it did
 pub record ChannelBook : Type 0 where
   pub state : State
   pub kept : List ℕ
+  pub closed : Option ℕ
 
 -- the channels, in the order in which they were opened
 abbrev pub Channels : Type 0
@@ -33,13 +35,17 @@ stepped (Signed tokens) s = after s (CommitmentSigned tokens)
 
 abbrev pub opened_by : Opening → ChannelBook
 opened_by o =
-    record { state = state_at_opening o.terms o.side o.seed o.first_point o.next_point; kept = [] }
+    record { state = state_at_opening o.terms o.side o.seed o.first_point o.next_point; kept = []; closed = None }
 
 abbrev pub with_state : (State → State) → ChannelBook → ChannelBook
 with_state f ch = record ch { state = f ch.state }
 
 abbrev pub with_kept : ℕ → ChannelBook → ChannelBook
 with_kept n ch = record ch { kept = ch.kept ++ n ∷ [] }
+
+-- this side closes the channel with its newest commitment
+abbrev pub with_closed : ChannelBook → ChannelBook
+with_closed ch = record ch { closed = Some ch.state.number }
 
 -- the channels after an accepted call
 abbrev pub channels_after : Call → Channels → Channels
@@ -50,6 +56,7 @@ channels_after (Revoke c secret next_point) chs =
     at_index (with_state (λ s. after s (RevokeAndAck secret next_point))) c chs
 channels_after (Keep c n claims) chs = at_index (with_kept n) c chs
 channels_after (Release c batch) chs = chs
+channels_after (Close c) chs = at_index with_closed c chs
 
 -- the channels after these accepted calls, which have the newest first
 abbrev pub replayed : List Entry → Channels
@@ -63,6 +70,21 @@ replay history = replayed (reverse history)
 -- the funding outputs of the channels
 abbrev pub fundings_of : Channels → List OutPoint
 fundings_of chs = map (λ ch. ch.state.held.terms.funding) chs
+
+-- ---- closed channels
+
+abbrev pub is_closed : ChannelBook → Bool
+is_closed ch = is_some ch.closed
+
+-- whether a closed channel refuses a step: a received signature, whose answer would reveal the secret of the commitment that was broadcast; and an update of one's own but a fulfil, whose preimage the book
+-- wants for its claims
+abbrev pub is_barred : Step → Bool
+is_barred (Own (Offer amount hash expiry)) = true
+is_barred (Own (Fulfil id preimage)) = false
+is_barred (Own (Fail id)) = true
+is_barred (Own (SetFee rate)) = true
+is_barred (Updated u) = false
+is_barred (Signed tokens) = true
 
 -- ---- the peer's revoked commitments
 

@@ -20,15 +20,22 @@ use Rattle.book.specs.declared.calls.Entry.{Entry}
 use Rattle.book.specs.declared.errors.KeepError.{KeepError}
 use Rattle.book.specs.declared.errors.KeepError.TheVariants.{NoMemory as keep_memory}
 use Rattle.book.specs.declared.errors.SignError.{SignError}
-use Rattle.book.specs.declared.errors.SignError.TheVariants.{NoMemory, AwaitingRevocation}
-use Rattle.book.specs.Books.{ChannelBook, first_missing}
+use Rattle.book.specs.declared.errors.SignError.TheVariants.{NoMemory, AwaitingRevocation, ChannelClosed}
+use Rattle.book.specs.Books.{ChannelBook, is_closed, first_missing}
+use Rattle.updates.specs.declared.errors.ChannelError.TheVariants.{NoMemory as refusal_memory}
 use Rattle.book.specs.declared.errors.StepError.{StepError}
+use Rattle.book.specs.declared.errors.StepError.TheVariants.{Refused}
 use Rattle.book.specs.Replies.{Reply, stepped, reply_of, history_after, if_so, if_missing}
 
 -- either memory ran out and the history is as before, or reply and history are those of the definitions
 abbrev pub IsCall : Reply → Reply → List Entry → List Entry → ℕ → Call → Type 0
 IsCall no_memory reply old new seat call =
     ((reply ≡ no_memory) × (new ≡ old)) ⊎ ((reply ≡ reply_of peer_tokens old call) × (new ≡ history_after peer_tokens old seat call))
+
+-- a refusal of a step is the first that applies, or memory ran out
+abbrev pub IsStepRefusal : Option StepError → StepError → Type 0
+IsStepRefusal first (Refused refusal_memory) = Unit {0}
+IsStepRefusal first e = first ≡ Some e
 
 -- a refusal to sign is the first that applies, or memory ran out
 abbrev pub IsSignRefusal : Option SignError → SignError → Type 0
@@ -37,7 +44,9 @@ IsSignRefusal first e = first ≡ Some e
 
 -- why a channel does not sign, apart from a lack of updates
 abbrev pub early_sign_refusal : ChannelBook → Option SignError
-early_sign_refusal ch = if_so (ch.state.awaiting || nat_le LAST_NUMBER ch.state.peer_number) AwaitingRevocation (if_missing (first_missing ch) None)
+early_sign_refusal ch =
+    if_so (is_closed ch) ChannelClosed
+    (if_so (ch.state.awaiting || nat_le LAST_NUMBER ch.state.peer_number) AwaitingRevocation (if_missing (first_missing ch) None))
 
 -- the reply to a step, with one message or none
 abbrev pub step_reply : Result (Option Message) StepError → Reply

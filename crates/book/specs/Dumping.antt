@@ -1,5 +1,6 @@
 -- The dump of a history: its calls in plain form, and their JSON text.
-use Rattle.std.specs.Prelude.{ℕ, List, map}
+use Rattle.std.specs.Prelude.{ℕ, Bool, true, false, List, map}
+use Rattle.std.specs.List.{list_any}
 use Rattle.serde_json.specs.Data.{Data}
 use Rattle.serde_json.specs.Written.{compact_text}
 use Rattle.keys.specs.declared.compressed.Key.{Key}
@@ -21,12 +22,12 @@ use Rattle.texts.specs.declared.calls.PlainCall.TheVariants as plain
 use Rattle.texts.specs.declared.calls.PlainEntry.{PlainEntry}
 use Rattle.texts.specs.ClaimWriting.{plain_claim}
 use Rattle.texts.specs.Writing.{update_data}
-use Rattle.texts.specs.CallWriting.{signature_data, open_data, own_data, receive_data, sign_data, revoke_data, keep_data, release_data, entry_data, dump_data}
+use Rattle.texts.specs.CallWriting.{signature_data, open_data, own_data, receive_data, sign_data, revoke_data, keep_data, release_data, close_data, entry_data, dump_data}
 use Rattle.book.specs.declared.calls.Opening.{Opening}
 use Rattle.book.specs.declared.calls.Step.{Step}
 use Rattle.book.specs.declared.calls.Step.TheVariants.{Own, Updated, Signed}
 use Rattle.book.specs.declared.calls.Call.{Call}
-use Rattle.book.specs.declared.calls.Call.TheVariants.{Open, Step as Stepping, Sign, Revoke, Keep, Release}
+use Rattle.book.specs.declared.calls.Call.TheVariants.{Open, Step as Stepping, Sign, Revoke, Keep, Release, Close}
 use Rattle.book.specs.declared.calls.Entry.{Entry}
 
 abbrev pub plain_party : Party → ProposedParty
@@ -67,6 +68,7 @@ plain_call (Sign channel) = plain.Sign channel
 plain_call (Revoke channel secret next_point) = plain.Revoke channel (plain_revocation secret next_point)
 plain_call (Keep channel number claims) = plain.Keep channel number (map plain_claim claims)
 plain_call (Release channel batch) = plain.Release channel (map plain_claim batch.claims) batch.outputs batch.preimages
+plain_call (Close channel) = plain.Close channel
 
 abbrev pub plain_entry : Entry → PlainEntry
 plain_entry e = record { call = plain_call e.call; seat = e.seat }
@@ -86,13 +88,22 @@ call_data (Sign channel) = sign_data channel
 call_data (Revoke channel secret next_point) = revoke_data channel (plain_revocation secret next_point)
 call_data (Keep channel number claims) = keep_data channel number claims
 call_data (Release channel batch) = release_data channel batch.claims batch.outputs batch.preimages
+call_data (Close channel) = close_data channel
 
 abbrev pub history_entry_data : Entry → Data
 history_entry_data e = entry_data (call_data e.call) e.seat
 
--- a history, of version 2
+abbrev pub is_close : Call → Bool
+is_close (Close channel) = true
+is_close call = false
+
+-- whether a call of the history closes a channel
+abbrev pub any_close : List Entry → Bool
+any_close history = list_any (λ e. is_close e.call) history
+
+-- a history, of version 3 where a call closes a channel, else of version 2
 abbrev pub history_data : List Entry → Data
-history_data history = dump_data (map history_entry_data history)
+history_data history = dump_data (any_close history) (map history_entry_data history)
 
 -- its text, without whitespace, the members of each object in the order of their names
 unfoldable pub dump_of : List Entry → List ℕ

@@ -6,7 +6,7 @@ use Rattle.std.specs.Vec.{vec_len, vec_capacity}
 use Rattle.tx.specs.declared.input.OutPoint.{OutPoint}
 use Rattle.book.specs.declared.calls.Step.{Step}
 use Rattle.book.specs.declared.calls.Call.{Call}
-use Rattle.book.specs.declared.calls.Call.TheVariants.{Open, Step as Stepping, Sign, Revoke, Keep, Release}
+use Rattle.book.specs.declared.calls.Call.TheVariants.{Open, Step as Stepping, Sign, Revoke, Keep, Release, Close}
 use Rattle.book.specs.declared.calls.Entry.{Entry}
 use Rattle.book.specs.declared.fulfils.Fulfils.{Fulfils}
 use Rattle.book.specs.Books.{ChannelBook, at_index}
@@ -36,6 +36,7 @@ preimages_after (Sign c) ps = ps
 preimages_after (Revoke c secret next_point) ps = ps
 preimages_after (Keep c n claims) ps = ps
 preimages_after (Release c batch) ps = ps
+preimages_after (Close c) ps = ps
 
 -- the preimages after these accepted calls, which have the newest first
 abbrev pub preimages_replayed : List Entry → Preimages

@@ -21,7 +21,7 @@ use Rattle.book.specs.declared.errors.EntryError.TheVariants.{NoMemory, BadShape
 use Rattle.book.specs.declared.calls.Step.{Step}
 use Rattle.book.specs.declared.calls.Step.TheVariants.{Own, Updated, Signed}
 use Rattle.book.specs.declared.calls.Call.{Call}
-use Rattle.book.specs.declared.calls.Call.TheVariants.{Open, Step as Stepping, Sign, Revoke, Keep, Release}
+use Rattle.book.specs.declared.calls.Call.TheVariants.{Open, Step as Stepping, Sign, Revoke, Keep, Release, Close}
 use Rattle.book.specs.declared.calls.Entry.{Entry}
 use Rattle.claim.specs.Opcodes.{ops_of}
 use Rattle.book.specs.Openings.{opening_of, batch_of}
@@ -89,6 +89,7 @@ call_of (plain.Sign channel) = Ok (Sign channel)
 call_of (plain.Revoke channel r) = Ok (Revoke channel r.secret r.next_point)
 call_of (plain.Keep channel number claims) = with_claims (claims_of claims) (λ cs. Ok (Keep channel number cs))
 call_of (plain.Release channel claims outputs preimages) = with_claims (claims_of claims) (release_of channel outputs preimages)
+call_of (plain.Close channel) = Ok (Close channel)
 
 abbrev pub with_seat : ℕ → Result Call EntryError → Result Entry EntryError
 with_seat seat (Ok call) = Ok (record { seat = seat; call = call })

@@ -1,5 +1,5 @@
 -- What a book replies to a call, and which history it leaves.
-use Rattle.std.specs.Prelude.{ℕ, Bool, true, false, not, ◌||◌, nat_lt, nat_le, List, [], ◌∷◌, ◌++◌, length, map, Option, Some, None, Result, Ok, Err, is_ok, slice_get}
+use Rattle.std.specs.Prelude.{ℕ, Bool, true, false, not, ◌&&◌, ◌||◌, nat_lt, nat_le, List, [], ◌∷◌, ◌++◌, length, map, Option, Some, None, option_map, Result, Ok, Err, is_ok, slice_get}
 use Rattle.std.specs.List.{list_any}
 use Rattle.std.specs.Str.{bytes_eq}
 use Rattle.tx.specs.Parts.{Output}
@@ -19,24 +19,26 @@ use Rattle.book.specs.declared.calls.Opening.{Opening}
 use Rattle.book.specs.declared.calls.Step.{Step}
 use Rattle.book.specs.declared.calls.Step.TheVariants.{Own, Updated, Signed}
 use Rattle.book.specs.declared.calls.Call.{Call}
-use Rattle.book.specs.declared.calls.Call.TheVariants.{Open, Step as Stepping, Sign, Revoke, Keep, Release}
+use Rattle.book.specs.declared.calls.Call.TheVariants.{Open, Step as Stepping, Sign, Revoke, Keep, Release, Close}
 use Rattle.book.specs.declared.calls.Entry.{Entry}
 use Rattle.book.specs.declared.errors.OpenError.{OpenError}
 use Rattle.book.specs.declared.errors.OpenError.TheVariants.{BookFull, SameFunding, BadSignature}
 use Rattle.book.specs.declared.errors.StepError.{StepError}
-use Rattle.book.specs.declared.errors.StepError.TheVariants.{Refused, NoSuchChannel as NoChannelToStep}
+use Rattle.book.specs.declared.errors.StepError.TheVariants.{Refused, NoSuchChannel as NoChannelToStep, ChannelClosed as ClosedToSteps}
 use Rattle.book.specs.declared.errors.SignError.{SignError}
-use Rattle.book.specs.declared.errors.SignError.TheVariants.{PenaltiesMissing, AwaitingRevocation, NoUpdates, NoSuchChannel as NoChannelToSign}
+use Rattle.book.specs.declared.errors.SignError.TheVariants.{PenaltiesMissing, AwaitingRevocation, NoUpdates, NoSuchChannel as NoChannelToSign, ChannelClosed as ClosedToSigning}
 use Rattle.book.specs.declared.errors.KeepError.{KeepError}
 use Rattle.book.specs.declared.errors.KeepError.TheVariants.{NotRevoked, AlreadyKept, OtherState, NoSuchChannel as NoChannelToKeep}
 use Rattle.book.specs.declared.errors.ReleaseError.{ReleaseError}
 use Rattle.book.specs.declared.errors.ReleaseError.TheVariants.{Unfilled, NoSuchChannel as NoChannelToRelease}
+use Rattle.book.specs.declared.errors.CloseError.{CloseError}
+use Rattle.book.specs.declared.errors.CloseError.TheVariants.{NoSuchChannel as NoChannelToClose}
 use Rattle.book.specs.Penalties.{is_penalty_set}
-use Rattle.book.specs.Books.{ChannelBook, Channels, is_kept, first_missing, replay}
+use Rattle.book.specs.Books.{ChannelBook, Channels, is_closed, is_barred, is_kept, first_missing, replay}
 use Rattle.channel.specs.Rights.{rights_of}
 use Rattle.book.specs.Signers.{fill_refusal}
 
--- a reply to each of the six calls
+-- a reply to each of the seven calls
 pub data Reply : Type 0 where
   opened : Result ℕ OpenError → Reply  -- the channel's index
   stepped : Result (List Message) StepError → Reply  -- the message to send, if there is one
@@ -44,6 +46,7 @@ pub data Reply : Type 0 where
   revoked : Result ℕ StepError → Reply  -- the number of the revoked commitment
   kept : Result (Unit {0}) KeepError → Reply
   released : Result Filling ReleaseError → Reply
+  closed : Result ℕ CloseError → Reply  -- the number of this side's newest commitment
 
 abbrev pub is_accepted : Reply → Bool
 is_accepted (opened r) = is_ok r
@@ -52,6 +55,7 @@ is_accepted (signed r) = is_ok r
 is_accepted (revoked r) = is_ok r
 is_accepted (kept r) = is_ok r
 is_accepted (released r) = is_ok r
+is_accepted (closed r) = is_ok r
 
 -- the value, unless there is a refusal
 abbrev pub unless : {R A E : Type 0} → (R → E) → Option R → A → Result A E
@@ -82,6 +86,11 @@ step_refusal tokens_of s (Own u) = update_refusal s (update_of s u)
 step_refusal tokens_of s (Updated u) = receive_refusal tokens_of s (UpdateMessage u)
 step_refusal tokens_of s (Signed tokens) = receive_refusal tokens_of s (CommitmentSigned tokens)
 
+-- ChannelClosed, else the channel's refusal
+abbrev pub book_step_refusal : Signing → ChannelBook → Step → Option StepError
+book_step_refusal tokens_of ch step =
+    if_so (is_closed ch && is_barred step) ClosedToSteps (option_map Refused (step_refusal tokens_of ch.state step))
+
 -- the message of one's own update, or the answer to a received message
 abbrev pub messages_of : State → Step → List Message
 messages_of s (Own u) = UpdateMessage (update_of s u) ∷ []
@@ -92,12 +101,13 @@ abbrev pub if_missing : Option ℕ → Option SignError → Option SignError
 if_missing (Some n) later = Some (PenaltiesMissing n)
 if_missing None later = later
 
--- AwaitingRevocation, PenaltiesMissing with the lowest number, NoUpdates
+-- ChannelClosed, AwaitingRevocation, PenaltiesMissing with the lowest number, NoUpdates
 abbrev pub sign_refusal : ChannelBook → Option SignError
 sign_refusal ch =
-    if_so (ch.state.awaiting || nat_le LAST_NUMBER ch.state.peer_number) AwaitingRevocation
+    if_so (is_closed ch) ClosedToSigning
+    (if_so (ch.state.awaiting || nat_le LAST_NUMBER ch.state.peer_number) AwaitingRevocation
     (if_missing (first_missing ch)
-    (if_so (covers_nothing ch.state.held.own ch.state.held.theirs) NoUpdates None))
+    (if_so (covers_nothing ch.state.held.own ch.state.held.theirs) NoUpdates None)))
 
 -- NotRevoked, AlreadyKept, OtherState
 abbrev pub keep_refusal : ChannelBook → ℕ → List ClaimParts → Option KeepError
@@ -116,7 +126,7 @@ fill_answer s claims outputs known =
 abbrev pub answer_of : Signing → Channels → Call → Reply
 answer_of sign chs (Open o) = opened (unless (λ e. e) (open_refusal sign chs o) (length chs))
 answer_of sign chs (Stepping c step) = stepped (asked NoChannelToStep (slice_get chs c) (λ ch.
-    unless Refused (step_refusal sign ch.state step) (messages_of ch.state step)))
+    unless (λ e. e) (book_step_refusal sign ch step) (messages_of ch.state step)))
 answer_of sign chs (Sign c) = signed (asked NoChannelToSign (slice_get chs c) (λ ch.
     unless (λ e. e) (sign_refusal ch) (signature_message sign ch.state)))
 answer_of sign chs (Revoke c secret p) = revoked (asked NoChannelToStep (slice_get chs c) (λ k.
@@ -125,6 +135,7 @@ answer_of sign chs (Keep c n claims) = kept (asked NoChannelToKeep (slice_get ch
     unless (λ e. e) (keep_refusal ch n claims) tt))
 answer_of sign chs (Release c batch) = released (asked NoChannelToRelease (slice_get chs c) (λ ch.
     fill_answer ch.state batch.claims batch.outputs batch.preimages))
+answer_of sign chs (Close c) = closed (asked NoChannelToClose (slice_get chs c) (λ ch. Ok ch.state.number))
 
 -- the reply to a call after a history
 abbrev pub reply_of : Signing → List Entry → Call → Reply

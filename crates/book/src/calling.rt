@@ -1,7 +1,7 @@
-//! The six calls of a book, as one function.
+//! The seven calls of a book, as one function.
 
 use crate::calls::Call;
-use crate::errors::{KeepError, OpenError, ReleaseError, SignError, StepError};
+use crate::errors::{CloseError, KeepError, OpenError, ReleaseError, SignError, StepError};
 use crate::history::Book;
 use channel::Message;
 use filling::Filled;
@@ -22,6 +22,8 @@ pub enum Reply {
     Kept(Result<(), KeepError>),
     /// The transactions of the claims.
     Released(Result<Filled, ReleaseError>),
+    /// The number of this side's newest commitment.
+    Closed(Result<u64, CloseError>),
 }
 
 impl Book {
@@ -49,6 +51,7 @@ impl Book {
             Call::Release { channel, batch } => {
                 Reply::Released(self.release(seat, channel, batch))
             }
+            Call::Close { channel } => Reply::Closed(self.close(seat, channel)),
         }
     }
 }

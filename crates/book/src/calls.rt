@@ -156,6 +156,10 @@ pub enum Call {
         channel: u64,
         batch: Batch,
     },
+    /// Closes a channel with this side's newest commitment.
+    Close {
+        channel: u64,
+    },
 }
 
 /// An accepted call, with the number of the seat that made it.

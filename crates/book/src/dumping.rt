@@ -8,7 +8,7 @@ ghost use Rattle.channel.specs.Tokens.{peer_tokens};
 ghost use Rattle.texts.specs.declared.calls.PlainCall.TheVariants.{Step as PlainStepping};
 ghost use Rattle.texts.specs.Calls.{call_of as call_in};
 ghost use Rattle.book.specs.Accepted.{all_accepted};
-ghost use Rattle.book.specs.Dumping.{plain_party, plain_terms, plain_opening, plain_step, plain_call, step_data, call_data, history_entry_data, history_data, dump_of};
+ghost use Rattle.book.specs.Dumping.{plain_party, plain_terms, plain_opening, plain_step, plain_call, step_data, call_data, history_entry_data, is_close, any_close, history_data, dump_of};
 ghost use Rattle.book.specs.Loaded.{loaded};
 ghost use Rattle.book.specs.Again.{IsWhole, HasWholeClaims, HasStepTokens, HasTokens, ComesBack};
 
@@ -18,8 +18,8 @@ use serde_json::Value;
 use std::alloc::{AllocError, Global};
 use terms::{Party, ProposedParty, ProposedTerms, Terms};
 use texts::{
-    PlainOpening, PlainRevocation, WriteValue, write_dump, write_entry, write_keep, write_own,
-    write_receive, write_release, write_revoke, write_sign, write_signature,
+    PlainOpening, PlainRevocation, WriteValue, write_close, write_dump, write_entry, write_keep,
+    write_own, write_receive, write_release, write_revoke, write_sign, write_signature,
 };
 
 fn plain_party(party: &Party) -> ProposedParty
@@ -134,6 +134,7 @@ fn call_value(alloc: Global, call: &Call) -> Result<Value, AllocError>
                 batch.preimages.values(),
             )
         }
+        Call::Close { channel } => write_close(alloc, *channel),
     }
 }
 
@@ -146,6 +147,20 @@ fn entry_value(alloc: Global, entry: &Entry) -> Result<Value, AllocError>
     write_entry(alloc, call, entry.seat)
 }
 
+// Whether a call closes a channel.
+fn is_close(call: &Call) -> bool
+    ensures { result ≡ is_close call.now }
+{
+    matches!(call, Call::Close { .. })
+}
+
+// Whether a call of a history closes a channel.
+fn any_close(history: &[Entry]) -> bool
+    ensures { result ≡ any_close history.now }
+{
+    history.iter().any(|entry| is_close(&entry.call))
+}
+
 // Writes a history as JSON.
 fn history_value(alloc: Global, history: &[Entry]) -> Result<Value, AllocError>
     ensures form { IfOk result (λ v. view v ≡ history_data history.now) }
@@ -155,11 +170,11 @@ fn history_value(alloc: Global, history: &[Entry]) -> Result<Value, AllocError>
     for entry in history {
         entries.push(entry_value(alloc, entry)?)?;
     }
-    write_dump(alloc, entries)
+    write_dump(alloc, entries, any_close(history))
 }
 
-/// Dumps a history, the oldest entry first: JSON of version 2 without whitespace, the members of each object in the order of their names. The only
-/// error is that memory ran out.
+/// Dumps a history, the oldest entry first: JSON without whitespace, the members of each object in the order of their names. Its version is 3 where a call closes a
+/// channel, else 2. The only error is that memory ran out.
 #[tactic(auto, unfolding(crate::specs::Dumping::dump_of))]
 pub fn dump(alloc: Global, history: &[Entry]) -> Result<String, AllocError>
     ensures text { IfOk result (λ text. string_bytes text ≡ dump_of history.now) }

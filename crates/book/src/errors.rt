@@ -34,6 +34,9 @@ pub enum StepError {
     /// The book has no channel with this index.
     #[error("NoSuchChannel")]
     NoSuchChannel,
+    /// This side closed the channel, and the step is a `commitment_signed`, or an update of its own other than a fulfil.
+    #[error("ChannelClosed")]
+    ChannelClosed,
 }
 
 /// Why the book does not sign the peer's next commitment.
@@ -54,6 +57,9 @@ pub enum SignError {
     /// The book has no channel with this index.
     #[error("NoSuchChannel")]
     NoSuchChannel,
+    /// This side closed the channel.
+    #[error("ChannelClosed")]
+    ChannelClosed,
 }
 
 /// Why penalties are not kept.
@@ -82,6 +88,17 @@ pub enum ReleaseError {
     /// The filling is refused, or memory ran out.
     #[error("{0}")]
     Unfilled(FillError),
+    /// The book has no channel with this index.
+    #[error("NoSuchChannel")]
+    NoSuchChannel,
+}
+
+/// Why a channel is not closed.
+#[derive(Clone, Copy, Debug, PartialEq, Eq, Drop, Error)]
+pub enum CloseError {
+    /// Memory ran out.
+    #[error("NoMemory")]
+    NoMemory,
     /// The book has no channel with this index.
     #[error("NoSuchChannel")]
     NoSuchChannel,
@@ -124,6 +141,7 @@ impl StepError {
         match self {
             StepError::Refused(refusal) => refusal.number(),
             StepError::NoSuchChannel => 9,
+            StepError::ChannelClosed => 19,
         }
     }
 }
@@ -141,6 +159,7 @@ impl SignError {
             SignError::AwaitingRevocation => 2,
             SignError::NoUpdates => 3,
             SignError::NoSuchChannel => 9,
+            SignError::ChannelClosed => 19,
         }
     }
 }
@@ -172,6 +191,20 @@ impl ReleaseError {
         match self {
             ReleaseError::Unfilled(refusal) => refusal.number(),
             ReleaseError::NoSuchChannel => 9,
+        }
+    }
+}
+
+impl CloseError {
+    ghost use Rattle.book.specs.Refusals.{close_error_number};
+
+    /// The number of the refusal; 0 is out of memory.
+    pub fn number(&self) -> u8
+        ensures { result ≡ close_error_number self.now }
+    {
+        match self {
+            CloseError::NoMemory => 0,
+            CloseError::NoSuchChannel => 9,
         }
     }
 }

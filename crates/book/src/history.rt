@@ -1,7 +1,9 @@
 //! A node's book: its channels, and the history of the calls that it accepted.
 
 use crate::calls::{Batch, Call, Entry, Opening, Step};
-use crate::errors::{KeepError, KnowError, OpenError, ReleaseError, SignError, StepError};
+use crate::errors::{
+    CloseError, KeepError, KnowError, OpenError, ReleaseError, SignError, StepError,
+};
 use crate::fulfils::Fulfils;
 use crate::limits::MAX_CHANNELS;
 use crate::matching::hold_whole;
@@ -60,7 +62,7 @@ impl Book {
     ghost use Rattle.filling.specs.declared.errors.FillError.TheVariants.{NoMemory as fill_memory};
     ghost use Rattle.book.specs.Accepted.{all_accepted, AreWhole};
     ghost use Rattle.book.specs.Guarding.{is_guarded, ArePenaltiesIn};
-    ghost use Rattle.book.specs.Replies.{opened, stepped, signed, revoked, kept, released};
+    ghost use Rattle.book.specs.Replies.{opened, stepped, signed, revoked, kept, released, closed};
     ghost use Rattle.book.specs.Calling.{IsCall, IsKeepRefusal, step_reply};
     ghost use Rattle.book.specs.Books.{replay, kept_at, fundings_of};
     ghost use Rattle.book.specs.Knowing.{preimages_in, IsKnownIn, IsKnowRefusal};
@@ -171,7 +173,8 @@ impl Book {
         Ok(index)
     }
 
-    /// Takes a step of a channel and returns the message that it sends or that answers it. Refused with `NoSuchChannel`, else with the channel's refusal. A refusal leaves the book as it was.
+    /// Takes a step of a channel and returns the message that it sends or that answers it. Refused with `NoSuchChannel`, with `ChannelClosed` where this side closed the channel and the step is a
+    /// `commitment_signed` or an update of its own other than a fulfil, and else with the channel's refusal. A refusal leaves the book as it was.
     pub fn step(
         &mut self,
         seat: u32,
@@ -196,7 +199,7 @@ impl Book {
         let open = &mut self.channels[index];
         let taken = match open.step(step) {
             Ok(taken) => taken,
-            Err(refusal) => return Err(StepError::Refused(refusal)),
+            Err(error) => return Err(error),
         };
         let Taken { step, message } = taken;
         self.fulfils.add_preimage(index, &step);
@@ -238,8 +241,8 @@ impl Book {
         Ok(number)
     }
 
-    /// Signs the peer's next commitment and returns the message. Refused, in this order, with `NoSuchChannel`, `AwaitingRevocation`, `PenaltiesMissing` and the lowest number of a revoked commitment whose
-    /// penalties are not kept, and `NoUpdates`. A refusal leaves the book as it was.
+    /// Signs the peer's next commitment and returns the message. Refused, in this order, with `NoSuchChannel`, `ChannelClosed`, `AwaitingRevocation`, `PenaltiesMissing` and the lowest number of a revoked
+    /// commitment whose penalties are not kept, and `NoUpdates`. A refusal leaves the book as it was.
     pub fn sign(&mut self, seat: u32, channel: u64) -> Result<Message, SignError>
         ensures { IsCall (signed (Err SignError.NoMemory)) (signed result) self.old self.new seat
             (Call.Sign channel) }
@@ -395,6 +398,28 @@ impl Book {
         let call = Call::Release { channel, batch };
         self.entries.push(Entry { seat, call }).unwrap();
         Ok(twice)
+    }
+
+    /// Closes a channel and returns the number of this side's newest commitment, which the caller then broadcasts (BOLT 5, "Unilateral Close Handling: Local Commitment Transaction"). From then on the
+    /// channel takes no `commitment_signed`, signs nothing, and makes no update of its own but a fulfil. So this commitment stays the newest, and its secret is not given out. Called again, it returns the
+    /// same number. Refused with `NoSuchChannel`. A refusal leaves the book as it was.
+    pub fn close(&mut self, seat: u32, channel: u64) -> Result<u64, CloseError>
+        ensures { IsCall (closed (Err CloseError.NoMemory)) (closed result) self.old self.new seat
+            (Call.Close channel) }
+    {
+        let index = channel as usize;
+        if index >= self.channels.len() {
+            return Err(CloseError::NoSuchChannel);
+        }
+        match self.entries.reserve(1) {
+            Ok(()) => {}
+            Err(_) => return Err(CloseError::NoMemory),
+        }
+        let open = &mut self.channels[index];
+        let number = open.close();
+        let call = Call::Close { channel };
+        self.entries.push(Entry { seat, call }).unwrap();
+        Ok(number)
     }
 
     /// The state of the peer's revoked commitment of this number, from which its penalties are built. Refused, in this order, with `NoSuchChannel`, `NotRevoked` and `AlreadyKept`.

@@ -2,6 +2,7 @@
 
 ghost use Rattle.book.specs.Accepted.{AcceptedMeans};
 ghost use Rattle.book.specs.Guarding.{AcceptedIsGuarded, GuardedMeans, KeptAreExact};
+ghost use Rattle.book.specs.Closing.{ClosedStaysNewest, ClosesAgain, ClosedStaysClosed};
 ghost use Rattle.book.specs.Again.{ClaimsComeBack, OpeningsComeBack, EntriesComeBack};
 ghost use Rattle.book.specs.Refused.{RefusalsComeInOrder};
 ghost use Rattle.book.specs.Penalties.{PenaltySetsAreExact};
@@ -26,6 +27,14 @@ pub fn signing_is_guarded()
     // By this law the proof knows that the peer's commitments can pay what they are for.
     sides_are_sound();
 }
+
+/// The commitment with which a side closed a channel stays its newest one, over all accepted histories and whatever its peer sends, and closing the channel again answers its number. So its secret is not
+/// given out while it may stand on the chain. Entry by entry: after a close, no accepted call signs in the channel, takes a signature there, or makes an update of the side's own other than a fulfil.
+pub fn what_is_closed_stays_closed()
+    ensures newest { ClosedStaysNewest }
+    ensures again { ClosesAgain }
+    ensures later { ClosedStaysClosed }
+{}
 
 /// A book's test of its signers' rights accepts exactly the keys that they may sign for.
 pub fn rights_are_tested()

@@ -1,11 +1,13 @@
 //! A node's book: the history of the calls that it accepted, and the gate that guards its signatures.
 //!
-//! [`Book`] has six calls that may change it: `open`, `step`, `sign`, `revoke`, `keep` and `release`. [`Book::call`]
-//! makes any of them. Each returns what `reply_of` says of the history, and leaves the history that `history_after`
+//! [`Book`] has seven calls that may change it: `open`, `step`, `sign`, `revoke`, `keep`, `release` and `close`.
+//! [`Book::call`] makes any of them. Each returns what `reply_of` says of the history, and leaves the history that `history_after`
 //! says; if memory runs out, the history stays as it was. An accepted call adds one entry, and a refused one changes
 //! nothing. The signing gate, [`laws::signing_is_guarded`], holds for each history: between each revocation and the
 //! channel's next signature, the penalties of the revoked commitment were kept. [`Book::entries`] hands this out.
 //! [`Book::load`] reads what [`Book::dump`] writes as the same history.
+//! [`Book::close`] closes a channel: it takes no signature from then on and gives none out, so that the commitment with
+//! which it was closed stays the newest one ([`laws::what_is_closed_stays_closed`]).
 //!
 //! Long work is done outside the book. [`Book::revoked`] hands out the state from which a penalty set is built, and
 //! [`Book::patterns`] the patterns by which it is built. [`Book::keep_set`] keeps the set that was built, as `keep`

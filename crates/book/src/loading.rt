@@ -186,6 +186,7 @@ pub fn call_of(alloc: Global, plain: PlainCall) -> Result<Call, EntryError>
             outputs,
             preimages,
         } => release_of(alloc, channel, claims, outputs, preimages),
+        PlainCall::Close { channel } => Ok(Call::Close { channel }),
     }
 }
 

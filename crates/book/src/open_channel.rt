@@ -1,15 +1,15 @@
-// A channel of a book, with the numbers of the revoked commitments whose penalties are kept.
+// A channel of a book, with the numbers of the revoked commitments whose penalties are kept, and the number with which this side closed it.
 
 ghost use Rattle.std.specs.Prelude.{◌≡◌, [], IfOk, OnErr, MatchResult, Some, None};
 ghost use Rattle.std.specs.List.{cons_option};
 ghost use Rattle.updates.specs.Refusals.{IsRefusal};
 ghost use Rattle.channel.specs.Tokens.{peer_tokens as tokens_of};
-ghost use Rattle.book.specs.Books.{stepped};
+ghost use Rattle.book.specs.Books.{stepped, is_barred};
 ghost use Rattle.book.specs.Replies.{step_refusal, messages_of};
 
 use crate::calls::{Batch, Opening, Step};
 use crate::comparing::is_state_at;
-use crate::errors::{KeepError, OpenError, SignError};
+use crate::errors::{KeepError, OpenError, SignError, StepError};
 use crate::flags::first_unset;
 use crate::judging::are_penalties;
 use crate::knowing::known_of;
@@ -24,7 +24,7 @@ use penalty::RevokedState;
 use resolve::Known;
 use std::alloc::{AllocError, Global};
 use std::marker::Model;
-use updates::ChannelError;
+use updates::{ChannelError, OwnUpdate};
 
 /// A channel, and which of the peer's revoked commitments have their penalties kept. Contracts see it as a `ChannelBook`.
 #[derive(Drop)]
@@ -38,6 +38,8 @@ pub(crate) struct OpenChannel {
     flags: Vec<bool>,
     // the lowest number whose flag is not set
     below: usize,
+    // the number of the commitment with which this side closed the channel
+    closed: Option<u64>,
 }
 
 impl Model for OpenChannel {
@@ -46,9 +48,9 @@ impl Model for OpenChannel {
 
     ghost Value = { ChannelBook };
 
-    ghost view = { λ o. record { state = o.channel; kept = o.kept.items } };
+    ghost view = { λ o. record { state = o.channel; kept = o.kept.items; closed = o.closed } };
 
-    ghost invariant = { λ o. IsBeside (record { state = o.channel; kept = o.kept.items }) o.flags.items o.below };
+    ghost invariant = { λ o. IsBeside (record { state = o.channel; kept = o.kept.items; closed = o.closed }) o.flags.items o.below };
 }
 
 // A step that a channel took, with the message that it sends or that answers the step.
@@ -110,6 +112,17 @@ fn take(channel: &mut Channel, step: Step) -> Result<Taken, ChannelError>
     }
 }
 
+// Whether a closed channel does not take a step: a signature, or an update of one's own other than a fulfil.
+fn is_barred(step: &Step) -> bool
+    ensures { result ≡ is_barred step.now }
+{
+    match step {
+        Step::Own(OwnUpdate::Fulfil { .. }) | Step::Updated(_) => false,
+        Step::Own(OwnUpdate::Offer { .. }) | Step::Own(OwnUpdate::Fail { .. }) => true,
+        Step::Own(OwnUpdate::SetFee { .. }) | Step::Signed(_) => true,
+    }
+}
+
 // The patterns that another channel has, for one more channel. They are listed where there is no other. The only error is that memory ran out.
 fn patterns_beside(
     alloc: Global,
@@ -129,18 +142,18 @@ impl OpenChannel {
     ghost use Rattle.book.specs.Penalties.{is_penalty_set};
     ghost use Rattle.channel.specs.declared.messages.Message.TheVariants.{RevokeAndAck};
     ghost use Rattle.channel.specs.States.{after, after_sign, receive_refusal, signature_message};
-    ghost use Rattle.book.specs.Books.{with_state, with_kept, opened_by, is_kept, kept_at};
+    ghost use Rattle.book.specs.Books.{with_state, with_kept, with_closed, opened_by, is_kept, kept_at};
     ghost use Rattle.book.specs.Knowing.{IsKnownOf};
-    ghost use Rattle.book.specs.Replies.{sign_refusal, keep_refusal};
+    ghost use Rattle.book.specs.Replies.{book_step_refusal, sign_refusal, keep_refusal};
     ghost use Rattle.book.specs.Revoked.{IsRevokedIn, early_keep_refusal};
-    ghost use Rattle.book.specs.Calling.{IsOpenRefusal, IsSignRefusal, IsKeepRefusal, IsFillRefusal, token_refusal, early_sign_refusal, filling_by};
+    ghost use Rattle.book.specs.Calling.{IsOpenRefusal, IsStepRefusal, IsSignRefusal, IsKeepRefusal, IsFillRefusal, token_refusal, early_sign_refusal, filling_by};
     ghost use Rattle.channel.specs.Rights.{rights_of};
     ghost use Rattle.book.specs.Signers.{fill_refusal};
 
     /// A channel without revoked commitments.
     pub(crate) fn new(alloc: Global, channel: Channel, patterns: SharedPatterns) -> OpenChannel
         requires { channel.secrets ≡ [] }
-        ensures { result ≡ record { state = channel; kept = [] } }
+        ensures { result ≡ record { state = channel; kept = []; closed = None } }
     {
         OpenChannel {
             channel,
@@ -148,12 +161,14 @@ impl OpenChannel {
             kept: Vec::new(alloc),
             flags: Vec::new(alloc),
             below: 0,
+            closed: None,
         }
     }
 
     // The channel of an opening.
     fn channel_of(alloc: Global, opening: &Opening) -> Result<Channel, OpenError>
-        ensures ok { IfOk result (λ c. record { state = c; kept = [] } ≡ opened_by opening.now) }
+        ensures ok { IfOk result (λ c. record { state = c; kept = []; closed = None }
+            ≡ opened_by opening.now) }
         ensures new { IfOk result (λ c. c.secrets ≡ []) }
         ensures tested { let first = token_refusal opening.now
             in MatchResult result (λ _. first ≡ None) (IsOpenRefusal first) }
@@ -198,16 +213,23 @@ impl OpenChannel {
     }
 
     /// Takes a step. A refusal changes nothing.
-    pub(crate) fn step(&mut self, step: Step) -> Result<Taken, ChannelError>
+    #[tactic(auto, using(crate::proofs::Stepping::refused_by))]
+    pub(crate) fn step(&mut self, step: Step) -> Result<Taken, StepError>
         ensures step { IfOk result (λ t. t.step ≡ step) }
         ensures message { IfOk result (λ t. cons_option t.message []
             ≡ messages_of self.old.state step) }
         ensures ok { IfOk result (λ _. self.new ≡ with_state (stepped step) self.old) }
-        ensures tested { let first = step_refusal tokens_of self.old.state step
-            in MatchResult result (λ _. first ≡ None) (IsRefusal first) }
+        ensures tested { let first = book_step_refusal tokens_of self.old step
+            in MatchResult result (λ _. first ≡ None) (IsStepRefusal first) }
         ensures err { OnErr result (self.new ≡ self.old) }
     {
-        take(&mut self.channel, step)
+        if self.closed.is_some() && is_barred(&step) {
+            return Err(StepError::ChannelClosed);
+        }
+        match take(&mut self.channel, step) {
+            Ok(taken) => Ok(taken),
+            Err(refusal) => Err(StepError::Refused(refusal)),
+        }
     }
 
     /// Receives a revocation and returns its number. A refusal changes nothing.
@@ -236,11 +258,14 @@ impl OpenChannel {
         Ok(number)
     }
 
-    // Refuses to sign while a signature awaits its revocation, or while penalties are missing.
+    // Refuses to sign in a closed channel, while a signature awaits its revocation, or while penalties are missing.
     fn check_sign(&self) -> Result<(), SignError>
         ensures { let first = early_sign_refusal self.now
             in MatchResult result (λ _. first ≡ None) (λ e. first ≡ Some e) }
     {
+        if self.closed.is_some() {
+            return Err(SignError::ChannelClosed);
+        }
         if self.channel.waits_to_sign() {
             return Err(SignError::AwaitingRevocation);
         }
@@ -269,6 +294,16 @@ impl OpenChannel {
                 _ => Err(SignError::NoUpdates),
             },
         }
+    }
+
+    /// Closes the channel with this side's newest commitment, and returns its number.
+    pub(crate) fn close(&mut self) -> u64
+        ensures number { result ≡ self.old.state.number }
+        ensures closed { self.new ≡ with_closed self.old }
+    {
+        let number = self.channel.number();
+        self.closed = Some(number);
+        number
     }
 
     /// Fills the claims of a batch with the channel's signer.

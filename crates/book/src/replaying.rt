@@ -8,7 +8,7 @@ ghost use Rattle.book.specs.Entering.{IsStop, by_seat, Enters, TakesOne};
 use crate::calls::{Batch, Call, Entry, Opening, Step};
 use crate::dumping::dump;
 use crate::errors::{
-    EntryError, KeepError, LoadError, OpenError, ReleaseError, SignError, StepError,
+    CloseError, EntryError, KeepError, LoadError, OpenError, ReleaseError, SignError, StepError,
 };
 use crate::history::Book;
 use crate::loading::entry_of;
@@ -45,7 +45,7 @@ fn stop_of_step(error: &StepError) -> Stop
             ChannelError::NoMemory => Stop::NoMemory,
             _ => Stop::Refused,
         },
-        StepError::NoSuchChannel => Stop::Refused,
+        StepError::NoSuchChannel | StepError::ChannelClosed => Stop::Refused,
     }
 }
 
@@ -76,6 +76,15 @@ fn stop_of_release(error: &ReleaseError) -> Stop
             _ => Stop::Refused,
         },
         ReleaseError::NoSuchChannel => Stop::Refused,
+    }
+}
+
+fn stop_of_close(error: &CloseError) -> Stop
+    ensures { IsStop CloseError.NoMemory error.now result }
+{
+    match error {
+        CloseError::NoMemory => Stop::NoMemory,
+        CloseError::NoSuchChannel => Stop::Refused,
     }
 }
 
@@ -146,6 +155,15 @@ fn enter_release(book: &mut Book, seat: u32, channel: u64, batch: Batch) -> Resu
     }
 }
 
+fn enter_close(book: &mut Book, seat: u32, channel: u64) -> Result<(), Stop>
+    ensures { Enters result book.old book.new (by_seat seat (Call.Close channel)) }
+{
+    match book.close(seat, channel) {
+        Ok(_) => Ok(()),
+        Err(error) => Err(stop_of_close(&error)),
+    }
+}
+
 // Makes the call of an entry, which adds it to the book.
 fn enter(book: &mut Book, entry: Entry) -> Result<(), Stop>
     ensures { Enters result book.old book.new entry }
@@ -166,6 +184,7 @@ fn enter(book: &mut Book, entry: Entry) -> Result<(), Stop>
             claims,
         } => enter_keep(book, seat, channel, number, claims),
         Call::Release { channel, batch } => enter_release(book, seat, channel, batch),
+        Call::Close { channel } => enter_close(book, seat, channel),
     }
 }
 
@@ -231,7 +250,7 @@ impl Book {
         dump(alloc, self.entries())
     }
 
-    /// Loads a book from a dump of version 1 or 2: its calls are made again, and each claim is accepted anew. Its refusals come in this order: invalid
+    /// Loads a book from a dump of version 1, 2 or 3: its calls are made again, and each claim is accepted anew. Its refusals come in this order: invalid
     /// JSON (`NotJson`), another shape (`BadShape`), and the first entry that is not taken. Of an entry, the claims are tested first (`BadClaim`), then
     /// the call (`BadHistory`).
     #[tactic(auto, unfolding(crate::specs::Loaded::loaded))]

@@ -193,6 +193,11 @@ impl Node {
         batch_with(self.alloc, claims)
     }
 
+    /// Closes a channel, and returns the number of this node's newest commitment.
+    pub fn close(&mut self, index: usize) -> Result<u64> {
+        Ok(self.book.close(SEAT, index as u64)?)
+    }
+
     /// Releases the penalties of the peer's commitment of a number.
     pub fn release(&mut self, index: usize, number: u64) -> Result<()> {
         let batch = self.batch(index, number)?;

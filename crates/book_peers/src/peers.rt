@@ -26,6 +26,7 @@ pub enum Act {
     Keep(u64),
     /// Releases them.
     Release(u64),
+    Close,
 }
 
 /// What an act led to.
@@ -107,6 +108,11 @@ fn release(node: &mut Node, channel: usize, number: u64) -> Result<Reply> {
     Ok(Reply::Done)
 }
 
+fn close(node: &mut Node, channel: usize) -> Result<Reply> {
+    node.close(channel)?;
+    Ok(Reply::Done)
+}
+
 // A node acts in a channel with its peer.
 fn play(node: &mut Node, peer: &mut Node, channel: usize, what: Act) -> Result<Reply> {
     match what {
@@ -116,6 +122,7 @@ fn play(node: &mut Node, peer: &mut Node, channel: usize, what: Act) -> Result<R
         Act::Zeros => revoke_zeros(node, channel),
         Act::Keep(number) => keep(node, channel, number),
         Act::Release(number) => release(node, channel, number),
+        Act::Close => close(node, channel),
     }
 }
 

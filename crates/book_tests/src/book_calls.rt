@@ -2,9 +2,9 @@
 
 use crate::rows::{Row, Summary, plays};
 use crate::two_books::{FIRST, PREIMAGE};
-use book::errors::{KeepError, OpenError, SignError, StepError};
+use book::errors::{CloseError, KeepError, OpenError, SignError, StepError};
 use terms::Side;
-use updates::ChannelError;
+use updates::{ChannelError, OwnUpdate};
 
 // A funding output is opened once, and there is no other channel.
 const OPENED: [Row; 10] = [
@@ -170,8 +170,9 @@ fn knows_what_is_revoked_and_kept(rt: HostRuntime) {
 }
 
 // Once B fulfils the HTLC, B knows its preimage, and A does not.
-const FULFILLED: [Row; 4] = [
+const FULFILLED: [Row; 5] = [
     Row::Offered(5_000_000),
+    Row::Agreed,
     Row::Fulfilled,
     Row::Knows(
         Side::B,
@@ -200,4 +201,58 @@ const FULFILLED: [Row; 4] = [
 #[test]
 fn knows_preimages(rt: HostRuntime) {
     plays(&rt, rt.alloc(), &FULFILLED);
+}
+
+// A closed channel is closed with the newest commitment, as often as it is asked. It signs nothing and makes no offer, failure or fee. It takes the revocation that comes, and its penalties are kept and
+// released.
+const CLOSED: [Row; 14] = [
+    Row::Offered(1_000_000),
+    Row::Close(Side::A, 1, Err(CloseError::NoSuchChannel)),
+    Row::Close(Side::A, 0, Ok(0)),
+    Row::Close(Side::A, 0, Ok(0)),
+    Row::Offer(0, Some(StepError::ChannelClosed)),
+    Row::Offer(1, Some(StepError::NoSuchChannel)),
+    Row::Update(OwnUpdate::Fail { id: 0 }, Some(StepError::ChannelClosed)),
+    Row::Update(
+        OwnUpdate::SetFee { rate: 5 },
+        Some(StepError::ChannelClosed),
+    ),
+    Row::Sign(0, Some(SignError::ChannelClosed)),
+    Row::Revoke(0, Ok(0)),
+    Row::Sign(0, Some(SignError::ChannelClosed)),
+    Row::KeepFirst(None),
+    Row::Release(true),
+    Row::Entries(Side::A, 8),
+];
+
+#[test]
+fn a_closed_channel_signs_nothing(rt: HostRuntime) {
+    plays(&rt, rt.alloc(), &CLOSED);
+}
+
+// B closes with its commitment 1, takes no signature of A from then on, and still fulfils, so that it knows the preimage.
+const FULFILLED_ONCE_CLOSED: [Row; 8] = [
+    Row::Offered(5_000_000),
+    Row::Agreed,
+    Row::Close(Side::B, 0, Ok(1)),
+    Row::KeepFirst(None),
+    Row::Offer(0, None),
+    Row::SignToB(Some(StepError::ChannelClosed)),
+    Row::Fulfilled,
+    Row::Knows(
+        Side::B,
+        Summary {
+            own: 1,
+            older: 1,
+            theirs: 1,
+            next: None,
+            revoked: &[false],
+            preimages: &[PREIMAGE],
+        },
+    ),
+];
+
+#[test]
+fn a_closed_channel_takes_no_signature_and_fulfils(rt: HostRuntime) {
+    plays(&rt, rt.alloc(), &FULFILLED_ONCE_CLOSED);
 }

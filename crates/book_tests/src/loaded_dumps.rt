@@ -73,10 +73,23 @@ fn loads_what_an_empty_book_dumps(rt: HostRuntime) {
 }
 
 // What is loaded from each text, or why it is not.
-const TEXTS: [(&str, Result<usize, LoadError>); 3] = [
+const TEXTS: [(&str, Result<usize, LoadError>); 7] = [
     ("{}", Err(LoadError::BadShape)),
     ("{\"history\":[],\"version\":9}", Err(LoadError::BadShape)),
     ("{\"history\":[],\"version\":1}", Ok(0)),
+    ("{\"history\":[],\"version\":3}", Err(LoadError::BadShape)),
+    (
+        "{\"history\":[{\"call\":[\"close\",0],\"seat\":0}],\"version\":3}",
+        Err(LoadError::BadHistory(0)),
+    ),
+    (
+        "{\"history\":[{\"call\":[\"close\",0],\"seat\":0}],\"version\":2}",
+        Err(LoadError::BadShape),
+    ),
+    (
+        "{\"history\":[{\"call\":[\"close\",0],\"seat\":0}],\"version\":1}",
+        Err(LoadError::BadShape),
+    ),
 ];
 
 #[test]
@@ -114,8 +127,9 @@ fn dumped(rt: &impl Abort, alloc: Global, text: &str) -> String {
     dump(alloc, &entries_of(rt, alloc, read)).expect(rt, "memory")
 }
 
-const DUMPS: [&str; 4] = [
+const DUMPS: [&str; 5] = [
     EMPTY,
+    "{\"history\":[{\"call\":[\"sign\",0],\"seat\":7},{\"call\":[\"close\",18446744073709551615],\"seat\":2}],\"version\":3}",
     "{\"history\":[{\"call\":[\"step\",0,\"fee\",5000],\"seat\":4},{\"call\":[\"step\",1,\"receive\",[\"fail\",2]],\"seat\":3},{\"call\":[\"sign\",0],\"seat\":0},{\"call\":[\"keep\",1,2,[]],\"seat\":4294967295}],\"version\":2}",
     "{\"history\":[{\"call\":[\"revoke\",0,[\"revoke\",\"66687aadf862bd776c8fc18b8e9f8e20089714856ee233b3902a591d0d5f2925\",\"021111111111111111111111111111111111111111111111111111111111111111\"]],\"seat\":1}],\"version\":2}",
     "{\"history\":[{\"call\":[\"step\",7,\"receive\",[\"signed\",\"021111111111111111111111111111111111111111111111111111111111111111222222222222222222222222222222222222222222222222222222222222222201\",[]]],\"seat\":1}],\"version\":2}",

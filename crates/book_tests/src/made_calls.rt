@@ -1,4 +1,4 @@
-// Calls as values: `Book::call` accepts each of the six.
+// Calls as values: `Book::call` accepts each of the seven.
 
 use crate::pairs::{Pair, batch_of, first_claims};
 use crate::two_books::{Revocation, offer, opening};
@@ -16,15 +16,17 @@ enum Sort {
     Revoke,
     Keep,
     Release,
+    Close,
 }
 
-const SORTS: [Sort; 6] = [
+const SORTS: [Sort; 7] = [
     Sort::Open,
     Sort::Step,
     Sort::Sign,
     Sort::Revoke,
     Sort::Keep,
     Sort::Release,
+    Sort::Close,
 ];
 
 // A call in the first channel, which B revoked.
@@ -52,6 +54,7 @@ fn call_of(rt: &impl Abort, alloc: Global, sort: Sort, came: Revocation) -> Call
             channel,
             batch: batch_of(rt, alloc, first_claims(rt, alloc, secret)),
         },
+        Sort::Close => Call::Close { channel },
     }
 }
 
@@ -63,6 +66,7 @@ fn is_accepted(reply: &Reply) -> bool {
         Reply::Revoked(answer) => answer.is_ok(),
         Reply::Kept(answer) => answer.is_ok(),
         Reply::Released(answer) => answer.is_ok(),
+        Reply::Closed(answer) => answer.is_ok(),
     }
 }
 
@@ -85,5 +89,5 @@ fn makes_each_call(rt: HostRuntime) {
     for sort in SORTS {
         assert!(rt; accepts(&mut book, call_of(&rt, rt.alloc(), sort, came)));
     }
-    assert!(rt; book.entries().len() == 6);
+    assert!(rt; book.entries().len() == 7);
 }

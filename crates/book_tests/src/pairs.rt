@@ -1,9 +1,9 @@
 // Two books that share a channel, and what A's answers.
 
 use crate::two_books::{FIRST, Revocation, offer, offered, opened, opening, penalties_of, signed};
-use book::errors::{KeepError, OpenError, ReleaseError, SignError, StepError};
+use book::errors::{CloseError, KeepError, OpenError, ReleaseError, SignError, StepError};
 use book::{Batch, Book, Step, filled};
-use channel::opening_points;
+use channel::{Message, opening_points};
 use claim::Claim;
 use filling::FillError;
 use keys::Signer;
@@ -65,13 +65,38 @@ impl Pair {
         true
     }
 
-    // A takes the revocation, B signs the same HTLC to A, and fulfils it.
-    pub(crate) fn fulfil(&mut self, rt: &impl Abort, preimage: [u8; 32]) -> bool {
+    // A takes the revocation, B signs the same HTLC to A, and A revokes.
+    pub(crate) fn agree(&mut self, rt: &impl Abort) -> bool {
         assert!(rt; self.revoke(0) == Ok(0));
         let came = signed(rt, &mut self.b, &mut self.a);
-        assert!(rt; self.b.revoke(0, 0, came.secret, came.next_point) == Ok(0));
+        self.b.revoke(0, 0, came.secret, came.next_point) == Ok(0)
+    }
+
+    // B fulfils the HTLC.
+    pub(crate) fn fulfil(&mut self, preimage: [u8; 32]) -> bool {
         let fulfil = Step::Own(OwnUpdate::Fulfil { id: 0, preimage });
         self.b.step(0, 0, fulfil).is_ok()
+    }
+
+    // A side closes a channel.
+    pub(crate) fn close(&mut self, side: Side, channel: u64) -> Result<u64, CloseError> {
+        match side {
+            Side::A => self.a.close(5, channel),
+            Side::B => self.b.close(6, channel),
+        }
+    }
+
+    // Why A does not make an update of its own.
+    pub(crate) fn update(&mut self, update: OwnUpdate) -> Option<StepError> {
+        self.a.step(0, 0, Step::Own(update)).err()
+    }
+
+    // Why B does not take a signature of A.
+    pub(crate) fn sign_to_b(&mut self, rt: &impl Abort) -> Option<StepError> {
+        match self.a.sign(0, 0).expect(rt, "a signature") {
+            Message::CommitmentSigned(tokens) => self.b.step(0, 0, Step::Signed(tokens)).err(),
+            _ => None,
+        }
     }
 
     pub(crate) fn offer(&mut self, channel: u64) -> Option<StepError> {

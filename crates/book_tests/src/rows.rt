@@ -3,13 +3,16 @@
 use crate::pairs::Pair;
 use crate::two_books::PREIMAGE;
 use book::Book;
-use book::errors::{KeepError, KnowError, OpenError, ReleaseError, SignError, StepError};
+use book::errors::{
+    CloseError, KeepError, KnowError, OpenError, ReleaseError, SignError, StepError,
+};
 use filling::FillError;
 use parties::FUNDING;
 use resolve::Known;
 use std::alloc::Global;
 use std::process::Abort;
 use terms::Side;
+use updates::OwnUpdate;
 
 /// The numbers of HTLCs in the known commitments, and what else is known.
 #[derive(Clone, Copy)]
@@ -30,8 +33,16 @@ pub(crate) enum Row {
     Open(Option<OpenError>),
     /// A offers an HTLC of this amount and signs it, and B sends a revocation.
     Offered(u64),
-    /// A takes that revocation, B signs the HTLC too, A revokes, and B fulfils.
+    /// A takes that revocation, B signs the HTLC too, and A revokes.
+    Agreed,
+    /// B fulfils the HTLC.
     Fulfilled,
+    /// A side closes a channel.
+    Close(Side, u64, Result<u64, CloseError>),
+    /// A makes an update of its own.
+    Update(OwnUpdate, Option<StepError>),
+    /// A signs to B.
+    SignToB(Option<StepError>),
     /// A offers in a channel.
     Offer(u64, Option<StepError>),
     /// A signs a channel.
@@ -164,7 +175,11 @@ fn is_answered(rt: &impl Abort, alloc: Global, pair: &mut Pair, row: &Row) -> bo
     match *row {
         Row::Open(wanted) => pair.open_again(rt) == wanted,
         Row::Offered(amount) => pair.offer_and_sign(rt, amount),
-        Row::Fulfilled => pair.fulfil(rt, PREIMAGE),
+        Row::Agreed => pair.agree(rt),
+        Row::Fulfilled => pair.fulfil(PREIMAGE),
+        Row::Close(side, channel, wanted) => pair.close(side, channel) == wanted,
+        Row::Update(update, wanted) => pair.update(update) == wanted,
+        Row::SignToB(wanted) => pair.sign_to_b(rt) == wanted,
         Row::Offer(channel, wanted) => pair.offer(channel) == wanted,
         Row::Sign(channel, wanted) => pair.sign(channel) == wanted,
         Row::Revoke(channel, wanted) => pair.revoke(channel) == wanted,

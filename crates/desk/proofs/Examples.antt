@@ -1,13 +1,14 @@
 -- The words at chosen values, and what the rule and the clauses exclude: an entry with a number that no seat has, and a reply that the book did not give.
-use Rattle.std.proofs.Common.{◌≡◌, ◌≢◌, ℕ, zero, suc, ◌+◌, ◌<◌, ◌≤◌, arith, Bool, true, false, List, [], ◌∷◌, All, map, Option, Some, None, IfSome, Err, refl, sym, subst, ap, ◌∙◌, ⊎_elim, ◌⊎◌}
+use Rattle.std.proofs.Common.{◌≡◌, ◌≢◌, ℕ, zero, suc, ◌+◌, ◌<◌, ◌≤◌, arith, Bool, true, false, List, [], ◌∷◌, All, map, Option, Some, None, IfSome, Ok, Err, refl, sym, subst, ap, ◌∙◌, ⊎_elim, ◌⊎◌}
 use Rattle.std.specs.List.{range_with_len, last_or}
 use Rattle.std.proofs.lemmas.List.Elements.{All-head, All-tail}
 use Rattle.crossbeam_channel.specs.Claims.{view}
 use Rattle.channel.specs.Tokens.{peer_tokens}
 use Rattle.book.specs.declared.calls.Entry.{Entry}
-use Rattle.book.specs.declared.calls.Call.TheVariants.{Sign}
+use Rattle.book.specs.declared.calls.Call.{Call}
+use Rattle.book.specs.declared.calls.Call.TheVariants.{Sign, Close}
 use Rattle.book.specs.declared.errors.SignError.TheVariants.{NoUpdates}
-use Rattle.book.specs.Replies.{signed, is_accepted, reply_of, extended}
+use Rattle.book.specs.Replies.{signed, closed, is_accepted, reply_of, extended}
 use Rattle.desk.specs.declared.rule.SeatView.{SeatView}
 use Rattle.desk.specs.declared.desk.Desk.{Desk}
 use Rattle.desk.specs.declared.desk.Seat.{Seat}
@@ -87,14 +88,21 @@ no_other desk opening more seats items views rule numbers ends all n none =
     missed (first_seat opening) (suc more) n seats numbers (omega arith) (omega arith) none) ∙ ap (calls_of n) same
 
 -- if a call leaves a history empty, it was empty before
-was_empty : (h : History) (b : Bool) → [] ≡ extended b h 0 (Sign 0) → h ≡ []
-was_empty [] b e = refl
-was_empty (x ∷ h) true e = cc
-was_empty (x ∷ h) false e = cc
+was_empty : (h : History) (call : Call) (b : Bool) → [] ≡ extended b h 0 call → h ≡ []
+was_empty [] call b e = refl
+was_empty (x ∷ h) call true e = cc
+was_empty (x ∷ h) call false e = cc
 
 -- a book without channels refuses to sign only for lack of the channel or of memory
 not_invented : IsAnswered 0 [] [] (Sign 0) (signed (Err NoUpdates)) [] [] → ⊥
 not_invented a = ⊎_elim
     (λ m. let e = m.0 in cc)
-    (λ m. let e = m.0 ∙ ap (λ h. reply_of peer_tokens h (Sign 0)) (was_empty a.0 (is_accepted (reply_of peer_tokens a.0 (Sign 0))) m.2) in cc)
+    (λ m. let e = m.0 ∙ ap (λ h. reply_of peer_tokens h (Sign 0)) (was_empty a.0 (Sign 0) (is_accepted (reply_of peer_tokens a.0 (Sign 0))) m.2) in cc)
+    a.2
+
+-- and it closes no channel
+not_closed : IsAnswered 0 [] [] (Close 0) (closed (Ok 0)) [] [] → ⊥
+not_closed a = ⊎_elim
+    (λ m. let e = m.0 in cc)
+    (λ m. let e = m.0 ∙ ap (λ h. reply_of peer_tokens h (Close 0)) (was_empty a.0 (Close 0) (is_accepted (reply_of peer_tokens a.0 (Close 0))) m.2) in cc)
     a.2

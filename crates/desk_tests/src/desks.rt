@@ -35,6 +35,10 @@ pub(crate) enum Row {
     Refuse,
     /// The revocation of that commitment is taken.
     Revoke(Revocation),
+    /// The channel is closed with commitment 0.
+    Close,
+    /// No signature is made in a closed channel.
+    ShutOut,
 }
 
 // The call that hands in a revocation.
@@ -54,6 +58,7 @@ fn call_of(row: Row) -> Call {
             step: offer_until(expiry),
         },
         Row::Revoke(came) => revocation_of(came),
+        Row::Close => Call::Close { channel: 0 },
         _ => Call::Sign { channel: 0 },
     }
 }
@@ -64,9 +69,12 @@ fn has(row: Row, reply: &Reply) -> bool {
         Reply::Stepped(answer) => matches!(row, Row::Offer(_)) && answer.is_ok(),
         Reply::Revoked(answer) => matches!(row, Row::Revoke(_)) && *answer == Ok(0),
         Reply::Signed(Ok(_)) => matches!(row, Row::Sign),
-        Reply::Signed(Err(error)) => {
-            matches!(row, Row::Refuse) && *error == SignError::PenaltiesMissing(0)
-        }
+        Reply::Signed(Err(error)) => match row {
+            Row::Refuse => *error == SignError::PenaltiesMissing(0),
+            Row::ShutOut => *error == SignError::ChannelClosed,
+            _ => false,
+        },
+        Reply::Closed(answer) => matches!(row, Row::Close) && *answer == Ok(0),
         _ => false,
     }
 }

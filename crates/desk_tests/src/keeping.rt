@@ -22,11 +22,16 @@ fn keeps<R: Wait + Abort>(rt: &R, alloc: Global, desk: &Desk, seat: &mut Seat) -
     desk.keep_set(rt, seat, 0, 0, set).is_ok()
 }
 
-// Whether the desk tells what is known of the first channel.
-fn knows<R: Wait>(rt: &R, desk: &Desk, seat: &mut Seat) -> bool
+// Whether the penalties of the peer's commitment 0 are kept in the first channel, by what the desk tells a seat. `None` if it is not revoked.
+fn first_revoked<R: Wait + Abort>(rt: &R, desk: &Desk, seat: &mut Seat) -> Option<bool>
     requires { IsSeatOf desk.now seat.old }
+    ensures { IsSeatOf desk.now seat.new }
 {
-    desk.known(rt, seat, 0).err().is_none()
+    let known = desk.known(rt, seat, 0).expect(rt, "what is known");
+    match known.revoked.get(0) {
+        Some(revoked) => Some(revoked.is_kept),
+        None => None,
+    }
 }
 
 // Whether the seat signs once the worker kept the penalties, and not before.
@@ -45,7 +50,7 @@ fn guards<R: Wait + Abort>(
     let is_revoked = calls(rt, desk, seat, Row::Revoke(came));
     let is_refused = calls(rt, desk, seat, Row::Refuse);
     let is_kept = keeps(rt, alloc, desk, worker);
-    let is_known = knows(rt, desk, worker);
+    let is_known = first_revoked(rt, desk, worker) == Some(true);
     let is_signed = calls(rt, desk, seat, Row::Sign);
     is_revoked && is_refused && is_kept && is_known && is_signed
 }
@@ -62,4 +67,19 @@ fn keeps_penalties_by_another_seat(rt: HostRuntime) {
     assert!(rt; guards(&rt, alloc, &desk, &mut seat, &mut worker, came));
     let book = desk.close(&rt, &mut seat);
     assert!(rt; book.entries().len() == 7);
+}
+
+// What a seat hands in is known to that same seat at its next call.
+#[test]
+fn knows_what_it_handed_in(rt: HostRuntime) {
+    let alloc = rt.alloc();
+    let mut book = opened(&rt, alloc, 0);
+    let came = awaited(&rt, alloc, &mut book);
+    let (desk, mut seats) = desk_over(&rt, alloc, book, 1);
+    let mut seat = next_seat(&rt, &desk, &mut seats);
+    assert!(rt; first_revoked(&rt, &desk, &mut seat).is_none());
+    assert!(rt; calls(&rt, &desk, &mut seat, Row::Revoke(came)));
+    assert!(rt; first_revoked(&rt, &desk, &mut seat) == Some(false));
+    let book = desk.close(&rt, &mut seat);
+    assert!(rt; book.entries().len() == 5);
 }

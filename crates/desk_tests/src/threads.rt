@@ -2,7 +2,7 @@
 
 ghost use Rattle.desk.specs.Seats.{IsSeatOf};
 
-use crate::books::opened;
+use crate::books::{offering, opened};
 use crate::desks::{Row, calls, desk_over, next_seat};
 use desk::{Desk, Seat};
 use std::process::Abort;
@@ -17,6 +17,20 @@ fn offer_many<R: Wait + Abort>(rt: &R, desk: &Desk, seat: &mut Seat)
     for k in 0..20 {
         assert!(rt; calls(rt, desk, seat, Row::Offer(500 + k)));
     }
+}
+
+// What one seat closes is closed to another one, which may close it again.
+#[test]
+fn closes_for_all_seats(rt: HostRuntime) {
+    let alloc = rt.alloc();
+    let (desk, mut seats) = desk_over(&rt, alloc, offering(&rt, alloc), 2);
+    let mut first = next_seat(&rt, &desk, &mut seats);
+    let mut second = next_seat(&rt, &desk, &mut seats);
+    assert!(rt; calls(&rt, &desk, &mut first, Row::Close));
+    assert!(rt; calls(&rt, &desk, &mut second, Row::ShutOut));
+    assert!(rt; calls(&rt, &desk, &mut second, Row::Close));
+    let book = desk.close(&rt, &mut first);
+    assert!(rt; book.entries().len() == 4);
 }
 
 // Two threads call the book of one channel at once. A third seat closes the desk.

@@ -133,7 +133,7 @@ pub fn event_parts(name: &str, count: usize) -> Option<&'static [Part]> {
         b"fulfil" => &FULFIL,
         b"fail" => &FAIL,
         b"fee" => &FEE,
-        b"sign" | b"deliver" => &CHANNEL,
+        b"sign" | b"deliver" | b"close" => &CHANNEL,
         b"keep" => &COMMITMENT,
         b"broadcast" if count == 5 => &HTLC,
         b"broadcast" => &COMMITMENT,

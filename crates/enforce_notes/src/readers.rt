@@ -10,6 +10,7 @@ pub struct Kept<R> {
     reader: R,
     bytes: Vec<u8>,
     is_whole: bool,
+    has_ended: bool,
 }
 
 impl<R: Read> Kept<R> {
@@ -19,12 +20,13 @@ impl<R: Read> Kept<R> {
             reader,
             bytes: Vec::new(alloc),
             is_whole: true,
+            has_ended: false,
         }
     }
 
-    /// What was read so far; `None` if a read failed, or if memory ran out.
+    /// All that there was to read; `None` before its end, if a read failed, or if memory ran out.
     pub fn all_bytes(&self) -> Option<&[u8]> {
-        if self.is_whole {
+        if self.is_whole && self.has_ended {
             Some(self.bytes.as_slice())
         } else {
             None
@@ -36,6 +38,9 @@ impl<R: Read> Read for Kept<R> {
     fn read(&mut self, bytes: &mut [u8]) -> io::Result<usize> {
         match self.reader.read(bytes) {
             Ok(count) => {
+                if count == 0 && !bytes.is_empty() {
+                    self.has_ended = true;
+                }
                 if self.bytes.extend_from_slice(&bytes[..count]).is_err() {
                     self.is_whole = false;
                 }

@@ -1,4 +1,4 @@
-//! Two books that share a channel: what is kept before it is sent, and the gate before signatures.
+//! Two books that share a channel: what is kept before it is sent, the gate before signatures, and the close.
 
 use anyhow::Result;
 use book::errors::{SignError, StepError};
@@ -44,6 +44,13 @@ fn keep_penalties(alloc: Global, book: &mut Book, number: u64) -> Result<()> {
     let set = penalties(alloc, patterns.get(), &state)?;
     book.keep_set(SEAT, 0, number, set)?;
     Ok(())
+}
+
+/// Closes the channel: the number of the commitment that is to be broadcast, once the history with the close is kept.
+fn close<W: Write>(alloc: Global, book: &mut Book, store: &mut W) -> Result<u64> {
+    let number = book.close(SEAT, 0)?;
+    persist(alloc, book, store)?;
+    Ok(number)
 }
 
 /// Takes a message of the peer; the answer is to be sent once it is kept.
@@ -119,4 +126,22 @@ fn loads_what_was_kept(rt: HostRuntime) {
         &mut store,
     );
     assert!(rt; loaded(&rt, rt.alloc(), &store) == 3);
+}
+
+// Whether B's book refuses an offer's signature once it closed the channel.
+fn shuts(rt: &impl Abort, alloc: Global, offer: Message, signature: Message) -> bool {
+    let mut b = opened(rt, alloc, Side::B);
+    let number = close(alloc, &mut b, &mut Vec::new(alloc)).expect(rt, "closed");
+    assert!(rt; answer(rt, &mut b, offer).is_none());
+    number == 0 && matches!(take(&mut b, signature), Err(StepError::ChannelClosed))
+}
+
+// A book that closed its channel takes the peer's updates, but does not answer its signature with a secret.
+#[test]
+fn takes_no_signature_after_the_close(rt: HostRuntime) {
+    let alloc = rt.alloc();
+    let mut a = opened(&rt, alloc, Side::A);
+    let offer = offered(&rt, &mut a, 500);
+    let signature = sign(alloc, &mut a, &mut Vec::new(alloc)).expect(&rt, "a signature");
+    assert!(rt; shuts(&rt, alloc, offer, signature));
 }

@@ -20,7 +20,7 @@ use Rattle.book.specs.Books.{ChannelBook, replay}
 use Rattle.book.specs.Calling.{filling_by}
 use Rattle.book.specs.Dispatch.{no_memory_of, reply_form}
 use Rattle.book.specs.Signers.{fill_refusal}
-use Rattle.book.specs.Replies.{Reply, opened, stepped, signed, revoked, kept, released, asked, unless, fill_answer, is_accepted, reply_of, extended, history_after, if_so}
+use Rattle.book.specs.Replies.{Reply, opened, stepped, signed, revoked, kept, released, closed, asked, unless, fill_answer, is_accepted, reply_of, extended, history_after, if_so}
 use Rattle.desk.specs.Histories.{History}
 use Rattle.desk.specs.Answers.{IsAnswered, calls_after}
 use Rattle.side.specs.declared.due.DueClaim.{DueClaim}
@@ -38,6 +38,7 @@ is_release (signed r) = false
 is_release (revoked r) = false
 is_release (kept r) = false
 is_release (released r) = true
+is_release (closed r) = false
 
 -- the reply to a release is one of a release
 pub always_released : (n : ℕ) (channel : ℕ) (batch : Batch) (before after : List Entry) (seen last : History) (answer : Answer) → IsAnswered n before seen (Release channel batch) (reply_form answer) after last
@@ -58,6 +59,7 @@ always_released n channel batch before after seen last answer is other = by answ
     by (answers.Revoked r) e other = absurd cc
     by (answers.Kept r) e other = absurd cc
     by (answers.Released r) e other = absurd (other r refl)
+    by (answers.Closed r) e other = absurd cc
 
 -- ---- an accepted one
 

@@ -31,6 +31,16 @@ fn keeps_what_it_gives(rt: HostRuntime) {
     assert!(rt; kept.all_bytes() == Some(text));
 }
 
+// Where memory runs out for whoever reads, what was read is not the whole text.
+#[test]
+fn keeps_nothing_before_the_end(rt: HostRuntime) {
+    let text: &[u8] = b"what is read";
+    let mut kept = Kept::new(rt.alloc(), text);
+    let mut read = [0u8; 12];
+    assert!(rt; matches!(kept.read(&mut read), Ok(12)));
+    assert!(rt; kept.all_bytes().is_none());
+}
+
 #[test]
 fn keeps_nothing_after_a_failure(rt: HostRuntime) {
     let mut kept = Kept::new(rt.alloc(), Failing { left: 2 });

@@ -1,4 +1,4 @@
-// The state of a path, and its end.
+// The state of a path in progress, what stops or turns it, and the paths that are listed.
 
 ghost use Rattle.std.specs.Prelude.{◌≡◌, IfOk};
 ghost use Rattle.script.specs.Step.{result_if};

@@ -1,5 +1,6 @@
 //! Plays two nodes with a book each, as the lines of its input say. `open CHANNELS` gives both an empty book and opens this number of channels. `A offer MILLISATOSHIS EXPIRY`, `A fee RATE`, `A sign`, `A
-//! deliver`, `A keep NUMBER` and `A release NUMBER` (the penalties of the peer's commitment), or the same of B, are calls in the first channel. `A zeros` gives A a revocation with a secret of zeros.
+//! deliver`, `A keep NUMBER`, `A release NUMBER` (the penalties of the peer's commitment) and `A close`, or the same of B, are calls in the first channel. `A zeros` gives A a revocation with a secret of
+//! zeros.
 //!
 //! It prints the result of each call, and after a refusal whether the dump changed. `entries` prints how many entries both histories have. `beginnings`, `damages` and `version` change A's dump and load
 //! it, and `dump` prints it. `load TEXT` loads a text, and `stored TEXT` dumps it again. `random GAMES` dumps, loads and dumps again the histories of random games.
@@ -56,6 +57,8 @@ fn plain_act(word: &str) -> Option<Act> {
         Some(Act::Deliver)
     } else if word == "zeros" {
         Some(Act::Zeros)
+    } else if word == "close" {
+        Some(Act::Close)
     } else {
         None
     }

@@ -1,5 +1,5 @@
 -- What is broadcast is of the channel in the history.
-use Rattle.std.proofs.Common.{◌≡◌, Option, Some, None, Result}
+use Rattle.std.proofs.Common.{◌≡◌, ℕ, Option, Some, None, Result, sym, subst}
 use Rattle.std.specs.declared.alloc.AllocError.{AllocError}
 use Rattle.std.specs.Prelude.{IfOk}
 use Rattle.std.proofs.lemmas.Result.{IfOk-weaker}
@@ -11,10 +11,18 @@ use Rattle.book.specs.declared.errors.KnowError.{KnowError}
 use Rattle.book.specs.declared.errors.KnowError.TheVariants.{NoMemory, NoSuchChannel}
 use Rattle.desk.specs.Histories.{History}
 use Rattle.running.specs.declared.players.Broadcast.{Broadcast}
-use Rattle.running.specs.Broadcasts.{IsSignedBy, IsBroadcastOf}
+use Rattle.running.specs.declared.players.Choice.{Choice}
+use Rattle.running.specs.declared.players.Choice.TheVariants.{Newest}
+use Rattle.running.specs.Broadcasts.{IsCommitmentOf, IsSignedBy, IsBroadcastOf, newest_of}
+
+-- the newest commitment is signed by its number
+pub signed_newest : (known : Known) (choice : Choice) (n : ℕ) (r : Result (Option Transaction) AllocError) → choice ≡ Newest → n ≡ newest_of known → IfOk r (IsCommitmentOf known n)
+    → IfOk r (IsSignedBy known choice)
+signed_newest known choice n r is number signed =
+    subst (λ (c : Choice). IfOk r (IsSignedBy known c)) (sym is) (subst (λ (m : ℕ). IfOk r (IsCommitmentOf known m)) number signed)
 
 broadcast_of : (history : History) (b : Broadcast) (there : Option ChannelBook) (known : Known) (answer : Option Transaction) → IsKnownIn history b.channel there known
-    → IsSignedBy known b.number b.htlc answer → IsBroadcastOf history b there answer
+    → IsSignedBy known b.choice answer → IsBroadcastOf history b there answer
 broadcast_of history b None known answer is signed = absurd is
 broadcast_of history b (Some ch) known answer is signed = (known, is, signed)
 
@@ -28,6 +36,6 @@ no_broadcast history b (Some ch) NoSuchChannel r is none = absurd cc
 
 -- what is broadcast by what is known
 pub broadcast_known : (history : History) (b : Broadcast) (there : Option ChannelBook) (known : Known) (r : Result (Option Transaction) AllocError) → IsKnownIn history b.channel there known
-    → IfOk r (IsSignedBy known b.number b.htlc) → IfOk r (IsBroadcastOf history b there)
+    → IfOk r (IsSignedBy known b.choice) → IfOk r (IsBroadcastOf history b there)
 broadcast_known history b there known r is signed =
-    IfOk-weaker r (IsSignedBy known b.number b.htlc) (IsBroadcastOf history b there) (λ answer it. broadcast_of history b there known answer is it) signed
+    IfOk-weaker r (IsSignedBy known b.choice) (IsBroadcastOf history b there) (λ answer it. broadcast_of history b there known answer is it) signed

@@ -6,8 +6,8 @@ use Rattle.channel.specs.declared.messages.Message.{Message}
 use Rattle.channel.specs.Tokens.{peer_tokens}
 use Rattle.book.specs.declared.calls.Entry.{Entry}
 use Rattle.book.specs.declared.calls.Call.{Call}
-use Rattle.book.specs.declared.calls.Call.TheVariants.{Open, Step, Sign, Revoke, Keep, Release}
-use Rattle.book.specs.Replies.{Reply, opened, stepped, signed, revoked, kept, released, is_accepted, reply_of, extended, history_after}
+use Rattle.book.specs.declared.calls.Call.TheVariants.{Open, Step, Sign, Revoke, Keep, Release, Close}
+use Rattle.book.specs.Replies.{Reply, opened, stepped, signed, revoked, kept, released, closed, is_accepted, reply_of, extended, history_after}
 use Rattle.book.specs.Dispatch.{no_memory_of}
 use Rattle.desk.specs.declared.desk.Seat.{Seat}
 use Rattle.desk.specs.Histories.{History, GoesOn}
@@ -28,6 +28,7 @@ silent (signed (Err e)) is = refl
 silent (revoked r) is = refl
 silent (kept r) is = refl
 silent (released r) is = refl
+silent (closed r) is = refl
 
 pub unrevoked : (r : Reply) → is_accepted r ≡ false → revoked_in r ≡ None
 unrevoked (opened r) is = refl
@@ -37,6 +38,7 @@ unrevoked (revoked (Ok n)) is = absurd cc
 unrevoked (revoked (Err e)) is = refl
 unrevoked (kept r) is = refl
 unrevoked (released r) is = refl
+unrevoked (closed r) is = refl
 
 -- ---- calls that were refused before
 
@@ -83,6 +85,7 @@ out_of_memory (Sign c) = refl
 out_of_memory (Revoke c secret next_point) = refl
 out_of_memory (Keep c n claims) = refl
 out_of_memory (Release c batch) = refl
+out_of_memory (Close c) = refl
 
 pub in_memory : (r : Reply) → is_accepted r ≡ true → ran_out r ≡ false
 in_memory (opened (Ok n)) is = refl
@@ -97,6 +100,8 @@ in_memory (kept (Ok u)) is = refl
 in_memory (kept (Err e)) is = absurd cc
 in_memory (released (Ok f)) is = refl
 in_memory (released (Err e)) is = absurd cc
+in_memory (closed (Ok n)) is = refl
+in_memory (closed (Err e)) is = absurd cc
 
 -- a reply that does not say that memory ran out is the book's own
 pub own_reply : (call : Call) (s t : Seat) (reply : Reply) → IsReply call s t reply → ran_out reply ≡ false → IsOwnReply call s t reply

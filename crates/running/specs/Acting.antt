@@ -4,9 +4,9 @@ use Rattle.channel.specs.declared.messages.Message.{Message}
 use Rattle.channel.specs.Tokens.{peer_tokens}
 use Rattle.book.specs.declared.calls.Step.TheVariants.{Own}
 use Rattle.book.specs.declared.calls.Call.{Call}
-use Rattle.book.specs.declared.calls.Call.TheVariants.{Step as Stepping, Sign as Signing}
-use Rattle.book.specs.Replies.{Reply, opened, stepped, signed, revoked, kept, released, is_accepted, reply_of, history_after}
-use Rattle.book.specs.Refusals.{open_error_number, step_error_number, sign_error_number, keep_error_number, release_error_number}
+use Rattle.book.specs.declared.calls.Call.TheVariants.{Step as Stepping, Sign as Signing, Close as Closing}
+use Rattle.book.specs.Replies.{Reply, opened, stepped, signed, revoked, kept, released, closed, is_accepted, reply_of, history_after}
+use Rattle.book.specs.Refusals.{open_error_number, step_error_number, sign_error_number, keep_error_number, release_error_number, close_error_number}
 use Rattle.terms.specs.declared.sides.Side.{Side}
 use Rattle.terms.specs.declared.sides.Side.TheVariants as sides
 use Rattle.jobs.specs.declared.rule.Hand.{Hand}
@@ -21,7 +21,7 @@ use Rattle.node.specs.declared.work.Job.TheVariants.{Keep, Claims}
 use Rattle.side.specs.declared.due.DueClaim.{DueClaim}
 use Rattle.side.specs.Acts.{call_of, messages_in}
 use Rattle.running.specs.declared.acts.Act.{Act}
-use Rattle.running.specs.declared.acts.Act.TheVariants.{Update, Sign, Deliver}
+use Rattle.running.specs.declared.acts.Act.TheVariants.{Update, Sign, Deliver, Close}
 use Rattle.running.specs.declared.ends.End.{End}
 use Rattle.running.specs.declared.lines.Line.{Line}
 use Rattle.running.specs.declared.lines.Turn.{Turn}
@@ -71,6 +71,7 @@ ran_out (signed (Err e)) = sign_error_number e == 0
 ran_out (revoked (Err e)) = step_error_number e == 0
 ran_out (kept (Err e)) = keep_error_number e == 0
 ran_out (released (Err e)) = release_error_number e == 0
+ran_out (closed (Err e)) = close_error_number e == 0
 ran_out reply = false
 
 -- the book's own reply, at the end of a history that goes on from the one that the seat last saw; the seat's calls and the history are those after it
@@ -119,6 +120,7 @@ abbrev pub IsActed : ℕ → Act → End → End → List Message → List Messa
 IsActed channel (Update update) before after inbox newer done = IsMade (Stepping channel (Own update)) before after inbox newer done
 IsActed channel Sign before after inbox newer done = IsMade (Signing channel) before after inbox newer done
 IsActed channel Deliver before after inbox newer done = IsDelivered channel (slice_get before.inbox.items 0) before after inbox newer done
+IsActed channel Close before after inbox newer done = IsMade (Closing channel) before after inbox newer done
 
 -- ---- the events of a channel
 

@@ -1,5 +1,5 @@
 -- How far a watcher has read, and how it goes on.
-use Rattle.std.specs.Prelude.{◌≡◌, ℕ, ◌+◌, ◌<◌, ◌^◌, ◌-◌, min, false, List, [], ◌∷◌, length, map, replicate, reverse, slice_get, All, Option, Some, None}
+use Rattle.std.specs.Prelude.{◌≡◌, ℕ, ◌+◌, ◌<◌, ◌^◌, ◌-◌, min, nat_lt, if◌then◌else◌, false, List, [], ◌∷◌, length, map, replicate, reverse, slice_get, All, Option, Some, None}
 use Rattle.tx.specs.declared.input.OutPoint.{OutPoint}
 use Rattle.tx.specs.Fields.{Transaction}
 use Rattle.chain.specs.Blocks.{Contents as Block}
@@ -56,19 +56,23 @@ IsNext height txs f (Back same fork round) = ⊥
 abbrev pub height_after : ℕ → ℕ
 height_after height = min (height + 1) (2 ^ 64 - 1)
 
--- the block of a chain that a follower reads next, if it is there
-abbrev pub block_after : Pool → Follower → Option Block
-block_after pool f = slice_get (reverse pool.chain.blocks) (height_after f.height)
+-- the block of a chain at a height, if it is there and not above the top, the height that was told
+abbrev pub told_block : Pool → ℕ → ℕ → Option Block
+told_block pool top height = if nat_lt top height then None else slice_get (reverse pool.chain.blocks) height
 
--- What a follower finds on a chain: blocks that it read were replaced, so that it goes back to the lowest fork since; or there is no further block; or there is one.
-pub data Finds (pool : Pool) (f : Follower) : Sight → Type 0 where
-  replaced : (f.round ≡ length pool.forks.items → ⊥) → Finds pool f (Back f (least_since f.round f.height pool.forks.items) (length pool.forks.items))
-  no_more : f.round ≡ length pool.forks.items → block_after pool f ≡ None → Finds pool f (Read f)
-  is_there : (block : Block) (sight : Sight) → f.round ≡ length pool.forks.items → block_after pool f ≡ Some block → IsNext (height_after f.height) (reverse block.transactions) f sight → Finds pool f sight
+-- the block that a follower reads next
+abbrev pub block_after : Pool → ℕ → Follower → Option Block
+block_after pool top f = told_block pool top (height_after f.height)
+
+-- What a follower finds on a chain up to the top: blocks that it read were replaced, so that it goes back to the lowest fork since; or there is no further block; or there is one.
+pub data Finds (pool : Pool) (top : ℕ) (f : Follower) : Sight → Type 0 where
+  replaced : (f.round ≡ length pool.forks.items → ⊥) → Finds pool top f (Back f (least_since f.round f.height pool.forks.items) (length pool.forks.items))
+  no_more : f.round ≡ length pool.forks.items → block_after pool top f ≡ None → Finds pool top f (Read f)
+  is_there : (block : Block) (sight : Sight) → f.round ≡ length pool.forks.items → block_after pool top f ≡ Some block → IsNext (height_after f.height) (reverse block.transactions) f sight → Finds pool top f sight
 
 -- the same on some chain: nothing is known of a chain that threads share
-abbrev pub FindsSome : Follower → Sight → Type 0
-FindsSome f sight = (pool : Pool) × Finds pool f sight
+abbrev pub FindsSome : ℕ → Follower → Sight → Type 0
+FindsSome top f sight = (pool : Pool) × Finds pool top f sight
 
 -- ---- what is asked
 
@@ -115,8 +119,8 @@ Follows fundings before after (Read f) next = next ≡ f
 Follows fundings before after (Asks f asked) next = HasAsked before after asked.items f next
 Follows fundings before after (Back f fork round) next = ReadsAgain fundings fork round f next
 
--- it found something on some chain, and did what follows
-pub record GoesOnReading (fundings : List OutPoint) (before after : History) (f next : Follower) : Type 0 where
+-- it found something on some chain up to the top, and did what follows
+pub record GoesOnReading (fundings : List OutPoint) (before after : History) (top : ℕ) (f next : Follower) : Type 0 where
   pub sight : Sight
-  pub found : FindsSome f sight
+  pub found : FindsSome top f sight
   pub follows : Follows fundings before after sight next

@@ -30,7 +30,7 @@ pub record IsLeft (opening history : History) : Type 0 where
 abbrev pub total_of : Counts → ℕ
 total_of counts = counts.played + counts.refused
 
--- both books go on from those that the scenario's world begins with, each channel's updates, signatures and deliveries were played in order, from there on, and each is counted once
+-- both books go on from those that the scenario's world begins with, each channel's updates, signatures, deliveries and closes were played in order, from there on, and each is counted once
 pub record IsReport (scenario : Scenario) (report : Report) : Type 0 where
   pub world : World
   pub begins : IsBeginning scenario.seeds scenario.channels world

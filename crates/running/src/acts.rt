@@ -34,6 +34,8 @@ pub(crate) enum Act {
     Sign,
     /// It receives its oldest message.
     Deliver,
+    /// It closes the channel.
+    Close,
 }
 
 // Whether a refused reply says that memory ran out.
@@ -47,8 +49,10 @@ fn wants_memory(refused: &Reply) -> bool
         Reply::Revoked(Err(error)) => error.number() == 0,
         Reply::Kept(Err(error)) => error.number() == 0,
         Reply::Released(Err(error)) => error.number() == 0,
+        Reply::Closed(Err(error)) => error.number() == 0,
         Reply::Opened(Ok(_)) | Reply::Stepped(Ok(_)) | Reply::Signed(Ok(_)) => false,
         Reply::Revoked(Ok(_)) | Reply::Kept(Ok(())) | Reply::Released(Ok(_)) => false,
+        Reply::Closed(Ok(_)) => false,
     }
 }
 
@@ -95,7 +99,7 @@ fn revoked_by(reply: &Reply) -> Option<u64>
         Reply::Revoked(Ok(number)) => Some(*number),
         Reply::Opened(_) | Reply::Stepped(Ok(_)) | Reply::Stepped(Err(_)) | Reply::Signed(_) =>
             None,
-        Reply::Revoked(Err(_)) | Reply::Kept(_) | Reply::Released(_) => None,
+        Reply::Revoked(Err(_)) | Reply::Kept(_) | Reply::Released(_) | Reply::Closed(_) => None,
     }
 }
 
@@ -253,5 +257,6 @@ pub(crate) fn act_for<R: Wait>(
         }
         Act::Sign => sign(rt, office, &mut me.seat, inbox, channel),
         Act::Deliver => deliver(rt, alloc, office, me, inbox, channel),
+        Act::Close => send(rt, office, &mut me.seat, inbox, Call::Close { channel }),
     }
 }

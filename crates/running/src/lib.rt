@@ -1,16 +1,16 @@
 //! The running node: threads of two sides that play a scenario over one book a side.
 //!
 //! [`run_node`] opens the channels of a scenario and starts the threads. A channel has a thread, which makes its
-//! updates, signs and takes messages for both sides. Each side has a watcher, which reads blocks, and workers, which
-//! keep penalties and release claims. One thread plays what happens on the chain. All of them share a side's book
-//! through its desk, and the chain and its pool through a lock. A [`Report`] has the two books once all threads have
-//! ended.
+//! updates, signs, takes messages and closes for both sides. Each side has a watcher, which reads blocks, and workers,
+//! which keep penalties and release claims. One thread plays what happens on the chain, where a close broadcasts the
+//! side's newest commitment. All of them share a side's book through its desk, and the chain and its pool through a
+//! lock. A [`Report`] has the two books once all threads have ended.
 //!
 //! The main contract is that of `run_node` (`IsReport` of `specs/Reports.antt`), for whatever the threads do in whatever
 //! order. Each book goes on from the one that was opened for its side. Each call in it was accepted, and no signature
 //! follows a revocation without the penalties kept between the two. Each claim in it is an accepted one. A channel's
-//! updates, signatures and deliveries are played in order, each with the book's own reply, and counted once, as played
-//! or as refused. That a call returns, that threads run at once and that all jobs are done is not proved.
+//! updates, signatures, deliveries and closes are played in order, each with the book's own reply, and counted once, as
+//! played or as refused. That a call returns, that threads run at once and that all jobs are done is not proved.
 //!
 //! Where memory is refused a worker tries its job again, and a thread that puts a job puts it again, without a bound. So
 //! `run_node` does not return while memory stays refused there. Elsewhere a thread gives up, and the answer is that

@@ -32,7 +32,7 @@ pub(crate) struct Turn {
     pub(crate) act: Act,
 }
 
-// What an event asks of the thread of a channel. `None` for an event of the chain, and for what workers and watchers do by themselves.
+// What an event asks of the thread of a channel. `None` for an event of the chain alone, and for what workers and watchers do by themselves.
 fn turn_of(event: &Event) -> Option<Turn>
     ensures { result ≡ turn_of event.now }
 {
@@ -55,6 +55,11 @@ fn turn_of(event: &Event) -> Option<Turn>
             side,
             channel,
             act: Act::Deliver,
+        }),
+        Event::Close { side, channel } => Some(Turn {
+            side,
+            channel,
+            act: Act::Close,
         }),
         _ => None,
     }

@@ -1,4 +1,4 @@
-//! The events of the chain: broadcasts, blocks and reorganisations.
+//! The events of the chain: broadcasts, closes, blocks and reorganisations.
 
 ghost use Rattle.std.specs.Prelude.{◌≡◌, None, IfOk};
 ghost use Rattle.book.specs.declared.errors.KnowError.TheVariants.{NoSuchChannel};
@@ -6,7 +6,7 @@ ghost use Rattle.board.specs.Seats as board_seats;
 ghost use Rattle.desk.specs.Seats.{IsSeatOf, HasSameCalls, number_in, calls_in, last_in};
 ghost use Rattle.desk.specs.Answers.{IsHistoryFor};
 ghost use Rattle.running.specs.Crews.{IsPlayer, GoesOnPlaying};
-ghost use Rattle.running.specs.Broadcasts.{GoesOnWith, IsSecondStage, IsSignedBy, IsBroadcast};
+ghost use Rattle.running.specs.Broadcasts.{GoesOnWith, IsSecondStage, IsSignedBy, IsBroadcast, broadcast_in, newest_of};
 
 use crate::houses::{House, Office};
 use crate::stages::Stage;
@@ -34,14 +34,60 @@ pub(crate) struct Player {
     pub(crate) place: board::Seat,
 }
 
-/// Which transaction a side broadcasts.
+/// Which transaction of a channel a side broadcasts.
+#[derive(Drop)]
+enum Choice {
+    /// Its commitment of this number.
+    Commitment(u64),
+    /// Its newest commitment.
+    Newest,
+    /// An HTLC transaction of its commitment of this number.
+    SecondStage {
+        number: u64,
+        /// Which of the commitment's HTLCs, in the order of its outputs.
+        htlc: u64,
+    },
+}
+
+/// What a side broadcasts.
 #[derive(Drop)]
 struct Broadcast {
+    side: Side,
     channel: u64,
-    /// The number of its commitment.
-    number: u64,
-    /// Which of the commitment's HTLC transactions; none for the commitment itself.
-    htlc: Option<u64>,
+    choice: Choice,
+}
+
+// What an event broadcasts, if it does. A close broadcasts the side's newest commitment.
+fn broadcast_in(event: &Event) -> Option<Broadcast>
+    ensures { result ≡ broadcast_in event.now }
+{
+    match *event {
+        Event::Broadcast {
+            side,
+            channel,
+            number,
+        } => Some(Broadcast {
+            side,
+            channel,
+            choice: Choice::Commitment(number),
+        }),
+        Event::BroadcastHtlc {
+            side,
+            channel,
+            number,
+            htlc,
+        } => Some(Broadcast {
+            side,
+            channel,
+            choice: Choice::SecondStage { number, htlc },
+        }),
+        Event::Close { side, channel } => Some(Broadcast {
+            side,
+            channel,
+            choice: Choice::Newest,
+        }),
+        _ => None,
+    }
 }
 
 // The preimages that a side knows in a channel: those of its fulfils, and those that blocks showed to its watcher. The only error is that memory ran out.
@@ -74,6 +120,13 @@ fn htlc_tx_by<R: Wait>(
     signed_htlc_tx_in(alloc, known, number, htlc as usize, &preimages)
 }
 
+// The number of the newest commitment: the older ones have the numbers below it.
+fn newest_in(known: &Known) -> u64
+    ensures { result ≡ newest_of known.now }
+{
+    known.older.len() as u64
+}
+
 // The transaction to broadcast, by what is known of the channel. `None` if the side does not have it; the only error is that memory ran out.
 fn tx_by<R: Wait>(
     rt: &R,
@@ -82,11 +135,14 @@ fn tx_by<R: Wait>(
     known: &Known,
     broadcast: &Broadcast,
 ) -> Result<Option<Tx>, AllocError>
-    ensures { IfOk result (IsSignedBy known.now broadcast.now.number broadcast.now.htlc) }
+    ensures { IfOk result (IsSignedBy known.now broadcast.now.choice) }
 {
-    match broadcast.htlc {
-        None => signed_commitment_in(alloc, known, broadcast.number),
-        Some(htlc) => htlc_tx_by(rt, alloc, office, known, broadcast.number, htlc),
+    match broadcast.choice {
+        Choice::Commitment(number) => signed_commitment_in(alloc, known, number),
+        Choice::Newest => signed_commitment_in(alloc, known, newest_in(known)),
+        Choice::SecondStage { number, htlc } => {
+            htlc_tx_by(rt, alloc, office, known, number, htlc)
+        }
     }
 }
 
@@ -160,7 +216,7 @@ fn raise(board: &Board, place: &mut board::Seat, pool: &Pool)
     board.raise(place, round, height);
 }
 
-// Makes blocks, and tells the watchers. The only error is that memory ran out.
+// Makes blocks, raises the board as each is connected, and tells the watchers. They read none before all are there, since the chain is locked. The only error is that memory ran out.
 fn play_blocks<R: Wait>(
     rt: &R,
     alloc: Global,
@@ -172,8 +228,10 @@ fn play_blocks<R: Wait>(
     ensures { board_seats.IsSeatOf house.now.board place.new }
 {
     let mut pool = house.stage.pool.lock(rt);
-    let _txs = pool.mine(alloc, count)?;
-    raise(&house.board, place, &*pool);
+    for _block in 0..count {
+        let _txs = pool.mine(alloc, 1)?;
+        raise(&house.board, place, &*pool);
+    }
     drop(pool);
     house.stage.notify();
     Ok(())
@@ -203,20 +261,39 @@ fn play_reorg<R: Wait>(
     Ok(())
 }
 
+// Plays an event, if it makes or replaces blocks. The only error is that memory ran out.
+fn play_mining<R: Wait>(
+    rt: &R,
+    alloc: Global,
+    house: &House,
+    place: &mut board::Seat,
+    event: &Event,
+) -> Result<(), AllocError>
+    requires { board_seats.IsSeatOf house.now.board place.old }
+    ensures { board_seats.IsSeatOf house.now.board place.new }
+{
+    match *event {
+        Event::Blocks { count } => play_blocks(rt, alloc, house, place, count),
+        Event::Reorg { depth, forgotten } => {
+            play_reorg(rt, alloc, house, place, depth, forgotten)
+        }
+        _ => Ok(()),
+    }
+}
+
 // A side broadcasts a transaction by its seat, if it has it. The only error is that memory ran out.
 fn broadcast_by<R: Wait>(
     rt: &R,
     alloc: Global,
     house: &House,
     player: &mut Player,
-    side: Side,
     broadcast: &Broadcast,
 ) -> Result<(), AllocError>
     requires { IsPlayer house.now player.old }
     ensures { GoesOnPlaying house.now player.old player.new }
 {
     let stage = &house.stage;
-    match side {
+    match broadcast.side {
         Side::A => play_broadcast(rt, alloc, &house.a, stage, &mut player.a, broadcast),
         Side::B => play_broadcast(rt, alloc, &house.b, stage, &mut player.b, broadcast),
     }
@@ -233,37 +310,9 @@ fn play_event<R: Wait>(
     requires { IsPlayer house.now player.old }
     ensures { GoesOnPlaying house.now player.old player.new }
 {
-    match *event {
-        Event::Broadcast {
-            side,
-            channel,
-            number,
-        } => {
-            let broadcast = Broadcast {
-                channel,
-                number,
-                htlc: None,
-            };
-            broadcast_by(rt, alloc, house, player, side, &broadcast)
-        }
-        Event::BroadcastHtlc {
-            side,
-            channel,
-            number,
-            htlc,
-        } => {
-            let broadcast = Broadcast {
-                channel,
-                number,
-                htlc: Some(htlc),
-            };
-            broadcast_by(rt, alloc, house, player, side, &broadcast)
-        }
-        Event::Blocks { count } => play_blocks(rt, alloc, house, &mut player.place, count),
-        Event::Reorg { depth, forgotten } => {
-            play_reorg(rt, alloc, house, &mut player.place, depth, forgotten)
-        }
-        _ => Ok(()),
+    match broadcast_in(event) {
+        Some(broadcast) => broadcast_by(rt, alloc, house, player, &broadcast),
+        None => play_mining(rt, alloc, house, &mut player.place, event),
     }
 }
 

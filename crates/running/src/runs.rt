@@ -42,7 +42,7 @@ pub struct Report {
     pub b: Book,
     /// The height of the chain.
     pub height: u64,
-    /// How many of the updates, signatures and deliveries of each channel were played.
+    /// How many of the updates, signatures, deliveries and closes of each channel were played.
     pub channels: Vec<Counts>,
 }
 
@@ -339,8 +339,8 @@ fn run_sides<R: Threads + Wait + Sync, G: Gate + Sync>(
 
 /// Plays a scenario in threads: one for each channel, a watcher and `workers` workers for each side, and one for the events of the chain.
 ///
-/// The channels play side by side, each its own updates, signatures and deliveries in the order of the scenario. A signature that finds penalties missing waits for the workers, until
-/// no job is left that may keep them. Then broadcasts, blocks and reorganisations are played, beside the watchers and the workers. Events that keep, look, take and release are skipped: threads
+/// The channels play side by side, each its own updates, signatures, deliveries and closes in the order of the scenario. A signature that finds penalties missing waits for the workers, until
+/// no job is left that may keep them. Then broadcasts, blocks and reorganisations are played, beside the watchers and the workers; there each close broadcasts the side's newest commitment. Events that keep, look, take and release are skipped: threads
 /// do that by themselves. The gate comes before and after each job of each worker.
 ///
 /// The error is that memory ran out, or that a thread could not be started. All threads have ended when it returns. A worker that is refused memory tries its job again, and a

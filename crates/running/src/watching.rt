@@ -1,13 +1,13 @@
 //! The threads that read blocks.
 
-ghost use Rattle.std.specs.Prelude.{◌≡◌, ◌<◌, length, map, replicate, reverse, All, IfOk, OnOk};
+ghost use Rattle.std.specs.Prelude.{◌≡◌, ◌<◌, length, map, option_map, replicate, reverse, All, IfOk, OnOk};
 ghost use Rattle.watch.specs.Watching.{nothing_seen, seen_up_to};
 ghost use Rattle.jobs.specs.Ends.{PutsWith, hand_of};
 ghost use Rattle.side.specs.Reading.{begun as begun_with};
 ghost use Rattle.desk.specs.Seats.{IsSeatOf, HasSameCalls, last_in};
 ghost use Rattle.running.specs.Crews.{IsWatcher, GoesOnWatching};
 ghost use Rattle.running.specs.Acting.{PutsClaims};
-ghost use Rattle.running.specs.Following.{IsFollower, IsSight, HasBegun, IsNext, Finds, FindsSome, AreAnswered, IsAnsweredFor, HasAsked, IsRenewed, GoesBack, ReadsAgain, GoesOnReading};
+ghost use Rattle.running.specs.Following.{IsFollower, IsSight, HasBegun, IsNext, told_block, Finds, FindsSome, AreAnswered, IsAnsweredFor, HasAsked, IsRenewed, GoesBack, ReadsAgain, GoesOnReading};
 
 use crate::ends::put;
 use crate::houses::{House, Office};
@@ -97,10 +97,21 @@ fn read_next(
     }
 }
 
-// Looks for the next block of a chain that no thread changes meanwhile. The only error is that memory ran out.
-fn look_at(alloc: Global, pool: &Pool, follower: Follower) -> Result<Sight, AllocError>
+// The block of a chain at a height, if it is there and not above the top.
+#[tactic(auto, using(crate::proofs::Finding::told, crate::proofs::Finding::not_told))]
+fn told_block(pool: &Pool, top: u64, height: u64) -> Option<&Block>
+    ensures { option_map (λ b. b.now) result ≡ told_block pool.now top height }
+{
+    if height > top {
+        return None;
+    }
+    pool.chain.block_at(height)
+}
+
+// Looks for the next block up to the top, of a chain that no thread changes meanwhile. The only error is that memory ran out.
+fn look_at(alloc: Global, pool: &Pool, top: u64, follower: Follower) -> Result<Sight, AllocError>
     ensures follows { IfOk result (IsSight (length follower.reader.seen)) }
-    ensures found { IfOk result (Finds pool.now follower) }
+    ensures found { IfOk result (Finds pool.now top follower) }
 {
     let round = pool.round();
     if follower.round != round {
@@ -108,24 +119,25 @@ fn look_at(alloc: Global, pool: &Pool, follower: Follower) -> Result<Sight, Allo
         return Ok(Sight::Back(follower, fork, round));
     }
     let height = follower.height.saturating_add(1);
-    match pool.chain.block_at(height) {
+    match told_block(pool, top, height) {
         Some(block) => read_next(alloc, block, height, follower),
         None => Ok(Sight::Read(follower)),
     }
 }
 
-// Looks for the next block. The only error is that memory ran out.
+// Looks for the next block up to the top. The only error is that memory ran out.
 fn look<R: Wait>(
     rt: &R,
     alloc: Global,
     house: &House,
+    top: u64,
     follower: Follower,
 ) -> Result<Sight, AllocError>
     ensures follows { IfOk result (IsSight (length follower.reader.seen)) }
-    ensures found { IfOk result (FindsSome follower) }
+    ensures found { IfOk result (FindsSome top follower) }
 {
     let pool = house.stage.pool.lock(rt);
-    look_at(alloc, &*pool, follower)
+    look_at(alloc, &*pool, top, follower)
 }
 
 // ---- what is known
@@ -359,13 +371,14 @@ fn went_back<R: Wait>(
     }
 }
 
-// Looks for the next block, and does what has to be done before it is read. The only error is that memory ran out.
+// Looks for the next block up to the top, and does what has to be done before it is read. The only error is that memory ran out.
 fn go_on<R: Wait>(
     rt: &R,
     alloc: Global,
     house: &House,
     office: &Office,
     watcher: &mut Watcher,
+    top: u64,
     follower: Follower,
 ) -> Result<Follower, AllocError>
     requires watcher { IsWatcher office.now house.now.board watcher.old }
@@ -373,9 +386,9 @@ fn go_on<R: Wait>(
     ensures watcher { GoesOnWatching office.now house.now.board watcher.old watcher.new }
     ensures follows { IfOk result (IsFollower (length office.now.fundings.items)) }
     ensures reads { IfOk result (GoesOnReading office.now.fundings.items
-        (last_in watcher.old.seat) (last_in watcher.new.seat) follower) }
+        (last_in watcher.old.seat) (last_in watcher.new.seat) top follower) }
 {
-    match look(rt, alloc, house, follower) {
+    match look(rt, alloc, house, top, follower) {
         Ok(Sight::Read(follower)) => Ok(follower),
         Ok(Sight::Asks(follower, channels)) => {
             answered(rt, office, &mut watcher.seat, follower, &channels)
@@ -420,7 +433,7 @@ fn wait_for_block<R: Wait>(
     }
 }
 
-// Goes on by one step. It looks at the board first, so that the chain is not locked if nothing is new. The only error is that memory ran out.
+// Goes on by one step. It looks at the board first, so that the chain is not locked if nothing is new, and reads up to the height found there. The only error is that memory ran out.
 fn step<R: Wait>(
     rt: &R,
     alloc: Global,
@@ -438,7 +451,8 @@ fn step<R: Wait>(
     if has_read(&follower, mark) {
         wait_for_block(rt, alloc, house, office, watcher, follower)
     } else {
-        go_on(rt, alloc, house, office, watcher, follower)
+        let top = u64::from(mark.height);
+        go_on(rt, alloc, house, office, watcher, top, follower)
     }
 }
 

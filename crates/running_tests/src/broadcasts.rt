@@ -9,8 +9,9 @@ const RUN: Run = Run {
     manner: Manner::Open,
 };
 
-// Nothing, what B does not have, and its newest commitment, with the height after a reorganisation that forgets one transaction, or two.
-const HEIGHTS: [(&str, u64); 4] = [
+// Nothing, what B does not have, and its newest commitment, by a broadcast and by a close, with the height after a reorganisation that forgets one transaction, or two. A close after the
+// block does not stand in it.
+const HEIGHTS: [(&str, u64); 7] = [
     ("[\"blocks\",1],[\"reorg\",1,1]", 1),
     (
         "[\"broadcast\",\"B\",0,2],[\"blocks\",1],[\"reorg\",1,1]",
@@ -24,6 +25,9 @@ const HEIGHTS: [(&str, u64); 4] = [
         "[\"broadcast\",\"B\",0,1],[\"blocks\",1],[\"reorg\",1,2]",
         1,
     ),
+    ("[\"close\",\"B\",0],[\"blocks\",1],[\"reorg\",1,1]", 2),
+    ("[\"close\",\"B\",0],[\"blocks\",1],[\"reorg\",1,2]", 1),
+    ("[\"blocks\",1],[\"close\",\"B\",0],[\"reorg\",1,1]", 1),
 ];
 
 #[test]

@@ -13,7 +13,7 @@ const CHEATS_TWICE: &str =
     "[\"broadcast\",\"A\",0,1],[\"broadcast\",\"A\",1,1],[\"blocks\",5],[\"broadcast\",\"A\",1,1,0],[\"broadcast\",\"A\",0,1,0],[\"blocks\",1],[\"blocks\",1]";
 
 // The same in one channel, and then two blocks are replaced.
-const CHEATS_THEN_REORG: &str =
+pub(crate) const CHEATS_THEN_REORG: &str =
     "[\"broadcast\",\"A\",0,1],[\"blocks\",5],[\"broadcast\",\"A\",0,1,0],[\"blocks\",1],[\"blocks\",1],[\"reorg\",2,0]";
 
 // The commitment comes by a reorganisation alone. A watcher that does not notice it reads blocks that no longer stand, and finds nothing.
@@ -28,7 +28,8 @@ const PUNISHED: Wanted = Wanted {
     },
     calls_of_a: 8,
     calls_of_b: 14,
-    releases: 4,
+    releases_of_a: 0,
+    releases_of_b: 4,
     is_kept: true,
 };
 
@@ -48,21 +49,23 @@ fn punishes(rt: HostRuntime) {
     }
 }
 
-// A's first job is held until B's first one is done, and in another run the first job of a side until the penalties of the other channel are kept.
+// The first job of one side is held until that of the other is done, and in another run the first job of a side until the penalties of the other channel are kept.
 #[test]
 fn punishes_while_a_worker_is_held(rt: HostRuntime) {
-    let first = Run {
-        has_two: false,
-        workers: 1,
-        manner: Manner::HoldsFirst,
-    };
-    assert!(rt;
-        is_as(
-            &report_of(&rt, rt.alloc(), &first, CHEATS),
-            &first,
-            &PUNISHED
-        )
-    );
+    for workers in [1, 2] {
+        let first = Run {
+            has_two: false,
+            workers,
+            manner: Manner::HoldsFirst,
+        };
+        assert!(rt;
+            is_as(
+                &report_of(&rt, rt.alloc(), &first, CHEATS),
+                &first,
+                &PUNISHED
+            )
+        );
+    }
     let other = Run {
         has_two: true,
         workers: 2,
@@ -118,7 +121,8 @@ fn ends_without_workers(rt: HostRuntime) {
         },
         calls_of_a: 6,
         calls_of_b: 6,
-        releases: 0,
+        releases_of_a: 0,
+        releases_of_b: 0,
         is_kept: false,
     };
     assert!(rt; is_as(&report_of(&rt, rt.alloc(), &run, CHEATS), &run, &refused));

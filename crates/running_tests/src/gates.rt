@@ -17,7 +17,7 @@ const MOST_LOOKS: u32 = 10_000_000;
 pub(crate) enum Manner {
     /// It is open.
     Open,
-    /// It holds the job of ticket 0 until that of ticket 1 is done.
+    /// It holds the job of ticket 0 until that of ticket 1 is done. With one channel both are to keep the penalties of the peer's commitment 0, each at its own side's desk.
     HoldsFirst,
     /// It holds the job of ticket 0 until penalties are kept in one of two channels. Its own are not.
     HoldsForOther,
@@ -33,6 +33,10 @@ pub(crate) struct TestGate {
     is_done: AtomicU64,
     /// How often what it waited for came.
     came: AtomicU64,
+    /// Whether the penalties of the job of ticket 0 were still missing when that of ticket 1 was done.
+    is_missing: AtomicU64,
+    /// Whether those of the job of ticket 1 were kept when it was done.
+    is_kept: AtomicU64,
 }
 
 // Why the penalties of the peer's commitment 0 can't be kept in a channel.
@@ -56,12 +60,19 @@ impl TestGate {
             manner,
             is_done: AtomicU64::new(0),
             came: AtomicU64::new(0),
+            is_missing: AtomicU64::new(0),
+            is_kept: AtomicU64::new(0),
         }
     }
 
     /// Whether something came for which it waited.
     pub(crate) fn has_come(&self) -> bool {
         self.came.load(Ordering::SeqCst) != 0
+    }
+
+    /// Whether the job of ticket 1 kept its penalties while those of ticket 0 were missing.
+    pub(crate) fn has_overtaken(&self) -> bool {
+        self.is_missing.load(Ordering::SeqCst) != 0 && self.is_kept.load(Ordering::SeqCst) != 0
     }
 
     // Whether what it waits for is there.
@@ -98,6 +109,27 @@ impl TestGate {
             thread::yield_now();
         }
     }
+
+    // Notes whether the penalties of the job that it holds are still missing.
+    fn note_held<R: Wait>(&self, rt: &R, desk: &Desk, seat: &mut Seat)
+        requires { IsSeatOf desk.now seat.old }
+        ensures { HasSameCalls desk.now seat.old seat.new }
+    {
+        if refusal_in(rt, desk, seat, 0).is_none() {
+            self.is_missing.store(1, Ordering::SeqCst);
+        }
+    }
+
+    // Notes whether the penalties of a job are kept, which is done.
+    fn note_done<R: Wait>(&self, rt: &R, desk: &Desk, seat: &mut Seat)
+        requires { IsSeatOf desk.now seat.old }
+        ensures { HasSameCalls desk.now seat.old seat.new }
+    {
+        if refusal_in(rt, desk, seat, 0) == Some(KeepError::AlreadyKept) {
+            self.is_kept.store(1, Ordering::SeqCst);
+        }
+        self.is_done.store(1, Ordering::SeqCst);
+    }
 }
 
 impl Gate for TestGate {
@@ -106,6 +138,9 @@ impl Gate for TestGate {
         if ticket == 0 || self.manner == Manner::Shut {
             self.wait(rt, desk, seat);
         }
+        if ticket == 0 {
+            self.note_held(rt, desk, seat);
+        }
         if self.manner == Manner::Shut {
             // a revocation is there before its job
             rest();
@@ -113,10 +148,9 @@ impl Gate for TestGate {
     }
 
     #[tactic(auto, using(running::proofs::Same::same_calls))]
-    fn after<R: Wait>(&self, _rt: &R, ticket: u64, _desk: &Desk, seat: &mut Seat) {
-        let _seat = &*seat;
+    fn after<R: Wait>(&self, rt: &R, ticket: u64, desk: &Desk, seat: &mut Seat) {
         if ticket == 1 {
-            self.is_done.store(1, Ordering::SeqCst);
+            self.note_done(rt, desk, seat);
         }
     }
 

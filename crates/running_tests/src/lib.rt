@@ -8,6 +8,8 @@ mod broadcasts;
 #[cfg(test)]
 mod cheaters;
 #[cfg(test)]
+mod closes;
+#[cfg(test)]
 mod gates;
 #[cfg(test)]
 mod reports;

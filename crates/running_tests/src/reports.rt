@@ -31,13 +31,15 @@ pub(crate) struct Wanted {
     pub(crate) calls_of_a: usize,
     /// How many calls B's book has.
     pub(crate) calls_of_b: usize,
+    /// How many claims A releases.
+    pub(crate) releases_of_a: usize,
     /// How many claims B releases.
-    pub(crate) releases: usize,
+    pub(crate) releases_of_b: usize,
     /// Whether each side keeps the penalties of its peer's commitment 0, and B those of A's commitment 1 too.
     pub(crate) is_kept: bool,
 }
 
-/// The report of a run with these events of the chain, all of whose gate's waiting ended well.
+/// The report of a run with these events after its turns, all of whose gate's waiting ended well.
 pub(crate) fn report_of<R: Threads + Wait + Abort + Sync>(
     rt: &R,
     alloc: Global,
@@ -51,6 +53,7 @@ pub(crate) fn report_of<R: Threads + Wait + Abort + Sync>(
     let scenario = Scenario::read(alloc, text.as_bytes()).expect(rt, "a scenario");
     let report = run_node(rt, alloc, &scenario, workers, &gate).expect(rt, "memory, and threads");
     assert!(rt; gate.has_come());
+    assert!(rt; run.manner != Manner::HoldsFirst || gate.has_overtaken());
     report
 }
 
@@ -114,8 +117,8 @@ fn is_side(book: &Book, run: &Run, calls: usize) -> bool {
 fn is_channel(report: &Report, channel: u64, wanted: &Wanted) -> bool {
     let last = if wanted.is_kept { Some(true) } else { None };
     report.channels.get(channel as usize) == Some(&wanted.counts)
-        && releases_in(&report.a, channel) == 0
-        && releases_in(&report.b, channel) == wanted.releases
+        && releases_in(&report.a, channel) == wanted.releases_of_a
+        && releases_in(&report.b, channel) == wanted.releases_of_b
         && report.a.keeps(channel, 0) == Some(wanted.is_kept)
         && report.a.keeps(channel, 1).is_none()
         && report.b.keeps(channel, 0) == Some(wanted.is_kept)

@@ -28,7 +28,7 @@ fn push(rt: &impl Abort, text: &mut String, more: &str) {
     text.push_str(more).expect(rt, "memory");
 }
 
-/// The text of a scenario of one channel or of two, each with all of these turns, and then events of the chain.
+/// The text of a scenario of one channel or of two, each with all of these turns, and then further events.
 pub(crate) fn text_with(rt: &impl Abort, alloc: Global, has_two: bool, chain: &str) -> String {
     let mut text = String::new(alloc);
     push(rt, &mut text, FRONT);

@@ -1,21 +1,30 @@
 //! The word `node` of the program `enforce`.
 
-use crate::cheaters::CHEATS;
+ghost use Rattle.std.specs.Prelude.{◌<◌, ◌≤◌};
+
+use crate::cheaters::{CHEATS, CHEATS_THEN_REORG};
 use crate::scenarios::text_with;
+use enforce_words::run_words;
 use node_words::{run_word, workers_in};
 use std::alloc::Global;
 use std::process::Abort;
 use std::sync::Wait;
 use std::thread::Threads;
 
-// The number of workers that words ask for.
-fn workers_by(rt: &impl Abort, alloc: Global, words: &[&str]) -> Option<u16> {
+// The same words as texts of their own.
+fn texts_of(rt: &impl Abort, alloc: Global, words: &[&str]) -> Vec<String> {
     let mut texts = Vec::new(alloc);
     for word in words {
         texts
             .push(String::from_str(alloc, word).expect(rt, "memory"))
             .expect(rt, "memory");
     }
+    texts
+}
+
+// The number of workers that words ask for.
+fn workers_by(rt: &impl Abort, alloc: Global, words: &[&str]) -> Option<u16> {
+    let texts = texts_of(rt, alloc, words);
     workers_in(texts.as_slice())
 }
 
@@ -34,25 +43,54 @@ fn takes_one_to_sixteen_workers(rt: HostRuntime) {
     assert!(rt; workers_by(&rt, alloc, &["node", "1", "1"]).is_none());
 }
 
-// Whether this is printed for an input, with this status.
+// What is printed for words that name no number of workers.
+const USAGE: &str = "usage: enforce ripemd HEX | paths HEX | run | node N\n";
+
+// Whether these words lead to the usage alone.
+fn tells_the_usage(rt: &impl Abort, alloc: Global, words: &[&str]) -> bool {
+    let texts = texts_of(rt, alloc, words);
+    let mut input = "".as_bytes();
+    let mut printed: Vec<u8> = Vec::new(alloc);
+    let mut told: Vec<u8> = Vec::new(alloc);
+    run_words(alloc, texts.as_slice(), &mut input, &mut printed, &mut told) == 2
+        && printed.is_empty()
+        && told.as_slice() == USAGE.as_bytes()
+}
+
+#[test]
+fn takes_no_node_without_workers(rt: HostRuntime) {
+    let words = ["node", "0"];
+    assert!(rt; workers_by(&rt, rt.alloc(), &words).is_none());
+    assert!(rt; tells_the_usage(&rt, rt.alloc(), &words));
+}
+
+// Whether this is printed for an input with so many workers a side, with this status.
 fn prints<R: Threads + Wait + Abort + Sync>(
     rt: &R,
     alloc: Global,
+    workers: u16,
     text: &str,
     lines: &str,
     status: u8,
-) -> bool {
+) -> bool
+    requires some { 0 < workers }
+    requires few { workers ≤ 16 }
+{
     let mut input = text.as_bytes();
     let mut printed: Vec<u8> = Vec::new(alloc);
-    run_word(rt, alloc, 2, &mut input, &mut printed) == status
+    run_word(rt, alloc, workers, &mut input, &mut printed) == status
         && printed.as_slice() == lines.as_bytes()
 }
 
 #[test]
 fn prints_the_end(rt: HostRuntime) {
-    let text = text_with(&rt, rt.alloc(), false, CHEATS);
+    let alloc = rt.alloc();
+    let text = text_with(&rt, alloc, false, CHEATS);
     let lines = "height 7\nchannel 0 played 13 refused 0\nA kept 0 0\nB kept 0 0\nB kept 0 1\n";
-    assert!(rt; prints(&rt, rt.alloc(), text.as_str(), lines, 0));
-    assert!(rt; prints(&rt, rt.alloc(), "", "refused NotJson\n", 1));
-    assert!(rt; prints(&rt, rt.alloc(), "{}", "refused BadShape\n", 1));
+    assert!(rt; prints(&rt, alloc, 1, text.as_str(), lines, 0));
+    let text = text_with(&rt, alloc, false, CHEATS_THEN_REORG);
+    let lines = "height 8\nchannel 0 played 13 refused 0\nA kept 0 0\nB kept 0 0\nB kept 0 1\n";
+    assert!(rt; prints(&rt, alloc, 4, text.as_str(), lines, 0));
+    assert!(rt; prints(&rt, alloc, 2, "", "refused NotJson\n", 1));
+    assert!(rt; prints(&rt, alloc, 2, "{}", "refused BadShape\n", 1));
 }

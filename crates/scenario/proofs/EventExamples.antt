@@ -3,11 +3,14 @@ use Rattle.std.proofs.Common.{◌≡◌, ℕ, List, [], ◌∷◌, Some, None, c
 use Rattle.std.specs.Prelude.{replicate}
 use Rattle.hex.proofs.OnLiterals.{hex_on_literals}
 use Rattle.serde_json.specs.Data.{Data, Items, no_items, item, no_members, member, null, number, string, array, object, unsigned}
+use Rattle.serde_json.specs.Read.{read}
+use Rattle.serde_json.proofs.OnLiterals.{serde_json_on_literals}
 use Rattle.terms.specs.declared.sides.Side.TheVariants.{A, B}
 use Rattle.updates.specs.declared.changes.OwnUpdate.TheVariants.{Offer, Fulfil, Fail, SetFee}
+use Rattle.texts.specs.Values.{◌>>=◌}
 use Rattle.texts.specs.Steps.{own_named, own_offer_of, own_fulfil_of, own_fail_of, own_fee_of}
-use Rattle.scenario.specs.declared.events.Event.TheVariants.{Own, Sign, Deliver, Keep, Broadcast, BroadcastHtlc, Blocks, Look, Take, Release, Reorg}
-use Rattle.scenario.specs.Events.{own_of, sign_of, deliver_of, keep_of, commitment_of, htlc_transaction_of, broadcast_of, blocks_of, look_of, take_of, release_of, reorg_of, event_named, event_of}
+use Rattle.scenario.specs.declared.events.Event.TheVariants.{Own, Sign, Deliver, Keep, Broadcast, BroadcastHtlc, Blocks, Look, Take, Release, Reorg, Close}
+use Rattle.scenario.specs.Events.{own_of, sign_of, deliver_of, keep_of, commitment_of, htlc_transaction_of, broadcast_of, blocks_of, look_of, take_of, release_of, reorg_of, close_of, event_named, event_of}
 use Rattle.scenario.specs.Scenarios.{scenario_of}
 
 abbrev n : ℕ → Data
@@ -54,6 +57,20 @@ chain_events : (event_of (tagged (codes "broadcast") (a_side ∷ n 1 ∷ n 2 ∷
     × (event_of (tagged (codes "reorg") (n 1 ∷ n 2 ∷ [])) ≡ Some (Reorg 1 2))
 unfolding commitment_of htlc_transaction_of broadcast_of blocks_of look_of take_of release_of reorg_of event_named event_of
 chain_events = (refl, refl, refl, refl, refl, refl, refl, refl)
+
+closes : (event_of (tagged (codes "close") (a_side ∷ n 1 ∷ [])) ≡ Some (Close A 1))
+    × (event_of (tagged (codes "close") (b_side ∷ n 0 ∷ [])) ≡ Some (Close B 0))
+    × (event_of (tagged (codes "close") (a_side ∷ [])) ≡ None)
+    × (event_of (tagged (codes "close") (a_side ∷ n 1 ∷ n 2 ∷ [])) ≡ None)
+    × (event_of (tagged (codes "close") (n 1 ∷ a_side ∷ [])) ≡ None)
+unfolding close_of event_named event_of
+closes = (refl, refl, refl, refl, refl)
+
+-- as texts: the channel has at most 64 bits
+closes_in_text : (read (codes "[\"close\",\"B\",18446744073709551615]") >>= event_of ≡ Some (Close B 18446744073709551615))
+    × (read (codes "[\"close\",\"B\",18446744073709551616]") >>= event_of ≡ None)
+unfolding close_of event_named event_of serde_json_on_literals
+closes_in_text = (refl, refl)
 
 no_events : (event_of (tagged (codes "rest") []) ≡ None) × (event_of (tagged (codes "blocks") []) ≡ None)
     × (event_of (tagged (codes "blocks") (n 1 ∷ n 1 ∷ [])) ≡ None) × (event_of (array no_items) ≡ None) × (event_of null ≡ None)

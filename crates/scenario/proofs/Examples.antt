@@ -7,7 +7,7 @@ use Rattle.terms.specs.declared.sides.Side.TheVariants.{A, B}
 use Rattle.terms.specs.declared.proposals.ProposedTerms.{ProposedTerms}
 use Rattle.updates.specs.declared.changes.OwnUpdate.TheVariants.{Offer, Fulfil, Fail, SetFee}
 use Rattle.scenario.specs.declared.events.Event.{Event}
-use Rattle.scenario.specs.declared.events.Event.TheVariants.{Own, Sign, Deliver, Keep, Broadcast, BroadcastHtlc, Blocks, Look, Take, Release, Reorg}
+use Rattle.scenario.specs.declared.events.Event.TheVariants.{Own, Sign, Deliver, Keep, Broadcast, BroadcastHtlc, Blocks, Look, Take, Release, Reorg, Close}
 use Rattle.scenario.specs.declared.plain.PlainScenario.{PlainScenario}
 use Rattle.scenario.specs.Scenarios.{scenario_of}
 use Rattle.texts.specs.Terms.{terms_of}
@@ -35,7 +35,7 @@ hash = replicate 32 9
 blocks : (map has_few_blocks (Blocks 0 ∷ Blocks 10000 ∷ Blocks 10001 ∷ Blocks 18446744073709551615 ∷ []) ≡ true ∷ true ∷ false ∷ false ∷ [])
     × (map has_few_blocks (Own A 20000 (Offer 20000 hash 20000) ∷ Own A 20000 (Fulfil 20000 hash) ∷ Own A 20000 (Fail 20000) ∷ Own A 20000 (SetFee 20000) ∷ Sign A 20000 ∷ Deliver A 20000 ∷ Keep A 20000 20000 ∷ [])
     ≡ replicate 7 true)
-    × (map has_few_blocks (Broadcast A 20000 20000 ∷ BroadcastHtlc A 20000 20000 20000 ∷ Look A ∷ Take A 20000 ∷ Release A 20000 ∷ Reorg 20000 20000 ∷ []) ≡ replicate 6 true)
+    × (map has_few_blocks (Broadcast A 20000 20000 ∷ BroadcastHtlc A 20000 20000 20000 ∷ Look A ∷ Take A 20000 ∷ Release A 20000 ∷ Reorg 20000 20000 ∷ Close A 20000 ∷ []) ≡ replicate 7 true)
 blocks = (refl, refl, refl)
 
 -- terms of a capacity of one satoshi, whose sides begin with 999 and with this number of millisatoshis

@@ -3,7 +3,7 @@ use Rattle.std.specs.Prelude.{ℕ, if◌then◌else◌, List, Option, Some, code
 use Rattle.std.specs.Str.{bytes_eq}
 use Rattle.serde_json.specs.Data.{Data}
 use Rattle.scenario.specs.declared.events.Event.{Event}
-use Rattle.scenario.specs.declared.events.Event.TheVariants.{Own, Sign, Deliver, Keep, Broadcast, BroadcastHtlc, Blocks, Look, Take, Release, Reorg}
+use Rattle.scenario.specs.declared.events.Event.TheVariants.{Own, Sign, Deliver, Keep, Broadcast, BroadcastHtlc, Blocks, Look, Take, Release, Reorg, Close}
 use Rattle.texts.specs.Values.{◌>>=◌, first_some, array_of, item_of, tag_of, u64_of, side_of}
 use Rattle.texts.specs.Steps.{own_named}
 
@@ -83,6 +83,14 @@ reorg_of d = do
   forgotten ← item_of 2 u64_of form
   Some (Reorg depth forgotten)
 
+-- a side closes a channel
+unfoldable pub close_of : Data → Option Event
+close_of d = do
+  form ← array_of 3 d
+  side ← item_of 1 side_of form
+  channel ← item_of 2 u64_of form
+  Some (Close side channel)
+
 -- the chain grows
 unfoldable pub blocks_of : Data → Option Event
 blocks_of d = do
@@ -113,6 +121,7 @@ event_named name d =
     else if bytes_eq name (codes "take") then take_of d
     else if bytes_eq name (codes "release") then release_of d
     else if bytes_eq name (codes "reorg") then reorg_of d
+    else if bytes_eq name (codes "close") then close_of d
     else own_of name d
 
 -- an array whose first item is the event's name

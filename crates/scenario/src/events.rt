@@ -2,7 +2,7 @@
 
 ghost use Rattle.std.specs.Prelude.{◌≡◌};
 ghost use Rattle.json_value.specs.View.{view};
-ghost use Rattle.scenario.specs.Events.{own_of, sign_of, deliver_of, keep_of, commitment_of, htlc_transaction_of, broadcast_of, blocks_of, look_of, take_of, release_of, reorg_of};
+ghost use Rattle.scenario.specs.Events.{own_of, sign_of, deliver_of, keep_of, commitment_of, htlc_transaction_of, broadcast_of, blocks_of, look_of, take_of, release_of, reorg_of, close_of};
 
 use json_value::Value;
 use terms::Side;
@@ -69,6 +69,11 @@ pub enum Event {
     Reorg {
         depth: u64,
         forgotten: u64,
+    },
+    /// A side closes a channel, and sends its newest commitment to the pool.
+    Close {
+        side: Side,
+        channel: u64,
     },
 }
 
@@ -208,6 +213,17 @@ fn reorg_of(value: &Value) -> Option<Event>
     })
 }
 
+#[tactic(auto, unfolding(crate::specs::Events::close_of))]
+fn close_of(value: &Value) -> Option<Event>
+    ensures { result ≡ close_of (view value.now) }
+{
+    let form = array_of(value, 3)?;
+    Some(Event::Close {
+        side: item(form, 1)?,
+        channel: item(form, 2)?,
+    })
+}
+
 /// An array whose first item is the event's name.
 impl FromValue for Event {
     ghost use Rattle.scenario.specs.Events.{event_of};
@@ -235,6 +251,8 @@ impl FromValue for Event {
             release_of(value)
         } else if name == "reorg" {
             reorg_of(value)
+        } else if name == "close" {
+            close_of(value)
         } else {
             own_of(name, value)
         }

@@ -13,7 +13,8 @@ use Rattle.book.specs.declared.errors.StepError.{StepError}
 use Rattle.book.specs.declared.errors.SignError.{SignError}
 use Rattle.book.specs.declared.errors.KeepError.{KeepError}
 use Rattle.book.specs.declared.errors.ReleaseError.{ReleaseError}
-use Rattle.book.specs.Replies.{opened, stepped, signed, revoked, kept, released}
+use Rattle.book.specs.declared.errors.CloseError.{CloseError}
+use Rattle.book.specs.Replies.{opened, stepped, signed, revoked, kept, released, closed}
 use Rattle.side.specs.Acts.{call_of, messages_in}
 
 module _ (update : Update) (tokens : Tokens) (secret : List ℕ) (point : Key) where
@@ -21,10 +22,10 @@ module _ (update : Update) (tokens : Tokens) (secret : List ℕ) (point : Key) w
   taken = refl
 
 module _ (m : Message) (filling : Filling) where
-  given : map messages_in (opened (Ok 0) ∷ stepped (Ok []) ∷ stepped (Ok (m ∷ [])) ∷ signed (Ok m) ∷ revoked (Ok 0) ∷ kept (Ok tt) ∷ released (Ok filling) ∷ [])
-      ≡ [] ∷ [] ∷ (m ∷ []) ∷ (m ∷ []) ∷ [] ∷ [] ∷ [] ∷ []
+  given : map messages_in (opened (Ok 0) ∷ stepped (Ok []) ∷ stepped (Ok (m ∷ [])) ∷ signed (Ok m) ∷ revoked (Ok 0) ∷ kept (Ok tt) ∷ released (Ok filling) ∷ closed (Ok 0) ∷ [])
+      ≡ [] ∷ [] ∷ (m ∷ []) ∷ (m ∷ []) ∷ [] ∷ [] ∷ [] ∷ [] ∷ []
   given = refl
 
-module _ (o : OpenError) (s : StepError) (g : SignError) (k : KeepError) (r : ReleaseError) where
-  refused : map messages_in (opened (Err o) ∷ stepped (Err s) ∷ signed (Err g) ∷ revoked (Err s) ∷ kept (Err k) ∷ released (Err r) ∷ []) ≡ [] ∷ [] ∷ [] ∷ [] ∷ [] ∷ [] ∷ []
+module _ (o : OpenError) (s : StepError) (g : SignError) (k : KeepError) (r : ReleaseError) (c : CloseError) where
+  refused : map messages_in (opened (Err o) ∷ stepped (Err s) ∷ signed (Err g) ∷ revoked (Err s) ∷ kept (Err k) ∷ released (Err r) ∷ closed (Err c) ∷ []) ≡ [] ∷ [] ∷ [] ∷ [] ∷ [] ∷ [] ∷ [] ∷ []
   refused = refl

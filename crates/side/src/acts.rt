@@ -48,6 +48,7 @@ pub fn message_of(reply: Reply) -> Result<Option<Message>, Reply>
         Reply::Signed(Ok(message)) => Ok(Some(message)),
         Reply::Opened(Ok(_)) | Reply::Revoked(Ok(_)) | Reply::Kept(Ok(())) => Ok(None),
         Reply::Released(Ok(_)) => Ok(None),
+        Reply::Closed(Ok(_)) => Ok(None),
         refused => Err(refused),
     }
 }

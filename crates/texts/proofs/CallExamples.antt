@@ -3,6 +3,8 @@ use Rattle.std.proofs.Common.{◌≡◌, ℕ, ◌+◌, ◌*◌, ◌^◌, true, f
 use Rattle.std.specs.Prelude.{replicate, is_some}
 use Rattle.hex.proofs.OnLiterals.{hex_on_literals}
 use Rattle.serde_json.specs.Data.{Data, Items, Members, no_items, item, no_members, member, null, number, string, array, object, unsigned}
+use Rattle.serde_json.specs.Read.{read}
+use Rattle.serde_json.proofs.OnLiterals.{serde_json_on_literals}
 use Rattle.script.specs.Token.{is_key, is_token}
 use Rattle.tx.specs.Parts.{Output}
 use Rattle.keys.specs.declared.compressed.Key.{Key}
@@ -12,15 +14,16 @@ use Rattle.terms.specs.declared.proposals.ProposedTerms.{ProposedTerms}
 use Rattle.updates.specs.declared.changes.OwnUpdate.TheVariants.{Offer, Fulfil, Fail, SetFee}
 use Rattle.texts.specs.declared.steps.PlainReceived.TheVariants.{Updated, Signed}
 use Rattle.texts.specs.declared.steps.PlainStep.TheVariants.{Own, Receive}
-use Rattle.texts.specs.declared.calls.PlainCall.TheVariants.{Open, Step, Sign, Revoke, Keep, Release}
+use Rattle.texts.specs.declared.calls.PlainCall.TheVariants.{Open, Step, Sign, Revoke, Keep, Release, Close}
+use Rattle.texts.specs.Values.{◌>>=◌}
 use Rattle.texts.specs.Writing.{bytes_data, output_data}
-use Rattle.texts.specs.CallWriting.{release_data}
+use Rattle.texts.specs.CallWriting.{release_data, close_data, entry_data, dump_data}
 use Rattle.texts.specs.Outpoints.{digits_from, outpoint_in}
 use Rattle.texts.specs.Keys.{base_keys_of}
 use Rattle.texts.specs.Terms.{terms_of}
 use Rattle.texts.specs.Messages.{fail_of, fee_of, update_named, update_of}
 use Rattle.texts.specs.Steps.{signature_in, revocation_in, revocation_of, received_named, received_of, own_offer_of, own_fulfil_of, own_fail_of, own_fee_of, own_named, receive_of, step_named, step_of}
-use Rattle.texts.specs.Calls.{opening_of, open_of, step_call_of, sign_of, revoke_of, keep_of, are_within, release_of, call_named, call_of, entry_of, dump_of}
+use Rattle.texts.specs.Calls.{opening_of, open_of, step_call_of, sign_of, revoke_of, keep_of, are_within, release_of, close_of, call_named, call_of, entry_of, dump_of}
 
 abbrev n : ℕ → Data
 n k = number (unsigned k)
@@ -118,6 +121,21 @@ releases : (call_of (five (text (codes "release")) (n 3) (array no_items) (array
 unfolding call_of call_named release_of
 releases = (refl, refl, refl, refl, refl, refl)
 
+closes : (call_of (two (text (codes "close")) (n 3)) ≡ Some (Close 3))
+    × (call_of (one (text (codes "close"))) ≡ None)
+    × (call_of (three (text (codes "close")) (n 3) (n 0)) ≡ None)
+    × (call_of (two (text (codes "close")) (text (codes "3"))) ≡ None)
+    × (call_of (two (text (codes "Close")) (n 3)) ≡ None)
+unfolding call_of call_named close_of
+closes = (refl, refl, refl, refl, refl)
+
+-- as texts: the channel has at most 64 bits
+closes_in_text : (read (codes "[\"close\",18446744073709551615]") >>= call_of ≡ Some (Close 18446744073709551615))
+    × (read (codes "[\"close\",18446744073709551616]") >>= call_of ≡ None)
+    × (read (codes "[\"close\",-1]") >>= call_of ≡ None)
+unfolding call_of call_named close_of serde_json_on_literals
+closes_in_text = (refl, refl, refl)
+
 abbrev proposed : ProposedTerms
 proposed = record {
   capacity = 1;
@@ -158,7 +176,7 @@ openings : (call_of (open_text 1) ≡ Some (Open (record {
 unfolding call_of call_named open_of opening_of terms_of base_keys_of outpoint_in digits_from is_key is_token hex_on_literals
 openings = (refl, refl)
 
--- entries, and dumps of both versions
+-- entries, and dumps of all versions
 abbrev entry : Data → ℕ → Data
 entry call seat = object (member (codes "call") call (member (codes "seat") (n seat) no_members))
 
@@ -173,6 +191,9 @@ their_fee = entry (received (two (text (codes "fee")) (n 4))) 5
 
 abbrev signature : Data
 signature = entry (two (text (codes "sign")) (n 3)) 6
+
+abbrev closing : Data
+closing = entry (two (text (codes "close")) (n 3)) 7
 
 entries : (entry_of signature ≡ Some (record { call = Sign 3; seat = 6 }))
     × (is_some (entry_of (entry (two (text (codes "sign")) (n 3)) 4294967295)) ≡ true)
@@ -194,6 +215,29 @@ dumps : (dump_of (dump 2 (array no_items)) ≡ Some (record { history = [] }))
     × (dump_of (dump 1 (two their_fee signature)) ≡ None)
 unfolding dump_of entry_of call_of call_named sign_of step_call_of step_of step_named own_named own_fee_of receive_of received_of received_named update_of update_named fee_of
 dumps = (refl, refl, refl, refl, refl, refl, refl, refl, refl, refl)
+
+-- version 3 exactly with a close
+dumps_with_a_close : (dump_of (dump 3 (one closing)) ≡ Some (record { history = record { call = Close 3; seat = 7 } ∷ [] }))
+    × (is_some (dump_of (dump 3 (three signature closing signature))) ≡ true)
+    × (is_some (dump_of (dump 3 (three own_fee their_fee closing))) ≡ true)
+    × (dump_of (dump 3 (one signature)) ≡ None)
+    × (dump_of (dump 3 (two own_fee signature)) ≡ None)
+    × (dump_of (dump 2 (one closing)) ≡ None)
+    × (dump_of (dump 2 (two signature closing)) ≡ None)
+    × (dump_of (dump 1 (one closing)) ≡ None)
+    × (dump_of (dump 1 (two closing signature)) ≡ None)
+    × (dump_of (dump 4 (one closing)) ≡ None)
+    × (dump_of (dump 4 (one signature)) ≡ None)
+unfolding dump_of entry_of call_of call_named sign_of close_of step_call_of step_of step_named own_named own_fee_of receive_of received_of received_named update_of update_named fee_of
+dumps_with_a_close = (refl, refl, refl, refl, refl, refl, refl, refl, refl, refl, refl)
+
+-- what is written: version 3 with a close, and else version 2
+written_dumps : (close_data 3 ≡ two (text (codes "close")) (n 3))
+    × (entry_data (close_data 3) 7 ≡ closing)
+    × (dump_data true (closing ∷ signature ∷ []) ≡ dump 3 (two closing signature))
+    × (dump_data false (signature ∷ []) ≡ dump 2 (one signature))
+unfolding close_data entry_data dump_data
+written_dumps = (refl, refl, refl, refl)
 
 -- the key of 02 and 32 times one byte
 abbrev key_at : ℕ → Key

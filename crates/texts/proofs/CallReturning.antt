@@ -21,7 +21,7 @@ use Rattle.texts.specs.declared.steps.PlainRevocation.{PlainRevocation}
 use Rattle.texts.specs.declared.steps.PlainStep.TheVariants.{Own, Receive}
 use Rattle.texts.specs.declared.calls.PlainOpening.{PlainOpening}
 use Rattle.texts.specs.declared.calls.PlainCall.{PlainCall}
-use Rattle.texts.specs.declared.calls.PlainCall.TheVariants.{Open, Step, Sign, Revoke, Keep, Release}
+use Rattle.texts.specs.declared.calls.PlainCall.TheVariants.{Open, Step, Sign, Revoke, Keep, Release, Close}
 use Rattle.texts.specs.Values.{◌>>=◌, each_of, u32_of, side_of, bytes_of_len, tag_of}
 use Rattle.texts.specs.Keys.{key_of, base_keys_of, token_bytes_of}
 use Rattle.texts.specs.Outpoints.{outpoint_of}
@@ -30,10 +30,10 @@ use Rattle.texts.specs.Messages.{update_of, update_named}
 use Rattle.texts.specs.Outputs.{output_of}
 use Rattle.texts.specs.Claims.{claim_of}
 use Rattle.texts.specs.Steps.{signature_in, revocation_in, revocation_of, received_named, received_of, own_offer_of, own_fulfil_of, own_fail_of, own_fee_of, own_named, receive_of, step_named, step_of}
-use Rattle.texts.specs.Calls.{opening_of, open_of, step_call_of, sign_of, revoke_of, keep_of, release_of, call_named, call_of, entry_of, is_version, dump_of, are_within}
+use Rattle.texts.specs.Calls.{opening_of, open_of, step_call_of, sign_of, revoke_of, keep_of, release_of, close_of, call_named, call_of, entry_of, is_version, dump_of, are_within}
 use Rattle.texts.specs.Writing.{number_data, bytes_data, side_data, terms_data, output_data, add_data, update_data, Is32Bytes}
 use Rattle.texts.specs.ClaimWriting.{outpoint_data, claim_data, plain_claim, IsClaim}
-use Rattle.texts.specs.CallWriting.{key_data, AreTokens, CanOpen, base_keys_data, signature_data, revocation_data, received_data, open_data, own_data, receive_data, sign_data, revoke_data, keep_data, release_data, entry_data, dump_data, AreBases, IsTokenText, AreOutputTexts, IsReceived, OpeningsComeBack, OwnStepsComeBack, ReceivedStepsComeBack, SignsComeBack, RevokesComeBack, KeepsComeBack, ReleasesComeBack, EntriesComeBack, DumpsComeBack}
+use Rattle.texts.specs.CallWriting.{key_data, AreTokens, CanOpen, base_keys_data, signature_data, revocation_data, received_data, open_data, own_data, receive_data, sign_data, revoke_data, keep_data, release_data, close_data, entry_data, dump_data, AreBases, IsTokenText, AreOutputTexts, IsReceived, OpeningsComeBack, OwnStepsComeBack, ReceivedStepsComeBack, SignsComeBack, RevokesComeBack, KeepsComeBack, ReleasesComeBack, ClosesComeBack, EntriesComeBack, DumpsComeBack}
 use Rattle.texts.proofs.Returning.{below_back, sized_back, hash_back, side_back, terms_come_back, outputs_come_back, updates_come_back}
 use Rattle.texts.proofs.ClaimReturning.{key_back, outpoints_come_back, claims_come_back, each_again, same_again, all_by}
 
@@ -152,6 +152,10 @@ release_again channel claims outputs preimages back outs images within =
     )
     refl
 
+pub close_again : (channel : ℕ) → call_of (close_data channel) ≡ Some (Close channel)
+unfolding call_of call_named close_of close_data
+close_again channel = refl
+
 -- ---- all calls come back
 
 pub openings_come_back : OpeningsComeBack
@@ -186,6 +190,9 @@ releases_come_back channel claims outputs preimages h os ps within =
     (all_by (λ o. IsOutput o × IsBytes o.script) (λ o. output_of (output_data o) ≡ Some o) (λ o is. outputs_come_back o is.0 is.1) outputs os)
     (all_by Is32Bytes (λ p. bytes_of_len 32 (bytes_data p) ≡ Some p) hash_back preimages ps) within
 
+pub closes_come_back : ClosesComeBack
+closes_come_back channel = close_again channel
+
 -- ---- the dump
 
 pub entry_again : (d : Data) (seat : ℕ) → u32_of (number_data seat) ≡ Some seat → (call : PlainCall) → call_of d ≡ Some call
@@ -198,4 +205,5 @@ entries_come_back d call seat read lt = entry_again d seat (below_back _ _ lt) c
 
 pub dumps_come_back : DumpsComeBack
 unfolding dump_of dump_data
-dumps_come_back ds history read = rw read refl
+dumps_come_back true ds history read closed = rw (read, closed) refl
+dumps_come_back false ds history read closed = rw (read, closed) refl

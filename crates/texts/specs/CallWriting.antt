@@ -1,5 +1,5 @@
 -- The calls of a book and the dump of its history, as they are written.
-use Rattle.std.specs.Prelude.{◌≡◌, ℕ, ◌<◌, ◌^◌, true, List, [], ◌∷◌, map, length, Some, codes, ⊤, IsTrue}
+use Rattle.std.specs.Prelude.{◌≡◌, ℕ, ◌<◌, ◌^◌, Bool, true, if◌then◌else◌, List, [], ◌∷◌, map, length, Some, codes, ⊤, IsTrue}
 use Rattle.std.specs.List.{AllByRecursion}
 use Rattle.hex.specs.Hex.{IsBytes}
 use Rattle.serde_json.specs.Data.{Data, no_members, member, no_items, item, string, array, object}
@@ -20,7 +20,7 @@ use Rattle.texts.specs.declared.steps.PlainStep.{PlainStep}
 use Rattle.texts.specs.declared.steps.PlainStep.TheVariants.{Own, Receive}
 use Rattle.texts.specs.declared.calls.PlainOpening.{PlainOpening}
 use Rattle.texts.specs.declared.calls.PlainCall.{PlainCall}
-use Rattle.texts.specs.declared.calls.PlainCall.TheVariants.{Open, Step, Sign, Revoke, Keep, Release}
+use Rattle.texts.specs.declared.calls.PlainCall.TheVariants.{Open, Step, Sign, Revoke, Keep, Release, Close}
 use Rattle.texts.specs.declared.calls.PlainEntry.{PlainEntry}
 use Rattle.texts.specs.Values.{each_of}
 use Rattle.texts.specs.Writing.{number_data, bytes_data, side_data, pair_data, terms_data, output_data, update_data, HasWidths, Is32Bytes, IsUpdate}
@@ -28,7 +28,7 @@ use Rattle.texts.specs.ClaimWriting.{outpoint_data, claim_data, plain_claim, IsO
 use Rattle.texts.specs.Messages.{update_of}
 use Rattle.texts.specs.Steps.{received_of}
 use Rattle.terms.specs.Proposals.{can_agree}
-use Rattle.texts.specs.Calls.{are_within, call_of, entry_of, dump_of}
+use Rattle.texts.specs.Calls.{are_within, call_of, entry_of, any_close, dump_of}
 
 abbrev pub key_data : Key → Data
 key_data k = bytes_data k.bytes
@@ -84,13 +84,20 @@ unfoldable pub release_data : ℕ → List ClaimParts → List Output → List (
 release_data channel claims outputs preimages =
     array (item (string (codes "release")) (item (number_data channel) (item (each_data claim_data claims) (item (each_data output_data outputs) (item (each_data bytes_data preimages) no_items)))))
 
+unfoldable pub close_data : ℕ → Data
+close_data channel = array (item (string (codes "close")) (item (number_data channel) no_items))
+
 -- an entry, given its call as it is written
 unfoldable pub entry_data : Data → ℕ → Data
 entry_data call seat = object (member (codes "call") call (member (codes "seat") (number_data seat) no_members))
 
--- a dump, given its entries as they are written
-unfoldable pub dump_data : List Data → Data
-dump_data entries = object (member (codes "history") (array (items_of entries)) (member (codes "version") (number_data 2) no_members))
+-- the version in which a dump is written, by whether a call of it closes a channel
+abbrev pub written_version : Bool → ℕ
+written_version has_close = if has_close then 3 else 2
+
+-- a dump, given whether a call of it closes a channel, and its entries as they are written
+unfoldable pub dump_data : Bool → List Data → Data
+dump_data has_close entries = object (member (codes "history") (array (items_of entries)) (member (codes "version") (number_data (written_version has_close)) no_members))
 
 -- ---- what was written is read back as the same
 
@@ -170,10 +177,15 @@ ReleasesComeBack =
     → AllByRecursion IsClaim claims → AreOutputTexts outputs → AllByRecursion Is32Bytes preimages → are_within (length claims) (length outputs) ≡ true
     → call_of (release_data channel claims outputs preimages) ≡ Some (Release channel (map plain_claim claims) outputs preimages)
 
+abbrev pub ClosesComeBack : Type 0
+ClosesComeBack = (channel : ℕ) → call_of (close_data channel) ≡ Some (Close channel)
+
 abbrev pub EntriesComeBack : Type 0
 EntriesComeBack =
     (d : Data) (call : PlainCall) (seat : ℕ) → call_of d ≡ Some call → seat < 2 ^ 32
     → entry_of (entry_data d seat) ≡ Some (record { call = call; seat = seat })
 
 abbrev pub DumpsComeBack : Type 0
-DumpsComeBack = (ds : List Data) (history : List PlainEntry) → each_of entry_of (items_of ds) ≡ Some history → dump_of (dump_data ds) ≡ Some (record { history = history })
+DumpsComeBack =
+    (has_close : Bool) (ds : List Data) (history : List PlainEntry) → each_of entry_of (items_of ds) ≡ Some history → any_close history ≡ has_close
+    → dump_of (dump_data has_close ds) ≡ Some (record { history = history })

@@ -15,7 +15,7 @@ use Rattle.texts.specs.declared.steps.PlainStep.{PlainStep}
 use Rattle.texts.specs.declared.steps.PlainStep.TheVariants.{Own, Receive}
 use Rattle.texts.specs.declared.calls.PlainOpening.{PlainOpening}
 use Rattle.texts.specs.declared.calls.PlainCall.{PlainCall}
-use Rattle.texts.specs.declared.calls.PlainCall.TheVariants.{Open, Step, Sign, Revoke, Keep, Release}
+use Rattle.texts.specs.declared.calls.PlainCall.TheVariants.{Open, Step, Sign, Revoke, Keep, Release, Close}
 use Rattle.texts.specs.declared.calls.PlainEntry.{PlainEntry}
 use Rattle.texts.specs.declared.calls.PlainDump.{PlainDump}
 use Rattle.texts.specs.Values.{◌>>=◌, array_of, object_of, item_of, member_of, pair_of, tag_of, list_of, u64_of, u32_of, side_of, bytes_of_len}
@@ -82,6 +82,12 @@ release_of d = do
   preimages ← item_of 4 (list_of (bytes_of_len 32)) form
   if are_within (length claims) (length outputs) then Some (Release channel claims outputs preimages) else None
 
+unfoldable pub close_of : Data → Option PlainCall
+close_of d = do
+  form ← array_of 2 d
+  channel ← item_of 1 u64_of form
+  Some (Close channel)
+
 -- the calls by their names
 unfoldable pub call_named : List ℕ → Data → Option PlainCall
 call_named name d =
@@ -91,6 +97,7 @@ call_named name d =
     else if bytes_eq name (codes "revoke") then revoke_of d
     else if bytes_eq name (codes "keep") then keep_of d
     else if bytes_eq name (codes "release") then release_of d
+    else if bytes_eq name (codes "close") then close_of d
     else None
 
 unfoldable pub call_of : Data → Option PlainCall
@@ -126,13 +133,27 @@ has_fee (Sign channel) = false
 has_fee (Revoke channel revocation) = false
 has_fee (Keep channel number claims) = false
 has_fee (Release channel claims outputs preimages) = false
+has_fee (Close channel) = false
 
 abbrev pub any_fee : List PlainEntry → Bool
 any_fee history = list_any (λ e. has_fee e.call) history
 
--- whether a version has these calls: version 1 has no change of the feerate
+-- whether a call closes a channel
+abbrev pub has_close : PlainCall → Bool
+has_close (Open opening) = false
+has_close (Step channel step) = false
+has_close (Sign channel) = false
+has_close (Revoke channel revocation) = false
+has_close (Keep channel number claims) = false
+has_close (Release channel claims outputs preimages) = false
+has_close (Close channel) = true
+
+abbrev pub any_close : List PlainEntry → Bool
+any_close history = list_any (λ e. has_close e.call) history
+
+-- whether a version has these calls: version 3 where one closes a channel, and else version 2, or version 1 where none changes the feerate
 abbrev pub is_version : ℕ → List PlainEntry → Bool
-is_version version history = version == 2 || (version == 1 && not (any_fee history))
+is_version version history = if any_close history then version == 3 else version == 2 || (version == 1 && not (any_fee history))
 
 unfoldable pub dump_of : Data → Option PlainDump
 dump_of d = do

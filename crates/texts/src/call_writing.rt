@@ -7,14 +7,14 @@ ghost use Rattle.texts.specs.declared.steps.PlainReceived.{PlainReceived};
 ghost use Rattle.texts.specs.declared.steps.PlainReceived.TheVariants.{Signed};
 ghost use Rattle.texts.specs.declared.steps.PlainStep.TheVariants.{Own, Receive};
 ghost use Rattle.texts.specs.declared.calls.PlainCall.{PlainCall};
-ghost use Rattle.texts.specs.declared.calls.PlainCall.TheVariants.{Step, Sign, Revoke, Keep, Release};
+ghost use Rattle.texts.specs.declared.calls.PlainCall.TheVariants.{Step, Sign, Revoke, Keep, Release, Close};
 ghost use Rattle.texts.specs.declared.calls.PlainEntry.{PlainEntry};
 ghost use Rattle.texts.specs.Values.{each_of};
 ghost use Rattle.texts.specs.Steps.{received_of};
-ghost use Rattle.texts.specs.Calls.{are_within, call_of, entry_of, dump_of};
+ghost use Rattle.texts.specs.Calls.{are_within, call_of, entry_of, any_close, dump_of};
 ghost use Rattle.texts.specs.ClaimWriting.{plain_claim};
 ghost use Rattle.texts.specs.Compound.{items_in};
-ghost use Rattle.texts.specs.CallWriting.{AreTokens, base_keys_data, call_front, signature_data, open_data, own_data, receive_data, sign_data, revoke_data, keep_data, release_data, entry_data, dump_data};
+ghost use Rattle.texts.specs.CallWriting.{AreTokens, base_keys_data, call_front, signature_data, open_data, own_data, receive_data, sign_data, revoke_data, keep_data, release_data, close_data, entry_data, dump_data};
 
 use crate::calls::PlainOpening;
 use crate::compound::{ArrayWriter, ObjectWriter};
@@ -281,6 +281,15 @@ pub fn write_release(
     Ok(call.finish())
 }
 
+/// Writes the call that closes a channel.
+#[tactic(auto, unfolding(crate::specs::CallWriting::close_data), using(crate::proofs::CallReturning::close_again))]
+pub fn write_close(alloc: Global, channel: u64) -> Result<Value, AllocError>
+    ensures form { IfOk result (λ v. view v ≡ close_data channel) }
+    ensures back { IfOk result (λ _. call_of (close_data channel) ≡ Some (Close channel)) }
+{
+    Ok(call(alloc, "close", channel)?.finish())
+}
+
 /// Writes an entry of a history, given its call as it is written.
 #[tactic(auto, unfolding(crate::specs::CallWriting::entry_data), using(crate::proofs::CallReturning::entry_again))]
 pub fn write_entry(alloc: Global, call: Value, seat: u32) -> Result<Value, AllocError>
@@ -294,16 +303,18 @@ pub fn write_entry(alloc: Global, call: Value, seat: u32) -> Result<Value, Alloc
     Ok(entry.finish())
 }
 
-/// Writes a dump of version 2, given its entries as they are written, the oldest first.
+/// Writes a dump, given its entries as they are written, the oldest first, and whether a call of them closes a channel. Its version is 3 then, and else 2.
 #[tactic(auto, unfolding(crate::specs::CallWriting::dump_data), using(crate::proofs::CallReturning::dumps_come_back))]
-pub fn write_dump(alloc: Global, entries: Vec<Value>) -> Result<Value, AllocError>
-    ensures form { IfOk result (λ v. view v ≡ dump_data (map view entries.items)) }
+pub fn write_dump(alloc: Global, entries: Vec<Value>, has_close: bool) -> Result<Value, AllocError>
+    ensures form { IfOk result (λ v. view v ≡ dump_data has_close (map view entries.items)) }
     ensures back { IfOk result (λ _. (history : List PlainEntry)
-        → each_of entry_of (items_view entries.items) ≡ Some history
-        → dump_of (dump_data (map view entries.items)) ≡ Some (record { history = history })) }
+        → each_of entry_of (items_view entries.items) ≡ Some history → any_close history ≡ has_close
+        → dump_of (dump_data has_close (map view entries.items)) ≡ Some
+        (record { history = history })) }
 {
+    let version = if has_close { 3u64 } else { 2 };
     let dump = ObjectWriter::new(alloc)
         .value("history", Value::Array(entries))?
-        .member("version", &2u64)?;
+        .member("version", &version)?;
     Ok(dump.finish())
 }

@@ -3,7 +3,7 @@
 ghost use Rattle.std.specs.Prelude.{◌≡◌, length};
 ghost use Rattle.json_value.specs.View.{view};
 ghost use Rattle.texts.specs.Values.{Gives};
-ghost use Rattle.texts.specs.Calls.{opening_of, open_of, step_call_of, sign_of, revoke_of, keep_of, are_within, release_of, is_fee, changes_fee, has_fee, any_fee, is_version};
+ghost use Rattle.texts.specs.Calls.{opening_of, open_of, step_call_of, sign_of, revoke_of, keep_of, are_within, release_of, close_of, is_fee, changes_fee, has_fee, any_fee, has_close, any_close, is_version};
 
 use crate::allocating::{ReadValue, read_item, read_member};
 use crate::claims::PlainClaim;
@@ -66,6 +66,9 @@ pub enum PlainCall {
         outputs: List<TxOut>,
         preimages: List<[u8; 32]>,
     },
+    Close {
+        channel: u64,
+    },
 }
 
 /// An entry of a history as read from JSON.
@@ -76,7 +79,7 @@ pub struct PlainEntry {
     pub seat: u32,
 }
 
-/// The dump of a book as read from JSON, of version 1 or 2, with the oldest entry first.
+/// The dump of a book as read from JSON, of version 1, 2 or 3, with the oldest entry first.
 #[derive(Debug, Drop)]
 pub struct PlainDump {
     pub history: List<PlainEntry>,
@@ -203,6 +206,16 @@ fn release_of(alloc: Global, value: &Value) -> Result<PlainCall, ShapeError>
     })
 }
 
+#[tactic(auto, unfolding(crate::specs::Calls::close_of))]
+fn close_of(value: &Value) -> Option<PlainCall>
+    ensures { result ≡ close_of (view value.now) }
+{
+    let form = array_of(value, 2)?;
+    Some(PlainCall::Close {
+        channel: item(form, 1)?,
+    })
+}
+
 /// An array whose first item is the call's name.
 impl ReadValue for PlainCall {
     ghost use Rattle.texts.specs.Calls.{call_of};
@@ -224,6 +237,8 @@ impl ReadValue for PlainCall {
             keep_of(alloc, value)
         } else if name == "release" {
             release_of(alloc, value)
+        } else if name == "close" {
+            close_of(value).ok_or(ShapeError::BadShape)
         } else {
             Err(ShapeError::BadShape)
         }
@@ -281,14 +296,33 @@ fn any_fee(history: &[PlainEntry]) -> bool
     history.iter().any(|entry| has_fee(entry))
 }
 
+// Whether the entry's call closes a channel.
+fn has_close(entry: &PlainEntry) -> bool
+    ensures { result ≡ has_close entry.now.call }
+{
+    matches!(&entry.call, PlainCall::Close { .. })
+}
+
+// Whether a call of the entries closes a channel.
+fn any_close(history: &[PlainEntry]) -> bool
+    ensures { result ≡ any_close history.now }
+{
+    history.iter().any(|entry| has_close(entry))
+}
+
 // Whether a dump of the version has these entries.
 fn is_version(version: u64, history: &[PlainEntry]) -> bool
     ensures { result ≡ is_version version history.now }
 {
-    version == 2 || (version == 1 && !any_fee(history))
+    if any_close(history) {
+        version == 3
+    } else {
+        version == 2 || (version == 1 && !any_fee(history))
+    }
 }
 
-/// An object of two members: `history` and `version`, which is 1 or 2. In version 1 no call changes the feerate.
+/// An object of two members: `history` and `version`, which is 1, 2 or 3. In version 3 a call closes a channel, and in versions 1 and 2 none does. In version 1 no
+/// call changes the feerate.
 impl ReadValue for PlainDump {
     ghost use Rattle.texts.specs.Calls.{dump_of};
 

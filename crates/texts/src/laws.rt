@@ -2,7 +2,7 @@
 
 ghost use Rattle.texts.specs.Names.{NamesAreAll};
 ghost use Rattle.texts.specs.Writing.{TermsComeBack, OutputsComeBack, UpdatesComeBack};
-ghost use Rattle.texts.specs.CallWriting.{OpeningsComeBack, OwnStepsComeBack, UpdatesAreReceived, ReceivedStepsComeBack, SignsComeBack, RevokesComeBack, KeepsComeBack, ReleasesComeBack, EntriesComeBack, DumpsComeBack};
+ghost use Rattle.texts.specs.CallWriting.{OpeningsComeBack, OwnStepsComeBack, UpdatesAreReceived, ReceivedStepsComeBack, SignsComeBack, RevokesComeBack, KeepsComeBack, ReleasesComeBack, ClosesComeBack, EntriesComeBack, DumpsComeBack};
 ghost use Rattle.texts.specs.ClaimWriting.{OutpointsComeBack, SlotsComeBack, ShellsComeBack, ClaimsComeBack};
 
 /// An object with as many members as there are names, all distinct, and with a member for each name, has no other member. So a reader that
@@ -32,6 +32,7 @@ pub fn what_is_dumped_comes_back()
     ensures revokes { RevokesComeBack }
     ensures keeps { KeepsComeBack }
     ensures releases { ReleasesComeBack }
+    ensures closes { ClosesComeBack }
     ensures entries { EntriesComeBack }
     ensures dumps { DumpsComeBack }
 {}

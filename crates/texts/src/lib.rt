@@ -6,7 +6,8 @@
 //! does a claim and `book` a call. [`FromValue`] reads what needs no allocation, [`ReadValue`] the rest.
 //! [`WriteValue`] writes the value that is read back as the same.
 //!
-//! `serde_json` has the JSON values, and `terms`, `updates` and `claim` the types that are read and written.
+//! `json_value` has the JSON values that are read, and `serde_json` those that are written. `terms`, `updates` and
+//! `claim` have the types that both stand for.
 //! `scenario` reads scenarios with these shapes, and `book` writes and loads its dump.
 //!
 //! ```rust
@@ -36,8 +37,8 @@ mod writing;
 
 pub use allocating::{ReadValue, bytes_of, list_of, read_item, read_member};
 pub use call_writing::{
-    write_dump, write_entry, write_keep, write_own, write_receive, write_release, write_revoke,
-    write_sign, write_signature,
+    write_close, write_dump, write_entry, write_keep, write_own, write_receive, write_release,
+    write_revoke, write_sign, write_signature,
 };
 pub use calls::{PlainCall, PlainDump, PlainEntry, PlainOpening};
 pub use claims::PlainClaim;

@@ -1,5 +1,5 @@
 -- The commitments of a channel that its sides may broadcast without a penalty, and the HTLCs in them.
-use Rattle.std.specs.Prelude.{ℕ, ◌+◌, ◌==◌, ◌&&◌, Bool, true, not, List, [], Option, Some, None}
+use Rattle.std.specs.Prelude.{ℕ, ◌+◌, ◌==◌, ◌&&◌, Bool, true, false, if◌then◌else◌, not, List, [], Option, Some, None}
 use Rattle.std.specs.Prelude.{slice_get}
 use Rattle.std.specs.List.{list_any}
 use Rattle.terms.specs.declared.htlcs.Htlc.{Htlc}
@@ -7,6 +7,9 @@ use Rattle.terms.specs.declared.sides.Side.{Side}
 use Rattle.terms.specs.Views.{share}
 use Rattle.channel.specs.declared.commitments.CommitmentState.{CommitmentState}
 use Rattle.channel.specs.States.{State}
+use Rattle.book.specs.declared.calls.Call.{Call}
+use Rattle.book.specs.declared.calls.Call.TheVariants.{Close}
+use Rattle.book.specs.declared.calls.Entry.{Entry}
 use Rattle.trace.specs.declared.dumps.standing.Source.{Source}
 use Rattle.trace.specs.declared.dumps.standing.Source.TheVariants.{Ours, Theirs, Next}
 
@@ -37,3 +40,13 @@ abbrev pub is_new_in : Source → Side → State → ℕ → Bool
 is_new_in Ours offerer s id = true
 is_new_in Theirs offerer s id = not (stands_in Ours offerer s id)
 is_new_in Next offerer s id = not (stands_in Ours offerer s id) && not (stands_in Theirs offerer s id)
+
+-- ---- closed channels
+
+abbrev pub is_close_of : ℕ → Call → Bool
+is_close_of c (Close d) = d == c
+is_close_of c call = false
+
+-- the number of the commitment with which a side closed its channel of an index: its newest one, which it stays
+abbrev pub closed_with : List Entry → ℕ → State → Option ℕ
+closed_with history c s = if list_any (λ e. is_close_of c e.call) history then Some s.number else None

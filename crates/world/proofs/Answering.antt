@@ -13,7 +13,7 @@ use Rattle.book.specs.declared.calls.Call.{Call}
 use Rattle.book.specs.declared.calls.Call.TheVariants as calls
 use Rattle.book.specs.declared.calls.Entry.{Entry}
 use Rattle.book.specs.Books.{Channels, at_index, channels_after, replayed, replay}
-use Rattle.book.specs.Replies.{Reply, opened, stepped, signed, revoked, kept, released, is_accepted, answer_of, extended}
+use Rattle.book.specs.Replies.{Reply, opened, stepped, signed, revoked, kept, released, closed, is_accepted, answer_of, extended}
 use Rattle.book.specs.Calling.{IsCall}
 use Rattle.book.specs.Dispatch.{no_memory_of}
 use Rattle.world.specs.declared.errors.EventError.{EventError}
@@ -38,6 +38,7 @@ refused first (errors.Channel r) is = is
 refused first (errors.Sign r) is = is
 refused first (errors.Keep r) is = is
 refused first (errors.Fill r) is = is
+refused first errors.ChannelClosed is = is
 
 -- ---- replies
 
@@ -48,11 +49,13 @@ accepted_none (signed (Ok x)) ok = refl
 accepted_none (revoked (Ok x)) ok = refl
 accepted_none (kept (Ok x)) ok = refl
 accepted_none (released (Ok x)) ok = refl
+accepted_none (closed (Ok x)) ok = refl
 accepted_none (stepped (Err e)) ok = absurd cc
 accepted_none (signed (Err e)) ok = absurd cc
 accepted_none (revoked (Err e)) ok = absurd cc
 accepted_none (kept (Err e)) ok = absurd cc
 accepted_none (released (Err e)) ok = absurd cc
+accepted_none (closed (Err e)) ok = absurd cc
 
 -- a reply to a call that opens no channel is refused by an event's refusal
 abbrev is_opening : Reply → Bool
@@ -66,11 +69,13 @@ refused_some (signed (Ok x)) other not_accepted = absurd cc
 refused_some (revoked (Ok x)) other not_accepted = absurd cc
 refused_some (kept (Ok x)) other not_accepted = absurd cc
 refused_some (released (Ok x)) other not_accepted = absurd cc
+refused_some (closed (Ok x)) other not_accepted = absurd cc
 refused_some (stepped (Err e)) other not_accepted = refl
 refused_some (signed (Err e)) other not_accepted = refl
 refused_some (revoked (Err e)) other not_accepted = refl
 refused_some (kept (Err e)) other not_accepted = refl
 refused_some (released (Err e)) other not_accepted = refl
+refused_some (closed (Err e)) other not_accepted = refl
 
 no_opening : (call : Call) (chs : Channels) → opens_none call ≡ true → is_opening (answer_of peer_tokens chs call) ≡ false
 no_opening (calls.Open o) chs none = absurd cc
@@ -79,6 +84,7 @@ no_opening (calls.Sign c) chs none = refl
 no_opening (calls.Revoke c secret point) chs none = refl
 no_opening (calls.Keep c n claims) chs none = refl
 no_opening (calls.Release c batch) chs none = refl
+no_opening (calls.Close c) chs none = refl
 
 -- out of memory is one of these refusals, and not an accepted reply
 memory_is : (call : Call) → opens_none call ≡ true → refusal_in (no_memory_of call) ≡ Some errors.NoMemory
@@ -88,6 +94,7 @@ memory_is (calls.Sign c) none = refl
 memory_is (calls.Revoke c secret point) none = refl
 memory_is (calls.Keep c n claims) none = refl
 memory_is (calls.Release c batch) none = refl
+memory_is (calls.Close c) none = refl
 
 memory_refused : (call : Call) → is_accepted (no_memory_of call) ≡ false
 memory_refused (calls.Open o) = refl
@@ -96,6 +103,7 @@ memory_refused (calls.Sign c) = refl
 memory_refused (calls.Revoke c secret point) = refl
 memory_refused (calls.Keep c n claims) = refl
 memory_refused (calls.Release c batch) = refl
+memory_refused (calls.Close c) = refl
 
 true_false : true ≡ false → ⊥
 true_false e = absurd cc
@@ -151,6 +159,7 @@ opens_nothing (calls.Sign c) none = λ chs. length-at_index _ c chs
 opens_nothing (calls.Revoke c secret point) none = λ chs. length-at_index _ c chs
 opens_nothing (calls.Keep c n claims) none = λ chs. length-at_index _ c chs
 opens_nothing (calls.Release c batch) none = λ chs. refl
+opens_nothing (calls.Close c) none = λ chs. length-at_index _ c chs
 
 extends : (b : Bool) (history : List Entry) (call : Call) → OpensNone call → length (replay (extended b history SEAT call)) ≡ length (replay history)
 extends false history call none = refl

@@ -1,8 +1,9 @@
 -- Accepted calls of a book, as steps of its channels.
-use Rattle.std.proofs.Common.{◌≡◌, ℕ, zero, suc, Bool, true, false, ◌||◌, List, [], ◌∷◌, ◌++◌, Option, Some, None, Result, Ok, refl, sym, ap, ◌∙◌, subst}
-use Rattle.std.specs.Prelude.{drop, slice_get}
+use Rattle.std.proofs.Common.{◌≡◌, ℕ, zero, suc, Bool, true, false, ◌||◌, ◌&&◌, List, [], ◌∷◌, ◌++◌, length, Option, Some, None, Result, Ok, Err, refl, sym, ap, ◌∙◌, subst, inl, inr}
+use Rattle.std.specs.Prelude.{◌⊎◌, drop, slice_get, option_map, is_ok}
 use Rattle.std.proofs.lemmas.List.{reverse-append}
 use Rattle.std.proofs.lemmas.Option.{none-some, same_Some}
+use Rattle.std.proofs.Math.Bool.{and-false, and-true}
 use Rattle.terms.specs.declared.sides.Side.{Side}
 use Rattle.updates.specs.declared.changes.OwnUpdate.{OwnUpdate}
 use Rattle.updates.specs.declared.errors.ChannelError.{ChannelError}
@@ -11,21 +12,22 @@ use Rattle.channel.specs.declared.messages.Message.TheVariants.{Updated, Commitm
 use Rattle.channel.specs.Tokens.{peer_tokens}
 use Rattle.channel.specs.States.{update_of, State, update_refusal, receive_refusal, after_sign, after, answers, signature_message}
 use Rattle.channel.specs.Peers.{Acts, updates, signs, receives}
-use Rattle.book.specs.declared.calls.Step.TheVariants.{Own}
+use Rattle.book.specs.declared.calls.Step.{Step}
+use Rattle.book.specs.declared.calls.Step.TheVariants.{Own, Updated as UpdatedStep, Signed}
 use Rattle.book.specs.declared.calls.Call.{Call}
-use Rattle.book.specs.declared.calls.Call.TheVariants.{Step as Stepping, Sign, Keep, Release}
+use Rattle.book.specs.declared.calls.Call.TheVariants.{Step as Stepping, Sign, Keep, Release, Close}
 use Rattle.book.specs.declared.calls.Entry.{Entry}
-use Rattle.book.specs.Books.{ChannelBook, Channels, at_index, with_state, with_kept, stepped as state_stepped, channels_after, replayed, replay}
-use Rattle.book.specs.Replies.{stepped, signed, is_accepted, answer_of, reply_of, extended, history_after, unless, asked, sign_refusal}
+use Rattle.book.specs.Books.{ChannelBook, Channels, at_index, with_state, with_kept, with_closed, is_closed, is_barred, stepped as state_stepped, channels_after, replayed, replay}
+use Rattle.book.specs.Replies.{stepped, signed, is_accepted, answer_of, reply_of, extended, history_after, unless, asked, step_refusal, book_step_refusal, messages_of, sign_refusal}
 use Rattle.std.specs.Prelude.{nat_le}
 use Rattle.updates.specs.Refusals.{first_refusal, covers_nothing}
 use Rattle.updates.specs.declared.errors.ChannelError.TheVariants.{NotYourTurn, NoUpdates as NothingCovered}
 use Rattle.channel.specs.declared.limits.TheConstants.{LAST_NUMBER}
 use Rattle.channel.specs.States.{sign_refusal as channel_refusal}
 use Rattle.book.specs.declared.errors.StepError.{StepError}
-use Rattle.book.specs.declared.errors.StepError.TheVariants.{Refused, NoSuchChannel as NoChannelToStep}
+use Rattle.book.specs.declared.errors.StepError.TheVariants.{Refused, NoSuchChannel as NoChannelToStep, ChannelClosed as ClosedToSteps}
 use Rattle.book.specs.declared.errors.SignError.{SignError}
-use Rattle.book.specs.declared.errors.SignError.TheVariants.{AwaitingRevocation, NoUpdates, NoSuchChannel as NoChannelToSign}
+use Rattle.book.specs.declared.errors.SignError.TheVariants.{AwaitingRevocation, NoUpdates, NoSuchChannel as NoChannelToSign, ChannelClosed as ClosedToSigning}
 use Rattle.book.specs.Books.{first_missing}
 use Rattle.book.specs.Replies.{if_so, if_missing}
 use Rattle.claim.specs.Claims.{ClaimParts}
@@ -34,7 +36,7 @@ use Rattle.channel.specs.Agreeing.{IsPaired, PeersAgree}
 use Rattle.channel.specs.Playing.{placed}
 use Rattle.book.specs.declared.calls.Batch.{Batch}
 use Rattle.side.specs.Acts.{call_of, messages_in}
-use Rattle.world.specs.Pairing.{ArePaired, AgreeBy, DeliveriesAreTaken}
+use Rattle.world.specs.Pairing.{ArePaired, AgreeBy, IsShutOut, DeliveriesAreTaken}
 use Rattle.world.proofs.Turns.{acted_at, unmoved}
 
 -- the channels after an accepted call, and after a refused one
@@ -53,6 +55,15 @@ ok_of_stepped e = cc
 ok_of_signed : {r s : Result Message SignError} → signed r ≡ signed s → r ≡ s
 ok_of_signed e = cc
 
+-- the channel does not refuse a step that the book does not refuse
+not_barred : (barred : Bool) (r : Option ChannelError) → if_so barred ClosedToSteps (option_map Refused r) ≡ None → r ≡ None
+not_barred true r e = absurd cc
+not_barred false None e = refl
+not_barred false (Some r) e = absurd cc
+
+channel_steps : (ch : ChannelBook) (step : Step) → book_step_refusal peer_tokens ch step ≡ None → step_refusal peer_tokens ch.state step ≡ None
+channel_steps ch step none = not_barred (is_closed ch && is_barred step) (step_refusal peer_tokens ch.state step) none
+
 -- a step of one's own update
 pub record IsMade (chs : Channels) (c : ℕ) (u : OwnUpdate) (messages : List Message) : Type 0 where
   pub channel : ChannelBook
@@ -61,12 +72,12 @@ pub record IsMade (chs : Channels) (c : ℕ) (u : OwnUpdate) (messages : List Me
   pub sent : messages ≡ Updated (update_of channel.state u) ∷ []
 
 pub made_of : (found : Option ChannelBook) (u : OwnUpdate) (chs : Channels) (c : ℕ) (ms : List Message) → slice_get chs c ≡ found
-    → asked NoChannelToStep found (λ ch. unless Refused (update_refusal ch.state (update_of ch.state u)) (Updated (update_of ch.state u) ∷ [])) ≡ Ok ms → IsMade chs c u ms
+    → asked NoChannelToStep found (λ ch. unless (λ e. e) (book_step_refusal peer_tokens ch (Own u)) (Updated (update_of ch.state u) ∷ [])) ≡ Ok ms → IsMade chs c u ms
 made_of None u chs c ms there e = absurd cc
-made_of (Some ch) u chs c ms there e = by (update_refusal ch.state (update_of ch.state u)) refl e
+made_of (Some ch) u chs c ms there e = by (book_step_refusal peer_tokens ch (Own u)) refl e
   where
-    by : (r : Option ChannelError) → update_refusal ch.state (update_of ch.state u) ≡ r → unless Refused r (Updated (update_of ch.state u) ∷ []) ≡ Ok ms → IsMade chs c u ms
-    by None none e = record { channel = ch; there = there; taken = none; sent = cc }
+    by : (r : Option StepError) → book_step_refusal peer_tokens ch (Own u) ≡ r → unless (λ e. e) r (Updated (update_of ch.state u) ∷ []) ≡ Ok ms → IsMade chs c u ms
+    by None none e = record { channel = ch; there = there; taken = channel_steps ch (Own u) none; sent = cc }
     by (Some r) some e = absurd cc
 
 -- a signature
@@ -87,15 +98,16 @@ signed_of (Some ch) chs c m there e = by (sign_refusal ch) refl e
 
 -- the channel does not refuse to sign what the book does not refuse
 channel_signs : (ch : ChannelBook) → sign_refusal ch ≡ None → channel_refusal ch.state ≡ None
-channel_signs ch none = by (ch.state.awaiting || nat_le LAST_NUMBER ch.state.peer_number) (first_missing ch) (covers_nothing ch.state.held.own ch.state.held.theirs) none
+channel_signs ch none = by (is_closed ch) (ch.state.awaiting || nat_le LAST_NUMBER ch.state.peer_number) (first_missing ch) (covers_nothing ch.state.held.own ch.state.held.theirs) none
   where
-    by : (waits : Bool) (missing : Option ℕ) (nothing : Bool)
-        → if_so waits AwaitingRevocation (if_missing missing (if_so nothing NoUpdates None)) ≡ None
+    by : (shut waits : Bool) (missing : Option ℕ) (nothing : Bool)
+        → if_so shut ClosedToSigning (if_so waits AwaitingRevocation (if_missing missing (if_so nothing NoUpdates None))) ≡ None
         → first_refusal ((waits, NotYourTurn) ∷ (nothing, NothingCovered) ∷ []) ≡ None
-    by true missing nothing e = absurd cc
-    by false (Some n) nothing e = absurd cc
-    by false None true e = absurd cc
-    by false None false e = refl
+    by true waits missing nothing e = absurd cc
+    by false true missing nothing e = absurd cc
+    by false false (Some n) nothing e = absurd cc
+    by false false None true e = absurd cc
+    by false false None false e = refl
 
 -- ---- the two books after a call of one of them
 
@@ -164,32 +176,65 @@ call_changes (Updated u) c chs = refl
 call_changes (CommitmentSigned tokens) c chs = refl
 call_changes (RevokeAndAck secret point) c chs = refl
 
--- the book's reply where the channel takes the message, and where it does not
-answer_is : (m : Message) (c : ℕ) (chs : Channels) (x : ChannelBook) → slice_get chs c ≡ Some x → receive_refusal peer_tokens x.state m ≡ None
+-- whether the channel is closed to a message
+abbrev pub is_shut : ChannelBook → Message → Bool
+is_shut x (Updated u) = false
+is_shut x (CommitmentSigned tokens) = is_closed x
+is_shut x (RevokeAndAck secret point) = false
+
+-- the book's reply where the channel takes the message
+answer_is : (m : Message) (c : ℕ) (chs : Channels) (x : ChannelBook) → slice_get chs c ≡ Some x → is_shut x m ≡ false → receive_refusal peer_tokens x.state m ≡ None
     → messages_in (answer_of peer_tokens chs (call_of c m)) ≡ answers x.state m
-answer_is (Updated u) c chs x here none = rw (here, none) refl
-answer_is (CommitmentSigned tokens) c chs x here none = rw (here, none) refl
-answer_is (RevokeAndAck secret point) c chs x here none = refl
+answer_is (Updated u) c chs x here free none = rw (here, and-false (is_closed x), none) refl
+answer_is (CommitmentSigned tokens) c chs x here free none = rw (here, free, none) refl
+answer_is (RevokeAndAck secret point) c chs x here free none = refl
 
-pub taken_is : (m : Message) (c : ℕ) (chs : Channels) (x : ChannelBook) → slice_get chs c ≡ Some x → receive_refusal peer_tokens x.state m ≡ None
+pub taken_is : (m : Message) (c : ℕ) (chs : Channels) (x : ChannelBook) → slice_get chs c ≡ Some x → is_shut x m ≡ false → receive_refusal peer_tokens x.state m ≡ None
     → is_accepted (answer_of peer_tokens chs (call_of c m)) ≡ true
-taken_is (Updated u) c chs x here none = rw (here, none) refl
-taken_is (CommitmentSigned tokens) c chs x here none = rw (here, none) refl
-taken_is (RevokeAndAck secret point) c chs x here none = rw (here, none) refl
+taken_is (Updated u) c chs x here free none = rw (here, and-false (is_closed x), none) refl
+taken_is (CommitmentSigned tokens) c chs x here free none = rw (here, free, none) refl
+taken_is (RevokeAndAck secret point) c chs x here free none = rw (here, none) refl
 
-not_taken : (m : Message) (c : ℕ) (chs : Channels) (x : ChannelBook) (r : ChannelError) → slice_get chs c ≡ Some x → receive_refusal peer_tokens x.state m ≡ Some r
-    → is_accepted (answer_of peer_tokens chs (call_of c m)) ≡ false
-not_taken (Updated u) c chs x r here some = rw (here, some) refl
-not_taken (CommitmentSigned tokens) c chs x r here some = rw (here, some) refl
-not_taken (RevokeAndAck secret point) c chs x r here some = rw (here, some) refl
+-- a message to which the channel is closed is a signature
+pub shut_out : (m : Message) (o : Option ChannelBook) (x : ChannelBook) → o ≡ Some x → is_shut x m ≡ true → IsShutOut o m
+shut_out (Updated u) o x there shut = absurd cc
+shut_out (CommitmentSigned tokens) o x there shut = record { ch = x; tokens = tokens; there = there; closed = shut; signature = refl }
+shut_out (RevokeAndAck secret point) o x there shut = absurd cc
 
-channel_takes : (m : Message) (c : ℕ) (chs : Channels) (x : ChannelBook) (r : Option ChannelError) → receive_refusal peer_tokens x.state m ≡ r → slice_get chs c ≡ Some x
-    → is_accepted (answer_of peer_tokens chs (call_of c m)) ≡ true → receive_refusal peer_tokens x.state m ≡ None
-channel_takes m c chs x None is here ok = is
-channel_takes m c chs x (Some r) is here ok = absurd (true-false (sym ok ∙ not_taken m c chs x r here is))
-  where
-    true-false : true ≡ false → ⊥
-    true-false e = absurd cc
+-- and the book refuses it
+pub shut_is : (m : Message) (c : ℕ) (chs : Channels) → IsShutOut (slice_get chs c) m → answer_of peer_tokens chs (call_of c m) ≡ stepped (Err ClosedToSteps)
+shut_is m c chs s =
+    ap (λ (k : Message). answer_of peer_tokens chs (call_of c k)) s.signature
+    ∙ ap (λ (o : Option ChannelBook). stepped (asked NoChannelToStep o (λ ch. unless (λ e. e) (book_step_refusal peer_tokens ch (Signed s.tokens)) (answers ch.state (CommitmentSigned s.tokens))))) s.there
+    ∙ ap (λ (b : Bool). stepped (unless (λ e. e) (if_so (b && true) ClosedToSteps (option_map Refused (receive_refusal peer_tokens s.ch.state (CommitmentSigned s.tokens)))) (answers s.ch.state (CommitmentSigned s.tokens)))) s.closed
+
+step_taken : (chs : Channels) (c : ℕ) (x : ChannelBook) (step : Step) → slice_get chs c ≡ Some x → is_accepted (answer_of peer_tokens chs (Stepping c step)) ≡ true
+    → is_ok (unless (λ e. e) (book_step_refusal peer_tokens x step) (messages_of x.state step)) ≡ true
+step_taken chs c x step here ok =
+    sym (ap (λ (o : Option ChannelBook). is_ok (asked NoChannelToStep o (λ ch. unless (λ e. e) (book_step_refusal peer_tokens ch step) (messages_of ch.state step)))) here) ∙ ok
+
+passed : (barred : Bool) (r : Option ChannelError) (ms : List Message) → is_ok (unless (λ (e : StepError). e) (if_so barred ClosedToSteps (option_map Refused r)) ms) ≡ true → (barred ≡ false) × (r ≡ None)
+passed true r ms ok = absurd cc
+passed false None ms ok = (refl, refl)
+passed false (Some r) ms ok = absurd cc
+
+revocation_passed : (r : Option ChannelError) (n : ℕ) → is_ok (unless Refused r n) ≡ true → r ≡ None
+revocation_passed None n ok = refl
+revocation_passed (Some r) n ok = absurd cc
+
+-- the channel takes what the book takes
+pub channel_takes : (m : Message) (c : ℕ) (chs : Channels) (x : ChannelBook) → slice_get chs c ≡ Some x → is_accepted (answer_of peer_tokens chs (call_of c m)) ≡ true
+    → (is_shut x m ≡ false) × (receive_refusal peer_tokens x.state m ≡ None)
+channel_takes (Updated u) c chs x here ok =
+    (refl, (passed (is_closed x && false) (receive_refusal peer_tokens x.state (Updated u)) (answers x.state (Updated u)) (step_taken chs c x (UpdatedStep u) here ok)).1)
+channel_takes (CommitmentSigned tokens) c chs x here ok =
+    let p = passed (is_closed x && true) (receive_refusal peer_tokens x.state (CommitmentSigned tokens)) (answers x.state (CommitmentSigned tokens)) (step_taken chs c x (Signed tokens) here ok) in
+    (sym (and-true (is_closed x)) ∙ p.0, p.1)
+channel_takes (RevokeAndAck secret point) c chs x here ok = (
+  refl,
+  revocation_passed (receive_refusal peer_tokens x.state (RevokeAndAck secret point)) (length x.state.secrets)
+      (sym (ap (λ (o : Option ChannelBook). is_ok (asked NoChannelToStep o (λ k. unless Refused (receive_refusal peer_tokens k.state (RevokeAndAck secret point)) (length k.state.secrets)))) here) ∙ ok),
+)
 
 -- the oldest message was delivered, and its answer is on its way
 pub received : (side : Side) (mine peers : List Entry) (to_me to_peer : List (List Message)) (seat c : ℕ) (m : Message) (rest : List Message) → AgreeBy side mine peers to_me to_peer
@@ -197,9 +242,9 @@ pub received : (side : Side) (mine peers : List Entry) (to_me to_peer : List (Li
     → AgreeBy side (history_after peer_tokens mine seat (call_of c m)) peers (at_index (drop 1) c to_me) (at_index (λ q. q ++ messages_in (reply_of peer_tokens mine (call_of c m))) c to_peer)
 received side mine peers to_me to_peer seat c m rest agree queue ok =
     let x = rest_is c (replay mine) (replay peers) to_me to_peer side m rest queue agree in
-    let none = channel_takes m c (replay mine) x.0 (receive_refusal peer_tokens x.0.state m) refl x.1 ok in
-    let sent = answer_is m c (replay mine) x.0 x.1 none in
-    let acts : Acts peer_tokens x.0.state (m ∷ rest) (after x.0.state m) (answers x.0.state m) rest = receives m rest refl none in
+    let taken = channel_takes m c (replay mine) x.0 x.1 ok in
+    let sent = answer_is m c (replay mine) x.0 x.1 taken.0 taken.1 in
+    let acts : Acts peer_tokens x.0.state (m ∷ rest) (after x.0.state m) (answers x.0.state m) rest = receives m rest refl taken.1 in
     let at = acted_at side (λ s. after s m) (drop 1) (answers x.0.state m) c (replay mine) (replay peers) to_me to_peer x.0 (m ∷ rest) x.1 queue acts agree in
     let changed : replay (history_after peer_tokens mine seat (call_of c m)) ≡ at_index (with_state (λ s. after s m)) c (replay mine)
     = replayed_after mine seat (call_of c m) ok ∙ call_changes m c (replay mine) in
@@ -218,6 +263,17 @@ pub released_by : (side : Side) (mine peers : List Entry) (to_me to_peer : List 
     → is_accepted (reply_of peer_tokens mine (Release c batch)) ≡ true → AgreeBy side (history_after peer_tokens mine seat (Release c batch)) peers to_me to_peer
 released_by side mine peers to_me to_peer seat c batch agree ok =
     subst (λ chs. ArePaired side chs (replay peers) to_me to_peer) (sym (replayed_after mine seat (Release c batch) ok)) agree
+
+-- accepted or not
+pub shut : (side : Side) (mine peers : List Entry) (to_me to_peer : List (List Message)) (seat c : ℕ) → AgreeBy side mine peers to_me to_peer
+    → AgreeBy side (history_after peer_tokens mine seat (Close c)) peers to_me to_peer
+shut side mine peers to_me to_peer seat c agree = by (is_accepted (reply_of peer_tokens mine (Close c))) refl
+  where
+    by : (b : Bool) → is_accepted (reply_of peer_tokens mine (Close c)) ≡ b → AgreeBy side (history_after peer_tokens mine seat (Close c)) peers to_me to_peer
+    by true ok =
+        subst (λ chs. ArePaired side chs (replay peers) to_me to_peer) (sym (replayed_after mine seat (Close c) ok))
+        (unmoved side with_closed (λ ch. refl) c (replay mine) (replay peers) to_me to_peer agree)
+    by false rejected = subst (λ (h : List Entry). AgreeBy side h peers to_me to_peer) (sym (refused_stays mine seat (Close c) rejected)) agree
 
 -- ---- the law
 
@@ -255,4 +311,10 @@ takes_oldest agree B x y m rest q paired = (agree peer_tokens paired.terms paire
 pub deliveries_are_taken : PeersAgree → DeliveriesAreTaken
 deliveries_are_taken peers side mine others to_me to_peer c m rest agree queue =
     let t = there c (replay mine) (replay others) to_me to_peer side (m ∷ rest) queue agree in
-    taken_is m c (replay mine) t.mine t.here (takes_oldest peers side t.mine.state t.peers.state m rest t.to_peer t.paired)
+    let none = takes_oldest peers side t.mine.state t.peers.state m rest t.to_peer t.paired in
+    by t.mine t.here none (is_shut t.mine m) refl
+  where
+    by : (x : ChannelBook) → slice_get (replay mine) c ≡ Some x → receive_refusal peer_tokens x.state m ≡ None → (b : Bool) → is_shut x m ≡ b
+        → (is_accepted (reply_of peer_tokens mine (call_of c m)) ≡ true) ⊎ IsShutOut (slice_get (replay mine) c) m
+    by x here none true is = inr (shut_out m (slice_get (replay mine) c) x here is)
+    by x here none false is = inl (taken_is m c (replay mine) x here is none)

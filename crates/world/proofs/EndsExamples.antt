@@ -1,5 +1,5 @@
 -- A channel just after it was opened: the two sides hold its two ends.
-use Rattle.std.proofs.Common.{ℕ, List, [], ◌∷◌, refl}
+use Rattle.std.proofs.Common.{ℕ, List, [], ◌∷◌, None, refl}
 use Rattle.terms.specs.declared.sides.Side.TheVariants.{A}
 use Rattle.terms.specs.declared.agreement.Terms.{Terms}
 use Rattle.channel.specs.Peers.{opened_both, at_opening}
@@ -11,10 +11,10 @@ use Rattle.world.proofs.Ends.{ends_at}
 
 module _ (terms : Terms) (seed_a seed_b : List ℕ) where
   abbrev of_a : ChannelBook
-  of_a = record { state = (opened_both terms seed_a seed_b).a; kept = [] }
+  of_a = record { state = (opened_both terms seed_a seed_b).a; kept = []; closed = None }
 
   abbrev of_b : ChannelBook
-  of_b = record { state = (opened_both terms seed_a seed_b).b; kept = [] }
+  of_b = record { state = (opened_both terms seed_a seed_b).b; kept = []; closed = None }
 
   paired : ArePaired A (of_a ∷ []) (of_b ∷ []) ([] ∷ []) ([] ∷ [])
   paired = (record { terms = terms; seed_a = seed_a; seed_b = seed_b; reached = at_opening }, tt)

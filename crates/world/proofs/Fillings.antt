@@ -20,7 +20,7 @@ use Rattle.world.specs.declared.outcomes.Outcome.{Outcome}
 use Rattle.world.specs.Worlds.{World, Node, node_of, with_node, with_nodes, channel_of, answer_to, after_call}
 use Rattle.world.specs.Refusing.{sent_by, oldest_in, delivered, answered}
 use Rattle.world.specs.Releasing.{with_taken, IsFillingIn, AreFillings}
-use Rattle.world.specs.Steps.{own_call, with_released, Happens, updates, signs, receives, keeps, broadcasts, broadcasts_htlc, mines, looks, takes, releases, reorganises, WorldSteps, happens, refuses, runs_out}
+use Rattle.world.specs.Steps.{own_call, with_released, Happens, updates, signs, receives, keeps, broadcasts, broadcasts_htlc, mines, looks, takes, releases, reorganises, closes, WorldSteps, happens, refuses, runs_out}
 use Rattle.world.proofs.Whole.{all_append}
 use Rattle.world.proofs.Releases.{same_filling}
 
@@ -111,6 +111,7 @@ happening w v e o f (releases {s} {k} {after} {t} done) =
     } in
     one_more s after t w (subst (λ (m : Node). Grows me.history m.history) (sym done.after) (called_grows me call)) (subst (λ (m : Node). IsFillingIn m.history t) (sym done.after) is) f
 happening w v e o f (reorganises {depth} {forgotten} {m} is) = f
+happening w v e o f (closes {s} {c} {t} is) = one_side s (after_call (calls.Close c) (node_of s w)) w (called_grows (node_of s w) (calls.Close c)) f
 
 pub released_after : (w v : World) (e : Event) (o : Outcome) → AreReleased w → WorldSteps w e v o → AreReleased v
 released_after w v e o f (happens none h) = happening w v e o f h

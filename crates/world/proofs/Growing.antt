@@ -17,7 +17,7 @@ use Rattle.book.specs.declared.calls.Step.TheVariants.{Own, Updated, Signed}
 use Rattle.book.specs.declared.calls.Call.{Call}
 use Rattle.book.specs.declared.calls.Call.TheVariants as calls
 use Rattle.book.specs.declared.calls.Entry.{Entry}
-use Rattle.book.specs.Books.{ChannelBook, Channels, at_index, stepped, with_state, with_kept, channels_after, replayed, replay}
+use Rattle.book.specs.Books.{ChannelBook, Channels, at_index, stepped, with_state, with_kept, with_closed, channels_after, replayed, replay}
 use Rattle.book.specs.Replies.{is_accepted, reply_of, extended}
 use Rattle.scenario.specs.declared.events.Event.{Event}
 use Rattle.side.specs.Acts.{call_of}
@@ -27,7 +27,7 @@ use Rattle.world.specs.declared.outcomes.Outcome.{Outcome}
 use Rattle.world.specs.Worlds.{World, Node, node_of, with_node, with_nodes, after_call, opens_none}
 use Rattle.world.specs.Refusing.{sent_by, oldest_in, delivered, answered}
 use Rattle.world.specs.Releasing.{with_taken}
-use Rattle.world.specs.Steps.{own_call, with_released, Happens, updates, signs, receives, keeps, broadcasts, broadcasts_htlc, mines, looks, takes, releases, reorganises, WorldSteps, happens, refuses, runs_out}
+use Rattle.world.specs.Steps.{own_call, with_waiting, with_released, Happens, updates, signs, receives, keeps, broadcasts, broadcasts_htlc, mines, looks, takes, releases, reorganises, closes, WorldSteps, happens, refuses, runs_out}
 use Rattle.world.proofs.Fillings.{Grows, called_grows}
 
 -- ---- one channel
@@ -110,6 +110,7 @@ call_later (calls.Sign d) c chs ch at = changed_later (with_state after_sign) (�
 call_later (calls.Revoke d secret point) c chs ch at = changed_later (with_state (λ s. after s (RevokeAndAck secret point))) (λ x. revoke_grew secret point x.state) d c chs ch at
 call_later (calls.Keep d n claims) c chs ch at = changed_later (with_kept n) (λ x. unchanged x.state) d c chs ch at
 call_later (calls.Release d batch) c chs ch at = same_later c chs ch at
+call_later (calls.Close d) c chs ch at = changed_later with_closed (λ x. unchanged x.state) d c chs ch at
 
 pub call_there : (call : Call) (c : ℕ) (chs : Channels) (ch : ChannelBook) → opens_none call ≡ true → slice_get (channels_after call chs) c ≡ Some ch → WasThere c ch chs
 call_there (calls.Open o) c chs ch none at = absurd cc
@@ -118,6 +119,7 @@ call_there (calls.Sign d) c chs ch none at = changed_there (with_state after_sig
 call_there (calls.Revoke d secret point) c chs ch none at = changed_there (with_state (λ s. after s (RevokeAndAck secret point))) (λ x. revoke_grew secret point x.state) d c chs ch at
 call_there (calls.Keep d n claims) c chs ch none at = changed_there (with_kept n) (λ x. unchanged x.state) d c chs ch at
 call_there (calls.Release d batch) c chs ch none at = same_there c chs ch at
+call_there (calls.Close d) c chs ch none at = changed_there with_closed (λ x. unchanged x.state) d c chs ch at
 
 -- ---- histories
 
@@ -173,6 +175,12 @@ released_later A n t w g B = same_grown w.b.history
 released_later B n t w g A = same_grown w.a.history
 released_later B n t w g B = g
 
+waiting_later : (s : Side) (n : Node) (t : Transaction) (w : World) → IsGrown (node_of s w).history n.history → AreLater w (with_waiting t (with_node s n w))
+waiting_later A n t w g A = g
+waiting_later A n t w g B = same_grown w.b.history
+waiting_later B n t w g A = same_grown w.a.history
+waiting_later B n t w g B = g
+
 both_later : (s : Side) (n peer : Node) (w : World) → IsGrown (node_of s w).history n.history → IsGrown (node_of (other s) w).history peer.history → AreLater w (with_nodes s n peer w)
 both_later A n peer w g h A = g
 both_later A n peer w g h B = h
@@ -219,6 +227,7 @@ happening w v e o (takes {s} {k}) = one_later s (with_taken k (node_of s w)) w (
 happening w v e o (releases {s} {k} {after} {t} done) =
     released_later s after t w (subst (λ (m : Node). IsGrown (node_of s w).history m.history) (sym done.after) (called_grown (node_of s w) (calls.Release done.channel done.batch) refl))
 happening w v e o (reorganises {depth} {forgotten} {m} is) = same_histories w v refl refl
+happening w v e o (closes {s} {c} {t} is) = waiting_later s (after_call (calls.Close c) (node_of s w)) t w (called_grown (node_of s w) (calls.Close c) refl)
 
 pub are_later : (w v : World) (e : Event) (o : Outcome) → WorldSteps w e v o → AreLater w v
 are_later w v e o (happens none h) = happening w v e o h

@@ -29,10 +29,10 @@ use Rattle.world.specs.Keeping.{IsKept}
 use Rattle.world.specs.Releasing.{with_taken, without_taken, IsReleased}
 use Rattle.world.specs.Pairing.{AgreeBy}
 use Rattle.world.specs.Looking.{Looks, back_to}
-use Rattle.world.specs.Steps.{own_call, call_refusal, world_after_call as after_calling, receipt_refusal, world_after_delivery as after_receipt, refusal_of, Happens, updates, signs, receives, keeps, broadcasts, broadcasts_htlc, mines, looks, takes, releases, reorganises, WorldSteps, happens, refuses, runs_out}
+use Rattle.world.specs.Steps.{own_call, call_refusal, world_after_call as after_calling, receipt_refusal, world_after_delivery as after_receipt, refusal_of, Happens, updates, signs, receives, keeps, broadcasts, broadcasts_htlc, mines, looks, takes, releases, reorganises, closes, WorldSteps, happens, refuses, runs_out}
 use Rattle.world.specs.Theorem.{StepsKeep}
 use Rattle.world.proofs.Inboxes.{inboxes_sent, inboxes_received, got_of_map, inboxes_read, inboxes_back}
-use Rattle.world.proofs.Calls.{received, filed, released_by}
+use Rattle.world.proofs.Calls.{received, filed, released_by, shut}
 use Rattle.world.proofs.Fillings.{released_after}
 use Rattle.world.proofs.Growing.{are_later}
 use Rattle.world.proofs.Sourced.{sources_after}
@@ -103,7 +103,7 @@ in_line s c w (Some line) fit there none = in_queue s c w line.inbox fit (got_of
 receiving : (s : Side) (c : ℕ) (w : World) → AreFitting w.a w.b → receipt_refusal s c w ≡ None → AreFitting (after_receipt s c w).a (after_receipt s c w).b
 receiving s c w fit none = in_line s c w (slice_get (node_of s w).lines c) fit refl none
 
--- ---- kept penalties, and released claims
+-- ---- kept penalties, released claims, and closed channels
 
 keeping : (s : Side) (c n : ℕ) (after : Node) (w : World) → AreFitting w.a w.b → IsKept (node_of s w) c n after → AreFitting (with_node s after w).a (with_node s after w).b
 keeping s c n after w fit kept =
@@ -122,6 +122,13 @@ releasing s k after t w fit done =
     subst (λ (m : Node). AreFitting (with_node s m w).a (with_node s m w).b) (sym done.after)
     (one_fits s (without_taken k (after_call call me)) w fit (adds_call SEAT call (history_of s w fit))
     (released_by s me.history peer.history (inboxes me) (inboxes peer) SEAT done.channel done.batch (agree_from s w fit) (ap is_accepted done.answer)))
+
+closing : (s : Side) (c : ℕ) (w : World) → AreFitting w.a w.b → AreFitting (with_node s (after_call (calls.Close c) (node_of s w)) w).a (with_node s (after_call (calls.Close c) (node_of s w)) w).b
+closing s c w fit =
+    let me = node_of s w in
+    let peer = node_of (other s) w in
+    one_fits s (after_call (calls.Close c) me) w fit (adds_call SEAT (calls.Close c) (history_of s w fit))
+    (shut s me.history peer.history (inboxes me) (inboxes peer) SEAT c (agree_from s w fit))
 
 -- ---- blocks that are read, and sides that go back
 
@@ -151,6 +158,7 @@ happening w v e o fit none (looks {s} {after} {count} l) = looking s w.chain.blo
 happening w v e o fit none (takes {s} {k}) = as_before s (with_taken k (node_of s w)) w fit refl refl
 happening w v e o fit none (releases {s} {k} {after} {t} done) = releasing s k after t w fit done
 happening w v e o fit none (reorganises {depth} {forgotten} {m} is) = going_back (height_of w.chain.blocks - depth) w.a w.b fit
+happening w v e o fit none (closes {s} {c} {t} is) = closing s c w fit
 
 pub fitting_after : (w v : World) (e : Event) (o : Outcome) → AreFitting w.a w.b → WorldSteps w e v o → AreFitting v.a v.b
 fitting_after w v e o fit (happens none h) = happening w v e o fit none h

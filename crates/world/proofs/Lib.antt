@@ -35,3 +35,5 @@ mod TwoEnds
 mod Recordings
 mod FromRecords
 mod Takes
+mod Told
+pub mod Closes

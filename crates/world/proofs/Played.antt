@@ -25,7 +25,7 @@ use Rattle.world.specs.declared.outcomes.Outcome.TheVariants.{Done, Mined as Min
 use Rattle.world.specs.Worlds.{World, Node, node_of, with_node, with_nodes, channel_of, after_call}
 use Rattle.world.specs.Refusing.{by_reorg, sent_by, oldest_in, delivered, answered, IsRefusal, IsEvent}
 use Rattle.world.specs.Keeping.{keep_refusal, IsKept}
-use Rattle.world.specs.Publishing.{preimages_known, commitment_in, htlc_tx_in, refusal_by, IsAnswer}
+use Rattle.world.specs.Publishing.{preimages_known, commitment_in, closing_in, htlc_tx_in, refusal_by, IsAnswer, IsClosedTo}
 use Rattle.world.specs.Releasing.{take_refusal, with_taken, release_refusal, IsReleasedTo}
 use Rattle.world.specs.Looking.{Looks}
 use Rattle.world.specs.Steps.{
@@ -51,6 +51,7 @@ use Rattle.world.specs.Steps.{
   takes,
   releases,
   reorganises,
+  closes,
   IsPlayed,
   done_by,
   looked_by,
@@ -162,6 +163,7 @@ unanswered answer (errors.Channel r) is = ap refusal_by is
 unanswered answer (errors.Sign r) is = ap refusal_by is
 unanswered answer (errors.Keep r) is = ap refusal_by is
 unanswered answer (errors.Fill r) is = ap refusal_by is
+unanswered answer errors.ChannelClosed is = ap refusal_by is
 
 -- a transaction waits, or memory ran out
 abbrev pub IsWaiting : Transaction → World → Result Outcome EventError → World → Type 0
@@ -198,6 +200,24 @@ is_released w A k (Err e) me waiting fillings (refusal, same, pool, released) =
     (refusal, ap (λ m. record w { a = m; pool = waiting; released = fillings }) same ∙ ap (λ ts. record w { pool = ts; released = fillings }) pool ∙ ap (λ ts. record w { released = ts }) released)
 is_released w B k (Err e) me waiting fillings (refusal, same, pool, released) =
     (refusal, ap (λ m. record w { b = m; pool = waiting; released = fillings }) same ∙ ap (λ ts. record w { pool = ts; released = fillings }) pool ∙ ap (λ ts. record w { released = ts }) released)
+
+-- a side closes a channel, and its newest commitment waits for a block
+pub is_closed : (w : World) (s : Side) (c : ℕ) (r : Result Outcome EventError) (me : Node) (waiting : List Transaction)
+    → MatchResult r (λ o. (o ≡ Done) × IsClosedTo c (node_of s w) me w.pool waiting)
+    (λ e. IsRefusal (refusal_by (closing_in (channel_of (node_of s w) c))) e × (me ≡ node_of s w) × (waiting ≡ w.pool))
+    → IsPlayed w (events.Close s c) r (record (with_node s me w) { pool = waiting })
+is_closed w A c (Ok o) me waiting (done, is) =
+    (ap refusal_by is.is, subst (λ (x : Outcome). Happens w (events.Close A c) (record w { a = me; pool = waiting }) x) (sym done) (subst (λ (v : World). Happens w (events.Close A c) v Done) (sym at) (closes is.is)))
+  where
+    at : record w { a = me; pool = waiting } ≡ record w { a = after_call (calls.Close c) w.a; pool = w.pool ++ is.tx ∷ [] }
+    at = ap (λ (n : Node). record w { a = n; pool = waiting }) is.after ∙ ap (λ ts. record w { a = after_call (calls.Close c) w.a; pool = ts }) is.waits
+is_closed w B c (Ok o) me waiting (done, is) =
+    (ap refusal_by is.is, subst (λ (x : Outcome). Happens w (events.Close B c) (record w { b = me; pool = waiting }) x) (sym done) (subst (λ (v : World). Happens w (events.Close B c) v Done) (sym at) (closes is.is)))
+  where
+    at : record w { b = me; pool = waiting } ≡ record w { b = after_call (calls.Close c) w.b; pool = w.pool ++ is.tx ∷ [] }
+    at = ap (λ (n : Node). record w { b = n; pool = waiting }) is.after ∙ ap (λ ts. record w { b = after_call (calls.Close c) w.b; pool = ts }) is.waits
+is_closed w A c (Err e) me waiting (refusal, same, pool) = (refusal, ap (λ (n : Node). record w { a = n; pool = waiting }) same ∙ ap (λ ts. record w { pool = ts }) pool)
+is_closed w B c (Err e) me waiting (refusal, same, pool) = (refusal, ap (λ (n : Node). record w { b = n; pool = waiting }) same ∙ ap (λ ts. record w { pool = ts }) pool)
 
 -- ---- blocks
 
@@ -251,3 +271,4 @@ refused_steps w v e r is = subst (λ (x : World). WorldSteps w e x (Refused r)) 
     by (errors.Sign x) first = refuses first
     by (errors.Keep x) first = refuses first
     by (errors.Fill x) first = refuses first
+    by errors.ChannelClosed first = refuses first

@@ -49,7 +49,7 @@ use Rattle.world.specs.Worlds.{World, Node, node_of, with_node, with_nodes, afte
 use Rattle.world.specs.Refusing.{sent_by, oldest_in, delivered, answered}
 use Rattle.world.specs.Releasing.{with_taken, IsReleased}
 use Rattle.world.specs.Looking.{Looks, back_to}
-use Rattle.world.specs.Steps.{own_call, Happens, updates, signs, receives, keeps, broadcasts, broadcasts_htlc, mines, looks, takes, releases, reorganises, WorldSteps, happens, refuses, runs_out}
+use Rattle.world.specs.Steps.{own_call, Happens, updates, signs, receives, keeps, broadcasts, broadcasts_htlc, mines, looks, takes, releases, reorganises, closes, WorldSteps, happens, refuses, runs_out}
 use Rattle.world.specs.Sources.{IsDueOf, of_own, of_peers, of_revoked, IsDueIn, IsSide}
 use Rattle.world.proofs.Whole.{all_append, all_drop, all_take}
 use Rattle.world.proofs.Unmade.{all_weaker, all_first, all_last}
@@ -145,6 +145,9 @@ sign_due history c d batch e = absurd cc
 
 keep_due : (history : List Entry) (c n : ℕ) (claims : List ClaimParts) → ReleasesDue history (calls.Keep c n claims)
 keep_due history c n claims d batch e = absurd cc
+
+close_due : (history : List Entry) (c : ℕ) → ReleasesDue history (calls.Close c)
+close_due history c d batch e = absurd cc
 
 revoke_due : (history : List Entry) (c : ℕ) (secret : List ℕ) (point : Key) → ReleasesDue history (calls.Revoke c secret point)
 revoke_due history c secret point d batch e = absurd cc
@@ -308,6 +311,8 @@ happening w v e o are (releases {s} {k} {after} {t} done) = one_side s after w a
 happening w v e o are (reorganises {depth} {forgotten} {m} is) =
     let height = height_of w.chain.blocks - depth in
     record { of_a = like_side w.a (back_to height w.a) refl refl refl are.of_a; of_b = like_side w.b (back_to height w.b) refl refl refl are.of_b }
+happening w v e o are (closes {s} {c} {t} is) =
+    one_side s (after_call (calls.Close c) (node_of s w)) w are (called_side (node_of s w) (calls.Close c) refl (close_due (node_of s w).history c) (side_of s w are))
 
 pub sides_after : (w v : World) (e : Event) (o : Outcome) → AreSides w.a w.b → WorldSteps w e v o → AreSides v.a v.b
 sides_after w v e o are (happens none h) = happening w v e o are h

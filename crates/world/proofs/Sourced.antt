@@ -18,10 +18,10 @@ use Rattle.book.specs.declared.calls.Call.TheVariants as calls
 use Rattle.book.specs.Books.{ChannelBook, replay}
 use Rattle.world.specs.declared.outcomes.Outcome.{Outcome}
 use Rattle.world.specs.declared.errors.EventError.{EventError}
-use Rattle.world.specs.Worlds.{World, Node, node_of, with_node, with_nodes}
-use Rattle.world.specs.Publishing.{preimages_known, found, commitment_in, htlc_tx_in}
+use Rattle.world.specs.Worlds.{World, Node, node_of, with_node, with_nodes, channel_of, after_call}
+use Rattle.world.specs.Publishing.{preimages_known, found, commitment_in, closing_in, htlc_tx_in}
 use Rattle.world.specs.Releasing.{with_taken, IsFillingIn}
-use Rattle.world.specs.Steps.{with_waiting, with_released, with_mined, Happens, updates, signs, receives, keeps, broadcasts, broadcasts_htlc, mines, looks, takes, releases, reorganises, WorldSteps, happens, refuses, runs_out}
+use Rattle.world.specs.Steps.{with_waiting, with_released, with_mined, Happens, updates, signs, receives, keeps, broadcasts, broadcasts_htlc, mines, looks, takes, releases, reorganises, closes, WorldSteps, happens, refuses, runs_out}
 use Rattle.world.specs.Sources.{IsFrom, a_commitment, an_htlc_tx, a_filling, transactions_in}
 use Rattle.world.proofs.Whole.{all_append}
 use Rattle.world.proofs.Unmade.{all_weaker, all_first, all_last, AllIn, AllOn, all_mined, all_reorganised}
@@ -73,6 +73,11 @@ htlc_tx_in_later old new g c n k preimages t is = go (slice_get (replay old) c) 
     go : (o : Option ChannelBook) → slice_get (replay old) c ≡ o → htlc_tx_in n k preimages o ≡ Ok t → htlc_tx_in n k preimages (slice_get (replay new) c) ≡ Ok t
     go None at is = absurd (no_channel _ t is)
     go (Some ch) at is = let l = g.later c ch at in ap (htlc_tx_in n k preimages) l.there ∙ htlc_tx_stays ch.state l.new.state l.grew n k preimages t is
+
+-- what closes a channel is the side's commitment of some number
+closes_with : (o : Option ChannelBook) (t : Transaction) → closing_in o ≡ Ok t → (n : ℕ) × (commitment_in n o ≡ Ok t)
+closes_with None t is = absurd (no_channel _ t is)
+closes_with (Some ch) t is = (ch.state.number, is)
 
 filling_later : (old new : List Entry) → IsGrown old new → (t : Transaction) → IsFillingIn old t → IsFillingIn new t
 filling_later old new g t f = record { seat = f.seat; channel = f.channel; batch = f.batch; noted = g.entries (record { seat = f.seat; call = calls.Release f.channel f.batch }) f.noted; filled = f.filled }
@@ -146,6 +151,10 @@ happening w v e o g f a (reorganises {depth} {forgotten} {m} is) =
     let b = weaker (IsFrom w) (IsFrom v) w (from_later w v g) a in
     let i = subst (λ (x : Mined). AllIn (IsFrom v) x) (sym is) (all_reorganised (IsFrom v) depth forgotten w.chain w.pool w.released b.chain b.pool b.released) in
     record { chain = i.chain; pool = i.waiting; released = b.released }
+happening w v e o g f a (closes {s} {c} {t} is) =
+    let me = after_call (calls.Close c) (node_of s w) in
+    let of_number = closes_with (channel_of (node_of s w) c) t is in
+    one_waits (IsFrom v) t (with_node s me w) (one_node (IsFrom v) s me w (weaker (IsFrom w) (IsFrom v) w (from_later w v g) a)) (from_later w v g t (a_commitment s c of_number.0 of_number.1))
 
 stepping : (w v : World) (e : Event) (o : Outcome) → AreLater w v → AreReleased v → AllOf (IsFrom w) w → WorldSteps w e v o → AllOf (IsFrom v) v
 stepping w v e o g f a (happens none h) = happening w v e o g f a h

@@ -1,9 +1,17 @@
 -- Worlds that do not begin, and small events that were worked out by hand from their descriptions.
 use Rattle.std.proofs.Common.{◌≡◌, ℕ, List, [], ◌∷◌, map, replicate, Some, None, refl}
+use Rattle.std.specs.Prelude.{slice_get}
 use Rattle.tx.specs.Fields.{Transaction}
 use Rattle.terms.specs.declared.sides.Side.TheVariants.{A, B}
+use Rattle.keys.specs.declared.compressed.Key.{Key}
 use Rattle.claim.specs.Claims.{ClaimParts}
+use Rattle.publish.specs.Published.{signed_transaction}
 use Rattle.channel.specs.declared.messages.Message.{Message}
+use Rattle.channel.specs.declared.messages.Message.TheVariants.{Updated, CommitmentSigned, RevokeAndAck}
+use Rattle.channel.specs.declared.messages.Tokens.{Tokens}
+use Rattle.channel.specs.Points.{point_at}
+use Rattle.channel.specs.Tokens.{contents_of, peer_tokens}
+use Rattle.channel.specs.States.{State, first_of, update_refusal, receive_refusal}
 use Rattle.chain.specs.Blocks.{Contents}
 use Rattle.mempool.specs.Mining.{mined_by, reorganised, blocks_after}
 use Rattle.watch.specs.declared.spends.Spend.{Spend}
@@ -11,19 +19,25 @@ use Rattle.watch.specs.declared.unclaimed.Given.{Given}
 use Rattle.watch.specs.Watching.{Seen}
 use Rattle.terms.specs.declared.proposals.ProposedTerms.{ProposedTerms}
 use Rattle.updates.specs.declared.changes.OwnUpdate.TheVariants.{Offer, Fulfil, Fail, SetFee}
+use Rattle.updates.specs.declared.changes.Update.{Update}
+use Rattle.updates.specs.declared.changes.Update.TheVariants.{Fulfil as Fulfilling}
 use Rattle.scenario.specs.declared.events.Event.TheVariants as events
 use Rattle.book.specs.declared.calls.Batch.{Batch}
-use Rattle.book.specs.declared.calls.Call.TheVariants.{Keep, Release}
-use Rattle.world.specs.declared.errors.EventError.TheVariants.{NoSuchChannel, NoMessage, NoSuchTx, NoJob, TooDeep}
+use Rattle.book.specs.declared.calls.Call.TheVariants.{Open, Keep, Release, Close}
+use Rattle.book.specs.declared.calls.Entry.{Entry}
+use Rattle.book.specs.declared.calls.Opening.{Opening}
+use Rattle.book.specs.declared.errors.SignError.TheVariants.{NoUpdates}
+use Rattle.book.specs.Books.{ChannelBook, replay}
+use Rattle.world.specs.declared.errors.EventError.TheVariants.{NoSuchChannel, NoMessage, NoSuchTx, NoJob, TooDeep, Sign, ChannelClosed}
 use Rattle.world.specs.declared.errors.WorldError.TheVariants as worlds
 use Rattle.side.specs.declared.due.DueClaim.{DueClaim}
-use Rattle.world.specs.declared.outcomes.Outcome.TheVariants.{Looked, Mined as MinedBlocks, Refused}
+use Rattle.world.specs.declared.outcomes.Outcome.TheVariants.{Done, Looked, Mined as MinedBlocks, Refused}
 use Rattle.world.specs.Worlds.{World, Node, Line, inboxes, sent_to, received_by}
 use Rattle.world.specs.Beginning.{beginning_refusal, world_error_number}
 use Rattle.world.specs.Releasing.{with_taken}
 use Rattle.world.specs.Looking.{Reading, all_read, block, no_more, back_to}
-use Rattle.world.specs.Steps.{refusal_of, with_waiting, with_released, both_back, happens, refuses, mines, looks, reorganises, Runs, ends, goes_on}
-use Rattle.world.specs.Theorem.{claims_of}
+use Rattle.world.specs.Steps.{refusal_of, with_waiting, with_released, both_back, happens, refuses, mines, looks, reorganises, closes, WorldSteps, Runs, ends, goes_on}
+use Rattle.world.specs.Theorem.{claims_of, ShutsOut}
 
 -- ---- worlds that do not begin
 
@@ -171,3 +185,70 @@ module _ (t : Transaction) (m : Message) (learnt : List (List ℕ)) (job other :
   both_forget : (w : World) → both_back 5 (record w { a = reader (line_with (spend 6 ∷ []) [] ∷ []) 6; b = reader (line_with [] (given 6 ∷ given 5 ∷ []) ∷ []) 7 })
       ≡ record w { a = reader (line_with [] [] ∷ []) 5; b = reader (line_with [] (given 5 ∷ []) ∷ []) 5 }
   both_forget w = refl
+
+-- ---- closed channels
+
+-- each side has two channels; side B closed its second one
+module _ (o p q r : Opening) (t : Transaction) (line : Line) where
+  abbrev opening : Opening → Entry
+  opening x = record { seat = 0; call = Open x }
+
+  abbrev shutting : Entry
+  shutting = record { seat = 0; call = Close 1 }
+
+  abbrev two_sides : List Entry → List Transaction → World
+  two_sides of_b pool = record beginning {
+    a = record nobody { history = opening o ∷ opening p ∷ []; lines = line ∷ line ∷ [] };
+    b = record nobody { history = of_b; lines = line ∷ line ∷ [] };
+    pool = pool;
+  }
+
+  abbrev standing : World
+  standing = two_sides (opening q ∷ opening r ∷ []) (t ∷ [])
+
+  -- B's commitment 0 of that channel
+  abbrev newest : Transaction
+  newest = signed_transaction r.terms (contents_of r.terms (first_of r.terms r.side (point_at r.seed 0)))
+
+  abbrev shut : World
+  shut = two_sides (opening q ∷ opening r ∷ shutting ∷ []) (t ∷ newest ∷ [])
+
+  -- the book notes the close, and the commitment is last in the pool
+  shuts : WorldSteps standing (events.Close B 1) shut Done
+  shuts = happens refl (closes refl)
+
+  -- nothing is signed, offered, failed or set there by B; A, and B's first channel, are as before; and the channel may be closed again
+  bars : map (refusal_of shut)
+      (events.Sign B 1 ∷ events.Own B 1 (Offer 700 [] 5) ∷ events.Own B 1 (Fail 4) ∷ events.Own B 1 (SetFee 254) ∷ events.Sign B 0 ∷ events.Sign A 1 ∷ events.Close B 1 ∷ events.Close A 0 ∷ events.Close A 2
+      ∷ events.Close B 3 ∷ [])
+      ≡ Some ChannelClosed ∷ Some ChannelClosed ∷ Some ChannelClosed ∷ Some ChannelClosed ∷ Some (Sign NoUpdates) ∷ Some (Sign NoUpdates) ∷ None ∷ None ∷ Some NoSuchChannel ∷ Some NoSuchChannel ∷ []
+  bars = refl
+
+-- a side closed the second of its channels, in any state
+module _ (s : State) (kept : List ℕ) (n : ℕ) (history peers : List Entry) (line : Line) (m : Message) where
+  abbrev was_shut : ChannelBook
+  was_shut = record { state = s; kept = kept; closed = Some n }
+
+  abbrev hearing : List Message → World
+  hearing inbox = record beginning {
+    a = record nobody { history = peers; lines = line ∷ line ∷ [] };
+    b = record nobody { history = history; lines = line ∷ record line { inbox = inbox } ∷ [] };
+  }
+
+  -- its own fulfil is made, and the peer's updates and revocations are taken, where the channel does not refuse them
+  fulfils : (preimage : List ℕ) → slice_get (replay history) 1 ≡ Some was_shut → update_refusal s (Fulfilling 6 preimage) ≡ None → refusal_of (hearing []) (events.Own B 1 (Fulfil 6 preimage)) ≡ None
+  fulfils preimage there none = rw (there, none) refl
+
+  hears : (u : Update) → slice_get (replay history) 1 ≡ Some was_shut → receive_refusal peer_tokens s (Updated u) ≡ None → refusal_of (hearing (Updated u ∷ m ∷ [])) (events.Deliver B 1) ≡ None
+  hears u there none = rw (there, none) refl
+
+  learns : (secret : List ℕ) (point : Key) → slice_get (replay history) 1 ≡ Some was_shut → receive_refusal peer_tokens s (RevokeAndAck secret point) ≡ None
+      → refusal_of (hearing (RevokeAndAck secret point ∷ m ∷ [])) (events.Deliver B 1) ≡ None
+  learns secret point there none = rw (there, none) refl
+
+  -- a signature is not taken, and stays the oldest message
+  stays : (tokens : Tokens) → slice_get (replay history) 1 ≡ Some was_shut → WorldSteps (hearing (CommitmentSigned tokens ∷ m ∷ [])) (events.Deliver B 1) (hearing (CommitmentSigned tokens ∷ m ∷ [])) (Refused ChannelClosed)
+  stays tokens there = refuses (rw there refl)
+
+  shut_out : (tokens : Tokens) → slice_get (replay history) 1 ≡ Some was_shut → ShutsOut (hearing (CommitmentSigned tokens ∷ m ∷ [])).b 1
+  shut_out tokens there = record { m = CommitmentSigned tokens; rest = m ∷ []; oldest = refl; shut = record { ch = was_shut; tokens = tokens; there = there; closed = refl; signature = refl } }

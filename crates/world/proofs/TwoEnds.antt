@@ -28,7 +28,7 @@ use Rattle.book.specs.declared.calls.Step.TheVariants.{Own, Updated, Signed}
 use Rattle.book.specs.declared.calls.Call.{Call}
 use Rattle.book.specs.declared.calls.Call.TheVariants as calls
 use Rattle.book.specs.declared.calls.Entry.{Entry}
-use Rattle.book.specs.Books.{ChannelBook, Channels, at_index, stepped, with_state, with_kept, opened_by, channels_after, replayed, replay}
+use Rattle.book.specs.Books.{ChannelBook, Channels, at_index, stepped, with_state, with_kept, with_closed, opened_by, channels_after, replayed, replay}
 use Rattle.world.specs.Pairing.{ArePaired}
 use Rattle.world.specs.Worlds.{World, node_of, channel_of, inboxes}
 use Rattle.world.specs.Theorem.{IsWorld}
@@ -60,6 +60,7 @@ call_seeded (calls.Sign d) chs a = changed_seeded (with_state after_sign) (λ ch
 call_seeded (calls.Revoke d secret point) chs a = changed_seeded (with_state (λ s. after s (RevokeAndAck secret point))) (λ ch is. is) d chs a
 call_seeded (calls.Keep d n claims) chs a = changed_seeded (with_kept n) (λ ch is. is) d chs a
 call_seeded (calls.Release d batch) chs a = a
+call_seeded (calls.Close d) chs a = changed_seeded with_closed (λ ch is. is) d chs a
 
 replayed_seeded : (es : List Entry) → AllByRecursion IsSeeded (replayed es)
 replayed_seeded [] = tt
@@ -75,19 +76,20 @@ seeded_at history c ch at = all_got IsSeeded (replay history) c ch (replayed_see
 
 -- ---- a channel of one side is one of the other
 
-record IsPairAt (x y : ChannelBook) : Type 0 where
-  to_a : List Message
-  to_b : List Message
-  paired : IsPaired peer_tokens (placed A x.state y.state to_a to_b)
+pub record IsPairAt (side : Side) (x y : ChannelBook) : Type 0 where
+  pub to_me : List Message
+  pub to_peer : List Message
+  pub paired : IsPaired peer_tokens (placed side x.state y.state to_me to_peer)
 
-pair_at : (c : ℕ) (xs ys : Channels) (ps qs : List (List Message)) (x y : ChannelBook) → ArePaired A xs ys ps qs → slice_get xs c ≡ Some x → slice_get ys c ≡ Some y → IsPairAt x y
-pair_at c [] ys ps qs x y paired here there = absurd (none-some x here)
-pair_at zero (v ∷ xs) (z ∷ ys) (p ∷ ps) (q ∷ qs) x y paired here there =
-    subst (λ (u : ChannelBook). IsPairAt u y) (same_Some v x here) (subst (λ (u : ChannelBook). IsPairAt v u) (same_Some z y there) (record { to_a = p; to_b = q; paired = paired.0 }))
-pair_at (suc c) (v ∷ xs) (z ∷ ys) (p ∷ ps) (q ∷ qs) x y paired here there = pair_at c xs ys ps qs x y paired.1 here there
-pair_at c (v ∷ xs) [] ps qs x y paired here there = absurd paired
-pair_at c (v ∷ xs) (z ∷ ys) [] qs x y paired here there = absurd paired
-pair_at c (v ∷ xs) (z ∷ ys) (p ∷ ps) [] x y paired here there = absurd paired
+pub pair_at : (side : Side) (c : ℕ) (xs ys : Channels) (ps qs : List (List Message)) (x y : ChannelBook) → ArePaired side xs ys ps qs → slice_get xs c ≡ Some x → slice_get ys c ≡ Some y
+    → IsPairAt side x y
+pair_at side c [] ys ps qs x y paired here there = absurd (none-some x here)
+pair_at side zero (v ∷ xs) (z ∷ ys) (p ∷ ps) (q ∷ qs) x y paired here there =
+    subst (λ (u : ChannelBook). IsPairAt side u y) (same_Some v x here) (subst (λ (u : ChannelBook). IsPairAt side v u) (same_Some z y there) (record { to_me = p; to_peer = q; paired = paired.0 }))
+pair_at side (suc c) (v ∷ xs) (z ∷ ys) (p ∷ ps) (q ∷ qs) x y paired here there = pair_at side c xs ys ps qs x y paired.1 here there
+pair_at side c (v ∷ xs) [] ps qs x y paired here there = absurd paired
+pair_at side c (v ∷ xs) (z ∷ ys) [] qs x y paired here there = absurd paired
+pair_at side c (v ∷ xs) (z ∷ ys) (p ∷ ps) [] x y paired here there = absurd paired
 
 b_has : (c : ℕ) (xs ys : Channels) (ps qs : List (List Message)) (x : ChannelBook) → ArePaired A xs ys ps qs → slice_get xs c ≡ Some x → (y : ChannelBook) × (slice_get ys c ≡ Some y)
 b_has c [] ys ps qs x paired here = absurd (none-some x here)
@@ -149,10 +151,10 @@ by_side P a b B = b
 
 pub both_at : Laws → (w : World) → IsWorld w → (c : ℕ) (x y : ChannelBook) → channel_of w.a c ≡ Some x → channel_of w.b c ≡ Some y → AreBoth w c x y
 both_at laws w is c x y here there =
-    let at = pair_at c (replay w.a.history) (replay w.b.history) (inboxes w.a) (inboxes w.b) x y is.agree here there in
-    let pair : Pair = placed A x.state y.state at.to_a at.to_b in
+    let at = pair_at A c (replay w.a.history) (replay w.b.history) (inboxes w.a) (inboxes w.b) x y is.agree here there in
+    let pair : Pair = placed A x.state y.state at.to_me at.to_peer in
     let reached = at.paired.reached in
-    let ends = ends_of laws.agree laws.number_all x.state y.state at.to_a at.to_b at.paired in
+    let ends = ends_of laws.agree laws.number_all x.state y.state at.to_me at.to_peer at.paired in
     let lived = lived_both peer_tokens at.paired.terms at.paired.seed_a at.paired.seed_b pair reached in
     let sides = which_side peer_tokens at.paired.terms at.paired.seed_a at.paired.seed_b pair reached in
     record {

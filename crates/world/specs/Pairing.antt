@@ -1,14 +1,16 @@
 -- Two books that hold the two ends of the same channels, with the messages on their way between them.
-use Rattle.std.specs.Prelude.{◌≡◌, ℕ, ◌∷◌, List, [], Some, slice_get, true}
+use Rattle.std.specs.Prelude.{◌≡◌, ◌⊎◌, ℕ, ◌∷◌, List, [], Option, Some, slice_get, true}
 use Rattle.terms.specs.declared.sides.Side.{Side}
 use Rattle.channel.specs.declared.messages.Message.{Message}
+use Rattle.channel.specs.declared.messages.Message.TheVariants.{CommitmentSigned}
+use Rattle.channel.specs.declared.messages.Tokens.{Tokens}
 use Rattle.channel.specs.Tokens.{peer_tokens}
 use Rattle.channel.specs.States.{State}
 use Rattle.channel.specs.Playing.{placed}
 use Rattle.channel.specs.Recording.{AreByNumber}
 use Rattle.channel.specs.Agreeing.{FirstOf, IsSoundState, IsPaired}
 use Rattle.book.specs.declared.calls.Entry.{Entry}
-use Rattle.book.specs.Books.{Channels, replay}
+use Rattle.book.specs.Books.{ChannelBook, Channels, is_closed, replay}
 use Rattle.book.specs.Replies.{is_accepted, reply_of}
 use Rattle.side.specs.Acts.{call_of}
 
@@ -22,10 +24,19 @@ ArePaired side xs ys ps qs = ⊥
 abbrev pub AgreeBy : Side → List Entry → List Entry → List (List Message) → List (List Message) → Type 0
 AgreeBy side mine peers to_me to_peer = ArePaired side (replay mine) (replay peers) to_me to_peer
 
--- if two books agree, each takes the oldest message on its way to it
+-- the channel was closed, and the message is a signature: the answer to it would reveal the secret of a commitment that was broadcast
+pub record IsShutOut (o : Option ChannelBook) (m : Message) : Type 0 where
+  pub ch : ChannelBook
+  pub tokens : Tokens
+  pub there : o ≡ Some ch
+  pub closed : is_closed ch ≡ true
+  pub signature : m ≡ CommitmentSigned tokens
+
+-- if two books agree, each takes the oldest message on its way to it, except a signature in a channel that it closed
 abbrev pub DeliveriesAreTaken : Type 0
 DeliveriesAreTaken = (side : Side) (mine peers : List Entry) (to_me to_peer : List (List Message)) (c : ℕ) (m : Message) (rest : List Message)
-    → AgreeBy side mine peers to_me to_peer → slice_get to_me c ≡ Some (m ∷ rest) → is_accepted (reply_of peer_tokens mine (call_of c m)) ≡ true
+    → AgreeBy side mine peers to_me to_peer → slice_get to_me c ≡ Some (m ∷ rest)
+    → (is_accepted (reply_of peer_tokens mine (call_of c m)) ≡ true) ⊎ IsShutOut (slice_get (replay mine) c) m
 
 -- the two ends of a channel: they have the same terms, and each accepted what the other signed, commitment for commitment. In each view of either no balance is below 0, and balances and
 -- HTLCs sum to the capacity. The commitments of each stand by number, and the view of each shares out the capacity

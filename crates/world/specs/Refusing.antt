@@ -9,19 +9,21 @@ use Rattle.mempool.specs.declared.errors.ReorgError.{ReorgError}
 use Rattle.mempool.specs.declared.errors.ReorgError.TheVariants.{NoMemory as reorg_memory, TooDeep as reorg_depth, NoSuchTx as reorg_txs}
 use Rattle.book.specs.declared.calls.Call.{Call}
 use Rattle.book.specs.declared.errors.StepError.{StepError}
-use Rattle.book.specs.declared.errors.StepError.TheVariants.{Refused, NoSuchChannel as NoChannelToStep}
+use Rattle.book.specs.declared.errors.StepError.TheVariants.{Refused, NoSuchChannel as NoChannelToStep, ChannelClosed as ClosedToSteps}
 use Rattle.book.specs.declared.errors.SignError.{SignError}
-use Rattle.book.specs.declared.errors.SignError.TheVariants.{NoMemory as sign_memory, NoSuchChannel as NoChannelToSign}
+use Rattle.book.specs.declared.errors.SignError.TheVariants.{NoMemory as sign_memory, NoSuchChannel as NoChannelToSign, ChannelClosed as ClosedToSigning}
 use Rattle.book.specs.declared.errors.KeepError.{KeepError}
 use Rattle.book.specs.declared.errors.KeepError.TheVariants.{NoMemory as keep_memory, NoSuchChannel as NoChannelToKeep}
 use Rattle.book.specs.declared.errors.ReleaseError.{ReleaseError}
 use Rattle.book.specs.declared.errors.ReleaseError.TheVariants.{Unfilled, NoSuchChannel as NoChannelToRelease}
-use Rattle.book.specs.Replies.{Reply, if_so, stepped, signed, revoked, kept, released}
+use Rattle.book.specs.declared.errors.CloseError.{CloseError}
+use Rattle.book.specs.declared.errors.CloseError.TheVariants.{NoMemory as close_memory, NoSuchChannel as NoChannelToClose}
+use Rattle.book.specs.Replies.{Reply, if_so, stepped, signed, revoked, kept, released, closed}
 use Rattle.side.specs.declared.batches.BatchError.{BatchError}
 use Rattle.side.specs.declared.batches.BatchError.TheVariants.{MixedChannels as mixed_channels, OverValue as over_value}
 use Rattle.side.specs.Acts.{call_of, messages_in}
 use Rattle.world.specs.declared.errors.EventError.{EventError}
-use Rattle.world.specs.declared.errors.EventError.TheVariants.{NoMemory, NoSuchChannel, NoMessage, NoSuchTx, MixedChannels, OverValue, TooDeep, Channel, Sign, Keep, Fill}
+use Rattle.world.specs.declared.errors.EventError.TheVariants.{NoMemory, NoSuchChannel, NoMessage, NoSuchTx, MixedChannels, OverValue, TooDeep, Channel, Sign, Keep, Fill, ChannelClosed}
 use Rattle.world.specs.Worlds.{Line, Node, answer_to, after_call, sent_to, received_by}
 
 -- ---- refusals
@@ -31,10 +33,12 @@ abbrev pub by_step : StepError → EventError
 by_step (Refused refusal_memory) = NoMemory
 by_step (Refused refusal) = Channel refusal
 by_step NoChannelToStep = NoSuchChannel
+by_step ClosedToSteps = ChannelClosed
 
 abbrev pub by_sign : SignError → EventError
 by_sign sign_memory = NoMemory
 by_sign NoChannelToSign = NoSuchChannel
+by_sign ClosedToSigning = ChannelClosed
 by_sign error = Sign error
 
 abbrev pub by_keep : KeepError → EventError
@@ -46,6 +50,10 @@ abbrev pub by_release : ReleaseError → EventError
 by_release (Unfilled fill_memory) = NoMemory
 by_release (Unfilled refusal) = Fill refusal
 by_release NoChannelToRelease = NoSuchChannel
+
+abbrev pub by_close : CloseError → EventError
+by_close close_memory = NoMemory
+by_close NoChannelToClose = NoSuchChannel
 
 -- the refusal to release claims together
 abbrev pub by_batch : BatchError → EventError
@@ -65,6 +73,7 @@ refusal_in (signed (Err e)) = Some (by_sign e)
 refusal_in (revoked (Err e)) = Some (by_step e)
 refusal_in (kept (Err e)) = Some (by_keep e)
 refusal_in (released (Err e)) = Some (by_release e)
+refusal_in (closed (Err e)) = Some (by_close e)
 refusal_in reply = None
 
 -- a refusal is the first that applies, or memory ran out

@@ -19,7 +19,7 @@ use Rattle.world.specs.declared.outcomes.Outcome.TheVariants.{Done, Looked, Mine
 use Rattle.world.specs.Worlds.{World, Node, node_of, with_node, with_nodes, channel_of, after_call}
 use Rattle.world.specs.Refusing.{IsRefusal, by_reorg, sending_refusal, sent_by, oldest_in, delivery_refusal, delivered, answered}
 use Rattle.world.specs.Keeping.{keep_refusal, IsKept}
-use Rattle.world.specs.Publishing.{preimages_known, commitment_in, htlc_tx_in, refusal_by}
+use Rattle.world.specs.Publishing.{preimages_known, commitment_in, closing_in, htlc_tx_in, refusal_by}
 use Rattle.world.specs.Releasing.{take_refusal, with_taken, release_refusal, IsReleased}
 use Rattle.world.specs.Looking.{Looks, back_to}
 
@@ -82,6 +82,7 @@ refusal_of w (events.Look s) = None
 refusal_of w (events.Take s k) = take_refusal k (node_of s w)
 refusal_of w (events.Release s k) = release_refusal k (node_of s w)
 refusal_of w (events.Reorg depth forgotten) = option_map by_reorg (reorg_refusal w.chain depth forgotten)
+refusal_of w (events.Close s c) = refusal_by (closing_in (channel_of (node_of s w) c))
 
 -- what happens if nothing refuses the event
 pub data Happens (w : World) : Event → World → Outcome → Type 0 where
@@ -99,6 +100,8 @@ pub data Happens (w : World) : Event → World → Outcome → Type 0 where
       → Happens w (events.Release s k) (with_released t (with_node s after w)) Done
   reorganises : {depth forgotten : ℕ} {m : Mined} → m ≡ reorganised depth forgotten w.chain w.pool w.released
       → Happens w (events.Reorg depth forgotten) (both_back (height_of w.chain.blocks - depth) (with_mined m w)) (blocks_outcome m)
+  closes : {s : Side} {c : ℕ} {t : Transaction} → closing_in (channel_of (node_of s w) c) ≡ Ok t
+      → Happens w (events.Close s c) (with_waiting t (with_node s (after_call (calls.Close c) (node_of s w)) w)) Done
 
 -- what an event leaves: it happens if nothing refuses it, and a refused event changes nothing
 abbrev pub IsPlayed : World → Event → Result Outcome EventError → World → Type 0

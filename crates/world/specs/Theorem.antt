@@ -1,17 +1,18 @@
 -- The Enforcement theorem: what holds at every moment of every run of the world of two sides, for all events. Read this file first, then `Steps.antt` for what an event is, and `Enforcement.antt`
 -- for what 'due' and 'passes' mean.
 --
--- Over every interleaving of channel steps, blocks, reorganisations, broadcasts, looks and releases, two things hold. First, take any filling of an accepted claim whose output is unspent, and whose
--- height and age are reached. It passes the chain's test of its input and runs to one true value, within 201 counted opcodes and 1,000 entries. No operand is missing, no check fails, and no branch
--- stays open. Second, after a received revocation no commitment is signed until verified penalties for every claimable output are kept. Besides, what is kept is exactly what can be claimed, what
--- was released fits its claims, and the two sides agree. Whatever stands on the chain, and whoever makes the next block, nobody else takes what a revoked commitment lets a side claim, except in the
--- ways of `IsTaker` and of `Fate`.
-use Rattle.std.specs.Prelude.{◌≡◌, ◌⊎◌, ℕ, true, List, ◌∷◌, ◌++◌, length, map, Contains, Some, slice_get}
+-- Over every interleaving of channel steps, blocks, reorganisations, broadcasts, closes, looks and releases, two things hold. First, take any filling of an accepted claim whose output is unspent, and
+-- whose height and age are reached. It passes the chain's test of its input and runs to one true value, within 201 counted opcodes and 1,000 entries. No operand is missing, no check fails, and no
+-- branch stays open. Second, after a received revocation no commitment is signed until verified penalties for every claimable output are kept. Besides, what is kept is exactly what can be claimed,
+-- what was released fits its claims, and the two sides agree. The commitment with which a side closed a channel stays its newest, and is never revoked. Whatever stands on the chain, and whoever makes
+-- the next block, nobody else takes what a revoked commitment lets a side claim, except in the ways of `IsTaker` and of `Fate`.
+use Rattle.std.specs.Prelude.{◌≡◌, ◌⊎◌, ◌≤◌, ℕ, true, List, ◌∷◌, ◌++◌, length, map, Contains, Some, slice_get}
 use Rattle.std.specs.List.{AllByRecursion, flat_map}
 use Rattle.tx.specs.declared.input.TxIn.{TxIn}
 use Rattle.tx.specs.Fields.{Transaction}
 use Rattle.terms.specs.declared.sides.Side.{Side}
 use Rattle.terms.specs.declared.sides.Side.TheVariants.{A}
+use Rattle.terms.specs.Sides.{other}
 use Rattle.claim.specs.Claims.{ClaimParts, IsWhole}
 use Rattle.chain.specs.Blocks.{Contents as Block}
 use Rattle.chain.specs.Checked.{is_checked}
@@ -19,6 +20,7 @@ use Rattle.penalty.specs.declared.states.RevokedState.{RevokedState}
 use Rattle.channel.specs.declared.messages.Message.{Message}
 use Rattle.channel.specs.Tokens.{peer_tokens}
 use Rattle.scenario.specs.declared.events.Event.{Event}
+use Rattle.scenario.specs.declared.events.Event.TheVariants.{Close}
 use Rattle.safety.specs.Fates.{NothingEscapesAbove}
 use Rattle.filling.specs.Filled.{AllFit}
 use Rattle.book.specs.declared.calls.Batch.{Batch}
@@ -29,20 +31,27 @@ use Rattle.book.specs.Guarding.{is_guarded, ArePenaltiesIn}
 use Rattle.book.specs.Replies.{is_accepted}
 use Rattle.book.specs.Calling.{filling_by}
 use Rattle.world.specs.declared.errors.EventError.{EventError}
-use Rattle.world.specs.declared.errors.EventError.TheVariants.{NoSuchChannel, NoMessage}
+use Rattle.world.specs.declared.errors.EventError.TheVariants.{NoSuchChannel, NoMessage, ChannelClosed}
 use Rattle.world.specs.declared.outcomes.Outcome.{Outcome}
 use Rattle.world.specs.Worlds.{World, Node, IsNode, node_of, channel_of, inboxes, answer_to}
 use Rattle.side.specs.Acts.{call_of}
-use Rattle.world.specs.Pairing.{AgreeBy, AreEnds}
+use Rattle.world.specs.Pairing.{AgreeBy, AreEnds, IsShutOut}
 use Rattle.world.specs.Releasing.{AreFillings}
 use Rattle.world.specs.Sources.{IsSide, IsFrom, transactions_in}
 use Rattle.world.specs.Taken.{OutputsAreTaken}
 use Rattle.world.specs.Enforcement.{IsDue, Passes}
-use Rattle.world.specs.Steps.{receipt_refusal, WorldSteps, Runs}
+use Rattle.world.specs.Steps.{receipt_refusal, refusal_of, WorldSteps, Runs}
 
 -- the claims of a side: those that its book kept and released, its jobs, and the claims that it took
 abbrev pub claims_of : Node → List ClaimParts
 claims_of n = flat_map (λ e. claims_by e.call) n.history ++ map (λ j. j.claim) (n.jobs ++ n.taken)
+
+-- the oldest message on its way to a side in a channel is a signature, and the side closed the channel
+pub record ShutsOut (n : Node) (c : ℕ) : Type 0 where
+  pub m : Message
+  pub rest : List Message
+  pub oldest : slice_get (inboxes n) c ≡ Some (m ∷ rest)
+  pub shut : IsShutOut (channel_of n c) m
 
 -- this holds at each moment
 pub record HoldsAt (w : World) : Type 0 where
@@ -75,12 +84,19 @@ pub record HoldsAt (w : World) : Type 0 where
   pub as_many : length (replay w.a.history) ≡ length (replay w.b.history)
   pub agree : (c : ℕ) (x y : ChannelBook) → channel_of w.a c ≡ Some x → channel_of w.b c ≡ Some y
       → AreEnds x.state y.state
-  -- a side's book takes the oldest message on its way to it; so, barring out-of-memory, a delivery is refused only without a channel or a message
+  -- a side can close each of its channels: barring out-of-memory, a close is refused only without a channel
+  pub closes : (s : Side) (c : ℕ) (r : EventError) → refusal_of w (Close s c) ≡ Some r → r ≡ NoSuchChannel
+  -- the commitment with which a side closed a channel is its newest at each later moment, and its peer was never given the secret that revokes it
+  pub closed : (s : Side) (c n : ℕ) (x y : ChannelBook) → channel_of (node_of s w) c ≡ Some x
+      → channel_of (node_of (other s) w) c ≡ Some y → x.closed ≡ Some n
+      → (n ≡ x.state.number) × (length y.state.secrets ≤ n)
+  -- a side's book takes the oldest message on its way to it, except a signature in a channel that the side closed. So, barring out-of-memory, a delivery is refused only without a channel or a message,
+  -- or for that
   pub takes : (s : Side) (c : ℕ) (m : Message) (rest : List Message)
       → slice_get (inboxes (node_of s w)) c ≡ Some (m ∷ rest)
-      → is_accepted (answer_to (node_of s w) (call_of c m)) ≡ true
+      → (is_accepted (answer_to (node_of s w) (call_of c m)) ≡ true) ⊎ IsShutOut (channel_of (node_of s w) c) m
   pub delivers : (s : Side) (c : ℕ) (r : EventError) → receipt_refusal s c w ≡ Some r
-      → (r ≡ NoSuchChannel) ⊎ (r ≡ NoMessage)
+      → (r ≡ NoSuchChannel) ⊎ ((r ≡ NoMessage) ⊎ ((r ≡ ChannelClosed) × ShutsOut (node_of s w) c))
 
 -- what `play` did: a run of the events, at each moment of which all of this holds
 pub record IsPlay (w : World) (es : List Event) (os : List Outcome) (end : World) : Type 0 where

@@ -5,7 +5,7 @@ ghost use Rattle.world.specs.declared.errors.EventError.TheVariants.{NoMemory};
 ghost use Rattle.world.specs.declared.errors.WorldError.TheVariants.{NoMemory as world_memory};
 
 use book::Reply;
-use book::errors::{KeepError, ReleaseError, SignError, StepError};
+use book::errors::{CloseError, KeepError, ReleaseError, SignError, StepError};
 use filling::FillError;
 use mempool::ReorgError;
 use side::BatchError;
@@ -52,12 +52,15 @@ pub enum EventError {
     /// The claims of a release are not filled.
     #[error("{0}")]
     Fill(FillError),
+    /// The side closed the channel: it takes no signature there, signs nothing, and makes no update of its own but a fulfil.
+    #[error("ChannelClosed")]
+    ChannelClosed,
 }
 
 impl EventError {
     ghost use Rattle.std.specs.Prelude.{◌≡◌, true, Some, is_some};
     ghost use Rattle.book.specs.Dispatch.{reply_form};
-    ghost use Rattle.world.specs.Refusing.{by_step, by_sign, by_keep, by_release, by_batch, by_reorg, refusal_in};
+    ghost use Rattle.world.specs.Refusing.{by_step, by_sign, by_keep, by_release, by_close, by_batch, by_reorg, refusal_in};
 
     /// The refusal of a step or of a revocation.
     pub(crate) fn of_step(error: StepError) -> EventError
@@ -69,6 +72,7 @@ impl EventError {
                 _ => EventError::Channel(refusal),
             },
             StepError::NoSuchChannel => EventError::NoSuchChannel,
+            StepError::ChannelClosed => EventError::ChannelClosed,
         }
     }
 
@@ -79,6 +83,7 @@ impl EventError {
         match error {
             SignError::NoMemory => EventError::NoMemory,
             SignError::NoSuchChannel => EventError::NoSuchChannel,
+            SignError::ChannelClosed => EventError::ChannelClosed,
             _ => EventError::Sign(error),
         }
     }
@@ -118,6 +123,16 @@ impl EventError {
         }
     }
 
+    /// The refusal to close a channel.
+    pub(crate) fn of_close(error: CloseError) -> EventError
+        ensures { result ≡ by_close error }
+    {
+        match error {
+            CloseError::NoMemory => EventError::NoMemory,
+            CloseError::NoSuchChannel => EventError::NoSuchChannel,
+        }
+    }
+
     /// The refusal to release claims together.
     pub(crate) fn of_batch(error: BatchError) -> EventError
         ensures { result ≡ by_batch error }
@@ -139,6 +154,7 @@ impl EventError {
             Reply::Revoked(Err(error)) => EventError::of_step(error),
             Reply::Kept(Err(error)) => EventError::of_keep(error),
             Reply::Released(Err(error)) => EventError::of_release(error),
+            Reply::Closed(Err(error)) => EventError::of_close(error),
             _ => unreachable!(),
         }
     }

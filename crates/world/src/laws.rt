@@ -5,7 +5,10 @@ ghost use Rattle.world.specs.Agreeing.{FundingsAreSpent, OpeningsArePaired, Open
 ghost use Rattle.world.specs.Pairing.{DeliveriesAreTaken};
 ghost use Rattle.world.specs.Theorem.{StepsKeep, WorldsHold};
 
-use book::laws::{accepted_is_called, kept_are_exact, releases_fit, signing_is_guarded};
+use book::laws::{
+    accepted_is_called, kept_are_exact, releases_fit, signing_is_guarded,
+    what_is_closed_stays_closed,
+};
 use channel::laws::{peers_agree, sides_are_sound};
 use claim::laws::accepted_claims_spend;
 use safety::laws::{inputs_have_passed, nothing_escapes};
@@ -25,7 +28,7 @@ pub fn claims_spend()
 }
 
 /// The books of two honest sides agree. Let each channel of one side, the same channel of the other, and the messages between them be what steps of two honest peers make of a new
-/// channel. Then each side takes the oldest message on its way to it. So no delivery is refused for its signature.
+/// channel. Then each side takes the oldest message on its way to it, except a signature in a channel that it closed. So no delivery is refused for what is in its message.
 pub fn deliveries_are_taken()
     ensures { DeliveriesAreTaken }
 {
@@ -44,7 +47,8 @@ pub fn steps_keep()
 /// runs clean once it is due. Whoever makes the next block, nothing in it takes what a revoked commitment lets its owner's peer claim, except as `nothing_escapes` of `safety`
 /// says. On the chain, what takes such an output is a filling of that peer's, the HTLC's own transaction, or after the delay a filling of the owner's of an output in to_local's form;
 /// or named byte strings collide. The two seeds of the channel have to differ. What was released are fillings of the two histories, whose inputs fit their claims. The two sides
-/// hold the two ends of each channel. No delivery is refused for its message.
+/// hold the two ends of each channel. The commitment with which a side closed a channel is its newest, and not revoked to its peer. No delivery is refused for its message, but for a
+/// signature in a channel that the side closed.
 pub fn worlds_hold()
     ensures { WorldsHold }
 {
@@ -53,6 +57,7 @@ pub fn worlds_hold()
     signing_is_guarded();
     kept_are_exact();
     releases_fit();
+    what_is_closed_stays_closed();
     claims_spend();
     nothing_escapes();
     inputs_have_passed();

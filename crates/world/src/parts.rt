@@ -2,6 +2,8 @@
 
 ghost use Rattle.std.specs.Prelude.{◌≡◌, None, MatchResult};
 ghost use Rattle.world.specs.Refusing.{IsRefusal};
+ghost use Rattle.world.specs.Worlds.{channel_of};
+ghost use Rattle.world.specs.Publishing.{closing_in, refusal_by, IsClosedTo};
 ghost use Rattle.world.specs.Releasing.{release_refusal, IsReleasedTo};
 ghost use Rattle.world.specs.Steps.{done_by, looked_by};
 
@@ -10,6 +12,7 @@ use crate::nodes::Node;
 use crate::outcomes::Outcome;
 use crate::taken_apart::BooksAndChain;
 use crate::{delivering, keeping, looking, publishing, releasing};
+use book::Call;
 use chain::{Coins, Index};
 use mempool::{Reorganised, mine, reorganise};
 use scenario::Event;
@@ -89,6 +92,26 @@ fn release(
     let filling = releasing::release(alloc, me, count)?;
     pool.push(filling.tx).unwrap();
     released.push(filling.copy).unwrap();
+    Ok(Outcome::Done)
+}
+
+// Closes a channel of a side, whose newest commitment then waits in the pool. A refusal changes nothing.
+#[tactic(auto, using(crate::proofs::Closes::unclosed))]
+fn close(
+    alloc: Global,
+    me: &mut Node,
+    pool: &mut Vec<Tx>,
+    channel: u64,
+) -> Result<Outcome, EventError>
+    ensures { let first = refusal_by (closing_in (channel_of me.old channel)) in
+        MatchResult result
+        (λ o. (o ≡ Outcome.Done) × IsClosedTo channel me.old me.new pool.old.items pool.new.items)
+        (λ e. IsRefusal first e × (me.new ≡ me.old) × (pool.new.items ≡ pool.old.items)) }
+{
+    let tx = publishing::closing(alloc, me, channel)?;
+    pool.reserve(1)?;
+    let _no_message = me.answer(Call::Close { channel })?;
+    pool.push(tx).unwrap();
     Ok(Outcome::Done)
 }
 
@@ -218,6 +241,19 @@ impl Parts {
         match publishing::htlc_tx(self.alloc, self.node(side), channel, number, htlc) {
             Ok(tx) => self.publish(tx),
             Err(error) => Err(error),
+        }
+    }
+
+    // A side closes a channel. Refused with `NoSuchChannel`.
+    fn close(&mut self, side: Side, channel: u64) -> Result<Outcome, EventError>
+        ensures { IsPlayed self.old (Event.Close side channel) result self.new }
+    {
+        self.quiet_a = false;
+        self.quiet_b = false;
+        let alloc = self.alloc;
+        match side {
+            Side::A => close(alloc, &mut self.a, &mut self.pool, channel),
+            Side::B => close(alloc, &mut self.b, &mut self.pool, channel),
         }
     }
 
@@ -362,6 +398,7 @@ impl Parts {
             Event::Take { side, count } => self.take(side, count),
             Event::Release { side, count } => self.release(side, count),
             Event::Reorg { depth, forgotten } => self.reorganise(depth, forgotten),
+            Event::Close { side, channel } => self.close(side, channel),
         }
     }
 

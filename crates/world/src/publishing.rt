@@ -2,7 +2,7 @@
 
 ghost use Rattle.std.specs.Prelude.{◌≡◌, IfOk};
 ghost use Rattle.world.specs.Worlds.{channel_of};
-ghost use Rattle.world.specs.Publishing.{preimages_known, commitment_in, htlc_tx_in, IsAnswer};
+ghost use Rattle.world.specs.Publishing.{preimages_known, commitment_in, closing_in, htlc_tx_in, IsAnswer};
 
 use crate::errors::EventError;
 use crate::nodes::Node;
@@ -27,6 +27,16 @@ pub(crate) fn commitment(
         Some(tx) => Ok(tx),
         None => Err(EventError::NoSuchTx),
     }
+}
+
+/// A side's newest commitment, which closes the channel, with both signatures. Refused with `NoSuchChannel`.
+pub(crate) fn closing(alloc: Global, me: &Node, channel: u64) -> Result<Tx, EventError>
+    ensures { IsAnswer (closing_in (channel_of me.now channel)) result }
+{
+    let Some(state) = me.book.channel(channel) else {
+        return Err(EventError::NoSuchChannel);
+    };
+    commitment(alloc, me, channel, state.number())
 }
 
 // The preimages that a side knows in a channel: those of its fulfils, and those that blocks showed to the side.

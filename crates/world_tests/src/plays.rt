@@ -77,6 +77,33 @@ pub(crate) const KEEP_B_NEXT: Event = Event::Keep {
     number: 1,
 };
 
+const CLOSE_A: Event = Event::Close {
+    side: Side::A,
+    channel: 0,
+};
+
+const CLOSE_B: Event = Event::Close {
+    side: Side::B,
+    channel: 0,
+};
+
+const CLOSE_B_FAR: Event = Event::Close {
+    side: Side::B,
+    channel: 1,
+};
+
+const FEE_A: Event = Event::Own {
+    side: Side::A,
+    channel: 0,
+    update: OwnUpdate::SetFee { rate: 1500 },
+};
+
+const FAIL_B: Event = Event::Own {
+    side: Side::B,
+    channel: 0,
+    update: OwnUpdate::Fail { id: 0 },
+};
+
 const KEEP_B_EARLY: Event = Event::Keep {
     side: Side::B,
     channel: 0,
@@ -287,4 +314,64 @@ const CLAIMED: [Round; 3] = [
 #[test]
 fn finds_a_claim_by_a_preimage(rt: HostRuntime) {
     plays(&rt, rt.alloc(), &CLAIMED);
+}
+
+// A closes the channel while B's revocation is on its way, and takes that, but no signature of B's, which stays where it is. Its commitment 0 is mined.
+const CLOSED_EARLY: [Round; 3] = [
+    Round::Play(
+        &[
+            OFFER, DELIVER_B, SIGN_A, DELIVER_B, CLOSE_A, DELIVER_A, SIGN_B, DELIVER_A, DELIVER_A,
+        ],
+        &[
+            "ok",
+            "ok",
+            "ok",
+            "ok",
+            "ok",
+            "ok",
+            "ok",
+            "refused ChannelClosed",
+            "refused ChannelClosed",
+        ],
+    ),
+    Round::Play(
+        &[OFFER, SIGN_A, FEE_A, CLOSE_B_FAR, BLOCK],
+        &[
+            "refused ChannelClosed",
+            "refused ChannelClosed",
+            "refused ChannelClosed",
+            "refused NoSuchChannel",
+            "ok height 1 txs 1",
+        ],
+    ),
+    Round::Entries(5, 4),
+];
+
+#[test]
+fn takes_no_signature_after_a_close(rt: HostRuntime) {
+    plays(&rt, rt.alloc(), &CLOSED_EARLY);
+}
+
+// B closes the channel with an HTLC in its commitment 1, which is mined. It takes a further offer, but no signature for it, and fulfils the first HTLC.
+const CLOSED_BY_B: [Round; 4] = [
+    OFFERED,
+    Round::Play(
+        &[CLOSE_B, KEEP_A, OFFER, SIGN_A, DELIVER_B, DELIVER_B],
+        &["ok", "ok", "ok", "ok", "ok", "refused ChannelClosed"],
+    ),
+    Round::Play(
+        &[SIGN_B, FAIL_B, FULFIL, BLOCK],
+        &[
+            "refused ChannelClosed",
+            "refused ChannelClosed",
+            "ok",
+            "ok height 1 txs 1",
+        ],
+    ),
+    Round::Entries(8, 8),
+];
+
+#[test]
+fn fulfils_after_a_close(rt: HostRuntime) {
+    plays(&rt, rt.alloc(), &CLOSED_BY_B);
 }

@@ -26,6 +26,7 @@ struct Tally {
     revocations: u64,
     kept: u64,
     released: u64,
+    closed: u64,
 }
 
 /// Nothing counted.
@@ -39,6 +40,7 @@ const NOTHING: Tally = Tally {
     revocations: 0,
     kept: 0,
     released: 0,
+    closed: 0,
 };
 
 impl Tally {
@@ -51,7 +53,8 @@ impl Tally {
             .min(self.signatures)
             .min(self.revocations)
             .min(self.kept)
-            .min(self.released);
+            .min(self.released)
+            .min(self.closed);
         fewest >= least
     }
 }
@@ -127,6 +130,7 @@ fn tally_entries(tally: &mut Tally, book: &Book) {
             Call::Revoke { .. } => count(&mut tally.revocations),
             Call::Keep { .. } => count(&mut tally.kept),
             Call::Release { .. } => count(&mut tally.released),
+            Call::Close { .. } => count(&mut tally.closed),
         }
     }
 }
@@ -150,6 +154,11 @@ fn play_steps(peers: &mut Peers, channels: u32, state: &mut u64) -> bool {
     true
 }
 
+/// A closes the first channel. Returns whether that can be done.
+fn close_first(peers: &mut Peers) -> bool {
+    reply_of(peers, Side::A, 0, Act::Close).is_some()
+}
+
 /// Plays one game of two books, and counts both. Returns whether it can be played.
 fn play_game(
     alloc: Global,
@@ -158,7 +167,10 @@ fn play_game(
     channels: u32,
     state: &mut u64,
 ) -> bool {
-    if peers.open(alloc, channels).is_err() || !play_steps(peers, channels, state) {
+    let is_played = peers.open(alloc, channels).is_ok()
+        && play_steps(peers, channels, state)
+        && close_first(peers);
+    if !is_played {
         return false;
     }
     tally_book(alloc, tally, &peers.a.book);

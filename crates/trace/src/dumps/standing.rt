@@ -1,8 +1,10 @@
-// The commitments that the sides may broadcast, and the HTLCs in them.
+// The commitments that the sides may broadcast, and the HTLCs in them; and whether a channel is closed.
 
 ghost use Rattle.std.specs.Prelude.{◌≡◌, option_map};
-ghost use Rattle.trace.specs.Standing.{commitment_of, htlcs_of, stands_in, is_new_in};
+ghost use Rattle.std.specs.List.{list_any};
+ghost use Rattle.trace.specs.Standing.{commitment_of, htlcs_of, stands_in, is_new_in, is_close_of, closed_with};
 
+use book::{Book, Call, Entry};
 use channel::{Channel, CommitmentState};
 use terms::{Htlc, Side};
 
@@ -58,5 +60,35 @@ pub fn is_new(channel: &Channel, source: Source, offerer: Side, id: u64) -> bool
             !stands(channel, Source::Ours, offerer, id)
                 && !stands(channel, Source::Theirs, offerer, id)
         }
+    }
+}
+
+// Whether an entry closes the channel of an index.
+fn is_close_of(entry: &Entry, index: u64) -> bool
+    ensures { result ≡ is_close_of index entry.now.call }
+{
+    match &entry.call {
+        Call::Close { channel } => *channel == index,
+        _ => false,
+    }
+}
+
+// Whether an entry of a book closes the channel of an index.
+fn has_close(book: &Book, index: u64) -> bool
+    ensures { result ≡ list_any (λ e. is_close_of index e.call) book.now }
+{
+    book.entries()
+        .iter()
+        .any(|entry| is_close_of(entry, index))
+}
+
+/// The number of the commitment with which this side closed its channel of an index, if it did.
+pub fn closed_with(book: &Book, index: u64, channel: &Channel) -> Option<u64>
+    ensures { result ≡ closed_with book.now index channel.now }
+{
+    if has_close(book, index) {
+        Some(channel.number())
+    } else {
+        None
     }
 }

@@ -1,7 +1,7 @@
 // Writes what a book has.
 
 use crate::dumps::claims::{Alone, Claimable, Close, OutputName, Way, claims_of, hashes_of};
-use crate::dumps::standing::{Source, commitment, htlcs, is_new, stands};
+use crate::dumps::standing::{Source, closed_with, commitment, htlcs, is_new, stands};
 use crate::names::side_name;
 use crate::pieces::Piece;
 use crate::pieces::Piece::{Count, Hash, Text};
@@ -183,8 +183,8 @@ fn tell_revoked(alloc: Global, line: &mut Line, book: &Book, index: u64, channel
     }
 }
 
-// Writes the line of a channel: what its sides agreed on, the commitments that may be broadcast without a penalty, the HTLCs in them, and the closings.
-fn tell_channel(alloc: Global, line: &mut Line, book: &Book, index: u64, channel: &Channel) {
+// Writes what the sides of a channel agreed on, and with which commitment this side closed it, if it did.
+fn tell_terms(line: &mut Line, book: &Book, index: u64, channel: &Channel) {
     let (terms, side) = (channel.terms(), channel.side());
     let txid = terms.funding.txid;
     line.write(
@@ -199,6 +199,15 @@ fn tell_channel(alloc: Global, line: &mut Line, book: &Book, index: u64, channel
             Count(u64::from(terms.party(side.other()).delay)),
         ],
     );
+    if let Some(number) = closed_with(book, index, channel) {
+        line.write(r#","closed":%"#, &[Count(number)]);
+    }
+}
+
+// Writes the line of a channel: its terms, the commitments that may be broadcast without a penalty, the HTLCs in them, and the closings.
+fn tell_channel(alloc: Global, line: &mut Line, book: &Book, index: u64, channel: &Channel) {
+    let side = channel.side();
+    tell_terms(line, book, index, channel);
     tell_source(line, channel, r#","ours":"#, Source::Ours);
     tell_source(line, channel, r#","theirs":"#, Source::Theirs);
     tell_source(line, channel, r#","next":"#, Source::Next);

@@ -56,3 +56,13 @@ pub fn tell_held(line: &mut Line, world: &World, side: Side, channel: u64) {
     tell_without(line, Side::B, old_b, new_b);
     line.push("]}");
 }
+
+/// Writes the commitment with which a side closed a channel: its newest one.
+pub fn tell_closed(line: &mut Line, world: &World, side: Side, channel: u64) {
+    if let Some(own) = world.book(side).channel(channel) {
+        line.write(
+            r#","closed":{"channel":%,"owner":"%","number":%}"#,
+            &[Count(channel), side_name(side), Count(own.number())],
+        );
+    }
+}

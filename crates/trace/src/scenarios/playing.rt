@@ -7,6 +7,7 @@ use crate::names::side_name;
 use crate::pieces::Piece::Count;
 use crate::scenarios::claims::{tell_claims, tell_jobs};
 use crate::scenarios::coins::Told;
+use crate::scenarios::commitments::tell_closed;
 use crate::scenarios::messages::{tell_delivered, tell_own, tell_signed};
 use crate::scenarios::mining::tell_mined;
 use crate::writer::Line;
@@ -17,6 +18,43 @@ use std::slice;
 use world::{Outcome, World};
 
 impl Told {
+    // Writes what new blocks changed, or a reorganisation. The chain had height `before` when the event came.
+    fn tell_blocks(
+        &mut self,
+        alloc: Global,
+        line: &mut Line,
+        world: &World,
+        before: u64,
+        event: &Event,
+    ) {
+        match *event {
+            Event::Blocks { .. } => {
+                self.tell_left(line, world.pool());
+                tell_mined(alloc, world, self, line, before);
+            }
+            Event::Reorg { depth, .. } => {
+                let above = before.saturating_sub(depth);
+                self.tell_left(line, &[]);
+                self.tell_joined(line, world.pool());
+                line.push(r#","undone":["#);
+                self.back_to(line, above);
+                line.push("]");
+                tell_mined(alloc, world, self, line, above);
+            }
+            _ => {}
+        }
+    }
+
+    // Writes what an event changed that put a transaction into the pool.
+    fn tell_sent(&mut self, line: &mut Line, world: &World, event: &Event) {
+        match *event {
+            Event::Close { side, channel } => tell_closed(line, world, side, channel),
+            Event::Release { side, .. } => tell_jobs(line, world, side),
+            _ => {}
+        }
+        self.tell_joined(line, world.pool());
+    }
+
     // Writes what an accepted event changed. The chain had height `before` when it came.
     fn tell_changes(
         &mut self,
@@ -39,13 +77,6 @@ impl Told {
                 r#","kept":{"side":"%","channel":%,"number":%}"#,
                 &[side_name(side), Count(channel), Count(number)],
             ),
-            Event::Broadcast { .. } | Event::BroadcastHtlc { .. } => {
-                self.tell_joined(line, world.pool())
-            }
-            Event::Blocks { .. } => {
-                self.tell_left(line, world.pool());
-                tell_mined(alloc, world, self, line, before);
-            }
             Event::Look { side } => {
                 if let Outcome::Looked { claims } = outcome {
                     tell_claims(line, self, world, side, *claims);
@@ -53,19 +84,13 @@ impl Told {
                 tell_jobs(line, world, side);
             }
             Event::Take { side, .. } => tell_jobs(line, world, side),
-            Event::Release { side, .. } => {
-                tell_jobs(line, world, side);
-                self.tell_joined(line, world.pool());
+            Event::Blocks { .. } | Event::Reorg { .. } => {
+                self.tell_blocks(alloc, line, world, before, event)
             }
-            Event::Reorg { depth, .. } => {
-                let above = before.saturating_sub(depth);
-                self.tell_left(line, &[]);
-                self.tell_joined(line, world.pool());
-                line.push(r#","undone":["#);
-                self.back_to(line, above);
-                line.push("]");
-                tell_mined(alloc, world, self, line, above);
-            }
+            Event::Broadcast { .. }
+            | Event::BroadcastHtlc { .. }
+            | Event::Release { .. }
+            | Event::Close { .. } => self.tell_sent(line, world, event),
         }
     }
 

@@ -1,4 +1,4 @@
-use Rattle.texts.proofs.CallReturning.{openings_come_back, own_steps_come_back, updated_again, received_steps_come_back, signs_come_back, revokes_come_back, keeps_come_back, releases_come_back, entries_come_back, dumps_come_back}
+use Rattle.texts.proofs.CallReturning.{openings_come_back, own_steps_come_back, updated_again, received_steps_come_back, signs_come_back, revokes_come_back, keeps_come_back, releases_come_back, closes_come_back, entries_come_back, dumps_come_back}
 use Rattle.texts.proofs.laws.what_is_dumped_comes_back.Goals as goal
 
 pub returns-clause-openings : goal.returns-clause-openings
@@ -24,6 +24,9 @@ returns-clause-keeps c = keeps_come_back
 
 pub returns-clause-releases : goal.returns-clause-releases
 returns-clause-releases c = releases_come_back
+
+pub returns-clause-closes : goal.returns-clause-closes
+returns-clause-closes c = closes_come_back
 
 pub returns-clause-entries : goal.returns-clause-entries
 returns-clause-entries c = entries_come_back

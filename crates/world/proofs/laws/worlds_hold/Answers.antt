@@ -22,4 +22,4 @@ returns c =
       grants_apart = c.who_takes.ensures.grants;
     } in
     worlds_hold c.accepted_is_called.ensures c.signing_is_guarded.ensures.guarded c.kept_are_exact.ensures c.releases_fit.ensures c.claims_spend.ensures.spends c.nothing_escapes.ensures.above laws.agree laws.number_all laws
-    c.deliveries_are_taken.ensures
+    c.deliveries_are_taken.ensures c.what_is_closed_stays_closed.ensures.newest

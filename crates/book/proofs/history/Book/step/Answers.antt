@@ -45,8 +45,8 @@ invariant_of-self-in-Err-step c =
 pub returns-in-Err-step : goal.returns-in-Err-step
 returns-in-Err-step c =
     let i = c.self.inside in
-    let refused = step_refused i.entries.items c.reserve.new.self.items i.channels.entries c.self.invariant.left c.in-Ok.ensures.items c.args.seat c.args.channel c.index_mut-open.result.now c.index_mut-open.ensures.value c.args.step c.in-Err-step.refusal c.in-Err-step.ensures.tested in
-    subst (λ (h : List Entry). IsCall (stepped (Err (Refused NoMemory))) (stepped (Err (Refused c.in-Err-step.refusal))) h c.reserve.new.self.items c.args.seat (Stepping c.args.channel c.args.step)) c.self.view_is refused
+    let refused = step_refused i.entries.items c.reserve.new.self.items i.channels.entries c.self.invariant.left c.in-Ok.ensures.items c.args.seat c.args.channel c.index_mut-open.result.now c.index_mut-open.ensures.value c.args.step c.in-Err-step.error c.in-Err-step.ensures.tested in
+    subst (λ (h : List Entry). IsCall (stepped (Err (Refused NoMemory))) (stepped (Err c.in-Err-step.error)) h c.reserve.new.self.items c.args.seat (Stepping c.args.channel c.args.step)) c.self.view_is refused
 
 pub reserve_preimage-requires : goal.reserve_preimage-requires
 reserve_preimage-requires c =

@@ -9,6 +9,6 @@ pub returns : goal.returns
 returns c =
     let i = c.self.inside in
     let preimages = c.args.preimages.items in
-    let ch : ChannelBook = record { state = i.channel; kept = i.kept.items } in
+    let ch : ChannelBook = record { state = i.channel; kept = i.kept.items; closed = i.closed } in
     let known = subst (λ (fs : List Bool). IfOk c.known_of.result (IsKnownOf i.channel (flag_at fs) preimages)) c.deref.ensures.value c.known_of.ensures in
     subst (λ (ch : ChannelBook). IfOk c.known_of.result (IsKnownOf ch.state (is_kept ch.kept) preimages)) c.self.view_is (known_by ch i.flags.items i.below c.self.invariant preimages c.known_of.result known)

@@ -12,7 +12,7 @@ returns-in-Ok c =
     let n = c.args.number in
     let flags = c.deref.result.now in
     let flag = c.in-Some.is_kept.now in
-    let ch : ChannelBook = record { state = i.channel; kept = i.kept.items } in
+    let ch : ChannelBook = record { state = i.channel; kept = i.kept.items; closed = i.closed } in
     let found : slice_get i.flags.items n ≡ Some flag =
     ap (λ fs. slice_get fs n) (sym c.deref.ensures.value) ∙ slice_get_read flags (length flags) n flag refl c.in-Some.ensures.lookup.3.0 c.in-Some.ensures.lookup.1
     in
