@@ -77,9 +77,7 @@ fn is_close_of(entry: &Entry, index: u64) -> bool
 fn has_close(book: &Book, index: u64) -> bool
     ensures { result ≡ list_any (λ e. is_close_of index e.call) book.now }
 {
-    book.entries()
-        .iter()
-        .any(|entry| is_close_of(entry, index))
+    book.entries().iter().any(|entry| is_close_of(entry, index))
 }
 
 /// The number of the commitment with which this side closed its channel of an index, if it did.
