@@ -86,7 +86,7 @@ pub record HoldsAt (w : World) : Type 0 where
       → AreEnds x.state y.state
   -- a side can close each of its channels: barring out-of-memory, a close is refused only without a channel
   pub closes : (s : Side) (c : ℕ) (r : EventError) → refusal_of w (Close s c) ≡ Some r → r ≡ NoSuchChannel
-  -- the commitment with which a side closed a channel is its newest at each later moment, and its peer was never given the secret that revokes it
+  -- the commitment with which a side closed a channel is its newest at each later moment, and its peer has received no secret that revokes it
   pub closed : (s : Side) (c n : ℕ) (x y : ChannelBook) → channel_of (node_of s w) c ≡ Some x
       → channel_of (node_of (other s) w) c ≡ Some y → x.closed ≡ Some n
       → (n ≡ x.state.number) × (length y.state.secrets ≤ n)
