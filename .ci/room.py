@@ -70,6 +70,14 @@ def stamp(folder):
         return None
 
 
+def linked(given, place):
+    """Takes a file of a finished library over, which no one writes to: all libraries together are 5 GB. So it is a second name of the file, where both are in one file system."""
+    try:
+        os.link(given, place)
+    except OSError:
+        shutil.copy2(given, place)
+
+
 def refreshed(room):
     """Copies the sources of the repository into the room, in place of those of an earlier call, and its finished libraries."""
     for place in glob.glob(f"{room}/crates/*/*"):
@@ -83,7 +91,7 @@ def refreshed(room):
         given, place = f"{TOP}/crates/{name}", f"{room}/crates/{name}"
         if stamp(given) not in (None, stamp(place)):
             shutil.rmtree(f"{place}/out/rlib", ignore_errors=True)
-            shutil.copytree(f"{given}/out/rlib", f"{place}/out/rlib")
+            shutil.copytree(f"{given}/out/rlib", f"{place}/out/rlib", copy_function=linked)
 
 
 def entered():
