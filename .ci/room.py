@@ -5,6 +5,7 @@ finished in the repository (crates/*/out/rlib). So a call proves only what has c
 system's folder for temporary files.
 """
 import fcntl
+import functools
 import glob
 import hashlib
 import os
@@ -13,6 +14,7 @@ import shutil
 import subprocess
 import sys
 import tempfile
+from concurrent.futures import FIRST_COMPLETED, ThreadPoolExecutor, wait
 
 TOP = os.path.dirname(os.path.dirname(os.path.abspath(__file__)))
 # A check takes up to 5 GiB.
@@ -107,13 +109,50 @@ def entered():
     return room
 
 
-def finish(room, names):
-    """Proves these libraries if they have changed, lowest first. So the checks above them, side by side, find them finished."""
-    for name in names:
-        print(f"{name}: proving the library, where it has changed", file=sys.stderr, flush=True)
-        done = subprocess.run(["rt", "lib"], cwd=f"{room}/crates/{name}", stdin=subprocess.DEVNULL, stdout=subprocess.PIPE, stderr=subprocess.STDOUT, text=True)
-        if done.returncode != 0:
-            raise SystemExit(f"{done.stdout[-4000:]}\n{name} is not proved")
+def beside(room):
+    """The room and others like it, one for each check that runs at once: a check keeps others out of the crates that it stands on. What is proved in one room is taken over by the others."""
+    rooms = [room, *(f"{room}-{number}" for number in range(2, at_once() + 1))]
+    for other in rooms[1:]:
+        os.makedirs(f"{other}/.git", exist_ok=True)
+        refreshed(other)
+    return rooms
+
+
+def prove(name, room):
+    """Proves a library, if it has changed. Those that it stands on are finished."""
+    print(f"{name}: proving the library, where it has changed", file=sys.stderr, flush=True)
+    done = subprocess.run(["rt", "lib"], cwd=f"{room}/crates/{name}", stdin=subprocess.DEVNULL, stdout=subprocess.PIPE, stderr=subprocess.STDOUT, text=True)
+    if done.returncode != 0:
+        raise SystemExit(f"{done.stdout[-4000:]}\n{name} is not proved")
+
+
+def proofs(uses, names):
+    """The tasks that prove these libraries, each after those of them that it stands on."""
+    return {name: ([it for it in uses[name] if it in names], functools.partial(prove, name)) for name in names}
+
+
+def in_order(tasks, rooms):
+    """Runs tasks side by side, one in a room, each once those that it waits for have ended, and of those that are ready the first in the table. Returns what each gave.
+
+    A task is what it waits for, and a call that gets the room. Where one fails, none is begun after it.
+    """
+    given, running, left, free = {}, {}, dict(tasks), list(rooms)
+    with ThreadPoolExecutor(len(rooms)) as pool:
+        while left or running:
+            ready = [it for it, (waits, _) in left.items() if all(other in given for other in waits)]
+            for it in ready[: len(free)]:
+                room = free.pop()
+                running[pool.submit(left.pop(it)[1], room)] = it, room
+            for done in wait(running, return_when=FIRST_COMPLETED).done:
+                it, room = running.pop(done)
+                given[it] = done.result()
+                free.append(room)
+    return given
+
+
+def finish(room, uses, names):
+    """Proves these libraries if they have changed, lowest first. So a check above them finds them finished."""
+    in_order(proofs(uses, names), [room])
 
 
 def add(room, name):
