@@ -27,7 +27,6 @@ use Rattle.book.specs.declared.errors.SignError.TheVariants as signs
 use Rattle.book.specs.declared.errors.KeepError.TheVariants as keeps
 use Rattle.book.specs.declared.errors.CloseError.TheVariants as closes
 use Rattle.book.specs.declared.errors.KnowError.TheVariants as knows
-use Rattle.book.specs.declared.errors.LoadError.TheVariants as loads
 use Rattle.book.specs.declared.errors.OpenError.TheVariants.{BookFull, SameFunding, BadSignature}
 use Rattle.book.specs.declared.errors.StepError.TheVariants.{Refused, NoSuchChannel as NoChannelToStep, ChannelClosed as ClosedToSteps}
 use Rattle.book.specs.declared.errors.SignError.TheVariants.{PenaltiesMissing, AwaitingRevocation, NoUpdates, NoSuchChannel as NoChannelToSign}
@@ -37,7 +36,7 @@ use Rattle.book.specs.declared.limits.TheConstants.{MAX_CHANNELS}
 use Rattle.terms.specs.Bases.{IsSeedOf}
 use Rattle.book.specs.Penalties.{is_penalty_set}
 use Rattle.book.specs.Books.{ChannelBook, Channels, opened_by, missing_from}
-use Rattle.book.specs.Refusals.{open_error_number, step_error_number, sign_error_number, keep_error_number, release_error_number, close_error_number, know_error_number, load_error_number}
+use Rattle.book.specs.Refusals.{open_error_number, step_error_number, sign_error_number, keep_error_number, release_error_number, close_error_number, know_error_number}
 use Rattle.book.specs.Replies.{answer_of, open_refusal, Reply, opened, stepped, signed, revoked, kept, released, closed, reply_of, sign_refusal, keep_refusal, history_after}
 use Rattle.book.specs.Accepted.{all_accepted, first_refused}
 use Rattle.book.specs.Guarding.{is_set_in, number_kept, is_guarded}
@@ -51,8 +50,7 @@ numbers : (map open_error_number (opens.NoMemory ∷ opens.BookFull ∷ opens.Sa
     × (map release_error_number (Unfilled NoRight ∷ Unfilled SameOutpoint ∷ NoChannelToRelease ∷ []) ≡ 1 ∷ 5 ∷ 9 ∷ [])
     × (map close_error_number (closes.NoMemory ∷ closes.NoSuchChannel ∷ []) ≡ 0 ∷ 9 ∷ [])
     × (map know_error_number (knows.NoMemory ∷ knows.NoSuchChannel ∷ []) ≡ 0 ∷ 9 ∷ [])
-    × (map load_error_number (loads.NoMemory ∷ loads.NotJson ∷ loads.BadShape ∷ loads.BadClaim 7 ∷ loads.BadHistory 7 ∷ []) ≡ 0 ∷ 1 ∷ 2 ∷ 3 ∷ 4 ∷ [])
-numbers = (refl, refl, refl, refl, refl, refl, refl, refl)
+numbers = (refl, refl, refl, refl, refl, refl, refl)
 
 limit : MAX_CHANNELS ≡ 65536
 limit = refl

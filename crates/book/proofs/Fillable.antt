@@ -27,7 +27,7 @@ use Rattle.filling.proofs.Lists.{contains-at}
 use Rattle.channel.specs.declared.commitments.CommitmentState.{CommitmentState}
 use Rattle.channel.specs.States.{State}
 use Rattle.terms.specs.Bases.{IsSeedOf}
-use Rattle.texts.specs.Values.{◌>>=◌}
+use Rattle.claim.specs.Opcodes.{◌>>=◌}
 use Rattle.book.specs.Penalties.{is_claim_on, are_claims_on, claimable_in, revoked_contents, is_penalty_set}
 use Rattle.channel.specs.Rights.{rights_of}
 use Rattle.book.specs.Signers.{lack_of, first_lack}

@@ -25,7 +25,7 @@ use Rattle.channel.specs.States.{Signing, State, update_of, peers_next, sign_ref
 use Rattle.channel.specs.Peers.{IsLived, starts, updated_once, signed_once, received_once}
 use Rattle.channel.specs.Recording.{AreByNumber, SidesNumber}
 use Rattle.channel.specs.Tokens.{peer_tokens}
-use Rattle.texts.specs.Values.{◌>>=◌}
+use Rattle.claim.specs.Opcodes.{◌>>=◌}
 use Rattle.book.specs.declared.calls.Step.{Step}
 use Rattle.book.specs.declared.calls.Step.TheVariants.{Own, Updated, Signed}
 use Rattle.book.specs.declared.calls.Call.{Call}

@@ -5,7 +5,7 @@ use Rattle.std.proofs.lemmas.Bool.{cases_lt}
 use Rattle.std.proofs.lemmas.Option.{slice_get_past}
 use Rattle.channel.specs.States.{State}
 use Rattle.resolve.specs.declared.known.Known.{Known}
-use Rattle.texts.specs.Values.{◌>>=◌}
+use Rattle.claim.specs.Opcodes.{◌>>=◌}
 use Rattle.book.specs.Books.{ChannelBook, is_kept}
 use Rattle.book.specs.Kept.{IsBeside, AreFlags}
 use Rattle.book.specs.Knowing.{flag_at, revoked_by, revoked_at, IsKnownOf}

@@ -12,7 +12,7 @@ use Rattle.channel.specs.States.{State}
 use Rattle.book.specs.declared.calls.Call.{Call}
 use Rattle.book.specs.declared.calls.Call.TheVariants.{Open, Step, Sign, Revoke, Keep, Release, Close}
 use Rattle.book.specs.declared.calls.Entry.{Entry}
-use Rattle.texts.specs.Values.{◌>>=◌}
+use Rattle.claim.specs.Opcodes.{◌>>=◌}
 use Rattle.book.specs.Penalties.{revoked_contents, claimable_in, claimable_at, are_claims_on}
 use Rattle.book.specs.Books.{Channels, replayed, is_kept}
 use Rattle.book.specs.Guarding.{is_revocation, revocations, is_set_in, number_kept, are_answered, is_allowed, all_allowed, is_guarded}

@@ -10,7 +10,7 @@ use Rattle.channel.specs.declared.commitments.CommitmentState.{CommitmentState}
 use Rattle.channel.specs.Numbered.{AreNumbered}
 use Rattle.channel.specs.States.{State}
 use Rattle.resolve.specs.declared.known.RevokedCommitment.{RevokedCommitment}
-use Rattle.texts.specs.Values.{◌>>=◌}
+use Rattle.claim.specs.Opcodes.{◌>>=◌}
 use Rattle.book.specs.Knowing.{below, Revoked, revoked_parts, revoked_by, revoked_at}
 
 -- one more, at the next number

@@ -22,7 +22,7 @@ use Rattle.channel.specs.Numbered.{AreNumbered}
 use Rattle.channel.specs.States.{State}
 use Rattle.book.specs.Revoked.{IsStateAt}
 use Rattle.terms.proofs.Agreed.{same_terms}
-use Rattle.book.proofs.SameOpenings.{same_key}
+use Rattle.book.proofs.SameKeys.{same_key}
 
 abbrev pub key_test : Key → Key → Bool
 key_test a b = bytes_eq a.bytes b.bytes

@@ -24,7 +24,7 @@ use Rattle.book.specs.declared.calls.Call.TheVariants.{Step as Stepping}
 use Rattle.book.specs.declared.calls.Entry.{Entry}
 use Rattle.book.specs.declared.errors.KnowError.{KnowError}
 use Rattle.book.specs.declared.errors.KnowError.TheVariants.{NoMemory, NoSuchChannel}
-use Rattle.texts.specs.Values.{◌>>=◌}
+use Rattle.claim.specs.Opcodes.{◌>>=◌}
 use Rattle.book.specs.Books.{ChannelBook, is_kept}
 
 -- the values at the numbers below n, in order

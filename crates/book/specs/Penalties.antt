@@ -25,7 +25,7 @@ use Rattle.penalty.specs.Paying.{CanPay}
 use Rattle.filling.specs.Refusals.{is_fixed}
 use Rattle.channel.specs.declared.commitments.CommitmentState.{CommitmentState}
 use Rattle.channel.specs.States.{State}
-use Rattle.texts.specs.Values.{◌>>=◌}
+use Rattle.claim.specs.Opcodes.{◌>>=◌}
 
 -- the peer's commitment of a number, with the point of the secret by which it was revoked
 abbrev pub revoked_contents : State → CommitmentState → List ℕ → Contents

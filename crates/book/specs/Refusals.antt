@@ -16,8 +16,6 @@ use Rattle.book.specs.declared.errors.CloseError.{CloseError}
 use Rattle.book.specs.declared.errors.CloseError.TheVariants as closes
 use Rattle.book.specs.declared.errors.KnowError.{KnowError}
 use Rattle.book.specs.declared.errors.KnowError.TheVariants as knows
-use Rattle.book.specs.declared.errors.LoadError.{LoadError}
-use Rattle.book.specs.declared.errors.LoadError.TheVariants as loads
 
 abbrev pub open_error_number : OpenError → ℕ
 open_error_number opens.NoMemory = 0
@@ -56,10 +54,3 @@ close_error_number closes.NoSuchChannel = 9
 abbrev pub know_error_number : KnowError → ℕ
 know_error_number knows.NoMemory = 0
 know_error_number knows.NoSuchChannel = 9
-
-abbrev pub load_error_number : LoadError → ℕ
-load_error_number loads.NoMemory = 0
-load_error_number loads.NotJson = 1
-load_error_number loads.BadShape = 2
-load_error_number (loads.BadClaim i) = 3
-load_error_number (loads.BadHistory i) = 4

@@ -3,8 +3,6 @@
 ghost use Rattle.book.specs.Accepted.{AcceptedMeans};
 ghost use Rattle.book.specs.Guarding.{AcceptedIsGuarded, GuardedMeans, KeptAreExact};
 ghost use Rattle.book.specs.Closing.{ClosedStaysNewest, ClosesAgain, ClosedStaysClosed};
-ghost use Rattle.book.specs.Again.{ClaimsComeBack, OpeningsComeBack, EntriesComeBack};
-ghost use Rattle.book.specs.Refused.{RefusalsComeInOrder};
 ghost use Rattle.book.specs.Penalties.{PenaltySetsAreExact};
 ghost use Rattle.book.specs.Releasing.{KeptAreFillable, ReleasesFit};
 ghost use Rattle.book.specs.Signers.{RightsAreTested, RefusalsAreFound};
@@ -72,16 +70,3 @@ pub fn releases_fit()
     // By this law the proof knows that claims which nothing refuses are filled by inputs that fit them.
     fillings_fit();
 }
-
-/// An accepted claim, an opening, and an entry with accepted claims come back unchanged from their plain forms.
-pub fn what_is_dumped_is_taken_again()
-    ensures claims { ClaimsComeBack }
-    ensures openings { OpeningsComeBack }
-    ensures entries { EntriesComeBack }
-{}
-
-/// Invalid JSON, and a value that is not of a dump's shape, are refused as such, whatever the claims and calls. Any other refusal names the first entry that is not taken. Its claims are
-/// not accepted; or they are, and its call is refused after the entries before it.
-pub fn refusals_come_in_order()
-    ensures { RefusalsComeInOrder }
-{}

@@ -5,7 +5,7 @@
 //! says; if memory runs out, the history stays as it was. An accepted call adds one entry, and a refused one changes
 //! nothing. The signing gate, [`laws::signing_is_guarded`], holds for each history: between each revocation and the
 //! channel's next signature, the penalties of the revoked commitment were kept. [`Book::entries`] hands this out.
-//! [`Book::load`] reads what [`Book::dump`] writes as the same history.
+//! The crate `book_dump` writes it as a text, and loads the same history from it.
 //! [`Book::close`] closes a channel: it takes no signature from then on and gives none out, so that the commitment with
 //! which it was closed stays the newest one ([`laws::what_is_closed_stays_closed`]).
 //!
@@ -14,8 +14,8 @@
 //! does its claims. [`Book::known`] hands out what the node knows of a channel. [`filled`] fills a batch with any
 //! signer, as `release` does with the channel's.
 //!
-//! `channel` does what each call says, `texts` has the JSON shapes of a dump, and `filling` builds the transactions
-//! of a release. `side` stands between the book and the chain, and `world` plays two books.
+//! `channel` does what each call says, and `filling` builds the transactions of a release. `side` stands between the
+//! book and the chain, and `world` plays two books.
 //!
 //! ```rust
 //! assert!(rt; a.revoke(0, 0, came.secret, came.next_point).is_ok());
@@ -31,7 +31,6 @@
 pub mod calling;
 pub mod calls;
 mod comparing;
-pub mod dumping;
 pub mod errors;
 mod flags;
 mod fulfils;
@@ -40,13 +39,9 @@ mod judging;
 mod knowing;
 pub mod laws;
 mod limits;
-pub mod loading;
 pub mod matching;
 mod open_channel;
-mod openings;
-mod reading;
 mod releasing;
-mod replaying;
 mod revoking;
 
 pub use calling::Reply;

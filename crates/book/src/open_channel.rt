@@ -2,7 +2,7 @@
 
 ghost use Rattle.std.specs.Prelude.{◌≡◌, [], IfOk, OnErr, MatchResult, Some, None};
 ghost use Rattle.std.specs.List.{cons_option};
-ghost use Rattle.updates.specs.Refusals.{IsRefusal};
+ghost use Rattle.updates.specs.Refusals.{IsRefusal, OkUnless, IsFirst};
 ghost use Rattle.channel.specs.Tokens.{peer_tokens as tokens_of};
 ghost use Rattle.book.specs.Books.{stepped, is_barred};
 ghost use Rattle.book.specs.Replies.{step_refusal, messages_of};
@@ -66,8 +66,8 @@ fn receive_tokens(channel: &mut Channel, tokens: Tokens) -> Result<Taken, Channe
     ensures message { IfOk result (λ t. cons_option t.message [] ≡ messages_of channel.old
         (Step.Signed tokens)) }
     ensures ok { IfOk result (λ _. channel.new ≡ stepped (Step.Signed tokens) channel.old) }
-    ensures tested { let first = step_refusal tokens_of channel.old (Step.Signed tokens)
-        in MatchResult result (λ _. first ≡ None) (IsRefusal first) }
+    ensures tested { OkUnless result
+        (step_refusal tokens_of channel.old (Step.Signed tokens)) IsRefusal }
     ensures err { OnErr result (channel.new ≡ channel.old) }
 {
     let received = Message::CommitmentSigned(tokens);
@@ -89,8 +89,7 @@ fn take(channel: &mut Channel, step: Step) -> Result<Taken, ChannelError>
     ensures step { IfOk result (λ t. t.step ≡ step) }
     ensures message { IfOk result (λ t. cons_option t.message [] ≡ messages_of channel.old step) }
     ensures ok { IfOk result (λ _. channel.new ≡ stepped step channel.old) }
-    ensures tested { let first = step_refusal tokens_of channel.old step
-        in MatchResult result (λ _. first ≡ None) (IsRefusal first) }
+    ensures tested { OkUnless result (step_refusal tokens_of channel.old step) IsRefusal }
     ensures err { OnErr result (channel.new ≡ channel.old) }
 {
     match step {
@@ -170,8 +169,7 @@ impl OpenChannel {
         ensures ok { IfOk result (λ c. record { state = c; kept = []; closed = None }
             ≡ opened_by opening.now) }
         ensures new { IfOk result (λ c. c.secrets ≡ []) }
-        ensures tested { let first = token_refusal opening.now
-            in MatchResult result (λ _. first ≡ None) (IsOpenRefusal first) }
+        ensures tested { OkUnless result (token_refusal opening.now) IsOpenRefusal }
     {
         let signer = Signer::new(alloc, &opening.seed);
         match Channel::new(
@@ -199,8 +197,7 @@ impl OpenChannel {
         another: Option<&OpenChannel>,
     ) -> Result<OpenChannel, OpenError>
         ensures ok { IfOk result (λ ch. ch ≡ opened_by opening.now) }
-        ensures tested { let first = token_refusal opening.now
-            in MatchResult result (λ _. first ≡ None) (IsOpenRefusal first) }
+        ensures tested { OkUnless result (token_refusal opening.now) IsOpenRefusal }
     {
         let channel = match OpenChannel::channel_of(alloc, opening) {
             Ok(channel) => channel,
@@ -219,8 +216,7 @@ impl OpenChannel {
         ensures message { IfOk result (λ t. cons_option t.message []
             ≡ messages_of self.old.state step) }
         ensures ok { IfOk result (λ _. self.new ≡ with_state (stepped step) self.old) }
-        ensures tested { let first = book_step_refusal tokens_of self.old step
-            in MatchResult result (λ _. first ≡ None) (IsStepRefusal first) }
+        ensures tested { OkUnless result (book_step_refusal tokens_of self.old step) IsStepRefusal }
         ensures err { OnErr result (self.new ≡ self.old) }
     {
         if self.closed.is_some() && is_barred(&step) {
@@ -237,9 +233,8 @@ impl OpenChannel {
         ensures number { IfOk result (λ n. n ≡ length self.old.state.secrets) }
         ensures ok { IfOk result (λ _. self.new ≡ with_state
             (λ s. after s (RevokeAndAck secret next_point)) self.old) }
-        ensures tested { let first = receive_refusal tokens_of self.old.state
-            (RevokeAndAck secret next_point)
-            in MatchResult result (λ _. first ≡ None) (IsRefusal first) }
+        ensures tested { OkUnless result
+            (receive_refusal tokens_of self.old.state (RevokeAndAck secret next_point)) IsRefusal }
         ensures err { OnErr result (self.new ≡ self.old) }
     {
         match self.flags.reserve(1) {
@@ -260,8 +255,7 @@ impl OpenChannel {
 
     // Refuses to sign in a closed channel, while a signature awaits its revocation, or while penalties are missing.
     fn check_sign(&self) -> Result<(), SignError>
-        ensures { let first = early_sign_refusal self.now
-            in MatchResult result (λ _. first ≡ None) (λ e. first ≡ Some e) }
+        ensures { OkUnless result (early_sign_refusal self.now) IsFirst }
     {
         if self.closed.is_some() {
             return Err(SignError::ChannelClosed);
@@ -279,8 +273,7 @@ impl OpenChannel {
     pub(crate) fn sign(&mut self) -> Result<Message, SignError>
         ensures message { IfOk result (λ m. m ≡ signature_message tokens_of self.old.state) }
         ensures ok { IfOk result (λ _. self.new ≡ with_state after_sign self.old) }
-        ensures tested { let first = sign_refusal self.old
-            in MatchResult result (λ _. first ≡ None) (IsSignRefusal first) }
+        ensures tested { OkUnless result (sign_refusal self.old) IsSignRefusal }
         ensures err { OnErr result (self.new ≡ self.old) }
     {
         match self.check_sign() {
@@ -309,9 +302,9 @@ impl OpenChannel {
     /// Fills the claims of a batch with the channel's signer.
     pub(crate) fn release(&self, alloc: Global, batch: &Batch) -> Result<Filled, FillError>
         ensures ok { IfOk result (λ f. f ≡ filling_by batch.now) }
-        ensures tested { let first = fill_refusal batch.now.claims batch.now.outputs
-            (rights_of self.now.state) batch.now.preimages
-            in MatchResult result (λ _. first ≡ None) (IsFillRefusal first) }
+        ensures tested { OkUnless result
+            (fill_refusal batch.now.claims batch.now.outputs (rights_of self.now.state)
+            batch.now.preimages) IsFillRefusal }
     {
         filled(alloc, batch, self.channel.signer())
     }
@@ -324,9 +317,9 @@ impl OpenChannel {
     ) -> Result<FilledTwice, FillError>
         ensures ok { IfOk result (λ r. r.filled ≡ filling_by batch.now) }
         ensures copy { IfOk result (λ r. r.copy ≡ r.filled.tx) }
-        ensures tested { let first = fill_refusal batch.now.claims batch.now.outputs
-            (rights_of self.now.state) batch.now.preimages
-            in MatchResult result (λ _. first ≡ None) (IsFillRefusal first) }
+        ensures tested { OkUnless result
+            (fill_refusal batch.now.claims batch.now.outputs (rights_of self.now.state)
+            batch.now.preimages) IsFillRefusal }
     {
         let filled = match self.release(alloc, batch) {
             Ok(filled) => filled,
@@ -397,8 +390,7 @@ impl OpenChannel {
         state: Option<&RevokedState>,
     ) -> Result<(), KeepError>
         requires { ForSome state (λ s. AreClaimsOn (claimable_of s.now) claims.now) }
-        ensures tested { let first = keep_refusal self.now number claims.now
-            in MatchResult result (λ _. first ≡ None) (IsKeepRefusal first) }
+        ensures tested { OkUnless result (keep_refusal self.now number claims.now) IsKeepRefusal }
         ensures within { IfOk result (λ _. number < length self.now.state.secrets) }
     {
         let Some(is_kept) = self.flags.get(number as usize) else {
@@ -427,8 +419,7 @@ impl OpenChannel {
     ) -> Result<(), KeepError>
         requires { ForSome state (λ s. AreClaimsOn (claimable_of s.now) claims.now) }
         ensures ok { IfOk result (λ _. self.new ≡ with_kept number self.old) }
-        ensures tested { let first = keep_refusal self.old number claims.now
-            in MatchResult result (λ _. first ≡ None) (IsKeepRefusal first) }
+        ensures tested { OkUnless result (keep_refusal self.old number claims.now) IsKeepRefusal }
         ensures err { OnErr result (self.new ≡ self.old) }
     {
         match self.check_keep(alloc, number, claims, state) {

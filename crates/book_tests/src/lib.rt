@@ -1,4 +1,4 @@
-//! Tests of the libraries `json_value`, `texts`, `scenario` and `book`.
+//! Tests of the libraries `page`, `json_value`, `texts`, `scenario`, `book` and `book_dump`.
 //!
 //! They are in a crate of their own, so that the libraries are not proved again when a test changes. The examples of
 //! the libraries' pages are among them. What a book answers stands in tables of calls, which `pairs` plays row by row.
@@ -12,6 +12,8 @@ mod json_values;
 mod loaded_dumps;
 #[cfg(test)]
 mod made_calls;
+#[cfg(test)]
+mod pages;
 #[cfg(test)]
 mod pairs;
 #[cfg(test)]

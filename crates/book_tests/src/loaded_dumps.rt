@@ -1,10 +1,11 @@
 // Texts that are not a book's dump, and dumps written by hand.
 
 use crate::readings::read_all;
-use book::dumping::dump;
-use book::errors::LoadError;
-use book::loading::entry_of;
 use book::{Book, Entry};
+use book_dump::Dump;
+use book_dump::dumping::dump;
+use book_dump::errors::LoadError;
+use book_dump::loading::entry_of;
 use std::alloc::Global;
 use std::process::Abort;
 use texts::PlainDump;

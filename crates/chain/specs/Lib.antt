@@ -1,6 +1,7 @@
 pub mod Blocks
 pub mod Locks
 pub mod Refusals
+pub mod Given
 pub mod Running
 pub mod Checks
 pub mod Connecting

@@ -1,20 +1,18 @@
 //! Runs of the version 0 witness programs of outputs (BIP 141).
 
-ghost use Rattle.std.specs.Prelude.{◌≡◌, ◌==◌, ◌≤◌, length, drop, map, Some, None, IfOk, option_map, slice_get, reverse};
-ghost use Rattle.std.specs.Str.{bytes_eq};
-ghost use Rattle.script.specs.Run.{outcome};
-ghost use Rattle.sighash.specs.Programs.{key_hash_script, script_ops, spend_of, run_of, run_of_given, given_by_hash, given_of};
+ghost use Rattle.std.specs.Prelude.{◌≡◌, Some, slice_get};
+ghost use Rattle.sighash.specs.Programs.{script_ops, run_of, run_of_given};
 ghost use Rattle.chain.specs.Connecting.{is_program};
 ghost use Rattle.chain.specs.Running.{IsRun, IsParsed};
 
 use crate::errors::ChainError;
-use digest::sha256;
+use crate::given::given_of;
 use lists::ByteString;
 use machine::{Run, Stop, run};
 use script::{ParseError, Script, Spend};
 use sighash::SighashCache;
 use sighash::programs::{is_key_hash_program, is_script_hash_program};
-use std::alloc::{AllocError, Global};
+use std::alloc::Global;
 use tx::{Tx, TxIn, TxOut};
 
 /// Whether bytes are a version 0 witness program in one of its two forms.
@@ -22,17 +20,6 @@ pub(crate) fn is_program(program: &[u8]) -> bool
     ensures { result ≡ is_program program.now }
 {
     is_key_hash_program(program) || is_script_hash_program(program)
-}
-
-/// DUP HASH160 hash EQUALVERIFY CHECKSIG.
-fn key_hash_script(alloc: Global, hash: &[u8]) -> Result<Vec<u8>, AllocError>
-    ensures { IfOk result (λ s. s.items ≡ key_hash_script hash.now) }
-{
-    let mut script = Vec::new(alloc);
-    script.extend_from_slice(&[0x76, 0xa9, 0x14])?;
-    script.extend_from_slice(hash)?;
-    script.extend_from_slice(&[0x88, 0xac])?;
-    Ok(script)
 }
 
 /// Reads a script; `BadProgram` where the bytes are not one.
@@ -85,7 +72,7 @@ fn run_script(
 /// Runs the program of an output on the witness of the input that spends it (BIP 141). `index` is the index of that input, and `cache`
 /// is the cache of its transaction, so what the digests of its inputs share is hashed once. The error is `BadProgram` where the program
 /// is not of version 0, or the witness or its script does not have the program's form; `Script` where the script stops.
-#[tactic(auto, unfolding(sighash::specs::Programs::run_of, sighash::specs::Programs::given_of))]
+#[tactic(auto, unfolding(sighash::specs::Programs::run_of))]
 pub fn run_program(
     alloc: Global,
     tx: &Tx,
@@ -99,33 +86,17 @@ pub fn run_program(
     ensures { IsRun (run_of tx.now input.now output.now) result }
 {
     let program = output.script().bytes();
-    let witness = input.witness.as_slice();
-    if is_key_hash_program(program) {
-        if witness.len() != 2 {
-            return Err(ChainError::BadProgram);
-        }
-        let script = key_hash_script(alloc, &program[2..])?;
-        let code = script.as_slice();
-        return run_script(
-            alloc,
-            tx,
-            cache,
-            index,
-            input,
-            output.value(),
-            code,
-            witness,
-        );
-    }
-    if !is_script_hash_program(program) {
-        return Err(ChainError::BadProgram);
-    }
-    let Some((script, items)) = witness.split_last() else {
+    let Ok(given) = given_of(alloc, program, input.witness.as_slice())? else {
         return Err(ChainError::BadProgram);
     };
-    let code = script.bytes();
-    if sha256(code).as_slice() != &program[2..] {
-        return Err(ChainError::BadProgram);
-    }
-    run_script(alloc, tx, cache, index, input, output.value(), code, items)
+    run_script(
+        alloc,
+        tx,
+        cache,
+        index,
+        input,
+        output.value(),
+        given.script(),
+        given.items(),
+    )
 }

@@ -11,6 +11,8 @@ mod fixtures;
 #[cfg(test)]
 mod offers;
 #[cfg(test)]
+mod programs;
+#[cfg(test)]
 mod rows;
 #[cfg(test)]
 mod shown;

@@ -81,7 +81,7 @@ impl Channel {
     ghost use Rattle.std.specs.List.{cons_option};
     ghost use Rattle.updates.specs.declared.changes.Update.TheVariants.{Add, Fulfil, Fail, Fee};
     ghost use Rattle.updates.specs.declared.errors.ChannelError.TheVariants.{NoMemory};
-    ghost use Rattle.updates.specs.Refusals.{first_refusal, IsRefusal};
+    ghost use Rattle.updates.specs.Refusals.{first_refusal, IsRefusal, OkUnless};
     ghost use Rattle.updates.specs.Steady.{next_htlc};
     ghost use Rattle.channel.specs.declared.messages.Message.TheVariants.{Updated, CommitmentSigned, RevokeAndAck};
     ghost use Rattle.channel.specs.declared.limits.TheConstants.{LAST_NUMBER as last_number};
@@ -109,8 +109,8 @@ impl Channel {
         requires { CanOpen terms side signer }
         ensures ok { IfOk result (λ c. c ≡ state_at_opening terms side signer.seed first_point
             next_point) }
-        ensures tested { let first = first_refusal (opening_tests terms side signer.seed token.now)
-            in MatchResult result (λ _. first ≡ None) (IsRefusal first) }
+        ensures tested { OkUnless result
+            (first_refusal (opening_tests terms side signer.seed token.now)) IsRefusal }
     {
         let first = match first_commitments(alloc, terms, side, &signer, first_point, token) {
             Ok(first) => first,
@@ -255,9 +255,9 @@ impl Channel {
             (Add (next_htlc self.old.held.own amount hash expiry))) }
         ensures ok { IfOk result (λ _. self.new ≡ after_update
             (Add (next_htlc self.old.held.own amount hash expiry)) self.old) }
-        ensures tested { let first = update_refusal self.old
-            (Add (next_htlc self.old.held.own amount hash expiry))
-            in MatchResult result (λ _. first ≡ None) (IsRefusal first) }
+        ensures tested { OkUnless result
+            (update_refusal self.old (Add (next_htlc self.old.held.own amount hash expiry)))
+            IsRefusal }
         ensures err { OnErr result (self.new ≡ self.old) }
     {
         match self.ledger.offer(amount, hash, expiry) {
@@ -271,8 +271,7 @@ impl Channel {
     pub fn fulfil(&mut self, id: u64, preimage: [u8; 32]) -> Result<Message, ChannelError>
         ensures message { IfOk result (λ m. m ≡ Updated (Fulfil id preimage)) }
         ensures ok { IfOk result (λ _. self.new ≡ after_update (Fulfil id preimage) self.old) }
-        ensures tested { let first = update_refusal self.old (Fulfil id preimage)
-            in MatchResult result (λ _. first ≡ None) (IsRefusal first) }
+        ensures tested { OkUnless result (update_refusal self.old (Fulfil id preimage)) IsRefusal }
         ensures err { OnErr result (self.new ≡ self.old) }
     {
         match self.ledger.fulfil(id, preimage) {
@@ -285,8 +284,7 @@ impl Channel {
     pub fn fail(&mut self, id: u64) -> Result<Message, ChannelError>
         ensures message { IfOk result (λ m. m ≡ Updated (Fail id)) }
         ensures ok { IfOk result (λ _. self.new ≡ after_update (Fail id) self.old) }
-        ensures tested { let first = update_refusal self.old (Fail id)
-            in MatchResult result (λ _. first ≡ None) (IsRefusal first) }
+        ensures tested { OkUnless result (update_refusal self.old (Fail id)) IsRefusal }
         ensures err { OnErr result (self.new ≡ self.old) }
     {
         match self.ledger.fail(id) {
@@ -300,8 +298,7 @@ impl Channel {
     pub fn set_fee(&mut self, rate: u32) -> Result<Message, ChannelError>
         ensures message { IfOk result (λ m. m ≡ Updated (Fee rate)) }
         ensures ok { IfOk result (λ _. self.new ≡ after_update (Fee rate) self.old) }
-        ensures tested { let first = update_refusal self.old (Fee rate)
-            in MatchResult result (λ _. first ≡ None) (IsRefusal first) }
+        ensures tested { OkUnless result (update_refusal self.old (Fee rate)) IsRefusal }
         ensures err { OnErr result (self.new ≡ self.old) }
     {
         match self.ledger.set_fee(rate) {
@@ -316,8 +313,8 @@ impl Channel {
         ensures message { IfOk result (λ m. m ≡ Updated (update_of self.old update.now)) }
         ensures ok { IfOk result (λ _. self.new ≡ after_update
             (update_of self.old update.now) self.old) }
-        ensures tested { let first = update_refusal self.old (update_of self.old update.now)
-            in MatchResult result (λ _. first ≡ None) (IsRefusal first) }
+        ensures tested { OkUnless result
+            (update_refusal self.old (update_of self.old update.now)) IsRefusal }
         ensures err { OnErr result (self.new ≡ self.old) }
     {
         match update {
@@ -458,9 +455,8 @@ impl Channel {
         ensures ok { IfOk result (λ n. n.commitment ≡ own_next self.now) }
         ensures kept { IfOk result (λ n. n.tokens
             ≡ tokens_of self.now.held.terms (own_next self.now)) }
-        ensures tested { let first = receive_refusal tokens_of self.now
-            (CommitmentSigned tokens.now) in MatchResult result (λ _. first ≡ None)
-            (IsRefusal first) }
+        ensures tested { OkUnless result
+            (receive_refusal tokens_of self.now (CommitmentSigned tokens.now)) IsRefusal }
         ensures sound { IfOk result (λ _. IsSoundIn self.now.held self.now.held.own.past_receiver
             self.now.held.theirs.known) }
         ensures below { IfOk result (λ _. self.now.number < last_number) }
@@ -494,9 +490,8 @@ impl Channel {
         ensures answer { IfOk result (λ m. m ∷ [] ≡ answers self.old
             (CommitmentSigned tokens.now)) }
         ensures ok { IfOk result (λ _. self.new ≡ after self.old (CommitmentSigned tokens.now)) }
-        ensures tested { let first = receive_refusal tokens_of self.old
-            (CommitmentSigned tokens.now) in MatchResult result (λ _. first ≡ None)
-            (IsRefusal first) }
+        ensures tested { OkUnless result
+            (receive_refusal tokens_of self.old (CommitmentSigned tokens.now)) IsRefusal }
         ensures err { OnErr result (self.new ≡ self.old) }
     {
         let next = match self.check_signature(tokens) {
@@ -532,9 +527,8 @@ impl Channel {
     ) -> Result<(), ChannelError>
         ensures ok { IfOk result (λ _. self.new ≡ after self.old
             (RevokeAndAck secret.now next_point.now)) }
-        ensures tested { let first = receive_refusal tokens_of self.old
-            (RevokeAndAck secret.now next_point.now)
-            in MatchResult result (λ _. first ≡ None) (IsRefusal first) }
+        ensures tested { OkUnless result
+            (receive_refusal tokens_of self.old (RevokeAndAck secret.now next_point.now)) IsRefusal }
         ensures err { OnErr result (self.new ≡ self.old) }
     {
         if !self.awaiting {
@@ -570,8 +564,8 @@ impl Channel {
     pub fn receive(&mut self, message: &Message) -> Result<Option<Message>, ChannelError>
         ensures answer { IfOk result (λ m. cons_option m [] ≡ answers self.old message.now) }
         ensures ok { IfOk result (λ _. self.new ≡ after self.old message.now) }
-        ensures tested { let first = receive_refusal tokens_of self.old message.now
-            in MatchResult result (λ _. first ≡ None) (IsRefusal first) }
+        ensures tested { OkUnless result
+            (receive_refusal tokens_of self.old message.now) IsRefusal }
         ensures err { OnErr result (self.new ≡ self.old) }
     {
         match message {

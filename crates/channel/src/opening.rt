@@ -1,12 +1,12 @@
 //! What a side gives its peer when a channel opens.
 
-ghost use Rattle.std.specs.Prelude.{◌≡◌, ◌^◌, ◌<◌, [], ◌∷◌, None, IfOk, IfErr, MatchResult, not};
+ghost use Rattle.std.specs.Prelude.{◌≡◌, ◌^◌, ◌<◌, [], ◌∷◌, IfOk, IfErr, not};
 ghost use Rattle.std.specs.Str.{bytes_eq};
 ghost use Rattle.updates.specs.declared.errors.ChannelError.TheVariants.{NoMemory, BadSignature};
 ghost use Rattle.terms.specs.Sides.{other};
 ghost use Rattle.channel.specs.Points.{secret_at, point_at};
 ghost use Rattle.channel.specs.States.{first_of};
-ghost use Rattle.updates.specs.Refusals.{first_refusal, IsRefusal};
+ghost use Rattle.updates.specs.Refusals.{first_refusal, IsRefusal, OkUnless};
 ghost use Rattle.channel.specs.Tokens.{peer_tokens, opening_tests, IsBuilt};
 ghost use Rattle.terms.specs.Agreement.{party};
 ghost use Rattle.keys.specs.declared.bases.Base.TheVariants.{Funding};
@@ -150,9 +150,11 @@ fn tokens_by_peer(
 ) -> Result<Tokens, ChannelError>
     requires { IsBuilt terms.now commitment.now }
     ensures ok { IfOk result (λ t. t ≡ peer_tokens terms.now commitment.now) }
-    ensures tested { let first = first_refusal
-        ((not (bytes_eq token.now (peer_tokens terms.now commitment.now).commitment), BadSignature)
-        ∷ []) in MatchResult result (λ _. first ≡ None) (IsRefusal first) }
+    ensures tested { OkUnless result
+        (first_refusal ((
+          not (bytes_eq token.now (peer_tokens terms.now commitment.now).commitment),
+          BadSignature,
+        ) ∷ [])) IsRefusal }
 {
     match peer_tokens(alloc, terms, commitment) {
         Ok(expected) => {
@@ -196,8 +198,8 @@ fn first_of_own(
         ∷ []) }
     ensures tokens { IfOk result (λ f. f.tokens.items ≡ peer_tokens terms
         (first_of terms side (point_at signer.now.seed 0)) ∷ []) }
-    ensures tested { let first = first_refusal (opening_tests terms side signer.now.seed token.now)
-        in MatchResult result (λ _. first ≡ None) (IsRefusal first) }
+    ensures tested { OkUnless result
+        (first_refusal (opening_tests terms side signer.now.seed token.now)) IsRefusal }
 {
     let first = match first_commitment(alloc, terms, side, own_point(signer, 0)) {
         Ok(first) => first,
@@ -241,8 +243,8 @@ pub(crate) fn first_commitments(
     ensures tokens { IfOk result (λ f. f.own.tokens.items ≡ peer_tokens terms
         (first_of terms side (point_at signer.now.seed 0)) ∷ []) }
     ensures signed { IfOk result (λ f. f.signed.items ≡ first_of terms (other side) peers ∷ []) }
-    ensures tested { let first = first_refusal (opening_tests terms side signer.now.seed token.now)
-        in MatchResult result (λ _. first ≡ None) (IsRefusal first) }
+    ensures tested { OkUnless result
+        (first_refusal (opening_tests terms side signer.now.seed token.now)) IsRefusal }
 {
     let own = match first_of_own(alloc, terms, side, signer, token) {
         Ok(own) => own,

@@ -136,7 +136,7 @@ fn output(commitment: &Commitment, index: usize) -> (u64, u32) {
     }
 }
 
-fn second_stage_id(rt: &impl Abort, alloc: Global, commitment: &Commitment, k: usize) -> [u8; 32] {
+fn htlc_tx_id(rt: &impl Abort, alloc: Global, commitment: &Commitment, k: usize) -> [u8; 32] {
     match htlc_tx(alloc, commitment, k).expect(rt, "memory") {
         None => [0; 32],
         Some(tx) => txid(&tx),
@@ -164,10 +164,10 @@ fn has_ids(rt: &impl Abort, alloc: Global, commitment: &Commitment) {
     let id = "395f37e01fda6d719ec41fe55cdbd9dfafcb43d0976636c37be009e40d28c612";
     assert!(rt; is_hash(commitment.id(), id));
     let first = "bab59d72d6c40e7b02e7438f8746940e5f40a9397c8a9fd389241844c9122606";
-    assert!(rt; is_hash(&second_stage_id(rt, alloc, commitment, 0), first));
+    assert!(rt; is_hash(&htlc_tx_id(rt, alloc, commitment, 0), first));
     let second = "512833bad453897424bfdffcd5ee2bff11e006bc1994e422d0bb0627a2751666";
-    assert!(rt; is_hash(&second_stage_id(rt, alloc, commitment, 1), second));
-    assert!(rt; second_stage_id(rt, alloc, commitment, 4) == [0; 32]);
+    assert!(rt; is_hash(&htlc_tx_id(rt, alloc, commitment, 1), second));
+    assert!(rt; htlc_tx_id(rt, alloc, commitment, 4) == [0; 32]);
 }
 
 // The digests that its peer signs, of the same model.

@@ -8,7 +8,7 @@ use Rattle.script.specs.declared.spending.Spend.{Spend}
 use Rattle.script.specs.declared.stops.Cause.{Cause}
 use Rattle.script.specs.declared.stops.Cause.TheVariants.{ItemTooLong, FalseEnd, NotOneValue, OpenBranch, TooManyOps, StackTooTall}
 use Rattle.script.specs.Step.{Elements, Effect, effect, truth, result_if, ◌>>=◌}
-use Rattle.script.specs.Run.{RunState, weight, jump_length, open_ifs_after, state_after_effect, state_after_skip_or_run, state_after, Outcome, Clean, Stopped, onward, at_end, outcome_from, start, is_long, outcome}
+use Rattle.script.specs.Run.{RunState, op_count, jump_length, open_ifs_after, state_after_effect, state_after_skip_or_run, state_after, Outcome, Clean, Stopped, onward, at_end, outcome_from, start, is_long, outcome}
 
 no_stop : (at : ℕ) (c : Cause) (n k : ℕ) → Stopped at c ≡ Clean n k → ⊥
 no_stop at c n k e = cc
@@ -45,10 +45,10 @@ skip-grows spend op rest zero p q counted ifs e =
 state-grows : (spend : Spend) (op : Op) (rest : List Op) (p q : RunState) → state_after spend op rest p ≡ Ok q → p.height ≤ q.height
 unfolding state_after
 state-grows spend op rest p q e =
-    let go = state_after_skip_or_run spend op rest p.ahead p (p.counted + weight op) in
-    let a = ok_if (nat_le (p.counted + weight op) 201) TooManyOps (open_ifs_after op p.open_ifs >>= go) q e in
+    let go = state_after_skip_or_run spend op rest p.ahead p (p.counted + op_count op) in
+    let a = ok_if (nat_le (p.counted + op_count op) 201) TooManyOps (open_ifs_after op p.open_ifs >>= go) q e in
     let r = ok_then (open_ifs_after op p.open_ifs) go q a in
-    skip-grows spend op rest p.ahead p q (p.counted + weight op) r.0 r.1
+    skip-grows spend op rest p.ahead p q (p.counted + op_count op) r.0 r.1
 
 end_by : (b : Bool) (at counted height n k : ℕ) → (if b then Clean counted height else Stopped at FalseEnd) ≡ Clean n k → height ≤ k
 end_by true at counted height n k e = let s : height ≡ k = cc in omega arith

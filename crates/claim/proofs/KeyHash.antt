@@ -18,7 +18,7 @@ use Rattle.digest.specs.Hash.{hash160}
 use Rattle.std.specs.Str.{bytes_eq}
 use Rattle.script.specs.Spelling.{IsOp, spelling}
 use Rattle.script.specs.Step.{Elements, Effect, effect, flag, result_if, ◌>>=◌}
-use Rattle.script.specs.Run.{RunState, weight, jump_length, open_ifs_after, state_after_effect, state_after_skip_or_run, state_after, Outcome, Clean, Stopped, onward, outcome_from, start, is_long, outcome}
+use Rattle.script.specs.Run.{RunState, op_count, jump_length, open_ifs_after, state_after_effect, state_after_skip_or_run, state_after, Outcome, Clean, Stopped, onward, outcome_from, start, is_long, outcome}
 use Rattle.sighash.specs.Programs.{script_ops, key_hash_script}
 use Rattle.claim.specs.Judgement.{is_key_program}
 use Rattle.sighash.proofs.Parsing.{parsed_spelling}
@@ -61,19 +61,19 @@ after-ok rest counted height (Ok d) t q l e =
     let found = l d refl in
     inner _ q same ∙ ap (λ (f : Effect). record { ahead = jump_length f.jump rest; stack = f.stack; counted = counted + f.keys; open_ifs = []; height = max height (length f.stack) }) found
 
-state-ok : (spend : Spend) (op : Op) (rest : List Op) (s t : Elements) (counted height : ℕ) (q : RunState) → open_ifs_after op [] ≡ Ok [] → Leaves (effect spend (counted + weight op) op s) t → state_after spend op rest (at_state s counted height) ≡ Ok q → q ≡ at_state t (counted + weight op + 0) (max height (length t))
+state-ok : (spend : Spend) (op : Op) (rest : List Op) (s t : Elements) (counted height : ℕ) (q : RunState) → open_ifs_after op [] ≡ Ok [] → Leaves (effect spend (counted + op_count op) op s) t → state_after spend op rest (at_state s counted height) ≡ Ok q → q ≡ at_state t (counted + op_count op + 0) (max height (length t))
 unfolding state_after
 state-ok spend op rest s t counted height q o l e =
-    let go = state_after_skip_or_run spend op rest 0 (at_state s counted height) (counted + weight op) in
-    let a = ok_if (nat_le (counted + weight op) 201) TooManyOps (open_ifs_after op [] >>= go) q e in
+    let go = state_after_skip_or_run spend op rest 0 (at_state s counted height) (counted + op_count op) in
+    let a = ok_if (nat_le (counted + op_count op) 201) TooManyOps (open_ifs_after op [] >>= go) q e in
     let b : go [] ≡ Ok q = sym (ap (λ r. r >>= go) o) ∙ a in
-    after-ok rest (counted + weight op) height (effect spend (counted + weight op) op s) t q l b
+    after-ok rest (counted + op_count op) height (effect spend (counted + op_count op) op s) t q l b
 
 -- a clean run goes on after an opcode that leaves these elements
-step : (spend : Spend) (at : ℕ) (op : Op) (rest : List Op) (s t : Elements) (counted height n k : ℕ) → open_ifs_after op [] ≡ Ok [] → Leaves (effect spend (counted + weight op) op s) t → outcome_from spend at (op ∷ rest) (at_state s counted height) ≡ Clean n k → (c : ℕ) × (h : ℕ) × (outcome_from spend (at + 1) rest (at_state t c h) ≡ Clean n k)
+step : (spend : Spend) (at : ℕ) (op : Op) (rest : List Op) (s t : Elements) (counted height n k : ℕ) → open_ifs_after op [] ≡ Ok [] → Leaves (effect spend (counted + op_count op) op s) t → outcome_from spend at (op ∷ rest) (at_state s counted height) ≡ Clean n k → (c : ℕ) × (h : ℕ) × (outcome_from spend (at + 1) rest (at_state t c h) ≡ Clean n k)
 step spend at op rest s t counted height n k o l e =
     let r = onward-ok at (state_after spend op rest (at_state s counted height)) (outcome_from spend (at + 1) rest) n k e in
-    (counted + weight op + 0, max height (length t), ap (outcome_from spend (at + 1) rest) (sym (state-ok spend op rest s t counted height r.0 o l r.1)) ∙ r.2)
+    (counted + op_count op + 0, max height (length t), ap (outcome_from spend (at + 1) rest) (sym (state-ok spend op rest s t counted height r.0 o l r.1)) ∙ r.2)
 
 signed : (a b : Bool) (c d : Cause) (x : List ℕ) (s : Elements) → Leaves (result_if a c (result_if b d (Ok (record { jump = Next; stack = x ∷ s; keys = 0 })))) (x ∷ s)
 signed a b c d x s e f = inner _ e (ok_if b d _ e (ok_if a c _ e f))

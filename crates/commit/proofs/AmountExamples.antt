@@ -12,7 +12,7 @@ use Rattle.tx.specs.Fields.{Transaction}
 use Rattle.commit.specs.Amounts.{amounts_of}
 use Rattle.commit.specs.Outputs.{outputs_of}
 use Rattle.commit.specs.Order.{in_order, output_cmp}
-use Rattle.commit.specs.Commitments.{Contents, commitment_of, htlcs_from, htlc_transaction_of, second_stage_of}
+use Rattle.commit.specs.Commitments.{Contents, commitment_of, htlcs_from, htlc_tx_at, htlc_tx_of}
 
 -- the terms of these examples: A opened the channel
 module _ (funding : OutPoint) (bases : BaseKeys) where
@@ -97,7 +97,7 @@ module _ (funding : OutPoint) (bases : BaseKeys) where
   values (Some t) = map (λ o. o.value) t.outputs
 
   -- HTLC-timeout and HTLC-success pay the view's feerate: 3,315 and 3,515 satoshis at 5,000, and 818 and 867 at 1,234
-  second_stages : (point : List ℕ) → (map (λ k. values (htlc_transaction_of (at_feerate 5000 point) k)) (0 ∷ 1 ∷ 2 ∷ []) ≡ (6685 ∷ []) ∷ (8485 ∷ []) ∷ [] ∷ [])
-      × (map (λ k. values (htlc_transaction_of (at_feerate 1234 point) k)) (0 ∷ 1 ∷ 2 ∷ []) ≡ (9182 ∷ []) ∷ (11133 ∷ []) ∷ [] ∷ [])
-  unfolding commitment_of outputs_of in_order output_cmp htlcs_from htlc_transaction_of second_stage_of
+  second_stages : (point : List ℕ) → (map (λ k. values (htlc_tx_at (at_feerate 5000 point) k)) (0 ∷ 1 ∷ 2 ∷ []) ≡ (6685 ∷ []) ∷ (8485 ∷ []) ∷ [] ∷ [])
+      × (map (λ k. values (htlc_tx_at (at_feerate 1234 point) k)) (0 ∷ 1 ∷ 2 ∷ []) ≡ (9182 ∷ []) ∷ (11133 ∷ []) ∷ [] ∷ [])
+  unfolding commitment_of outputs_of in_order output_cmp htlcs_from htlc_tx_at htlc_tx_of
   second_stages point = (refl, refl)

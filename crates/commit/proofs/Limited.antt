@@ -18,7 +18,7 @@ use Rattle.commit.specs.declared.outputs.OutputKind.{OutputKind}
 use Rattle.commit.specs.declared.outputs.OutputKind.TheVariants.{ToLocal, ToRemote, ToHtlc}
 use Rattle.commit.specs.declared.outputs.CommitmentOutput.{CommitmentOutput}
 use Rattle.commit.specs.Keys.{KeyBytes}
-use Rattle.commit.specs.Commitments.{Contents, spending, tx_output, transaction_of, id_of, htlc_at, htlcs_from, lock_time_of, second_stage_of, IsHtlcOf, IsOutputOf}
+use Rattle.commit.specs.Commitments.{Contents, spending, tx_output, transaction_of, id_of, htlc_at, htlcs_from, lock_time_of, htlc_tx_of, IsHtlcOf, IsOutputOf}
 
 err_ok : {A E : Type 0} (e : E) (x : A) (r : Result A E) → r ≡ Err e → r ≡ Ok x → ⊥
 err_ok e x r h k = cc
@@ -71,6 +71,6 @@ low_htlcs k i (o ∷ os) a =
 pub second_stage_is : (c : Contents) (h : HtlcOutput) (id program : List ℕ) (value lock_time : ℕ) (outputs : List Output)
     → id ≡ id_of c → program ≡ script_hash_program (to_local_script c.delay c.keys) → value ≡ satoshis_of h.htlc.amount - fee_of (htlc_weight h.direction) c.feerate
     → outputs ≡ record { value = value; script = program } ∷ [] → lock_time ≡ lock_time_of h.direction h.htlc
-    → spending (record { txid = id; index = h.index }) 0 outputs lock_time ≡ second_stage_of c h
-unfolding second_stage_of
+    → spending (record { txid = id; index = h.index }) 0 outputs lock_time ≡ htlc_tx_of c h
+unfolding htlc_tx_of
 second_stage_is c h id program value lock_time outputs a b d e f = rw (e, a, b, d, f) refl

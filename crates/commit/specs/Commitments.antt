@@ -85,20 +85,20 @@ lock_time_of Offered h = h.expiry
 lock_time_of Received h = 0
 
 -- the output of an HTLC transaction: the HTLC's satoshis less the fee, in the form of to_local
-abbrev pub second_stage_output : Contents → HtlcOutput → Output
-second_stage_output c h = record {
+abbrev pub htlc_tx_output : Contents → HtlcOutput → Output
+htlc_tx_output c h = record {
   value = satoshis_of h.htlc.amount - fee_of (htlc_weight h.direction) c.feerate;
   script = script_hash_program (to_local_script c.delay c.keys);
 }
 
 -- the HTLC transaction of an HTLC's output
-unfoldable pub second_stage_of : Contents → HtlcOutput → Transaction
-second_stage_of c h = spending (record { txid = id_of c; index = h.index }) 0
-    (second_stage_output c h ∷ []) (lock_time_of h.direction h.htlc)
+unfoldable pub htlc_tx_of : Contents → HtlcOutput → Transaction
+htlc_tx_of c h = spending (record { txid = id_of c; index = h.index }) 0
+    (htlc_tx_output c h ∷ []) (lock_time_of h.direction h.htlc)
 
 -- the HTLC transaction of the k-th untrimmed HTLC in the order of outputs, from 0, if there is one
-unfoldable pub htlc_transaction_of : Contents → ℕ → Option Transaction
-htlc_transaction_of c k = option_map (second_stage_of c) (slice_get (htlcs_of c) k)
+unfoldable pub htlc_tx_at : Contents → ℕ → Option Transaction
+htlc_tx_at c k = option_map (htlc_tx_of c) (slice_get (htlcs_of c) k)
 
 -- an HTLC output has the HTLC's satoshis and its script
 abbrev pub IsHtlcOf : KeyBytes → CommitmentOutput → OutputKind → Type 0

@@ -14,7 +14,7 @@ use Rattle.terms.specs.Sides.{other}
 use Rattle.commit.specs.declared.outputs.HtlcOutput.{HtlcOutput}
 use Rattle.commit.specs.Fees.{satoshis_of}
 use Rattle.commit.specs.Outputs.{htlc_script}
-use Rattle.commit.specs.Commitments.{Contents, transaction_of, id_of, htlcs_of, second_stage_of}
+use Rattle.commit.specs.Commitments.{Contents, transaction_of, id_of, htlcs_of, htlc_tx_of}
 
 -- the script of the funding output
 unfoldable pub funding_script : Terms → List ℕ
@@ -31,7 +31,7 @@ commitment_digest terms c = sha256d (signed_list (transaction_of c)
 
 -- the digest of an HTLC transaction, over the script and the value of the output that it spends
 unfoldable pub htlc_digest : Contents → HtlcOutput → List ℕ
-htlc_digest c h = sha256d (signed_list (second_stage_of c h)
+htlc_digest c h = sha256d (signed_list (htlc_tx_of c h)
     (input_of (record { txid = id_of c; index = h.index }) 0)
     (htlc_script c.keys h.direction h.htlc) (satoshis_of h.htlc.amount))
 

@@ -6,7 +6,7 @@ ghost use Rattle.tx.specs.declared.limits.TheConstants.{MAX_OUTPUTS as max_outpu
 ghost use Rattle.commit.specs.Keys.{bytes_of};
 ghost use Rattle.sighash.specs.Programs.{script_hash_program as script_hash_program_of};
 ghost use Rattle.commit.specs.Outputs.{to_local_script as to_local_script_of};
-ghost use Rattle.commit.specs.Commitments.{IsTxOutput, tx_output, spending, htlc_at, htlcs_from, lock_time_of, htlc_transaction_of};
+ghost use Rattle.commit.specs.Commitments.{IsTxOutput, tx_output, spending, htlc_at, htlcs_from, lock_time_of, htlc_tx_at};
 
 use crate::derived::CommitmentKeys;
 use crate::fees::{Direction, htlc_fee, satoshis};
@@ -195,7 +195,7 @@ impl Commitment {
     ghost use Rattle.std.specs.Prelude.{◌≡◌, ◌≤◌, IfOk, length};
     ghost use Rattle.std.specs.List.{All};
     ghost use Rattle.tx.specs.declared.limits.TheConstants.{MAX_VALUE as max_value, MAX_OUTPUTS as max_outputs};
-    ghost use Rattle.commit.specs.Commitments.{Contents, IsOutputOf, transaction_of, id_of, htlcs_of, second_stage_of};
+    ghost use Rattle.commit.specs.Commitments.{Contents, IsOutputOf, transaction_of, id_of, htlcs_of, htlc_tx_of};
     ghost use Rattle.commit.specs.Keys.{bytes_of};
     ghost use Rattle.commit.specs.Fees.{satoshis_of};
 
@@ -305,9 +305,9 @@ impl Commitment {
     }
 
     // The HTLC transaction of an HTLC's output.
-    pub(crate) fn second_stage(&self, alloc: Global, htlc: &HtlcOutput) -> Result<Tx, AllocError>
+    pub(crate) fn htlc_tx_of(&self, alloc: Global, htlc: &HtlcOutput) -> Result<Tx, AllocError>
         requires { satoshis_of htlc.now.htlc.amount ≤ max_value }
-        ensures { IfOk result (λ t. t ≡ second_stage_of self.now htlc.now) }
+        ensures { IfOk result (λ t. t ≡ htlc_tx_of self.now htlc.now) }
     {
         let fee = htlc_fee(htlc.direction, self.feerate);
         let value = satoshis(htlc.htlc.amount).saturating_sub(fee);
@@ -343,12 +343,12 @@ fn lock_time(direction: Direction, htlc: &Htlc) -> u32
 
 /// The unsigned HTLC transaction of the commitment's `k`-th HTLC in the order of outputs, from 0 (BOLT 3, "HTLC-Timeout and HTLC-Success
 /// Transactions"). `None` if there is no such HTLC. The only error is that memory ran out.
-#[tactic(auto, unfolding(crate::specs::Commitments::htlc_transaction_of))]
+#[tactic(auto, unfolding(crate::specs::Commitments::htlc_tx_at))]
 pub fn htlc_tx(alloc: Global, commitment: &Commitment, k: usize) -> Result<Option<Tx>, AllocError>
-    ensures { IfOk result (λ t. t ≡ htlc_transaction_of commitment.now k) }
+    ensures { IfOk result (λ t. t ≡ htlc_tx_at commitment.now k) }
 {
     match commitment.htlcs().get(k) {
         None => Ok(None),
-        Some(htlc) => Ok(Some(commitment.second_stage(alloc, htlc)?)),
+        Some(htlc) => Ok(Some(commitment.htlc_tx_of(alloc, htlc)?)),
     }
 }

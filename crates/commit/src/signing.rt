@@ -66,7 +66,7 @@ fn commitment_digest(
 }
 
 // The digest of the HTLC transaction of an output with this script.
-#[tactic(auto, unfolding(crate::specs::Signing::htlc_digest, crate::specs::Commitments::second_stage_of))]
+#[tactic(auto, unfolding(crate::specs::Signing::htlc_digest, crate::specs::Commitments::htlc_tx_of))]
 fn htlc_digest(
     alloc: Global,
     commitment: &Commitment,
@@ -78,7 +78,7 @@ fn htlc_digest(
         htlc.now.htlc }
     ensures { IfOk result (λ d. d ≡ htlc_digest_of commitment.now htlc.now) }
 {
-    let tx = commitment.second_stage(alloc, htlc)?;
+    let tx = commitment.htlc_tx_of(alloc, htlc)?;
     match digest_of(&tx, 0, script, satoshis(htlc.htlc.amount)) {
         Ok(digest) => Ok(digest),
         Err(_) => unreachable!(),

@@ -3,6 +3,7 @@
 use anyhow::Result;
 use book::errors::{SignError, StepError};
 use book::{Book, Step};
+use book_dump::Dump;
 use book_peers::{offer, open_side};
 use channel::Message;
 use penalty::penalties;

@@ -6,7 +6,7 @@ use Rattle.script.specs.declared.spending.Spend.{Spend}
 use Rattle.script.specs.declared.stops.Cause.{Cause}
 use Rattle.script.specs.declared.stops.Cause.TheVariants.{TooManyOps}
 use Rattle.script.specs.Step.{effect, result_if, ◌>>=◌}
-use Rattle.script.specs.Run.{RunState, weight, open_ifs_after, state_after_effect, state_after_skip_or_run, state_after}
+use Rattle.script.specs.Run.{RunState, op_count, open_ifs_after, state_after_effect, state_after_skip_or_run, state_after}
 use Rattle.machine.specs.declared.halts.Halt.{Halt}
 use Rattle.machine.specs.declared.halts.Halt.TheVariants.{NoMemory, Stop}
 use Rattle.machine.specs.Doings.{IfStop}
@@ -22,28 +22,28 @@ result_if-false true c r e = absurd (cc)
 result_if-false false c r e = refl
 
 module _ (spend : Spend) (op : Op) (rest : List Op) (p : RunState) where
-  pub past_many : 201 < p.counted + weight op → state_after spend op rest p ≡ Err TooManyOps
+  pub past_many : 201 < p.counted + op_count op → state_after spend op rest p ≡ Err TooManyOps
   unfolding state_after
-  past_many l = result_if-false (leb (p.counted + weight op) 201) TooManyOps _ (lt-leb _ 201 l)
+  past_many l = result_if-false (leb (p.counted + op_count op) 201) TooManyOps _ (lt-leb _ 201 l)
 
-  past_few : p.counted + weight op ≤ 201 → state_after spend op rest p ≡ (open_ifs_after op p.open_ifs >>= state_after_skip_or_run spend op rest p.ahead p (p.counted + weight op))
+  past_few : p.counted + op_count op ≤ 201 → state_after spend op rest p ≡ (open_ifs_after op p.open_ifs >>= state_after_skip_or_run spend op rest p.ahead p (p.counted + op_count op))
   unfolding state_after
-  past_few l = result_if-true (leb (p.counted + weight op) 201) TooManyOps _ (le-leb _ 201 l)
+  past_few l = result_if-true (leb (p.counted + op_count op) 201) TooManyOps _ (le-leb _ 201 l)
 
-  past_refused : (c : Cause) → p.counted + weight op ≤ 201 → open_ifs_after op p.open_ifs ≡ Err c → state_after spend op rest p ≡ Err c
-  past_refused c l e = past_few l ∙ ap (λ o. o >>= state_after_skip_or_run spend op rest p.ahead p (p.counted + weight op)) e
+  past_refused : (c : Cause) → p.counted + op_count op ≤ 201 → open_ifs_after op p.open_ifs ≡ Err c → state_after spend op rest p ≡ Err c
+  past_refused c l e = past_few l ∙ ap (λ o. o >>= state_after_skip_or_run spend op rest p.ahead p (p.counted + op_count op)) e
 
-  past_open : (ifs : List Bool) → p.counted + weight op ≤ 201 → open_ifs_after op p.open_ifs ≡ Ok ifs → state_after spend op rest p ≡ state_after_skip_or_run spend op rest p.ahead p (p.counted + weight op) ifs
-  past_open ifs l e = past_few l ∙ ap (λ o. o >>= state_after_skip_or_run spend op rest p.ahead p (p.counted + weight op)) e
+  past_open : (ifs : List Bool) → p.counted + op_count op ≤ 201 → open_ifs_after op p.open_ifs ≡ Ok ifs → state_after spend op rest p ≡ state_after_skip_or_run spend op rest p.ahead p (p.counted + op_count op) ifs
+  past_open ifs l e = past_few l ∙ ap (λ o. o >>= state_after_skip_or_run spend op rest p.ahead p (p.counted + op_count op)) e
 
-  pub past_run : (counted : ℕ) (ifs : List Bool) → counted ≡ p.counted + weight op → counted ≤ 201 → open_ifs_after op p.open_ifs ≡ Ok ifs → p.ahead ≡ 0 → state_after spend op rest p ≡ (effect spend counted op p.stack >>= state_after_effect rest counted ifs p.height)
-  past_run counted ifs f l e z = rw f (past_open ifs (rw f at l) e ∙ ap (λ a. state_after_skip_or_run spend op rest a p (p.counted + weight op) ifs) z)
+  pub past_run : (counted : ℕ) (ifs : List Bool) → counted ≡ p.counted + op_count op → counted ≤ 201 → open_ifs_after op p.open_ifs ≡ Ok ifs → p.ahead ≡ 0 → state_after spend op rest p ≡ (effect spend counted op p.stack >>= state_after_effect rest counted ifs p.height)
+  past_run counted ifs f l e z = rw f (past_open ifs (rw f at l) e ∙ ap (λ a. state_after_skip_or_run spend op rest a p (p.counted + op_count op) ifs) z)
 
-  pub past_jump : (counted : ℕ) (ifs : List Bool) (a : ℕ) → counted ≡ p.counted + weight op → counted ≤ 201 → open_ifs_after op p.open_ifs ≡ Ok ifs → p.ahead ≡ suc a → state_after spend op rest p ≡ Ok (record { ahead = a; stack = p.stack; counted = counted; open_ifs = ifs; height = p.height })
-  past_jump counted ifs a f l e z = rw f (past_open ifs (rw f at l) e ∙ ap (λ b. state_after_skip_or_run spend op rest b p (p.counted + weight op) ifs) z)
+  pub past_jump : (counted : ℕ) (ifs : List Bool) (a : ℕ) → counted ≡ p.counted + op_count op → counted ≤ 201 → open_ifs_after op p.open_ifs ≡ Ok ifs → p.ahead ≡ suc a → state_after spend op rest p ≡ Ok (record { ahead = a; stack = p.stack; counted = counted; open_ifs = ifs; height = p.height })
+  past_jump counted ifs a f l e z = rw f (past_open ifs (rw f at l) e ∙ ap (λ b. state_after_skip_or_run spend op rest b p (p.counted + op_count op) ifs) z)
 
 -- refused for the branches, unless memory ran out
-pub past_halt : (spend : Spend) (op : Op) (place : List Op → RunState) (counted : ℕ) (ifs : List Bool) (h : Halt) → ((rest : List Op) → (place rest).counted ≡ counted) → ((rest : List Op) → (place rest).open_ifs ≡ ifs) → counted + weight op ≤ 201 → IfStop h (λ c. open_ifs_after op ifs ≡ Err c) → IfStop h (λ c. (rest : List Op) → state_after spend op rest (place rest) ≡ Err c)
+pub past_halt : (spend : Spend) (op : Op) (place : List Op → RunState) (counted : ℕ) (ifs : List Bool) (h : Halt) → ((rest : List Op) → (place rest).counted ≡ counted) → ((rest : List Op) → (place rest).open_ifs ≡ ifs) → counted + op_count op ≤ 201 → IfStop h (λ c. open_ifs_after op ifs ≡ Err c) → IfStop h (λ c. (rest : List Op) → state_after spend op rest (place rest) ≡ Err c)
 past_halt spend op place counted ifs NoMemory e f l h = tt
 past_halt spend op place counted ifs (Stop c) e f l h = λ rest. past_refused spend op rest (place rest) c (rw (e rest) l) (rw (f rest) h)
 

@@ -1,7 +1,7 @@
 //! A run in progress.
 
 ghost use Rattle.std.specs.Prelude.{◌≡◌, ◌≤◌, ◌<◌, ◌+◌, max, length, OnOk, MatchResult};
-ghost use Rattle.script.specs.Run.{weight, open_ifs_after};
+ghost use Rattle.script.specs.Run.{op_count, open_ifs_after};
 ghost use Rattle.machine.specs.Doings.{IfStop};
 ghost use Rattle.machine.specs.Skips.{depth_of};
 ghost use Rattle.machine.specs.Passing.{IsPassed, IsRun};
@@ -67,11 +67,11 @@ impl Machine {
 // Counts an opcode.
 fn count(op: &Op, counted: &mut usize) -> Result<(), Halt>
     requires { counted.old ≤ MAX_OPS_PER_SCRIPT }
-    ensures { MatchResult result (λ _. (counted.new ≡ counted.old + weight op.now)
+    ensures { MatchResult result (λ _. (counted.new ≡ counted.old + op_count op.now)
         × (counted.new ≤ MAX_OPS_PER_SCRIPT)) (λ h. (h ≡ Halt.Stop Cause.TooManyOps)
-        × (MAX_OPS_PER_SCRIPT < counted.old + weight op.now)) }
+        × (MAX_OPS_PER_SCRIPT < counted.old + op_count op.now)) }
 {
-    *counted += op.weight();
+    *counted += op.op_count();
     if *counted > MAX_OPS_PER_SCRIPT {
         return Err(Halt::Stop(Cause::TooManyOps));
     }

@@ -1,7 +1,7 @@
 //! Opcodes that are jumped over.
 
 ghost use Rattle.std.specs.Prelude.{◌≡◌, ◌≤◌, ◌+◌, List, ◌∷◌, suc};
-ghost use Rattle.script.specs.Run.{skip_length, jump_length, weight};
+ghost use Rattle.script.specs.Run.{skip_length, jump_length, op_count};
 ghost use Rattle.script.specs.declared.opcode.Op.{Op as Opcode};
 ghost use Rattle.machine.specs.Skips.{ahead_of, depth_of};
 
@@ -41,7 +41,7 @@ impl Skip {
         requires { self.depth ≤ MAX_OPS_PER_SCRIPT }
         ensures jumps { (rest : List Opcode)
             → skip_length self.stop self.depth (op.now ∷ rest) ≡ suc (ahead_of result rest) }
-        ensures shallow { depth_of result ≤ self.depth + weight op.now }
+        ensures shallow { depth_of result ≤ self.depth + op_count op.now }
     {
         match op {
             Op::If | Op::NotIf => Some(Skip {

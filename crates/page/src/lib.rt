@@ -1,11 +1,13 @@
-//! Text that a program prints at its end, appended piece by piece.
+//! Text that is appended piece by piece, and printed once it is whole.
 //!
 //! A [`Page`] remembers whether a piece was lost, so that a program tests it once, at its end. Then nothing but the page is handed from
 //! function to function, and no function of the program can fail. [`Page::print`] prints the whole, or ends the program with an error.
 //!
 //! [`show_parts`] reads an input that comes in parts, and has a program show each.
 //!
-//! It stands on `hex` alone. The programs `vectors`, `plays`, `closing` and `runs` write their output with it.
+//! [`Page::write`] puts pieces into the places of a template.
+//!
+//! It stands on `hex` alone. The programs `vectors`, `plays`, `closing` and `runs` write their output with it, and `trace` its lines.
 //!
 //! ```rust
 //! /// Writes a name and a number in a line.
@@ -20,8 +22,10 @@
 #![tactic(auto)]
 
 mod parts;
+mod pieces;
 
 pub use parts::{Parts, show_parts};
+pub use pieces::Piece;
 use std::alloc::Global;
 use std::fmt::{Debug, Display, Write as _};
 use std::process::ExitCode;
@@ -62,6 +66,19 @@ impl Page {
         self.text.as_str()
     }
 
+    /// The text, unless the page failed.
+    pub fn whole(&self) -> Option<&str> {
+        if self.has_failed {
+            return None;
+        }
+        Some(self.text())
+    }
+
+    /// Clears the text. A page that failed stays so.
+    pub fn clear(&mut self) {
+        self.text.clear();
+    }
+
     /// Appends a text.
     pub fn push(&mut self, text: &str) {
         if self.text.push_str(text).is_err() {
@@ -96,6 +113,37 @@ impl Page {
             Ok(digits) => self.push(digits.as_str()),
             Err(_) => self.fail(),
         }
+    }
+
+    /// Appends a template, with the next piece in the place of each `%`. The page fails where a piece has no place, or a place no piece.
+    pub fn write(&mut self, template: &str, pieces: &[Piece]) {
+        let mut rest = template;
+        for piece in pieces {
+            let Some((text, after)) = rest.split_once('%') else {
+                self.fail();
+                return;
+            };
+            self.push(text);
+            match piece {
+                Piece::Text(text) => self.push(text),
+                Piece::Count(number) => self.show(number),
+                Piece::Sum(number) => self.show(number),
+                Piece::Hash(bytes) => self.hex("", bytes),
+            }
+            rest = after;
+        }
+        if rest.contains('%') {
+            self.fail();
+        }
+        self.push(rest);
+    }
+
+    /// Appends what an element of an array begins with: after a comma, if it is not the first one.
+    pub fn element(&mut self, template: &str, pieces: &[Piece]) {
+        if !self.text().ends_with('[') {
+            self.push(",");
+        }
+        self.write(template, pieces);
     }
 
     /// Appends a line with a refusal.

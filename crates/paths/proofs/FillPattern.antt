@@ -10,7 +10,7 @@ use Rattle.script.specs.declared.limits.TheConstants.{MAX_OPS_PER_SCRIPT, MAX_SC
 use Rattle.script.specs.Number.{minimal_bytes_of}
 use Rattle.script.specs.Spelling.{IsOp, payload_of, spelling}
 use Rattle.script.specs.Step.{result_if, ◌>>=◌}
-use Rattle.script.specs.Run.{counted_in, open_ifs_after, weight}
+use Rattle.script.specs.Run.{counted_in, open_ifs_after, op_count}
 use Rattle.facts.specs.declared.symbols.SymOver.TheVariants.{Const}
 use Rattle.paths.specs.declared.constants.HoleKind.{HoleKind}
 use Rattle.paths.specs.declared.constants.HoleKind.TheVariants.{Key as ForKey, Hash as ForHash, Number as ForNumber}
@@ -191,15 +191,15 @@ module _ (holes : List (Option HoleKind)) (whole : List Op) (counted : ℕ) wher
   balanced_alike at (op ∷ ops) [] a ifs = absurd a
   balanced_alike at (op ∷ ops) (op' ∷ ops') a ifs = open_alike op op' ops ops' a.0 (balanced_alike (at + 1) ops ops' a.2) ifs
 
-  weigh_alike : (op op' : Op) → IsSame op op' → weight op ≡ weight op'
-  weigh_alike op op' (inl e) = ap weight e
+  weigh_alike : (op op' : Op) → IsSame op op' → op_count op ≡ op_count op'
+  weigh_alike op op' (inl e) = ap op_count e
   weigh_alike op op' (inr p) = p.0.weighs ∙ sym p.1.weighs
 
   counted_alike : (at : ℕ) (ops ops' : List Op) → alike holes whole counted at ops ops' → counted_in ops ≡ counted_in ops'
   counted_alike at [] [] a = refl
   counted_alike at [] (op' ∷ ops') a = absurd a
   counted_alike at (op ∷ ops) [] a = absurd a
-  counted_alike at (op ∷ ops) (op' ∷ ops') a = ap (λ n. n + counted_in ops) (weigh_alike op op' a.0) ∙ ap (λ n. weight op' + n) (counted_alike (at + 1) ops ops' a.2)
+  counted_alike at (op ∷ ops) (op' ∷ ops') a = ap (λ n. n + counted_in ops) (weigh_alike op op' a.0) ∙ ap (λ n. op_count op' + n) (counted_alike (at + 1) ops ops' a.2)
 
 -- the filled script lists what the pattern does, filled
 pub filled_listing : (pieces : List Piece) (fills : List Fill) (ops : List Op) (paths : List PatternPath) → pattern_listing (map hole_of pieces) (map op_of pieces) ≡ Ok paths → filled pieces fills ≡ Some ops → listing ops ≡ Ok (filled_paths ops paths)

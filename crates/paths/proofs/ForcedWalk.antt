@@ -9,7 +9,7 @@ use Rattle.script.specs.declared.stops.Cause.{Cause}
 use Rattle.script.specs.declared.stops.Cause.TheVariants.{TooManyOps as ManyCounted, StackTooTall, ItemTooLong, FalseEnd}
 use Rattle.script.specs.declared.jumps.Jump.TheVariants.{Next as ToNext, AfterElse as ToElse}
 use Rattle.script.specs.Step.{Elements, Effect, effect, truth, ◌>>=◌}
-use Rattle.script.specs.Run.{RunState, weight, counted_in, skip_length, jump_length, open_ifs_after, state_after_effect, state_after_skip_or_run, state_after, Outcome, Clean, Stopped, at_end, onward, outcome_from, outcome, start, is_long}
+use Rattle.script.specs.Run.{RunState, op_count, counted_in, skip_length, jump_length, open_ifs_after, state_after_effect, state_after_skip_or_run, state_after, Outcome, Clean, Stopped, at_end, onward, outcome_from, outcome, start, is_long}
 use Rattle.facts.specs.Symbols.{Stated}
 use Rattle.facts.specs.Symbols.{Sym}
 use Rattle.facts.specs.Meaning.{item_for, holds_of, AllStated}
@@ -59,12 +59,12 @@ clean_onward : (at : ℕ) (r : Result RunState Cause) (go : RunState → Outcome
 clean_onward at (Ok p) go counted height e = (p, refl, e)
 clean_onward at (Err c) go counted height e = absurd (cc)
 
-clean_past : (spend : Spend) (at : ℕ) (op : Op) (rest : List Op) (p : RunState) (go : RunState → Outcome) (counted height : ℕ) → onward at (state_after spend op rest p) go ≡ Clean counted height → (ifs : List Bool) × (open_ifs_after op p.open_ifs ≡ Ok ifs) × (onward at (state_after_skip_or_run spend op rest p.ahead p (p.counted + weight op) ifs) go ≡ Clean counted height)
+clean_past : (spend : Spend) (at : ℕ) (op : Op) (rest : List Op) (p : RunState) (go : RunState → Outcome) (counted height : ℕ) → onward at (state_after spend op rest p) go ≡ Clean counted height → (ifs : List Bool) × (open_ifs_after op p.open_ifs ≡ Ok ifs) × (onward at (state_after_skip_or_run spend op rest p.ahead p (p.counted + op_count op) ifs) go ≡ Clean counted height)
 unfolding state_after
 clean_past spend at op rest p go counted height e =
     let first = clean_onward at (state_after spend op rest p) go counted height e in
-    let fits = ok_checked (nat_le (p.counted + weight op) 201) ManyCounted _ first.0 first.1 in
-    let opened = ok_then (open_ifs_after op p.open_ifs) (state_after_skip_or_run spend op rest p.ahead p (p.counted + weight op)) first.0 fits.1 in
+    let fits = ok_checked (nat_le (p.counted + op_count op) 201) ManyCounted _ first.0 first.1 in
+    let opened = ok_then (open_ifs_after op p.open_ifs) (state_after_skip_or_run spend op rest p.ahead p (p.counted + op_count op)) first.0 fits.1 in
     (opened.0, opened.1, ap (λ r. onward at r go) opened.2 ∙ first.2)
 
 -- a run on a witness, the top first, that meets the state and from there on ends clean
@@ -81,15 +81,15 @@ passes_jump : (ops : List Op) (spend : Spend) (w : Elements) (counted height at 
 passes_jump ops spend w counted height at op rest s n z p =
     let place = run_state_of spend w p.before p.ifs s in
     let c = clean_past spend at op rest place (outcome_from spend (at + 1) rest) counted height p.clean in
-    let t : p.before + (weight op + counted_in rest) ≡ counted_in ops = p.total in
+    let t : p.before + (op_count op + counted_in rest) ≡ counted_in ops = p.total in
     record {
       ifs = c.0;
-      before = p.before + weight op;
-      total = summed p.before (weight op) (counted_in rest) (counted_in ops) t;
+      before = p.before + op_count op;
+      total = summed p.before (op_count op) (counted_in rest) (counted_in ops) t;
       short = p.short;
       met = record { enough = p.met.enough; facts = p.met.facts };
-      clean = ap (λ k. outcome_from spend (at + 1) rest (record { ahead = n; stack = entries_of spend w s; counted = k; open_ifs = c.0; height = length w + s.excess })) (sym (turned p.before s.keys (weight op)))
-          ∙ ap (λ a. onward at (state_after_skip_or_run spend op rest a place (place.counted + weight op) c.0) (outcome_from spend (at + 1) rest)) (sym z)
+      clean = ap (λ k. outcome_from spend (at + 1) rest (record { ahead = n; stack = entries_of spend w s; counted = k; open_ifs = c.0; height = length w + s.excess })) (sym (turned p.before s.keys (op_count op)))
+          ∙ ap (λ a. onward at (state_after_skip_or_run spend op rest a place (place.counted + op_count op) c.0) (outcome_from spend (at + 1) rest)) (sym z)
           ∙ c.2;
     }
 
@@ -97,17 +97,17 @@ passes_jump ops spend w counted height at op rest s n z p =
 record Runs (ops : List Op) (spend : Spend) (w : Elements) (counted height at : ℕ) (op : Op) (rest : List Op) (s : State) : Type 0 where
   pub ifs : List Bool
   pub before : ℕ
-  pub total : before + (weight op + counted_in rest) ≡ counted_in ops
+  pub total : before + (op_count op + counted_in rest) ≡ counted_in ops
   pub done : Effect
-  pub does : effect spend (before + s.keys + weight op) op (entries_of spend w s) ≡ Ok done
-  pub clean : outcome_from spend (at + 1) rest (record { ahead = jump_length done.jump rest; stack = done.stack; counted = before + s.keys + weight op + done.keys; open_ifs = ifs; height = max (length w + s.excess) (length done.stack) }) ≡ Clean counted height
+  pub does : effect spend (before + s.keys + op_count op) op (entries_of spend w s) ≡ Ok done
+  pub clean : outcome_from spend (at + 1) rest (record { ahead = jump_length done.jump rest; stack = done.stack; counted = before + s.keys + op_count op + done.keys; open_ifs = ifs; height = max (length w + s.excess) (length done.stack) }) ≡ Clean counted height
 
 passes_runs : (ops : List Op) (spend : Spend) (w : Elements) (counted height at : ℕ) (op : Op) (rest : List Op) (s : State) → s.ahead ≡ 0 → Passes ops spend w counted height at (op ∷ rest) s → Runs ops spend w counted height at op rest s
 passes_runs ops spend w counted height at op rest s z p =
     let place = run_state_of spend w p.before p.ifs s in
     let go = outcome_from spend (at + 1) rest in
     let c = clean_past spend at op rest place go counted height p.clean in
-    let k : ℕ = p.before + s.keys + weight op in
+    let k : ℕ = p.before + s.keys + op_count op in
     let run : onward at (effect spend k op (entries_of spend w s) >>= state_after_effect rest k c.0 (length w + s.excess)) go ≡ Clean counted height =
     ap (λ a. onward at (state_after_skip_or_run spend op rest a place k c.0) go) (sym z) ∙ c.2 in
     let arrives = clean_onward at (effect spend k op (entries_of spend w s) >>= state_after_effect rest k c.0 (length w + s.excess)) go counted height run in
@@ -128,18 +128,18 @@ place_same n n' stack c c' ifs h h' e f g = rw (e, f, g) refl
 -- where the run goes on, with these facts
 passes_on : (ops : List Op) (spend : Spend) (w : Elements) (counted height at : ℕ) (op : Op) (rest : List Op) (s : State) (turn : SymbolicJump) (s' : State) (n : ℕ) (facts : List Stated) → IsShort w → Follows (counted_in ops) op s turn s' → IsMet spend w s' → AllStated spend w facts → jump_length (move_by spend w turn) rest ≡ n → Runs ops spend w counted height at op rest s → Passes ops spend w counted height (at + 1) rest (run_to n facts s')
 passes_on ops spend w counted height at op rest s turn s' n facts sh f m h j r =
-    let t : r.before + (weight op + counted_in rest) ≡ counted_in ops = r.total in
-    let k : ℕ = r.before + s.keys + weight op in
+    let t : r.before + (op_count op + counted_in rest) ≡ counted_in ops = r.total in
+    let k : ℕ = r.before + s.keys + op_count op in
     let left : Effect = record { jump = move_by spend w turn; stack = entries_of spend w s'; keys = f.used } in
-    let does : effect spend k op (entries_of spend w s) ≡ Ok left = f.step spend w k (above r.before s.keys (weight op) (counted_in rest) (counted_in ops) t) sh m.enough m.facts in
+    let does : effect spend k op (entries_of spend w s) ≡ Ok left = f.step spend w k (above r.before s.keys (op_count op) (counted_in rest) (counted_in ops) t) sh m.enough m.facts in
     let same : left ≡ r.done = same_ok left r.done (sym does ∙ r.does) in
     record {
       ifs = r.ifs;
-      before = r.before + weight op;
-      total = summed r.before (weight op) (counted_in rest) (counted_in ops) t;
+      before = r.before + op_count op;
+      total = summed r.before (op_count op) (counted_in rest) (counted_in ops) t;
       short = sh;
       met = record { enough = m.enough; facts = h };
-      clean = ap (outcome_from spend (at + 1) rest) (sym (place_same (jump_length (move_by spend w turn) rest) n (entries_of spend w s') (k + f.used) (r.before + weight op + s'.keys) r.ifs (max (length w + s.excess) (length (entries_of spend w s'))) (length w + max s'.excess (length s'.stack - s'.slots)) j (counts r.before s.keys (weight op) f.used s'.keys f.keys) tall))
+      clean = ap (outcome_from spend (at + 1) rest) (sym (place_same (jump_length (move_by spend w turn) rest) n (entries_of spend w s') (k + f.used) (r.before + op_count op + s'.keys) r.ifs (max (length w + s.excess) (length (entries_of spend w s'))) (length w + max s'.excess (length s'.stack - s'.slots)) j (counts r.before s.keys (op_count op) f.used s'.keys f.keys) tall))
           ∙ ap (λ (x : Effect). outcome_from spend (at + 1) rest (record { ahead = jump_length x.jump rest; stack = x.stack; counted = k + x.keys; open_ifs = r.ifs; height = max (length w + s.excess) (length x.stack) })) same
           ∙ r.clean;
     }
@@ -191,7 +191,7 @@ states_after-met ops spend w counted height at op rest s p = go s.ahead refl
     go zero e =
         let r = passes_runs ops spend w counted height at op rest s e p in
         arrived_met ops spend w counted height at op rest s (rule_of (counted_in ops) op s) p.short e (rule_of-sound (counted_in ops) op s)
-        (rule_of-forced (counted_in ops) op s spend w (r.before + s.keys + weight op) r.done p.short p.met r.does) r
+        (rule_of-forced (counted_in ops) op s spend w (r.before + s.keys + op_count op) r.done p.short p.met r.does) r
     go (suc n) e = passes_jump ops spend w counted height at op rest s n e p
 
 -- the end of a clean run: one element, and it is true

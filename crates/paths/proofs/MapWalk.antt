@@ -5,7 +5,7 @@ use Rattle.std.proofs.lemmas.List.{map-append, length-map}
 use Rattle.script.specs.declared.opcode.Op.{Op}
 use Rattle.script.specs.declared.opcode.Op.TheVariants.{If, NotIf, Else, EndIf}
 use Rattle.script.specs.Step.{◌>>=◌, result_if}
-use Rattle.script.specs.Run.{skip_length, open_ifs_after, weight}
+use Rattle.script.specs.Run.{skip_length, open_ifs_after, op_count}
 use Rattle.facts.specs.declared.symbols.SymOver.{SymOver}
 use Rattle.paths.specs.declared.errors.CheckError.{CheckError}
 use Rattle.paths.specs.declared.errors.CheckError.TheVariants.{NoMemory as OutOfMemory, OpenBranch, TooManyOps as TooMany, Undecided as NoRule, TooManyPaths, TooTall}
@@ -78,7 +78,7 @@ refusal_follows false f none none' at TooManyOps r k e n s = ap k s ∙ n TooMan
 pub record IsPush (op : Op) : Type 0 where
   pub skips : (stop : Bool) (depth : ℕ) (rest : List Op) → skip_length stop depth (op ∷ rest) ≡ suc (skip_length stop depth rest)
   pub opens : (ifs : List Bool) → open_ifs_after op ifs ≡ Ok ifs
-  pub weighs : weight op ≡ 0
+  pub weighs : op_count op ≡ 0
 
 -- two opcodes are the same, or both push
 abbrev pub IsSame : Op → Op → Type 0

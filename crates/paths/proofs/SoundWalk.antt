@@ -12,7 +12,7 @@ use Rattle.script.specs.declared.stops.Cause.{Cause}
 use Rattle.script.specs.declared.stops.Cause.TheVariants.{TooManyOps as ManyCounted, StackTooTall, ItemTooLong, FalseEnd}
 use Rattle.script.specs.declared.jumps.Jump.TheVariants.{Next as ToNext, AfterElse as ToElse}
 use Rattle.script.specs.Step.{Elements, truth, ◌>>=◌}
-use Rattle.script.specs.Run.{RunState, weight, counted_in, skip_length, jump_length, open_ifs_after, state_after_effect, state_after_skip_or_run, state_after, Clean, Stopped, at_end, onward, outcome_from, start, is_long}
+use Rattle.script.specs.Run.{RunState, op_count, counted_in, skip_length, jump_length, open_ifs_after, state_after_effect, state_after_skip_or_run, state_after, Clean, Stopped, at_end, onward, outcome_from, start, is_long}
 use Rattle.facts.specs.Symbols.{Stated}
 use Rattle.facts.specs.Symbols.{Sym}
 use Rattle.facts.specs.Meaning.{item_for, holds_of, AllStated}
@@ -35,11 +35,11 @@ use Rattle.paths.proofs.SoundRules.{FollowsTo, IsDecided, condition_good, Insist
 use Rattle.paths.proofs.SoundFollowed.{rule_of-sound}
 
 -- past one opcode of the list
-past_open : (spend : Spend) (op : Op) (rest : List Op) (p : RunState) (ifs : List Bool) → p.counted + weight op ≤ 201 → open_ifs_after op p.open_ifs ≡ Ok ifs → state_after spend op rest p ≡ state_after_skip_or_run spend op rest p.ahead p (p.counted + weight op) ifs
+past_open : (spend : Spend) (op : Op) (rest : List Op) (p : RunState) (ifs : List Bool) → p.counted + op_count op ≤ 201 → open_ifs_after op p.open_ifs ≡ Ok ifs → state_after spend op rest p ≡ state_after_skip_or_run spend op rest p.ahead p (p.counted + op_count op) ifs
 unfolding state_after
 past_open spend op rest p ifs l e =
-    result_if-true (leb (p.counted + weight op) 201) ManyCounted _ (le-leb _ 201 l)
-    ∙ ap (λ o. o >>= state_after_skip_or_run spend op rest p.ahead p (p.counted + weight op)) e
+    result_if-true (leb (p.counted + op_count op) 201) ManyCounted _ (le-leb _ 201 l)
+    ∙ ap (λ o. o >>= state_after_skip_or_run spend op rest p.ahead p (p.counted + op_count op)) e
 
 -- the list is satisfied so
 balanced_step : (r : Result (List Bool) Cause) (go : List Bool → Bool) → balanced_with r go ≡ true → (ifs : List Bool) × (r ≡ Ok ifs) × (go ifs ≡ true)
@@ -70,20 +70,20 @@ turned a k b = omega arith
 comes_jump : (ops : List Op) (at : ℕ) (op : Op) (rest : List Op) (s : State) (n : ℕ) → s.ahead ≡ suc n → Comes ops at (op ∷ rest) s → Comes ops (at + 1) rest (ahead_by n s)
 comes_jump ops at op rest s n z c =
     let b = balanced_step (open_ifs_after op c.ifs) (is_balanced rest) c.balanced in
-    let t : c.before + (weight op + counted_in rest) ≡ counted_in ops = c.total in
+    let t : c.before + (op_count op + counted_in rest) ≡ counted_in ops = c.total in
     let f : counted_in ops + s.keys ≤ 201 = c.few in
     record {
       ifs = b.0;
       balanced = b.2;
-      before = c.before + weight op;
-      total = summed c.before (weight op) (counted_in rest) (counted_in ops) t;
+      before = c.before + op_count op;
+      total = summed c.before (op_count op) (counted_in rest) (counted_in ops) t;
       few = c.few;
       reached = λ spend w m.
           c.reached spend w (record { enough = m.enough; facts = m.facts; low = m.low; short = m.short })
           ∙ ap (λ r. onward at r (outcome_from spend (at + 1) rest)) (
-          past_open spend op rest (run_state_of spend w c.before c.ifs s) b.0 (below c.before s.keys (weight op) (counted_in rest) (counted_in ops) t f) b.1
-          ∙ ap (λ a. state_after_skip_or_run spend op rest a (run_state_of spend w c.before c.ifs s) (c.before + s.keys + weight op) b.0) z
-          ∙ same_place n n (entries_of spend w s) _ _ b.0 _ _ refl (turned c.before s.keys (weight op)) refl);
+          past_open spend op rest (run_state_of spend w c.before c.ifs s) b.0 (below c.before s.keys (op_count op) (counted_in rest) (counted_in ops) t f) b.1
+          ∙ ap (λ a. state_after_skip_or_run spend op rest a (run_state_of spend w c.before c.ifs s) (c.before + s.keys + op_count op) b.0) z
+          ∙ same_place n n (entries_of spend w s) _ _ b.0 _ _ refl (turned c.before s.keys (op_count op)) refl);
     }
 
 -- where a run goes with these facts
@@ -100,21 +100,21 @@ counts a k b u k' e = omega arith
 comes_run : (ops : List Op) (at : ℕ) (op : Op) (rest : List Op) (s : State) (turn : SymbolicJump) (s' : State) (n : ℕ) (facts : List Stated) → s.ahead ≡ 0 → Follows (counted_in ops) op s turn s' → ((spend : Spend) (w : Elements) → AllStated spend w facts → AllStated spend w s'.facts × (jump_length (move_by spend w turn) rest ≡ n)) → Comes ops at (op ∷ rest) s → Comes ops (at + 1) rest (run_to n facts s')
 comes_run ops at op rest s turn s' n facts z f h c =
     let b = balanced_step (open_ifs_after op c.ifs) (is_balanced rest) c.balanced in
-    let t : c.before + (weight op + counted_in rest) ≡ counted_in ops = c.total in
+    let t : c.before + (op_count op + counted_in rest) ≡ counted_in ops = c.total in
     let few : counted_in ops + s.keys ≤ 201 = c.few in
     record {
       ifs = b.0;
       balanced = b.2;
-      before = c.before + weight op;
-      total = summed c.before (weight op) (counted_in rest) (counted_in ops) t;
+      before = c.before + op_count op;
+      total = summed c.before (op_count op) (counted_in rest) (counted_in ops) t;
       few = f.few c.few;
       reached = λ spend w m.
           c.reached spend w (fits spend w m)
           ∙ ap (λ r. onward at r (outcome_from spend (at + 1) rest)) (
-          past_open spend op rest (run_state_of spend w c.before c.ifs s) b.0 (below c.before s.keys (weight op) (counted_in rest) (counted_in ops) t few) b.1
-          ∙ ap (λ a. state_after_skip_or_run spend op rest a (run_state_of spend w c.before c.ifs s) (c.before + s.keys + weight op) b.0) z
-          ∙ ap (λ x. x >>= state_after_effect rest (c.before + s.keys + weight op) b.0 (length w + s.excess)) (f.step spend w (c.before + s.keys + weight op) (above c.before s.keys (weight op) (counted_in rest) (counted_in ops) t) m.short m.enough (h spend w m.facts).0)
-          ∙ settled_so spend w b.0 m (c.before + s.keys + weight op) (c.before + weight op + s'.keys) (counts c.before s.keys (weight op) f.used s'.keys f.keys));
+          past_open spend op rest (run_state_of spend w c.before c.ifs s) b.0 (below c.before s.keys (op_count op) (counted_in rest) (counted_in ops) t few) b.1
+          ∙ ap (λ a. state_after_skip_or_run spend op rest a (run_state_of spend w c.before c.ifs s) (c.before + s.keys + op_count op) b.0) z
+          ∙ ap (λ x. x >>= state_after_effect rest (c.before + s.keys + op_count op) b.0 (length w + s.excess)) (f.step spend w (c.before + s.keys + op_count op) (above c.before s.keys (op_count op) (counted_in rest) (counted_in ops) t) m.short m.enough (h spend w m.facts).0)
+          ∙ settled_so spend w b.0 m (c.before + s.keys + op_count op) (c.before + op_count op + s'.keys) (counts c.before s.keys (op_count op) f.used s'.keys f.keys));
     }
   where
     fits : (spend : Spend) (w : Elements) → Fits spend w (run_to n facts s') → Fits spend w s

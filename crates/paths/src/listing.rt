@@ -179,7 +179,7 @@ fn counted_in(ops: &[Op]) -> usize
 {
     let mut counted = 0;
     for op in ops {
-        counted += op.weight();
+        counted += op.op_count();
     }
     counted
 }

@@ -16,7 +16,7 @@ use Rattle.commit.specs.Keys.{KeyBytes, keys_of}
 use Rattle.sighash.specs.Programs.{script_hash_program}
 use Rattle.commit.specs.Outputs.{outputs_of, to_local_script, htlc_output, to_remote_output, to_local_output}
 use Rattle.commit.specs.Order.{output_cmp, in_order}
-use Rattle.commit.specs.Commitments.{Contents, commitment_of, transaction_of, second_stage_of}
+use Rattle.commit.specs.Commitments.{Contents, commitment_of, transaction_of, htlc_tx_of}
 use Rattle.penalty.specs.declared.states.RevokedState.{RevokedState}
 use Rattle.penalty.specs.Claimable.{Claimable, claims_by, claims_from, claimable_of}
 
@@ -59,7 +59,7 @@ module _ (funding : OutPoint) (hidden : Obscured) (k : KeyBytes) (hash : List �
   })
 
   twin_ids : map (λ o. o.place.outpoint.txid) (claims_from twins 0 twins.outputs) ≡ commitment_id ∷ timeout_id 0 500 ∷ commitment_id ∷ timeout_id 1 600 ∷ commitment_id ∷ commitment_id ∷ []
-  unfolding claims_by second_stage_of
+  unfolding claims_by htlc_tx_of
   twin_ids = refl
 
 module _ (funding : OutPoint) (of_a of_b : BaseKeys) (hash secret : List ℕ) where

@@ -13,7 +13,7 @@ use Rattle.commit.specs.declared.outputs.OutputKind.{OutputKind}
 use Rattle.commit.specs.declared.outputs.OutputKind.TheVariants.{ToLocal, ToRemote, ToHtlc}
 use Rattle.commit.specs.declared.outputs.CommitmentOutput.{CommitmentOutput}
 use Rattle.commit.specs.declared.outputs.HtlcOutput.{HtlcOutput}
-use Rattle.commit.specs.Commitments.{Contents, tx_output, transaction_of, htlc_at, htlcs_from, htlcs_of, htlc_transaction_of, second_stage_output, second_stage_of}
+use Rattle.commit.specs.Commitments.{Contents, tx_output, transaction_of, htlc_at, htlcs_from, htlcs_of, htlc_tx_at, htlc_tx_output, htlc_tx_of}
 use Rattle.penalty.specs.Claimable.{Claimable, place_in, penalty_on, payment_on, htlc_penalty_on, second_stage_penalty, claims_on, claims_by, claims_from, commitment_in, claimable_of}
 use Rattle.penalty.specs.Covering.{IsClaimedAt, EachOutputIsClaimed, EachSecondStageIsClaimed}
 use Rattle.penalty.proofs.Second.{first_output}
@@ -37,11 +37,11 @@ on_output c index place (ToHtlc direction h) =
     (htlc_penalty_on c direction h place, first (htlc_penalty_on c direction h place) (second_stage_penalty c (record { index = index; direction = direction; htlc = h }) ∷ []), refl)
 
 on_second : (c : Contents) (index : ℕ) (place : Place) (direction : Direction) (htlc : Htlc) (h : HtlcOutput) → record { index = index; direction = direction; htlc = htlc } ≡ h
-    → IsClaimedAt (claims_on c index place (ToHtlc direction htlc)) (place_in (second_stage_of c h) 0 (second_stage_output c h))
+    → IsClaimedAt (claims_on c index place (ToHtlc direction htlc)) (place_in (htlc_tx_of c h) 0 (htlc_tx_output c h))
 on_second c index place direction htlc h e = (
   second_stage_penalty c (record { index = index; direction = direction; htlc = htlc }),
   second (htlc_penalty_on c direction htlc place) (second_stage_penalty c (record { index = index; direction = direction; htlc = htlc })) [],
-  ap (λ (x : HtlcOutput). place_in (second_stage_of c x) 0 (second_stage_output c x)) e,
+  ap (λ (x : HtlcOutput). place_in (htlc_tx_of c x) 0 (htlc_tx_output c x)) e,
 )
 
 some_is : {X : Type 0} (x y : X) → Some x ≡ Some y → x ≡ y
@@ -68,8 +68,8 @@ each_from c i (p ∷ os) (suc n) o e =
 
 -- an HTLC's second stage, at the output or after it
 at_kind : (c : Contents) (i : ℕ) (place : Place) (kind : OutputKind) (rest : List HtlcOutput) (claims : List Claimable) (k : ℕ) (h : HtlcOutput)
-    → ((j : ℕ) → slice_get rest j ≡ Some h → IsClaimedAt claims (place_in (second_stage_of c h) 0 (second_stage_output c h)))
-    → slice_get (cons_option (htlc_at i kind) rest) k ≡ Some h → IsClaimedAt (claims_on c i place kind ++ claims) (place_in (second_stage_of c h) 0 (second_stage_output c h))
+    → ((j : ℕ) → slice_get rest j ≡ Some h → IsClaimedAt claims (place_in (htlc_tx_of c h) 0 (htlc_tx_output c h)))
+    → slice_get (cons_option (htlc_at i kind) rest) k ≡ Some h → IsClaimedAt (claims_on c i place kind ++ claims) (place_in (htlc_tx_of c h) 0 (htlc_tx_output c h))
 at_kind c i place ToLocal rest claims k h f e = behind (claims_on c i place ToLocal) claims _ (f k e)
 at_kind c i place ToRemote rest claims k h f e = behind (claims_on c i place ToRemote) claims _ (f k e)
 at_kind c i place (ToHtlc direction htlc) rest claims zero h f e =
@@ -77,7 +77,7 @@ at_kind c i place (ToHtlc direction htlc) rest claims zero h f e =
 at_kind c i place (ToHtlc direction htlc) rest claims (suc k) h f e = behind (claims_on c i place (ToHtlc direction htlc)) claims _ (f k e)
 
 seconds_from : (c : Contents) (i : ℕ) (os : List CommitmentOutput) (k : ℕ) (h : HtlcOutput) → slice_get (htlcs_from i os) k ≡ Some h
-    → IsClaimedAt (claims_from c i os) (place_in (second_stage_of c h) 0 (second_stage_output c h))
+    → IsClaimedAt (claims_from c i os) (place_in (htlc_tx_of c h) 0 (htlc_tx_output c h))
 unfolding claims_by htlcs_from
 seconds_from c i [] k h e = absurd (none_some h e)
 seconds_from c i (p ∷ os) k h e =
@@ -101,16 +101,16 @@ each_output state i o e =
     mapped (commitment_in state) i o (slice_get (commitment_in state).outputs i) refl
     (sym (slice_get-map tx_output (commitment_in state).outputs i) ∙ ap (λ os. slice_get os i) (sym (outputs_of_transaction (commitment_in state))) ∙ e)
 
-of_second : (c : Contents) (k : ℕ) (t : Transaction) (o : Output) (x : Option HtlcOutput) → slice_get (htlcs_of c) k ≡ x → option_map (second_stage_of c) x ≡ Some t → slice_get t.outputs 0 ≡ Some o
+of_second : (c : Contents) (k : ℕ) (t : Transaction) (o : Output) (x : Option HtlcOutput) → slice_get (htlcs_of c) k ≡ x → option_map (htlc_tx_of c) x ≡ Some t → slice_get t.outputs 0 ≡ Some o
     → IsClaimedAt (claims_from c 0 c.outputs) (place_in t 0 o)
 of_second c k t o None f e g = absurd (none_some t e)
 of_second c k t o (Some h) f e g =
-    let s : second_stage_of c h ≡ t = some_is (second_stage_of c h) t e in
-    let out : second_stage_output c h ≡ o = some_is (second_stage_output c h) o (sym (first_output c h t (sym s)) ∙ g) in
+    let s : htlc_tx_of c h ≡ t = some_is (htlc_tx_of c h) t e in
+    let out : htlc_tx_output c h ≡ o = some_is (htlc_tx_output c h) o (sym (first_output c h t (sym s)) ∙ g) in
     subst (λ (p : Place). IsClaimedAt (claims_from c 0 c.outputs) p)
-    (ap (λ (x : Transaction). place_in x 0 (second_stage_output c h)) s ∙ ap (λ (x : Output). place_in t 0 x) out)
+    (ap (λ (x : Transaction). place_in x 0 (htlc_tx_output c h)) s ∙ ap (λ (x : Output). place_in t 0 x) out)
     (seconds_from c 0 c.outputs k h f)
 
 pub each_second_stage : EachSecondStageIsClaimed
-unfolding claimable_of htlc_transaction_of
+unfolding claimable_of htlc_tx_at
 each_second_stage state k t o e g = of_second (commitment_in state) k t o (slice_get (htlcs_of (commitment_in state)) k) refl e g

@@ -18,7 +18,7 @@ use Rattle.commit.specs.declared.outputs.OutputKind.TheVariants.{ToLocal, ToRemo
 use Rattle.commit.specs.declared.outputs.CommitmentOutput.{CommitmentOutput}
 use Rattle.commit.specs.declared.outputs.HtlcOutput.{HtlcOutput}
 use Rattle.commit.specs.Keys.{KeyBytes}
-use Rattle.commit.specs.Commitments.{Contents, commitment_of, tx_output, transaction_of, second_stage_output, second_stage_of}
+use Rattle.commit.specs.Commitments.{Contents, commitment_of, tx_output, transaction_of, htlc_tx_output, htlc_tx_of}
 use Rattle.forms.specs.Forms.{to_local_form, key_hash_form, offered_form, received_form}
 use Rattle.forms.specs.Fillings.{Filling, Signature, Bytes}
 use Rattle.penalty.specs.declared.states.RevokedState.{RevokedState}
@@ -65,7 +65,7 @@ htlc_penalty_on c direction h place = claimable_with place (htlc_form c.keys dir
 
 -- the output of the one HTLC transaction that the peer signed for an HTLC: HTLC-timeout where the owner offered it, else HTLC-success
 abbrev pub second_stage_penalty : Contents → HtlcOutput → Claimable
-second_stage_penalty c h = penalty_on c (place_in (second_stage_of c h) 0 (second_stage_output c h))
+second_stage_penalty c h = penalty_on c (place_in (htlc_tx_of c h) 0 (htlc_tx_output c h))
 
 -- what an output at an index lets the peer claim
 abbrev pub claims_on : Contents → ℕ → Place → OutputKind → List Claimable

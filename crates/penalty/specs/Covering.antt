@@ -3,7 +3,7 @@ use Rattle.std.specs.Prelude.{◌≡◌, ℕ, List, Some, slice_get, Contains}
 use Rattle.tx.specs.Parts.{Output}
 use Rattle.tx.specs.Fields.{Transaction}
 use Rattle.claim.specs.declared.parts.Place.{Place}
-use Rattle.commit.specs.Commitments.{transaction_of, htlc_transaction_of}
+use Rattle.commit.specs.Commitments.{transaction_of, htlc_tx_at}
 use Rattle.penalty.specs.declared.states.RevokedState.{RevokedState}
 use Rattle.penalty.specs.Claimable.{Claimable, place_in, commitment_in, claimable_of}
 
@@ -20,5 +20,5 @@ EachOutputIsClaimed =
 -- and so is the output of each of its HTLC transactions
 abbrev pub EachSecondStageIsClaimed : Type 0
 EachSecondStageIsClaimed =
-    (state : RevokedState) (k : ℕ) (t : Transaction) (o : Output) → htlc_transaction_of (commitment_in state) k ≡ Some t → slice_get t.outputs 0 ≡ Some o
+    (state : RevokedState) (k : ℕ) (t : Transaction) (o : Output) → htlc_tx_at (commitment_in state) k ≡ Some t → slice_get t.outputs 0 ≡ Some o
     → IsClaimedAt (claimable_of state) (place_in t 0 o)

@@ -9,6 +9,7 @@ mod damages;
 mod loading;
 mod random;
 
+use book_dump::Dump;
 use book_peers::{Act, Peers, Reply, offer};
 use loading::{show_beginnings, show_damages, show_loaded, show_stored, show_version};
 use page::Page;

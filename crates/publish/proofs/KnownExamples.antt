@@ -20,7 +20,7 @@ use Rattle.commit.specs.declared.outputs.CommitmentOutput.{CommitmentOutput}
 use Rattle.commit.specs.Keys.{KeyBytes}
 use Rattle.sighash.specs.Programs.{script_hash_program, key_hash_program}
 use Rattle.commit.specs.Outputs.{to_local_script, htlc_script, to_remote_output, to_local_output, htlc_output}
-use Rattle.commit.specs.Commitments.{Contents, id_of, transaction_of, htlcs_from, second_stage_of}
+use Rattle.commit.specs.Commitments.{Contents, id_of, transaction_of, htlcs_from, htlc_tx_of}
 use Rattle.commit.specs.Signing.{funding_script, commitment_digest, htlc_digest, htlc_digests}
 use Rattle.resolve.specs.declared.known.SignedCommitment.{SignedCommitment}
 use Rattle.resolve.specs.declared.known.Known.{Known}
@@ -117,13 +117,13 @@ module _ (known : Known) (terms : Terms) (funding : OutPoint) (hidden : Obscured
 
   -- HTLC-timeout pays 663 less, has the expiry as its lock time and needs no preimage
   timeout : (preimages : List (List ℕ)) → htlc_tx_known of_a 1 0 preimages ≡ Some (second_stage 0 9337 500 Offered (htlc 10000000 500) [])
-  unfolding htlcs_from second_stage_of
+  unfolding htlcs_from htlc_tx_of
   timeout preimages = refl
 
   -- HTLC-success pays 703 less, has lock time 0 and shows the first preimage that has the hash
   success : (x y : List ℕ) → bytes_eq (sha256 x) hash ≡ false → bytes_eq (sha256 y) hash ≡ true
       → htlc_tx_known of_a 1 1 (x ∷ y ∷ []) ≡ Some (second_stage 1 10297 0 Received (htlc 11000000 600) y)
-  unfolding htlcs_from second_stage_of
+  unfolding htlcs_from htlc_tx_of
   success x y e f = rw (e, f) refl
 
   -- none without the preimage, past the last HTLC, of a commitment with no HTLC, and past the newest commitment

@@ -40,12 +40,12 @@ use Rattle.commit.specs.declared.outputs.HtlcOutput.{HtlcOutput}
 use Rattle.commit.specs.Fees.{satoshis_of}
 use Rattle.commit.specs.Keys.{keys_of}
 use Rattle.commit.specs.Outputs.{htlc_script}
-use Rattle.commit.specs.Commitments.{Contents, commitment_of, transaction_of, htlcs_of, second_stage_of, lock_time_of}
+use Rattle.commit.specs.Commitments.{Contents, commitment_of, transaction_of, htlcs_of, htlc_tx_of, lock_time_of}
 use Rattle.commit.specs.Signing.{funding_script, commitment_digest, htlc_digest}
 use Rattle.channel.specs.declared.commitments.CommitmentState.{CommitmentState}
 use Rattle.channel.specs.States.{State}
 use Rattle.channel.specs.Tokens.{contents_of}
-use Rattle.publish.specs.Published.{funding_witness, signed_transaction, preimage_among, branch_item, htlc_witness, signed_second_stage, signed_htlc_tx_of}
+use Rattle.publish.specs.Published.{funding_witness, signed_transaction, preimage_among, branch_item, htlc_witness, signed_htlc_tx_with, signed_htlc_tx_of}
 use Rattle.publish.specs.Opening.{funding_output, HasUnspent, IsTaken, CommitmentsSpend, output_of, outpoint_of, HtlcTxsSpend}
 use Rattle.publish.proofs.Clean.{runs_clean, two_of_two-valid, two_of_two-short, offered-valid, offered-short, received-valid, received-short, meets_two, meets_timeout, meets_success}
 
@@ -158,8 +158,8 @@ abbrev second_input : Contents → HtlcOutput → List ℕ → TxIn
 second_input c h item = record { outpoint = outpoint_of c h; sequence = 0; witness = htlc_witness c h item }
 
 second_digest : (c : Contents) (h : HtlcOutput) (item : List ℕ)
-    → htlc_digest c h ≡ sha256d (signed_list (signed_second_stage c h item) (second_input c h item) (htlc_script c.keys h.direction h.htlc) (satoshis_of h.htlc.amount))
-unfolding htlc_digest second_stage_of signed_list all_outpoints all_sequences
+    → htlc_digest c h ≡ sha256d (signed_list (signed_htlc_tx_with c h item) (second_input c h item) (htlc_script c.keys h.direction h.htlc) (satoshis_of h.htlc.amount))
+unfolding htlc_digest htlc_tx_of signed_list all_outpoints all_sequences
 second_digest c h item = refl
 
 -- a preimage that was found
@@ -179,18 +179,18 @@ runs_to Received = 23
 
 second_runs : (c : Contents) (index : ℕ) (d : Direction) (x : Htlc) (preimages : List (List ℕ)) (item : List ℕ) → is_key c.keys.remote_htlc ≡ true → is_key c.keys.local_htlc ≡ true
     → branch_item preimages d x ≡ Some item → All (λ p. length p ≡ 32) preimages → x.expiry < 2 ^ 32 → bytes_eq (hash160 item) (hash160 c.keys.revocation) ≡ false
-    → let h : HtlcOutput = record { index = index; direction = d; htlc = x } in run_of (signed_second_stage c h item) (second_input c h item) (output_of c h) ≡ Some (Clean (runs_to d) 7)
+    → let h : HtlcOutput = record { index = index; direction = d; htlc = x } in run_of (signed_htlc_tx_with c h item) (second_input c h item) (output_of c h) ≡ Some (Clean (runs_to d) 7)
 unfolding htlc_script
 second_runs c index Offered x preimages item mk lk e a low apart =
     let h : HtlcOutput = record { index = index; direction = Offered; htlc = x } in
     let empty : [] ≡ item = same_Some [] item e in
-    subst (λ y. run_of (signed_second_stage c h y) (second_input c h y) (output_of c h) ≡ Some (Clean 21 7)) empty
-    (timeout_run (signed_second_stage c h []) (second_input c h []) (satoshis_of x.amount) (hash160 c.keys.revocation) c.keys.remote_htlc c.keys.local_htlc (ripemd160 x.hash) (htlc_digest c h)
+    subst (λ y. run_of (signed_htlc_tx_with c h y) (second_input c h y) (output_of c h) ≡ Some (Clean 21 7)) empty
+    (timeout_run (signed_htlc_tx_with c h []) (second_input c h []) (satoshis_of x.amount) (hash160 c.keys.revocation) c.keys.remote_htlc c.keys.local_htlc (ripemd160 x.hash) (htlc_digest c h)
     mk lk (length-ripemd160 _) (length-ripemd160 _) (subst (λ y. bytes_eq (hash160 y) (hash160 c.keys.revocation) ≡ false) (sym empty) apart) (second_digest c h []) refl)
 second_runs c index Received x preimages item mk lk e a low apart =
     let h : HtlcOutput = record { index = index; direction = Received; htlc = x } in
     let is = found x.hash preimages item a e in
-    success_run (signed_second_stage c h item) (second_input c h item) (satoshis_of x.amount) (hash160 c.keys.revocation) c.keys.remote_htlc c.keys.local_htlc x.hash x.expiry item (htlc_digest c h)
+    success_run (signed_htlc_tx_with c h item) (second_input c h item) (satoshis_of x.amount) (hash160 c.keys.revocation) c.keys.remote_htlc c.keys.local_htlc x.hash x.expiry item (htlc_digest c h)
     mk lk (length-ripemd160 _) low is.0 is.1 apart (second_digest c h item) refl
 
 derived_form : (base point : List ℕ) → is_key (derived_key base point) ≡ true
@@ -208,17 +208,17 @@ second_taken : (terms : Terms) (state : CommitmentState) (h : HtlcOutput) (preim
     → branch_item preimages h.direction h.htlc ≡ Some item → All (λ p. length p ≡ 32) preimages → h.htlc.expiry < LOCKTIME_THRESHOLD
     → bytes_eq (hash160 item) (hash160 (contents_of terms state).keys.revocation) ≡ false
     → (here : HasUnspent blocks (outpoint_of (contents_of terms state) h) (output_of (contents_of terms state) h)) → here.coin.height ≤ height → lock_time_of h.direction h.htlc < height
-    → IsTaken blocks height (signed_second_stage (contents_of terms state) h item)
-unfolding commitment_of keys_of second_stage_of
+    → IsTaken blocks height (signed_htlc_tx_with (contents_of terms state) h item)
+unfolding commitment_of keys_of htlc_tx_of
 second_taken terms state h preimages item blocks height e a low apart here old reached =
     let c = contents_of terms state in
-    let t = signed_second_stage c h item in
+    let t = signed_htlc_tx_with c h item in
     taken blocks height t (second_input c h item) (outpoint_of c h) (output_of c h) (runs_to h.direction) 7 here refl refl (second_final h.direction h.htlc height t.inputs low reached) (second_old height here.coin.height old)
     (second_runs c h.index h.direction h.htlc preimages item (derived_form _ _) (derived_form _ _) e a (omega arith) apart)
 
 htlc_tx_is : (s : State) (n k : ℕ) (preimages : List (List ℕ)) (state : CommitmentState) (h : HtlcOutput) (item : List ℕ) → slice_get s.mine n ≡ Some state
     → slice_get (htlcs_of (contents_of s.held.terms state)) k ≡ Some h → branch_item preimages h.direction h.htlc ≡ Some item
-    → signed_htlc_tx_of s n k preimages ≡ Some (signed_second_stage (contents_of s.held.terms state) h item)
+    → signed_htlc_tx_of s n k preimages ≡ Some (signed_htlc_tx_with (contents_of s.held.terms state) h item)
 htlc_tx_is s n k preimages state h item e f g = rw (e, f, g) refl
 
 pub htlc_txs_open : HtlcTxsSpend
@@ -229,7 +229,7 @@ htlc_txs_open s n k preimages c h item t blocks height is all low apart here old
     subst (IsTaken blocks height) same (at_contents c is.contents apart here old)
   where
     at_contents : (y : Contents) → y ≡ contents_of s.held.terms is.state → bytes_eq (hash160 item) (hash160 y.keys.revocation) ≡ false
-        → (here : HasUnspent blocks (outpoint_of y h) (output_of y h)) → here.coin.height ≤ height → IsTaken blocks height (signed_second_stage (contents_of s.held.terms is.state) h item)
+        → (here : HasUnspent blocks (outpoint_of y h) (output_of y h)) → here.coin.height ≤ height → IsTaken blocks height (signed_htlc_tx_with (contents_of s.held.terms is.state) h item)
     at_contents y e apart here old =
-        let P : Contents → Type 0 = λ z. bytes_eq (hash160 item) (hash160 z.keys.revocation) ≡ false → (here : HasUnspent blocks (outpoint_of z h) (output_of z h)) → here.coin.height ≤ height → IsTaken blocks height (signed_second_stage (contents_of s.held.terms is.state) h item) in
+        let P : Contents → Type 0 = λ z. bytes_eq (hash160 item) (hash160 z.keys.revocation) ≡ false → (here : HasUnspent blocks (outpoint_of z h) (output_of z h)) → here.coin.height ≤ height → IsTaken blocks height (signed_htlc_tx_with (contents_of s.held.terms is.state) h item) in
         subst P (sym e) (λ apart here old. second_taken s.held.terms is.state h preimages item blocks height is.branch all low apart here old reached) apart here old

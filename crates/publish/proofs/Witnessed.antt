@@ -11,10 +11,10 @@ use Rattle.commit.specs.declared.fees.Direction.TheVariants.{Offered, Received}
 use Rattle.commit.specs.declared.outputs.HtlcOutput.{HtlcOutput}
 use Rattle.commit.specs.Keys.{KeyBytes}
 use Rattle.commit.specs.Outputs.{htlc_script}
-use Rattle.commit.specs.Commitments.{Contents, second_stage_of}
+use Rattle.commit.specs.Commitments.{Contents, htlc_tx_of}
 use Rattle.commit.specs.Signing.{funding_script, commitment_digest, htlc_digest}
 use Rattle.penalty.specs.Claimable.{htlc_form}
-use Rattle.publish.specs.Published.{in_key_order, funding_witness, htlc_witness, signed_second_stage}
+use Rattle.publish.specs.Published.{in_key_order, funding_witness, htlc_witness, signed_htlc_tx_with}
 
 abbrev of_funding : Terms → List ℕ → List ℕ → List (List ℕ)
 of_funding terms of_a of_b = ([] ∷ in_key_order terms.a.bases.funding.bytes of_a terms.b.bases.funding.bytes of_b) ++ funding_script terms ∷ []
@@ -44,6 +44,6 @@ second_by w c k h remote local item e f g i =
     i ∙ ap (λ x. of_htlc remote local item x h) e ∙ ap (λ x. of_htlc x local item c.keys h) f ∙ ap (λ x. of_htlc (token_of c.keys.remote_htlc (htlc_digest c h)) x item c.keys h) g
 
 -- the HTLC transaction of a commitment's HTLC, with this witness
-pub second_is : (c : Contents) (h : HtlcOutput) (item : List ℕ) (t signed : Transaction) (w : List (List ℕ)) → t ≡ second_stage_of c h → w ≡ htlc_witness c h item
-    → signed ≡ transaction_with_witness t 0 w → signed ≡ signed_second_stage c h item
-second_is c h item t signed w e f g = g ∙ ap (λ x. transaction_with_witness x 0 w) e ∙ ap (transaction_with_witness (second_stage_of c h) 0) f
+pub second_is : (c : Contents) (h : HtlcOutput) (item : List ℕ) (t signed : Transaction) (w : List (List ℕ)) → t ≡ htlc_tx_of c h → w ≡ htlc_witness c h item
+    → signed ≡ transaction_with_witness t 0 w → signed ≡ signed_htlc_tx_with c h item
+second_is c h item t signed w e f g = g ∙ ap (λ x. transaction_with_witness x 0 w) e ∙ ap (transaction_with_witness (htlc_tx_of c h) 0) f

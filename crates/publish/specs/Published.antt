@@ -12,7 +12,7 @@ use Rattle.commit.specs.declared.fees.Direction.{Direction}
 use Rattle.commit.specs.declared.fees.Direction.TheVariants.{Offered, Received}
 use Rattle.commit.specs.declared.outputs.HtlcOutput.{HtlcOutput}
 use Rattle.commit.specs.Outputs.{htlc_script}
-use Rattle.commit.specs.Commitments.{Contents, transaction_of, htlcs_of, second_stage_of}
+use Rattle.commit.specs.Commitments.{Contents, transaction_of, htlcs_of, htlc_tx_of}
 use Rattle.commit.specs.Signing.{funding_script, commitment_digest, htlc_digest}
 use Rattle.channel.specs.States.{State}
 use Rattle.channel.specs.Tokens.{contents_of}
@@ -53,12 +53,12 @@ htlc_witness c h item =
     [] ∷ token_of c.keys.remote_htlc (htlc_digest c h) ∷ token_of c.keys.local_htlc (htlc_digest c h) ∷ item ∷ htlc_script c.keys h.direction h.htlc ∷ []
 
 -- an HTLC transaction with both signatures
-abbrev pub signed_second_stage : Contents → HtlcOutput → List ℕ → Transaction
-signed_second_stage c h item = transaction_with_witness (second_stage_of c h) 0 (htlc_witness c h item)
+abbrev pub signed_htlc_tx_with : Contents → HtlcOutput → List ℕ → Transaction
+signed_htlc_tx_with c h item = transaction_with_witness (htlc_tx_of c h) 0 (htlc_witness c h item)
 
 -- that of the k-th untrimmed HTLC of a commitment, in the order of outputs, from 0, if there is one and what its branch takes is known
 abbrev pub signed_htlc_of : Contents → ℕ → List (List ℕ) → Option Transaction
-signed_htlc_of c k preimages = option_and_then (λ h. option_map (signed_second_stage c h) (branch_item preimages h.direction h.htlc)) (slice_get (htlcs_of c) k)
+signed_htlc_of c k preimages = option_and_then (λ h. option_map (signed_htlc_tx_with c h) (branch_item preimages h.direction h.htlc)) (slice_get (htlcs_of c) k)
 
 -- that of a side's commitment of a number, if its peer signed it
 abbrev pub signed_htlc_tx_of : State → ℕ → ℕ → List (List ℕ) → Option Transaction

@@ -3,7 +3,7 @@
 ghost use Rattle.std.specs.Prelude.{◌≡◌, IfOk, option_map};
 ghost use Rattle.publish.specs.Known.{owned_at, commitment_known, htlc_tx_known, commitment_key, htlc_key, MaySignIf, IsSignedWhere};
 
-use crate::signatures::{second_stage_by_both, signed_by_both};
+use crate::signatures::{htlc_tx_by_both, signed_by_both};
 use resolve::{Known, SignedCommitment};
 use std::alloc::{AllocError, Global};
 use tx::Tx;
@@ -66,7 +66,7 @@ pub fn signed_htlc_tx_in(
 {
     match owned_at(known, number) {
         None => Ok(None),
-        Some(own) => second_stage_by_both(
+        Some(own) => htlc_tx_by_both(
             alloc,
             known.patterns.get(),
             &own.terms,

@@ -5,7 +5,7 @@ ghost use Rattle.channel.specs.Tokens.{contents_of};
 ghost use Rattle.publish.specs.Published.{signed_transaction, signed_commitment_of, signed_htlc_of, signed_htlc_tx_of};
 
 use crate::recorded::recorded_commitment;
-use crate::signatures::{second_stage_by_both, signed_by_both};
+use crate::signatures::{htlc_tx_by_both, signed_by_both};
 use channel::{Channel, CommitmentState};
 use forms::Patterns;
 use std::alloc::{AllocError, Global};
@@ -55,7 +55,7 @@ pub fn signed_commitment(
 }
 
 // The HTLC transaction of the `k`-th HTLC of a commitment of this side, with both signatures.
-fn signed_second_stage(
+fn signed_htlc(
     alloc: Global,
     patterns: &Patterns,
     channel: &Channel,
@@ -71,7 +71,7 @@ fn signed_second_stage(
     // The proof learns from the list that the commitment is this side's.
     let _numbered = channel.own_commitments();
     let recorded = recorded_commitment(alloc, channel, number, state)?;
-    second_stage_by_both(
+    htlc_tx_by_both(
         alloc,
         patterns,
         channel.terms(),
@@ -103,5 +103,5 @@ pub fn signed_htlc_tx(
     let Some(state) = channel.own_commitments().get(number as usize) else {
         return Ok(None);
     };
-    signed_second_stage(alloc, patterns, channel, number, state, k, preimages)
+    signed_htlc(alloc, patterns, channel, number, state, k, preimages)
 }

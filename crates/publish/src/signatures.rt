@@ -9,7 +9,7 @@ ghost use Rattle.commit.specs.Commitments.{htlcs_of};
 ghost use Rattle.commit.specs.Signing.{commitment_digest, htlc_digest as htlc_digest_of};
 ghost use Rattle.penalty.specs.Outputs.{AreOutputs};
 ghost use Rattle.resolve.specs.Signed.{IsCommitmentToken, AreHtlcTokens};
-ghost use Rattle.publish.specs.Published.{signed_transaction, branch_item, signed_second_stage, signed_htlc_of};
+ghost use Rattle.publish.specs.Published.{signed_transaction, branch_item, signed_htlc_tx_with, signed_htlc_of};
 ghost use Rattle.publish.specs.Known.{IsSignedWhere};
 
 use crate::preimages::preimage_among;
@@ -120,7 +120,7 @@ fn branch_item(
 }
 
 // The HTLC transaction of the `k`-th HTLC of a commitment, with both tokens and what its branch takes.
-fn second_stage_with(
+fn htlc_tx_with(
     alloc: Global,
     patterns: &Patterns,
     commitment: &Commitment,
@@ -137,7 +137,7 @@ fn second_stage_with(
     requires local { local.now ≡ token_of commitment.now.keys.local_htlc
         (htlc_digest_of commitment.now htlc.now) }
     requires short { length item ≤ 32 }
-    ensures { IfOk result (λ t. t ≡ signed_second_stage commitment.now htlc.now item) }
+    ensures { IfOk result (λ t. t ≡ signed_htlc_tx_with commitment.now htlc.now item) }
 {
     let witness = htlc_witness(
         alloc,
@@ -170,7 +170,7 @@ fn htlc_digest(
 }
 
 // The HTLC transaction of the `k`-th HTLC of a commitment, with its peer's token and the owner's, if what its branch takes is known.
-fn second_stage_by(
+fn htlc_tx_by(
     alloc: Global,
     patterns: &Patterns,
     commitment: &Commitment,
@@ -191,12 +191,12 @@ fn second_stage_by(
         return Ok(None);
     };
     let remote = peers[k];
-    Ok(Some(second_stage_with(alloc, patterns, commitment, k, htlc, &remote, local, item)?))
+    Ok(Some(htlc_tx_with(alloc, patterns, commitment, k, htlc, &remote, local, item)?))
 }
 
 /// The HTLC transaction of the `k`-th HTLC of an owner's commitment, with the token of its peer and the signer's. `None` exactly if there is no such HTLC, or no such preimage, or if the
 /// signer may not sign for the owner's HTLC key. The only error is that memory ran out.
-pub(crate) fn second_stage_by_both(
+pub(crate) fn htlc_tx_by_both(
     alloc: Global,
     patterns: &Patterns,
     terms: &Terms,
@@ -217,7 +217,7 @@ pub(crate) fn second_stage_by_both(
     };
     let digest = htlc_digest(alloc, terms, commitment, k, htlc)?;
     match signer.sign(&commitment.keys().local_htlc, &digest) {
-        Ok(local) => second_stage_by(
+        Ok(local) => htlc_tx_by(
             alloc, patterns, commitment, k, htlc, peers, &local, preimages,
         ),
         Err(_) => Ok(None),

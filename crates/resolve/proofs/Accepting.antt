@@ -29,7 +29,7 @@ use Rattle.commit.specs.declared.derived.CommitmentKeys.{CommitmentKeys}
 use Rattle.commit.specs.declared.outputs.HtlcOutput.{HtlcOutput}
 use Rattle.commit.specs.Keys.{KeyBytes, bytes_of}
 use Rattle.commit.specs.Outputs.{htlc_script}
-use Rattle.commit.specs.Commitments.{Contents, second_stage_of}
+use Rattle.commit.specs.Commitments.{Contents, htlc_tx_of}
 use Rattle.commit.specs.Signing.{htlc_digest}
 use Rattle.penalty.specs.Claimable.{Claimable, htlc_form}
 use Rattle.penalty.specs.Sets.{IsClaimOn}
@@ -38,7 +38,7 @@ use Rattle.penalty.proofs.Programs.{same_htlc}
 use Rattle.penalty.proofs.Accepting.{open_way}
 use Rattle.resolve.specs.Due.{delayed_on, item_with_peers_key, direct_on, item_with_both_keys, second_stage_on}
 use Rattle.resolve.specs.Kinds.{direct_kind_of, second_stage_kind_of, IsDirect, IsSecondStage, IsHtlcPlace}
-use Rattle.resolve.proofs.Standing.{second_stage_way, second_stage_digest, second_stage_bare}
+use Rattle.resolve.proofs.Standing.{second_stage_way, htlc_tx_digest, htlc_tx_bare}
 
 -- to_local
 pub claims_delayed : (revocation : List ℕ) (delay : ℕ) (delayed : Key) (checked : CheckedScript) (place : Place) → delay < 2 ^ 16 → checked ≡ to_local_form revocation delay delayed.bytes
@@ -95,12 +95,12 @@ as_direct c k direction h checked place claim e f i =
 
 -- an HTLC by its HTLC transaction
 claims_second_at : (c : Contents) (k : CommitmentKeys) (direction : Direction) (htlc : Htlc) (h : HtlcOutput) (place : Place) → IsSecondStage (bytes_of k) direction htlc
-    → sighash (second_stage_of c h) 0 (spelling (htlc_form (bytes_of k) direction htlc).ops) place.value ≡ Some (htlc_digest c h)
-    → Claims (second_stage_kind_of k direction htlc (token_of k.remote_htlc.bytes (htlc_digest c h))) (htlc_form (bytes_of k) direction htlc) 1 place (Fixed (second_stage_of c h))
+    → sighash (htlc_tx_of c h) 0 (spelling (htlc_form (bytes_of k) direction htlc).ops) place.value ≡ Some (htlc_digest c h)
+    → Claims (second_stage_kind_of k direction htlc (token_of k.remote_htlc.bytes (htlc_digest c h))) (htlc_form (bytes_of k) direction htlc) 1 place (Fixed (htlc_tx_of c h))
 claims_second_at c k Offered htlc h place o d =
-    of_htlc_timeout (hash160 k.revocation.bytes) k.remote_htlc k.local_htlc (ripemd160 htlc.hash) place (second_stage_of c h) (htlc_digest c h) (differs (hash160 k.revocation.bytes) (hash160 []) o) d
+    of_htlc_timeout (hash160 k.revocation.bytes) k.remote_htlc k.local_htlc (ripemd160 htlc.hash) place (htlc_tx_of c h) (htlc_digest c h) (differs (hash160 k.revocation.bytes) (hash160 []) o) d
 claims_second_at c k Received htlc h place o d =
-    of_htlc_success (hash160 k.revocation.bytes) k.remote_htlc k.local_htlc htlc.hash htlc.expiry place (second_stage_of c h) (htlc_digest c h) (differs (hash160 k.revocation.bytes) (ripemd160 htlc.hash) o) d
+    of_htlc_success (hash160 k.revocation.bytes) k.remote_htlc k.local_htlc htlc.hash htlc.expiry place (htlc_tx_of c h) (htlc_digest c h) (differs (hash160 k.revocation.bytes) (ripemd160 htlc.hash) o) d
 
 second_path : (k : CommitmentKeys) (direction : Direction) (h : Htlc) (token : List ℕ) → path_taken_by (second_stage_kind_of k direction h token) ≡ 1
 second_path k Offered h token = refl
@@ -113,42 +113,42 @@ second_slots k Received h token = refl
 
 pub claims_second : (c : Contents) (k : CommitmentKeys) (h : HtlcOutput) (checked : CheckedScript) (place : Place) (token : List ℕ) → bytes_of k ≡ c.keys
     → token ≡ token_of c.keys.remote_htlc (htlc_digest c h) → IsSecondStage c.keys h.direction h.htlc → IsHtlcPlace c h place → checked ≡ htlc_form (bytes_of k) h.direction h.htlc
-    → Claims (second_stage_kind_of k h.direction h.htlc token) checked 1 place (Fixed (second_stage_of c h))
+    → Claims (second_stage_kind_of k h.direction h.htlc token) checked 1 place (Fixed (htlc_tx_of c h))
 claims_second c k h checked place token b t o p e =
     let u : token ≡ token_of k.remote_htlc.bytes (htlc_digest c h) = t ∙ ap (λ (y : KeyBytes). token_of y.remote_htlc (htlc_digest c h)) (sym b) in
     let s : spelling (htlc_form (bytes_of k) h.direction h.htlc).ops ≡ htlc_script c.keys h.direction h.htlc = sym (same_htlc (bytes_of k) h.direction h.htlc) ∙ ap (λ y. htlc_script y h.direction h.htlc) b in
-    subst (λ x. Claims (second_stage_kind_of k h.direction h.htlc token) x 1 place (Fixed (second_stage_of c h))) (sym e)
-    (subst (λ y. Claims (second_stage_kind_of k h.direction h.htlc y) (htlc_form (bytes_of k) h.direction h.htlc) 1 place (Fixed (second_stage_of c h))) (sym u)
-    (claims_second_at c k h.direction h.htlc h place (subst (λ y. IsSecondStage y h.direction h.htlc) (sym b) o) (second_stage_digest c h _ place.value s p.value)))
+    subst (λ x. Claims (second_stage_kind_of k h.direction h.htlc token) x 1 place (Fixed (htlc_tx_of c h))) (sym e)
+    (subst (λ y. Claims (second_stage_kind_of k h.direction h.htlc y) (htlc_form (bytes_of k) h.direction h.htlc) 1 place (Fixed (htlc_tx_of c h))) (sym u)
+    (claims_second_at c k h.direction h.htlc h place (subst (λ y. IsSecondStage y h.direction h.htlc) (sym b) o) (htlc_tx_digest c h _ place.value s p.value)))
 
 pub claims_fixed : (c : Contents) (k : CommitmentKeys) (h : HtlcOutput) (checked : CheckedScript) (place : Place) (token : List ℕ) (kind : ClaimKind) (shell : Shell)
-    → kind ≡ second_stage_kind_of k h.direction h.htlc token → shell ≡ Fixed (second_stage_of c h)
-    → Claims (second_stage_kind_of k h.direction h.htlc token) checked 1 place (Fixed (second_stage_of c h)) → Claims kind checked (path_taken_by kind) place (bare_shell shell)
+    → kind ≡ second_stage_kind_of k h.direction h.htlc token → shell ≡ Fixed (htlc_tx_of c h)
+    → Claims (second_stage_kind_of k h.direction h.htlc token) checked 1 place (Fixed (htlc_tx_of c h)) → Claims kind checked (path_taken_by kind) place (bare_shell shell)
 claims_fixed c k h checked place token kind shell e s i =
     subst (λ x. Claims kind checked (path_taken_by kind) place (bare_shell x)) (sym s)
-    (subst (λ x. Claims kind checked (path_taken_by kind) place x) (sym (second_stage_bare c h))
-    (subst (λ x. Claims x checked (path_taken_by x) place (Fixed (second_stage_of c h))) (sym e)
-    (subst (λ n. Claims (second_stage_kind_of k h.direction h.htlc token) checked n place (Fixed (second_stage_of c h))) (sym (second_path k h.direction h.htlc token)) i)))
+    (subst (λ x. Claims kind checked (path_taken_by kind) place x) (sym (htlc_tx_bare c h))
+    (subst (λ x. Claims x checked (path_taken_by x) place (Fixed (htlc_tx_of c h))) (sym e)
+    (subst (λ n. Claims (second_stage_kind_of k h.direction h.htlc token) checked n place (Fixed (htlc_tx_of c h))) (sym (second_path k h.direction h.htlc token)) i)))
 
 pub way_fixed : (c : Contents) (k : CommitmentKeys) (h : HtlcOutput) (checked : CheckedScript) (place : Place) (token : List ℕ) (kind : ClaimKind) (shell : Shell)
-    → kind ≡ second_stage_kind_of k h.direction h.htlc token → shell ≡ Fixed (second_stage_of c h)
-    → HasWay checked 1 place (Fixed (second_stage_of c h)) → HasWay checked (path_taken_by kind) place (bare_shell shell)
+    → kind ≡ second_stage_kind_of k h.direction h.htlc token → shell ≡ Fixed (htlc_tx_of c h)
+    → HasWay checked 1 place (Fixed (htlc_tx_of c h)) → HasWay checked (path_taken_by kind) place (bare_shell shell)
 way_fixed c k h checked place token kind shell e s w =
     subst (λ x. HasWay checked (path_taken_by kind) place (bare_shell x)) (sym s)
-    (subst (λ x. HasWay checked (path_taken_by kind) place x) (sym (second_stage_bare c h))
-    (subst (λ x. HasWay checked (path_taken_by x) place (Fixed (second_stage_of c h))) (sym e)
-    (subst (λ n. HasWay checked n place (Fixed (second_stage_of c h))) (sym (second_path k h.direction h.htlc token)) w)))
+    (subst (λ x. HasWay checked (path_taken_by kind) place x) (sym (htlc_tx_bare c h))
+    (subst (λ x. HasWay checked (path_taken_by x) place (Fixed (htlc_tx_of c h))) (sym e)
+    (subst (λ n. HasWay checked n place (Fixed (htlc_tx_of c h))) (sym (second_path k h.direction h.htlc token)) w)))
 
 pub as_second : (c : Contents) (k : CommitmentKeys) (h : HtlcOutput) (checked : CheckedScript) (place : Place) (token : List ℕ) (kind : ClaimKind) (shell : Shell) (claim : ClaimParts) → bytes_of k ≡ c.keys
-    → token ≡ token_of c.keys.remote_htlc (htlc_digest c h) → kind ≡ second_stage_kind_of k h.direction h.htlc token → shell ≡ Fixed (second_stage_of c h)
+    → token ≡ token_of c.keys.remote_htlc (htlc_digest c h) → kind ≡ second_stage_kind_of k h.direction h.htlc token → shell ≡ Fixed (htlc_tx_of c h)
     → checked ≡ htlc_form (bytes_of k) h.direction h.htlc
     → IsClaimOn (record { place = place; form = checked; path = path_taken_by kind; slots = fillings_of kind; shell = bare_shell shell }) claim
     → IsClaimOn (second_stage_on c h place) claim
 as_second c k h checked place token kind shell claim e t n s f i =
-    let b : bare_shell shell ≡ Fixed (second_stage_of c h) = ap bare_shell s ∙ second_stage_bare c h in
+    let b : bare_shell shell ≡ Fixed (htlc_tx_of c h) = ap bare_shell s ∙ htlc_tx_bare c h in
     subst (λ o. IsClaimOn o claim)
     (ap (λ x. record { place = place; form = checked; path = path_taken_by kind; slots = fillings_of kind; shell = x }) b
-    ∙ same_parts c h.direction h.htlc place (Fixed (second_stage_of c h))
+    ∙ same_parts c h.direction h.htlc place (Fixed (htlc_tx_of c h))
     (λ y. item_with_both_keys h.direction h.htlc ∷ Signature y.local_htlc ∷ Bytes (token_of c.keys.remote_htlc (htlc_digest c h)) ∷ Bytes [] ∷ []) checked (path_taken_by kind) 1 (fillings_of kind) (bytes_of k) e f
     (ap path_taken_by n ∙ second_path k h.direction h.htlc token)
     (ap fillings_of n ∙ second_slots k h.direction h.htlc token ∙ ap (λ y. item_with_both_keys h.direction h.htlc ∷ Signature k.local_htlc.bytes ∷ Bytes y ∷ Bytes [] ∷ []) t))

@@ -12,7 +12,7 @@ use Rattle.script.specs.Token.{token_of}
 use Rattle.commit.specs.declared.fees.Direction.TheVariants.{Offered, Received}
 use Rattle.commit.specs.Keys.{KeyBytes}
 use Rattle.commit.specs.Outputs.{htlc_output, to_remote_output, to_local_output}
-use Rattle.commit.specs.Commitments.{Contents, second_stage_of}
+use Rattle.commit.specs.Commitments.{Contents, htlc_tx_of}
 use Rattle.penalty.specs.Claimable.{Claimable, claims_by, claimable_of}
 use Rattle.resolve.specs.declared.known.RevokedCommitment.{RevokedCommitment}
 use Rattle.resolve.specs.declared.known.Known.{Known}
@@ -47,17 +47,17 @@ module _ (funding : OutPoint) (hidden : Obscured) (k : KeyBytes) (hash : List �
   -- of one's own: the HTLC-timeout transaction, whose output is 663 less, the HTLC-success transaction, 703 less, and to_local
   owners_with : can_time_out k ≡ true → is_known preimages hash ≡ true → can_pay k (htlc 11000000 600) ≡ true
       → map spot (owners_due preimages both) ≡ (0, 10000, 1, 500) ∷ (0, 9337, 1, 0) ∷ (1, 11000, 1, 0) ∷ (0, 10297, 1, 0) ∷ (3, 58000, 1, 0) ∷ []
-  unfolding owners_due claims_by second_stage_of
+  unfolding owners_due claims_by htlc_tx_of
   owners_with e f g = rw (e, f, g) refl
 
   -- no HTLC-success without the preimage
   owners_without : can_time_out k ≡ true → is_known preimages hash ≡ false → map spot (owners_due preimages both) ≡ (0, 10000, 1, 500) ∷ (0, 9337, 1, 0) ∷ (3, 58000, 1, 0) ∷ []
-  unfolding owners_due claims_by second_stage_of
+  unfolding owners_due claims_by htlc_tx_of
   owners_without e f = rw (e, f) refl
 
   -- neither of the two claims that are refused
   owners_refused : can_time_out k ≡ false → is_known preimages hash ≡ true → can_pay k (htlc 11000000 600) ≡ false → map spot (owners_due preimages both) ≡ (3, 58000, 1, 0) ∷ []
-  unfolding owners_due claims_by second_stage_of
+  unfolding owners_due claims_by htlc_tx_of
   owners_refused e f g = rw (e, f, g) refl
 
   -- of the peer's: the direct preimage, the direct timeout, and to_remote

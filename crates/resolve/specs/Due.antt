@@ -15,7 +15,7 @@ use Rattle.commit.specs.declared.outputs.OutputKind.{OutputKind}
 use Rattle.commit.specs.declared.outputs.OutputKind.TheVariants.{ToLocal, ToRemote, ToHtlc}
 use Rattle.commit.specs.declared.outputs.HtlcOutput.{HtlcOutput}
 use Rattle.commit.specs.Keys.{KeyBytes}
-use Rattle.commit.specs.Commitments.{Contents, second_stage_output, second_stage_of}
+use Rattle.commit.specs.Commitments.{Contents, htlc_tx_output, htlc_tx_of}
 use Rattle.commit.specs.Signing.{htlc_digest}
 use Rattle.penalty.specs.Claimable.{Claimable, place_in, payment_on, htlc_form, claims_by, claimable_of}
 use Rattle.resolve.specs.declared.verdicts.Verdict.{Verdict}
@@ -65,12 +65,12 @@ second_stage_on c h place = record {
   form = htlc_form c.keys h.direction h.htlc;
   path = 1;
   slots = item_with_both_keys h.direction h.htlc ∷ Signature c.keys.local_htlc ∷ Bytes (token_of c.keys.remote_htlc (htlc_digest c h)) ∷ Bytes [] ∷ [];
-  shell = Fixed (second_stage_of c h);
+  shell = Fixed (htlc_tx_of c h);
 }
 
 -- the output of that transaction
 abbrev pub delayed_second_stage : Contents → HtlcOutput → Claimable
-delayed_second_stage c h = delayed_on c (place_in (second_stage_of c h) 0 (second_stage_output c h))
+delayed_second_stage c h = delayed_on c (place_in (htlc_tx_of c h) 0 (htlc_tx_output c h))
 
 -- what spends the HTLC with only the peer's key: the preimage, or the empty item for the timeout
 abbrev pub item_with_peers_key : Direction → Htlc → Filling

@@ -6,7 +6,7 @@ ghost use Rattle.script.specs.Token.{token_of};
 ghost use Rattle.sighash.specs.Programs.{script_hash_program};
 ghost use Rattle.commit.specs.Outputs.{to_local_script as to_local_script_of, htlc_script as htlc_script_of};
 ghost use Rattle.commit.specs.Keys.{bytes_of};
-ghost use Rattle.commit.specs.Commitments.{second_stage_of};
+ghost use Rattle.commit.specs.Commitments.{htlc_tx_of};
 ghost use Rattle.commit.specs.Signing.{htlc_digest};
 ghost use Rattle.penalty.specs.Sets.{IsClaimOn};
 ghost use Rattle.resolve.specs.Due.{can_time_out, can_pay, is_owners, is_peers, delayed_on, direct_on, second_stage_on};
@@ -158,7 +158,7 @@ pub(crate) fn second_stage_on(
     requires height { htlc.now.htlc.expiry < locktime_threshold }
     requires token { token ≡ token_of commitment.now.keys.remote_htlc
         (htlc_digest commitment.now htlc.now) }
-    requires tx { tx ≡ second_stage_of commitment.now htlc.now }
+    requires tx { tx ≡ htlc_tx_of commitment.now htlc.now }
     requires place { IsHtlcPlace commitment.now htlc.now place }
     ensures { IfOk result (IsClaimOn (second_stage_on commitment.now htlc.now place)) }
 {

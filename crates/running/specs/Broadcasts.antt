@@ -10,12 +10,12 @@ use Rattle.book.specs.Knowing.{IsKnownIn}
 use Rattle.desk.specs.Histories.{History}
 use Rattle.running.specs.declared.players.Broadcast.{Broadcast}
 use Rattle.running.specs.declared.players.Choice.{Choice}
-use Rattle.running.specs.declared.players.Choice.TheVariants.{Commitment, Newest, SecondStage}
+use Rattle.running.specs.declared.players.Choice.TheVariants.{Commitment, Newest, HtlcTx}
 
 -- what an event broadcasts, if it does: the commitment or the HTLC transaction that it names, and a close the side's newest commitment
 abbrev pub broadcast_in : Event → Option Broadcast
 broadcast_in (events.Broadcast s c n) = Some (record { side = s; channel = c; choice = Commitment n })
-broadcast_in (events.BroadcastHtlc s c n h) = Some (record { side = s; channel = c; choice = SecondStage n h })
+broadcast_in (events.BroadcastHtlc s c n h) = Some (record { side = s; channel = c; choice = HtlcTx n h })
 broadcast_in (events.Close s c) = Some (record { side = s; channel = c; choice = Newest })
 broadcast_in event = None
 
@@ -32,7 +32,7 @@ abbrev pub IsCommitmentOf : Known → ℕ → Option Transaction → Type 0
 IsCommitmentOf known number answer = IsSignedWhere (MaySignIf known.signer (commitment_key known number)) (commitment_known known number) answer
 
 -- an HTLC transaction of the side's commitment of a number with both signatures, where it has it and may sign it
-pub record IsSecondStage (known : Known) (number htlc : ℕ) (answer : Option Transaction) : Type 0 where
+pub record IsHtlcTxOf (known : Known) (number htlc : ℕ) (answer : Option Transaction) : Type 0 where
   pub preimages : List (List ℕ)
   pub since : GoesOnWith known.preimages preimages
   pub is : IsSignedWhere (MaySignIf known.signer (htlc_key known number)) (htlc_tx_known known number htlc preimages) answer
@@ -41,7 +41,7 @@ pub record IsSecondStage (known : Known) (number htlc : ℕ) (answer : Option Tr
 abbrev pub IsSignedBy : Known → Choice → Option Transaction → Type 0
 IsSignedBy known (Commitment number) answer = IsCommitmentOf known number answer
 IsSignedBy known Newest answer = IsCommitmentOf known (newest_of known) answer
-IsSignedBy known (SecondStage number htlc) answer = IsSecondStage known number htlc answer
+IsSignedBy known (HtlcTx number htlc) answer = IsHtlcTxOf known number htlc answer
 
 -- the same of a channel in a history; nothing where there is no such channel
 abbrev pub IsBroadcastOf : History → Broadcast → Option ChannelBook → Option Transaction → Type 0

@@ -1,10 +1,7 @@
 -- What a node leaves.
 use Rattle.std.specs.Prelude.{◌≡◌, ℕ, ◌+◌, true, length, map}
-use Rattle.std.specs.List.{AllByRecursion}
-use Rattle.claim.specs.Claims.{IsWhole}
 use Rattle.channel.specs.Tokens.{peer_tokens}
-use Rattle.book.specs.declared.calls.Entry.{Entry}
-use Rattle.book.specs.Accepted.{all_accepted, claims_by}
+use Rattle.book.specs.Accepted.{all_accepted, AreWhole}
 use Rattle.book.specs.Guarding.{is_guarded}
 use Rattle.desk.specs.Histories.{History, GoesOn}
 use Rattle.scenario.specs.declared.scenarios.Scenario.{Scenario}
@@ -15,17 +12,13 @@ use Rattle.running.specs.declared.runs.Report.{Report}
 use Rattle.running.specs.Events.{all_turns}
 use Rattle.running.specs.Playing.{AreAllPlayed}
 
--- each claim in an entry is an accepted one
-abbrev pub HasWholeClaims : Entry → Type 0
-HasWholeClaims e = AllByRecursion IsWhole (claims_by e.call)
-
 -- a book that threads leave: it goes on from the one that was opened, each call in it was accepted, none is a signature that the penalties of a revoked commitment had to come before, and each
 -- claim in it is an accepted one
 pub record IsLeft (opening history : History) : Type 0 where
   pub goes_on : GoesOn opening history
   pub accepted : all_accepted peer_tokens history ≡ true
   pub guarded : is_guarded history ≡ true
-  pub whole : AllByRecursion HasWholeClaims history
+  pub whole : AreWhole history
 
 abbrev pub total_of : Counts → ℕ
 total_of counts = counts.played + counts.refused

@@ -6,7 +6,7 @@ ghost use Rattle.board.specs.Seats as board_seats;
 ghost use Rattle.desk.specs.Seats.{IsSeatOf, HasSameCalls, number_in, calls_in, last_in};
 ghost use Rattle.desk.specs.Answers.{IsHistoryFor};
 ghost use Rattle.running.specs.Crews.{IsPlayer, GoesOnPlaying};
-ghost use Rattle.running.specs.Broadcasts.{GoesOnWith, IsSecondStage, IsSignedBy, IsBroadcast, broadcast_in, newest_of};
+ghost use Rattle.running.specs.Broadcasts.{GoesOnWith, IsHtlcTxOf, IsSignedBy, IsBroadcast, broadcast_in, newest_of};
 
 use crate::houses::{House, Office};
 use crate::stages::Stage;
@@ -42,7 +42,7 @@ enum Choice {
     /// Its newest commitment.
     Newest,
     /// An HTLC transaction of its commitment of this number.
-    SecondStage {
+    HtlcTx {
         number: u64,
         /// Which of the commitment's HTLCs, in the order of its outputs.
         htlc: u64,
@@ -79,7 +79,7 @@ fn broadcast_in(event: &Event) -> Option<Broadcast>
         } => Some(Broadcast {
             side,
             channel,
-            choice: Choice::SecondStage { number, htlc },
+            choice: Choice::HtlcTx { number, htlc },
         }),
         Event::Close { side, channel } => Some(Broadcast {
             side,
@@ -114,7 +114,7 @@ fn htlc_tx_by<R: Wait>(
     number: u64,
     htlc: u64,
 ) -> Result<Option<Tx>, AllocError>
-    ensures { IfOk result (IsSecondStage known.now number htlc) }
+    ensures { IfOk result (IsHtlcTxOf known.now number htlc) }
 {
     let preimages = preimages_for(rt, alloc, office, known)?;
     signed_htlc_tx_in(alloc, known, number, htlc as usize, &preimages)
@@ -140,9 +140,7 @@ fn tx_by<R: Wait>(
     match broadcast.choice {
         Choice::Commitment(number) => signed_commitment_in(alloc, known, number),
         Choice::Newest => signed_commitment_in(alloc, known, newest_in(known)),
-        Choice::SecondStage { number, htlc } => {
-            htlc_tx_by(rt, alloc, office, known, number, htlc)
-        }
+        Choice::HtlcTx { number, htlc } => { htlc_tx_by(rt, alloc, office, known, number, htlc) }
     }
 }
 

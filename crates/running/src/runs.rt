@@ -1,16 +1,13 @@
 //! A whole run of a node.
 
 ghost use Rattle.std.specs.Prelude.{◌≡◌, ◌+◌, ◌*◌, ◌<◌, ◌≤◌, IfOk, All, length, map};
-ghost use Rattle.std.specs.List.{AllByRecursion};
-ghost use Rattle.claim.specs.Claims.{IsWhole};
 ghost use Rattle.board.specs.Seats as board_seats;
 ghost use Rattle.desk.specs.Histories.{calls_of};
 ghost use Rattle.desk.specs.Seats.{IsSeatOf, number_in, calls_in, opening_in, last_in};
 ghost use Rattle.running.specs.Beginning.{AreReady};
 ghost use Rattle.running.specs.Crews.{IsStock, IsMember, IsLine, IsPlayer, IsCrew};
 ghost use Rattle.running.specs.Playing.{IsPlayed, ArePlayed, AreAllPlayed};
-ghost use Rattle.running.specs.Reports.{HasWholeClaims, IsLeft, IsReport};
-ghost use Rattle.book.specs.Accepted.{claims_by};
+ghost use Rattle.running.specs.Reports.{IsLeft, IsReport};
 
 use crate::beginning::{Opened, begin, open_side};
 use crate::counts::Counts;
@@ -21,9 +18,8 @@ use crate::players::{Player, play_chain};
 use crate::staff::{Member, beside};
 use crate::stages::Stage;
 use board::Board;
-use book::{Book, Call, Entry};
+use book::Book;
 use chain::Index;
-use claim::Claim;
 use desk::Seat;
 use node::Gate;
 use scenario::{Event, Scenario};
@@ -48,36 +44,7 @@ pub struct Report {
 
 // ---- the end
 
-// Tells the proof that claims were accepted.
-fn hold_whole(claims: &[Claim])
-    ensures { AllByRecursion IsWhole claims.now }
-{
-    for claim in claims {
-        let _ = claim.path();
-    }
-}
-
-// The same for the claims of a call.
-fn hold_whole_call(call: &Call)
-    ensures { AllByRecursion IsWhole (claims_by call.now) }
-{
-    match call {
-        Call::Keep { claims, .. } => hold_whole(claims.values()),
-        Call::Release { batch, .. } => hold_whole(batch.claims.values()),
-        _ => {}
-    }
-}
-
-// The same for a history.
-fn hold_whole_history(entries: &[Entry])
-    ensures { AllByRecursion HasWholeClaims entries.now }
-{
-    for entry in entries {
-        hold_whole_call(&entry.call);
-    }
-}
-
-// The book of a side whose threads have ended. The seat that closes the desk makes no further call.
+// The book of a side whose threads have ended. The seat that closes the desk makes no further call. That the book's claims were accepted is a clause of its entries.
 fn closed<R: Wait>(rt: &R, office: Office, closer: Seat) -> Book
     requires { IsSeatOf office.desk closer }
     ensures left { IsLeft (last_in closer) result }
@@ -86,7 +53,7 @@ fn closed<R: Wait>(rt: &R, office: Office, closer: Seat) -> Book
     let mut closer = closer;
     let Office { desk, .. } = office;
     let book = desk.close(rt, &mut closer);
-    hold_whole_history(book.entries());
+    let _entries = book.entries();
     book
 }
 

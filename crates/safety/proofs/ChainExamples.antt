@@ -31,7 +31,7 @@ use Rattle.commit.specs.declared.outputs.HtlcOutput.{HtlcOutput}
 use Rattle.commit.specs.Keys.{KeyBytes, keys_of}
 use Rattle.commit.specs.Order.{output_cmp, in_order}
 use Rattle.commit.specs.Outputs.{outputs_of}
-use Rattle.commit.specs.Commitments.{Contents, commitment_of, tx_output, transaction_of, id_of, htlcs_from, second_stage_of, second_stage_output, IsOutputOf}
+use Rattle.commit.specs.Commitments.{Contents, commitment_of, tx_output, transaction_of, id_of, htlcs_from, htlc_tx_of, htlc_tx_output, IsOutputOf}
 use Rattle.penalty.specs.declared.states.RevokedState.{RevokedState}
 use Rattle.penalty.specs.Claimable.{Claimable, claims_by, commitment_in, claimable_of}
 use Rattle.penalty.specs.Worth.{staged, value_of, fees_with}
@@ -212,8 +212,8 @@ module _ (hash : List ℕ) where
   abbrev blocks : List Block
   blocks = record { transactions = expired ∷ []; granted = [] } ∷ below
 
-  expired_id : transaction_id expired ≡ transaction_id (second_stage_of c offered)
-  expired_id = same_id expired (second_stage_of c offered) (sym (second_is (grant_outpoint 0) hash) ∙ sym (bare_second c offered))
+  expired_id : transaction_id expired ≡ transaction_id (htlc_tx_of c offered)
+  expired_id = same_id expired (htlc_tx_of c offered) (sym (second_is (grant_outpoint 0) hash) ∙ sym (bare_second c offered))
 
   -- where its ids and that of the grant differ
   module _ (apart : bytes_eq (transaction_id signed) (grant_id 0) ≡ false) (far : bytes_eq (transaction_id expired) (grant_id 0) ≡ false) (fresh : bytes_eq (transaction_id signed) (transaction_id expired) ≡ false) where
@@ -227,14 +227,14 @@ module _ (hash : List ℕ) where
     expired_spends : input_refusal (empty ∷ below) 6 expired expiring ≡ None
     expired_spends = ap (coin_refusal 6 expired expiring) htlc_coin ∙ (timeout_takes (grant_outpoint 0) hash).passes
 
-    expired_covered : nat_le (paid_out (second_stage_output c offered ∷ [])) (paid_in (empty ∷ below) (expiring ∷ [])) ≡ true
+    expired_covered : nat_le (paid_out (htlc_tx_output c offered ∷ [])) (paid_in (empty ∷ below) (expiring ∷ [])) ≡ true
     unfolding commitment_of
     expired_covered = rw htlc_coin refl
 
     all_checked : is_checked blocks ≡ true
     all_checked =
         both (have_passed below (expired ∷ [])) (is_checked below)
-        (rw (unrefused (empty ∷ below) 2 5 expiring (second_stage_output c offered ∷ []) (rw fresh refl) expired_spends expired_covered) refl) checked
+        (rw (unrefused (empty ∷ below) 2 5 expiring (htlc_tx_output c offered ∷ []) (rw fresh refl) expired_spends expired_covered) refl) checked
 
     only : (height : ℕ) (t : Transaction) → StandsAt blocks height t → (expired ≡ t) ⊎ (signed ≡ t)
     only height t s =
@@ -260,7 +260,7 @@ module _ (hash : List ℕ) where
     unfolding claimable_of claims_by commitment_of outputs_of in_order output_cmp keys_of
     at_htlc o (zero, l, e) at = e
     at_htlc o (suc zero, l, e) at =
-        let f : id_of c ≡ transaction_id (second_stage_of c offered) = ap (λ (p : OutPoint). p.txid) (at ∙ sym (ap (λ (x : Claimable). x.place.outpoint) e)) in
+        let f : id_of c ≡ transaction_id (htlc_tx_of c offered) = ap (λ (p : OutPoint). p.txid) (at ∙ sym (ap (λ (x : Claimable). x.place.outpoint) e)) in
         absurd (false≢true (sym fresh ∙ (bytes_eq-Decides (transaction_id signed) (transaction_id expired)).1 (signed_id ∙ f ∙ sym expired_id)))
     at_htlc o (suc (suc zero), l, e) at = let f : 0 ≡ 1 = ap (λ (p : OutPoint). p.index) (at ∙ sym (ap (λ (x : Claimable). x.place.outpoint) e)) in absurd (omega (arith, f))
     at_htlc o (suc (suc (suc zero)), l, e) at = let f : 0 ≡ 2 = ap (λ (p : OutPoint). p.index) (at ∙ sym (ap (λ (x : Claimable). x.place.outpoint) e)) in absurd (omega (arith, f))

@@ -19,7 +19,7 @@ use Rattle.commit.specs.declared.outputs.OutputKind.{OutputKind}
 use Rattle.commit.specs.declared.outputs.OutputKind.TheVariants.{ToLocal, ToRemote, ToHtlc}
 use Rattle.commit.specs.declared.outputs.CommitmentOutput.{CommitmentOutput}
 use Rattle.commit.specs.declared.outputs.HtlcOutput.{HtlcOutput}
-use Rattle.commit.specs.Commitments.{Contents, commitment_of, transaction_of, id_of, second_stage_of}
+use Rattle.commit.specs.Commitments.{Contents, commitment_of, transaction_of, id_of, htlc_tx_of}
 use Rattle.penalty.specs.declared.states.RevokedState.{RevokedState}
 use Rattle.penalty.specs.Claimable.{Claimable, penalty_on, payment_on, htlc_penalty_on, second_stage_penalty, claims_by, commitment_in}
 use Rattle.penalty.specs.Worth.{stage_on}
@@ -111,12 +111,12 @@ first_index [] = 0
 first_index (i ∷ is) = i.outpoint.index
 
 -- the commitment's sequence has 80 in its top byte, and an HTLC transaction's is 0
-not_second : (state : RevokedState) (h : HtlcOutput) → transaction_of (commitment_in state) ≡ second_stage_of (commitment_in state) h → ⊥
-unfolding transaction_of second_stage_of commitment_of
+not_second : (state : RevokedState) (h : HtlcOutput) → transaction_of (commitment_in state) ≡ htlc_tx_of (commitment_in state) h → ⊥
+unfolding transaction_of htlc_tx_of commitment_of
 not_second state h e = let f = ap (λ (t : Transaction). first_sequence t.inputs) e in omega (arith, f)
 
-one_index : (c : Contents) (h g : HtlcOutput) → second_stage_of c h ≡ second_stage_of c g → h.index ≡ g.index
-unfolding second_stage_of
+one_index : (c : Contents) (h g : HtlcOutput) → htlc_tx_of c h ≡ htlc_tx_of c g → h.index ≡ g.index
+unfolding htlc_tx_of
 one_index c h g e = ap (λ (t : Transaction). first_index t.inputs) e
 
 -- ---- outpoints
@@ -124,7 +124,7 @@ one_index c h g e = ap (λ (t : Transaction). first_index t.inputs) e
 -- an output for that of an index: at its place, or at that of its HTLC transaction's
 data StandsFor (blocks : List Block) (c : Contents) (index : ℕ) (o : Claimable) : Type 0 where
   itself : o.place.outpoint ≡ record { txid = id_of c; index = index } → StandsFor blocks c index o
-  by_htlc : (h : HtlcOutput) → h.index ≡ index → IsOnChain blocks (second_stage_of c h) → o.place.outpoint ≡ record { txid = transaction_id (second_stage_of c h); index = 0 }
+  by_htlc : (h : HtlcOutput) → h.index ≡ index → IsOnChain blocks (htlc_tx_of c h) → o.place.outpoint ≡ record { txid = transaction_id (htlc_tx_of c h); index = 0 }
       → StandsFor blocks c index o
 
 abbrev AreApart : Claimable → Claimable → Type 0
@@ -133,11 +133,11 @@ AreApart o p = o.place.outpoint ≢ p.place.outpoint
 abbrev id_in : OutPoint → List ℕ
 id_in p = p.txid
 
-other_id : (blocks : List Block) (state : RevokedState) → HasCommitment blocks state → (h : HtlcOutput) → IsOnChain blocks (second_stage_of (commitment_in state) h)
-    → id_of (commitment_in state) ≡ transaction_id (second_stage_of (commitment_in state) h) → ⊥
+other_id : (blocks : List Block) (state : RevokedState) → HasCommitment blocks state → (h : HtlcOutput) → IsOnChain blocks (htlc_tx_of (commitment_in state) h)
+    → id_of (commitment_in state) ≡ transaction_id (htlc_tx_of (commitment_in state) h) → ⊥
 other_id blocks state chain h k e =
     let c = commitment_in state in
-    not_second state h (one_on_chain blocks chain.checked (transaction_of c) (second_stage_of c h) chain.commitment k (bare_commitment c) (bare_second c h) e)
+    not_second state h (one_on_chain blocks chain.checked (transaction_of c) (htlc_tx_of c h) chain.commitment k (bare_commitment c) (bare_second c h) e)
 
 apart : (blocks : List Block) (state : RevokedState) → HasCommitment blocks state → (i j : ℕ) → i < j → (o p : Claimable) → StandsFor blocks (commitment_in state) i o → StandsFor blocks (commitment_in state) j p → AreApart o p
 apart blocks state chain i j l o p (itself a) (itself b) e = let f : i ≡ j = ap (λ (q : OutPoint). q.index) (sym a ∙ e ∙ b) in omega (arith, f, l)
@@ -145,7 +145,7 @@ apart blocks state chain i j l o p (itself a) (by_htlc h at k b) e = other_id bl
 apart blocks state chain i j l o p (by_htlc h at k a) (itself b) e = other_id blocks state chain h k (ap id_in (sym b ∙ sym e ∙ a))
 apart blocks state chain i j l o p (by_htlc h at k a) (by_htlc g there m b) e =
     let c = commitment_in state in
-    let f : h.index ≡ g.index = one_index c h g (one_on_chain blocks chain.checked (second_stage_of c h) (second_stage_of c g) k m (bare_second c h) (bare_second c g) (ap id_in (sym a ∙ e ∙ b))) in
+    let f : h.index ≡ g.index = one_index c h g (one_on_chain blocks chain.checked (htlc_tx_of c h) (htlc_tx_of c g) k m (bare_second c h) (bare_second c g) (ap id_in (sym a ∙ e ∙ b))) in
     omega (arith, f, at, there, l)
 
 -- ---- one for each output

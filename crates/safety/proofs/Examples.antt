@@ -47,7 +47,7 @@ use Rattle.commit.specs.declared.outputs.HtlcOutput.{HtlcOutput}
 use Rattle.commit.specs.Keys.{keys_of}
 use Rattle.commit.specs.Order.{output_cmp, in_order}
 use Rattle.commit.specs.Outputs.{outputs_of, to_local_script, htlc_script}
-use Rattle.commit.specs.Commitments.{Contents, commitment_of, transaction_of, htlcs_of, htlcs_from, second_stage_of, second_stage_output}
+use Rattle.commit.specs.Commitments.{Contents, commitment_of, transaction_of, htlcs_of, htlcs_from, htlc_tx_of, htlc_tx_output}
 use Rattle.commit.proofs.Collected.{short_script_program}
 use Rattle.penalty.specs.declared.states.RevokedState.{RevokedState}
 use Rattle.penalty.specs.Claimable.{Claimable, place_in, penalty_on, htlc_penalty_on, claims_by, commitment_in, claimable_of}
@@ -55,7 +55,8 @@ use Rattle.penalty.proofs.Programs.{same_htlc}
 use Rattle.safety.specs.Signing.{digest_of}
 use Rattle.safety.specs.Spending.{spend_on, peer_keys, Takes}
 use Rattle.safety.specs.Taking.{ShowsOnly, IsAsSigned}
-use Rattle.safety.specs.Fates.{htlc_signed, signed_by_peer, by_peer, by_owner, Fate, by_htlc_transaction, for_good}
+use Rattle.safety.specs.Ways.{by_peer, by_htlc_transaction, by_owner}
+use Rattle.safety.specs.Fates.{htlc_signed, signed_by_peer, Fate}
 use Rattle.safety.proofs.Claimed.{keys_in}
 use Rattle.safety.proofs.Limits.{no_longer, id_length}
 use Rattle.safety.proofs.Fates.{is_htlc_transaction}
@@ -247,7 +248,7 @@ module _ (funding : OutPoint) (hash : List ℕ) where
   }
 
   penalty_fate : Fate state on_to_local 1 2 (spending penalty) penalty (spend_on on_to_local (spending penalty) penalty ∷ [])
-  penalty_fate = for_good (by_peer (0, spend_on on_to_local (spending penalty) penalty, lit< tt, refl, record { transaction = refl; input = refl; code = refl; value = refl }))
+  penalty_fate = by_peer (0, spend_on on_to_local (spending penalty) penalty, lit< tt, refl, record { transaction = refl; input = refl; code = refl; value = refl })
 
   -- the owner's input, 144 blocks above the output's block
   abbrev late : TxIn
@@ -305,18 +306,18 @@ module _ (funding : OutPoint) (hash : List ℕ) where
   }
 
   late_fate : Fate state on_to_local 1 145 (spending late) late []
-  late_fate = for_good (by_owner (record {
+  late_fate = by_owner (record {
     form = refl;
     token = (0, lit< tt, ap (token_of c.keys.delayed) (sym (same_digest 144 (token_of c.keys.delayed (digest_on 144) ∷ [] ∷ spelling on_to_local.form.ops ∷ []))));
     late = omega (arith, delay_is);
-  }))
+  })
 
   -- the HTLC-timeout transaction, with a witness
   abbrev pub offer : HtlcOutput
   offer = record { index = 0; direction = Offered; htlc = htlc }
 
   abbrev pub timeout : TxIn → Transaction
-  timeout input = record { version = 2; inputs = input ∷ []; outputs = second_stage_output c offer ∷ []; lock_time = 5 }
+  timeout input = record { version = 2; inputs = input ∷ []; outputs = htlc_tx_output c offer ∷ []; lock_time = 5 }
 
   abbrev timeout_digest : List ℕ
   timeout_digest = digest_of (spend_on on_htlc (timeout (input_on on_htlc 0 [])) (input_on on_htlc 0 []))
@@ -349,8 +350,8 @@ module _ (funding : OutPoint) (hash : List ℕ) where
   unfolding htlcs_from commitment_of outputs_of in_order output_cmp keys_of
   htlcs_are = refl
 
-  pub second_is : second_stage_of c offer ≡ timeout (input_on on_htlc 0 [])
-  unfolding second_stage_of
+  pub second_is : htlc_tx_of c offer ≡ timeout (input_on on_htlc 0 [])
+  unfolding htlc_tx_of
   second_is = refl
 
   -- its digest is the one that the peer's token in `commitment_signed` is over
@@ -358,7 +359,7 @@ module _ (funding : OutPoint) (hash : List ℕ) where
   timeout_is =
       same_timeout
       ∙ ap (λ (t : Transaction). sha256 (sha256 (signed_list t (input_on on_htlc 0 []) (spelling on_htlc.form.ops) 10000))) (sym second_is)
-      ∙ ap (λ (code : List ℕ). sha256 (sha256 (signed_list (second_stage_of c offer) (input_on on_htlc 0 []) code 10000))) (sym (same_htlc c.keys Offered htlc))
+      ∙ ap (λ (code : List ℕ). sha256 (sha256 (signed_list (htlc_tx_of c offer) (input_on on_htlc 0 []) code 10000))) (sym (same_htlc c.keys Offered htlc))
 
   pub timeout_shows : ShowsOnly c.keys (signed_by_peer c []) (spend_on on_htlc (timeout timed_out) timed_out)
   timeout_shows key i s =

@@ -22,7 +22,7 @@ use Rattle.commit.specs.declared.outputs.OutputKind.{OutputKind}
 use Rattle.commit.specs.declared.outputs.OutputKind.TheVariants.{ToLocal, ToRemote, ToHtlc}
 use Rattle.commit.specs.declared.outputs.CommitmentOutput.{CommitmentOutput}
 use Rattle.commit.specs.declared.outputs.HtlcOutput.{HtlcOutput}
-use Rattle.commit.specs.Commitments.{Contents, htlcs_of, htlcs_from, htlc_at, lock_time_of, second_stage_of, second_stage_output}
+use Rattle.commit.specs.Commitments.{Contents, htlcs_of, htlcs_from, htlc_at, lock_time_of, htlc_tx_of, htlc_tx_output}
 use Rattle.commit.specs.Signing.{htlc_digest}
 use Rattle.penalty.specs.declared.states.RevokedState.{RevokedState}
 use Rattle.penalty.specs.Outputs.{IsOutput, HasHeight}
@@ -32,15 +32,15 @@ use Rattle.penalty.proofs.Covering.{each_second_stage}
 use Rattle.penalty.proofs.Second.{transaction_at, first_output}
 use Rattle.safety.specs.Signing.{Signed, IsSignable, AreSame}
 use Rattle.safety.specs.Spending.{spend_on}
-use Rattle.safety.specs.Taking.{IsTaken, as_signed, by_owner, by_twin, by_collision}
-use Rattle.safety.specs.Fates.{htlc_signed, SignedWithCommitment, signed_by_peer, IsHtlcTransaction, Ending, by_peer, Fate, by_htlc_transaction, for_good, NothingEscapes, NothingEscapesOnChains}
-use Rattle.safety.specs.Fates.{by_owner as ended_by_owner, by_twin as ended_by_twin, by_collision as ended_by_collision}
+use Rattle.safety.specs.Ways.{by_peer, by_htlc_transaction, by_owner, by_collision}
+use Rattle.safety.specs.Taking.{IsTaken}
+use Rattle.safety.specs.Fates.{htlc_signed, SignedWithCommitment, signed_by_peer, IsClaimableAgain, Ending, Fate, NothingEscapes, NothingEscapesOnChains}
 use Rattle.safety.proofs.Lists.{any_append, any_map, got}
 use Rattle.safety.proofs.Claimed.{outputs_in}
 use Rattle.safety.proofs.Limits.{htlcs_signable}
 use Rattle.safety.proofs.OnChain.{passed}
 use Rattle.safety.proofs.Passed.{inputs_have_passed}
-use Rattle.safety.proofs.Taken.{only_as_signed}
+use Rattle.safety.proofs.Taking.{only_as_signed}
 
 pub signed_with_commitment : SignedWithCommitment
 unfolding htlc_digest
@@ -94,17 +94,17 @@ lock_reached height lock_time inputs l f e =
 
 -- ---- an HTLC transaction
 
-pub bare_second : (c : Contents) (h : HtlcOutput) → unsigned_transaction (second_stage_of c h) ≡ second_stage_of c h
-unfolding second_stage_of
+pub bare_second : (c : Contents) (h : HtlcOutput) → unsigned_transaction (htlc_tx_of c h) ≡ htlc_tx_of c h
+unfolding htlc_tx_of
 bare_second c h = refl
 
-second_outputs : (c : Contents) (h : HtlcOutput) → (second_stage_of c h).outputs ≡ second_stage_output c h ∷ []
-unfolding second_stage_of
+second_outputs : (c : Contents) (h : HtlcOutput) → (htlc_tx_of c h).outputs ≡ htlc_tx_output c h ∷ []
+unfolding htlc_tx_of
 second_outputs c h = refl
 
-second_final : (c : Contents) (h : HtlcOutput) (t : Transaction) → h.htlc.expiry < LOCKTIME_THRESHOLD → unsigned_transaction t ≡ second_stage_of c h → (height : ℕ) → is_final height t.lock_time t.inputs ≡ true
+second_final : (c : Contents) (h : HtlcOutput) (t : Transaction) → h.htlc.expiry < LOCKTIME_THRESHOLD → unsigned_transaction t ≡ htlc_tx_of c h → (height : ℕ) → is_final height t.lock_time t.inputs ≡ true
     → lock_time_of h.direction h.htlc < height
-unfolding second_stage_of
+unfolding htlc_tx_of
 second_final c h t l e height final =
     let lock : t.lock_time ≡ lock_time_of h.direction h.htlc = ap (λ (u : Transaction). u.lock_time) e in
     let low = low_lock h.direction h.htlc l in
@@ -112,20 +112,16 @@ second_final c h t l e height final =
     omega (arith, lock, reached)
 
 pub is_htlc_transaction : (state : RevokedState) (o : Claimable) (height : ℕ) (t : Transaction) (input : TxIn) (h : HtlcOutput) → Contains (htlcs_of (commitment_in state)) h
-    → AreSame (spend_on o t input) (htlc_signed (commitment_in state) h) → is_final height t.lock_time t.inputs ≡ true → IsHtlcTransaction state height t input
+    → AreSame (spend_on o t input) (htlc_signed (commitment_in state) h) → is_final height t.lock_time t.inputs ≡ true → IsClaimableAgain state height t input
 is_htlc_transaction state o height t input h (k, l, i) s final =
     let c = commitment_in state in
-    let out = second_stage_output c h in
-    let e : unsigned_transaction t ≡ second_stage_of c h = s.transaction ∙ bare_second c h in
+    let out = htlc_tx_output c h in
+    let e : unsigned_transaction t ≡ htlc_tx_of c h = s.transaction ∙ bare_second c h in
     let low = All-contains ExpiresLow (htlcs_of c) h (expire_low c 0 c.outputs (outputs_in state)) (k, l, i) in
-    let id : transaction_id (second_stage_of c h) ≡ transaction_id t = sym (same_id t (second_stage_of c h) s.transaction) in
-    let claimed = each_second_stage state k (second_stage_of c h) out (transaction_at c k h (got (htlcs_of c) h k l i)) (first_output c h (second_stage_of c h) refl) in
+    let id : transaction_id (htlc_tx_of c h) ≡ transaction_id t = sym (same_id t (htlc_tx_of c h) s.transaction) in
+    let claimed = each_second_stage state k (htlc_tx_of c h) out (transaction_at c k h (got (htlcs_of c) h k l i)) (first_output c h (htlc_tx_of c h) refl) in
     record {
-      htlc = h;
-      among = (k, l, i);
-      at = ap (λ (x : TxIn). x.outpoint) s.input;
-      same = e;
-      reached = second_final c h t low e height final;
+      is = record { htlc = h; among = (k, l, i); at = ap (λ (x : TxIn). x.outpoint) s.input; same = e; reached = second_final c h t low e height final };
       output = out;
       alone = ap (λ (u : Transaction). u.outputs) e ∙ second_outputs c h;
       again = subst (λ (p : Place). IsClaimedAt (claimable_of state) p) (ap (λ (x : List ℕ). record { outpoint = record { txid = x; index = 0 }; value = out.value; program = out.script }) id) claimed;
@@ -142,10 +138,10 @@ pub record IsForHtlc (c : Contents) (o : Claimable) (t : Transaction) (input : T
 -- it is so, or it takes the output for good
 pub taken_so : (state : RevokedState) (o : Claimable) (since height : ℕ) (t : Transaction) (input : TxIn) (own : List Signed)
     → IsTaken state o since height t input (signed_by_peer (commitment_in state) own) → IsForHtlc (commitment_in state) o t input ⊎ Ending state o since height t input own
-taken_so state o since height t input own (by_owner b) = inr (ended_by_owner b)
-taken_so state o since height t input own (by_twin w) = inr (ended_by_twin w)
-taken_so state o since height t input own (by_collision a) = inr (ended_by_collision a)
-taken_so state o since height t input own (as_signed a) =
+taken_so state o since height t input own (by_htlc_transaction never) = absurd never
+taken_so state o since height t input own (by_owner b) = inr (by_owner b)
+taken_so state o since height t input own (by_collision z) = inr (by_collision z)
+taken_so state o since height t input own (by_peer a) =
     ⊎_elim of_htlc (λ (b : Any (AreSame (spend_on o t input)) own). inr (by_peer b)) (any_append (AreSame (spend_on o t input)) (map (htlc_signed (commitment_in state)) (htlcs_of (commitment_in state))) own a)
   where
     of_htlc : Any (AreSame (spend_on o t input)) (map (htlc_signed (commitment_in state)) (htlcs_of (commitment_in state))) → IsForHtlc (commitment_in state) o t input ⊎ Ending state o since height t input own
@@ -153,10 +149,16 @@ taken_so state o since height t input own (as_signed a) =
         let r = any_map (AreSame (spend_on o t input)) (htlc_signed (commitment_in state)) (htlcs_of (commitment_in state)) b in
         inl (record { htlc = r.0; among = r.1; same = r.2 })
 
+for_good : (state : RevokedState) (o : Claimable) (since height : ℕ) (t : Transaction) (input : TxIn) (own : List Signed) → Ending state o since height t input own → Fate state o since height t input own
+for_good state o since height t input own (by_peer a) = by_peer a
+for_good state o since height t input own (by_htlc_transaction never) = absurd never
+for_good state o since height t input own (by_owner b) = by_owner b
+for_good state o since height t input own (by_collision z) = by_collision z
+
 fated : (state : RevokedState) (o : Claimable) (since height : ℕ) (t : Transaction) (input : TxIn) (own : List Signed) → is_final height t.lock_time t.inputs ≡ true
     → IsTaken state o since height t input (signed_by_peer (commitment_in state) own) → Fate state o since height t input own
 fated state o since height t input own final taken =
-    ⊎_elim (λ (h : IsForHtlc (commitment_in state) o t input). by_htlc_transaction (is_htlc_transaction state o height t input h.htlc h.among h.same final)) for_good
+    ⊎_elim (λ (h : IsForHtlc (commitment_in state) o t input). by_htlc_transaction (is_htlc_transaction state o height t input h.htlc h.among h.same final)) (for_good state o since height t input own)
     (taken_so state o since height t input own taken)
 
 pub nothing_escapes : NothingEscapes

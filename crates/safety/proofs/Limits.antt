@@ -30,7 +30,7 @@ use Rattle.commit.specs.Fees.{satoshis_of}
 use Rattle.commit.specs.Keys.{keys_of}
 use Rattle.commit.specs.Outputs.{to_local_script}
 use Rattle.commit.specs.Building.{refusal_of}
-use Rattle.commit.specs.Commitments.{Contents, commitment_of, tx_output, transaction_of, id_of, htlcs_from, htlcs_of, htlc_at, second_stage_of, lock_time_of, IsOutputOf, IsHtlcOf}
+use Rattle.commit.specs.Commitments.{Contents, commitment_of, tx_output, transaction_of, id_of, htlcs_from, htlcs_of, htlc_at, htlc_tx_of, lock_time_of, IsOutputOf, IsHtlcOf}
 use Rattle.commit.proofs.Collected.{short_script_program, each_output, few_outputs}
 use Rattle.commit.proofs.Shared.{shared}
 use Rattle.penalty.specs.declared.states.RevokedState.{RevokedState}
@@ -114,8 +114,8 @@ low_lock : (direction : Direction) (h : Htlc) → h.expiry < 2 ^ 32 → lock_tim
 low_lock Offered h l = l
 low_lock Received h l = omega arith
 
-second_limits : (c : Contents) (h : HtlcOutput) → h.index < 2 ^ 32 → h.htlc.expiry < 2 ^ 32 → satoshis_of h.htlc.amount ≤ MAX_VALUE → KeepsLimits (second_stage_of c h)
-unfolding second_stage_of
+second_limits : (c : Contents) (h : HtlcOutput) → h.index < 2 ^ 32 → h.htlc.expiry < 2 ^ 32 → satoshis_of h.htlc.amount ≤ MAX_VALUE → KeepsLimits (htlc_tx_of c h)
+unfolding htlc_tx_of
 second_limits c h i l v = record {
   version = omega arith;
   some_input = omega arith;

@@ -12,7 +12,7 @@ use Rattle.chain.specs.Locks.{is_final, is_old_enough}
 use Rattle.chain.specs.Checks.{required, run_refusal, coin_refusal}
 use Rattle.commit.specs.Commitments.{Contents}
 use Rattle.penalty.specs.Claimable.{Claimable, commitment_in}
-use Rattle.safety.specs.Spending.{Waits, IsLate, CanSpend, by_peer, by_owner, by_twin, WhoSpends}
+use Rattle.safety.specs.Spending.{Waits, IsLate, CanSpend, by_peer, by_owner, by_collision, WhoSpends}
 use Rattle.safety.proofs.Claimed.{who_can_spend}
 
 some_none : {X : Type 0} (x : X) → Some x ≡ None → ⊥
@@ -62,12 +62,12 @@ waited t input coin height delay w e =
 later : (Late Later : Type 0) → (Late → Later) → (c : Contents) (o : Claimable) (t : Transaction) (input : TxIn) → CanSpend Late c o t input → CanSpend Later c o t input
 later Late Later f c o t input (by_peer key k s) = by_peer key k s
 later Late Later f c o t input (by_owner b) = by_owner (record { form = b.form; token = b.token; late = f b.late })
-later Late Later f c o t input (by_twin w) = by_twin w
+later Late Later f c o t input (by_collision z) = by_collision z
 
 pub who_spends : WhoSpends
 who_spends state o height t input coin k =
     let p = passed height t input coin k.passes in
-    later (Waits t input (commitment_in state).delay) (IsLate state coin.height height)
+    later (Waits t input (commitment_in state).delay) (IsLate (commitment_in state) coin.height height)
     (λ w. waited t input coin.height height (commitment_in state).delay w p.old)
     (commitment_in state) o t input
     (who_can_spend state o k.claimable t input p.counted p.tallest (ap (run_of t input) (sym k.output) ∙ p.clean))

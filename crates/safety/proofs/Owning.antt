@@ -18,7 +18,9 @@ use Rattle.commit.specs.Commitments.{commitment_of}
 use Rattle.penalty.specs.declared.states.RevokedState.{RevokedState}
 use Rattle.penalty.specs.Claimable.{commitment_in}
 use Rattle.safety.specs.Spending.{peer_keys}
-use Rattle.safety.specs.Owning.{IsHashed, of_secret, of_base, of_derived, of_revoked, KeysCollide, peer_rights, AreOfSeed, OnlyPeerSigns}
+use Rattle.safety.specs.Signing.{Collide, Collision}
+use Rattle.safety.specs.Strings.{of_base, of_secret}
+use Rattle.safety.specs.Owning.{IsHashedForRights, of_seed, of_derived, of_revoked, peer_rights, AreOfSeed, OnlyPeerSigns}
 use Rattle.safety.proofs.Slots.{same_bytes, contains_first}
 
 -- equal beginnings of one length
@@ -32,8 +34,11 @@ front_is (c ∷ a) (d ∷ b) x y len e =
     let r = front_is a b x y (omega (arith, len)) tails in
     (rw (heads, r.0) refl, r.1)
 
+abbrev KeysCollide : (r q : Rights) → Type 0
+KeysCollide r q = Collision (Collide sha256) (IsHashedForRights r) (IsHashedForRights q)
+
 -- two equal hashes of strings that are hashed for keys: the strings are the same, or they collide
-apart : (r q : Rights) (a b : List ℕ) → IsHashed r a → IsHashed q b → sha256 a ≡ sha256 b → (a ≡ b → KeysCollide r q) → KeysCollide r q
+apart : (r q : Rights) (a b : List ℕ) → IsHashedForRights r a → IsHashedForRights q b → sha256 a ≡ sha256 b → (a ≡ b → KeysCollide r q) → KeysCollide r q
 apart r q a b g h e f = by (bytes_eq a b) refl
   where
     by : (t : Bool) → bytes_eq a b ≡ t → KeysCollide r q
@@ -53,7 +58,7 @@ same_seed s t n m e =
 same_secret : (r q : Rights) (b c : Base) → r.seed ≢ q.seed → seed_secret r.seed (number_of b) ≡ seed_secret q.seed (number_of c) → KeysCollide r q
 unfolding seed_secret
 same_secret r q b c n e =
-    apart r q (codes "base" ++ r.seed ++ number_of b ∷ []) (codes "base" ++ q.seed ++ number_of c ∷ []) (of_secret b refl) (of_secret c refl) e
+    apart r q (codes "base" ++ r.seed ++ number_of b ∷ []) (codes "base" ++ q.seed ++ number_of c ∷ []) (of_seed (of_secret b refl)) (of_seed (of_secret c refl)) e
     (λ s. absurd (n (same_seed r.seed q.seed (number_of b) (number_of c) s)))
 
 -- equal keys have equal hashes
@@ -66,7 +71,7 @@ base_is seed b = refl
 
 same_base : (r q : Rights) (b c : Base) → r.seed ≢ q.seed → base_key r.seed b ≡ base_key q.seed c → KeysCollide r q
 same_base r q b c n e =
-    apart r q (codes "point" ++ seed_secret r.seed (number_of b)) (codes "point" ++ seed_secret q.seed (number_of c)) (of_base b refl) (of_base c refl)
+    apart r q (codes "point" ++ seed_secret r.seed (number_of b)) (codes "point" ++ seed_secret q.seed (number_of c)) (of_seed (of_base b refl)) (of_seed (of_base c refl))
     (same_hash _ _ (sym (base_is r.seed b) ∙ e ∙ base_is q.seed c))
     (λ s. same_secret r q b c n (front_is (codes "point") (codes "point") _ _ refl s).1)
 
@@ -77,12 +82,12 @@ base_length seed other b c = omega (arith, length-sha256 (codes "point" ++ seed_
 -- what is hashed for one key: a tag, and a base key with what follows it
 pub record IsKeyOf (r : Rights) (key : List ℕ) : Type 0 where
   bytes : List ℕ
-  hashed : IsHashed r bytes
+  hashed : IsHashedForRights r bytes
   key_is : key ≡ 2 ∷ sha256 bytes
 
 signable : (r : Rights) (key : List ℕ) → MaySign r key → IsKeyOf r key
 unfolding derived_key revocation_key
-signable r key (own b e) = record { bytes = _; hashed = of_base b refl; key_is = e ∙ base_is r.seed b }
+signable r key (own b e) = record { bytes = _; hashed = of_seed (of_base b refl); key_is = e ∙ base_is r.seed b }
 signable r key (derived b point i e) = record { bytes = _; hashed = of_derived b point i refl; key_is = e }
 signable r key (revoked b secret i e) = record { bytes = _; hashed = of_revoked b secret i refl; key_is = e }
 
@@ -93,22 +98,22 @@ tagged tag k m p t len e =
     (front_is tag tag k m refl h.0).1
 
 -- a string that both hash has the same base key of both, which shows a collision
-both : (r q : Rights) (a b : List ℕ) → r.seed ≢ q.seed → IsHashed r a → IsHashed q b → a ≡ b → KeysCollide r q
-both r q a b n (of_secret x e) (of_secret y f) s = absurd (n (same_seed r.seed q.seed (number_of x) (number_of y) (sym e ∙ s ∙ f)))
-both r q a b n (of_base x e) (of_base y f) s = same_secret r q x y n (front_is (codes "point") (codes "point") _ _ refl (sym e ∙ s ∙ f)).1
+both : (r q : Rights) (a b : List ℕ) → r.seed ≢ q.seed → IsHashedForRights r a → IsHashedForRights q b → a ≡ b → KeysCollide r q
+both r q a b n (of_seed (of_secret x e)) (of_seed (of_secret y f)) s = absurd (n (same_seed r.seed q.seed (number_of x) (number_of y) (sym e ∙ s ∙ f)))
+both r q a b n (of_seed (of_base x e)) (of_seed (of_base y f)) s = same_secret r q x y n (front_is (codes "point") (codes "point") _ _ refl (sym e ∙ s ∙ f)).1
 both r q a b n (of_derived x p i e) (of_derived y t j f) s = same_base r q x y n (tagged (codes "derive") (base_key r.seed x) (base_key q.seed y) p t (base_length r.seed q.seed x y) (sym e ∙ s ∙ f))
 both r q a b n (of_revoked x p i e) (of_revoked y t j f) s = same_base r q x y n (tagged (codes "revoke") (base_key r.seed x) (base_key q.seed y) (point_of p) (point_of t) (base_length r.seed q.seed x y) (sym e ∙ s ∙ f))
-both r q a b n (of_secret x e) (of_base y f) s = absurd (omega (arith, first_bytes _ _ (sym e ∙ s ∙ f)))
-both r q a b n (of_secret x e) (of_derived y t j f) s = absurd (omega (arith, first_bytes _ _ (sym e ∙ s ∙ f)))
-both r q a b n (of_secret x e) (of_revoked y t j f) s = absurd (omega (arith, first_bytes _ _ (sym e ∙ s ∙ f)))
-both r q a b n (of_base x e) (of_secret y f) s = absurd (omega (arith, first_bytes _ _ (sym e ∙ s ∙ f)))
-both r q a b n (of_base x e) (of_derived y t j f) s = absurd (omega (arith, first_bytes _ _ (sym e ∙ s ∙ f)))
-both r q a b n (of_base x e) (of_revoked y t j f) s = absurd (omega (arith, first_bytes _ _ (sym e ∙ s ∙ f)))
-both r q a b n (of_derived x p i e) (of_secret y f) s = absurd (omega (arith, first_bytes _ _ (sym e ∙ s ∙ f)))
-both r q a b n (of_derived x p i e) (of_base y f) s = absurd (omega (arith, first_bytes _ _ (sym e ∙ s ∙ f)))
+both r q a b n (of_seed (of_secret x e)) (of_seed (of_base y f)) s = absurd (omega (arith, first_bytes _ _ (sym e ∙ s ∙ f)))
+both r q a b n (of_seed (of_secret x e)) (of_derived y t j f) s = absurd (omega (arith, first_bytes _ _ (sym e ∙ s ∙ f)))
+both r q a b n (of_seed (of_secret x e)) (of_revoked y t j f) s = absurd (omega (arith, first_bytes _ _ (sym e ∙ s ∙ f)))
+both r q a b n (of_seed (of_base x e)) (of_seed (of_secret y f)) s = absurd (omega (arith, first_bytes _ _ (sym e ∙ s ∙ f)))
+both r q a b n (of_seed (of_base x e)) (of_derived y t j f) s = absurd (omega (arith, first_bytes _ _ (sym e ∙ s ∙ f)))
+both r q a b n (of_seed (of_base x e)) (of_revoked y t j f) s = absurd (omega (arith, first_bytes _ _ (sym e ∙ s ∙ f)))
+both r q a b n (of_derived x p i e) (of_seed (of_secret y f)) s = absurd (omega (arith, first_bytes _ _ (sym e ∙ s ∙ f)))
+both r q a b n (of_derived x p i e) (of_seed (of_base y f)) s = absurd (omega (arith, first_bytes _ _ (sym e ∙ s ∙ f)))
 both r q a b n (of_derived x p i e) (of_revoked y t j f) s = absurd (omega (arith, first_bytes _ _ (sym e ∙ s ∙ f)))
-both r q a b n (of_revoked x p i e) (of_secret y f) s = absurd (omega (arith, first_bytes _ _ (sym e ∙ s ∙ f)))
-both r q a b n (of_revoked x p i e) (of_base y f) s = absurd (omega (arith, first_bytes _ _ (sym e ∙ s ∙ f)))
+both r q a b n (of_revoked x p i e) (of_seed (of_secret y f)) s = absurd (omega (arith, first_bytes _ _ (sym e ∙ s ∙ f)))
+both r q a b n (of_revoked x p i e) (of_seed (of_base y f)) s = absurd (omega (arith, first_bytes _ _ (sym e ∙ s ∙ f)))
 both r q a b n (of_revoked x p i e) (of_derived y t j f) s = absurd (omega (arith, first_bytes _ _ (sym e ∙ s ∙ f)))
 
 both_keys : (r q : Rights) (key : List ℕ) → r.seed ≢ q.seed → IsKeyOf r key → IsKeyOf q key → KeysCollide r q

@@ -16,7 +16,7 @@ use Rattle.tx.specs.declared.input.TxIn.{TxIn}
 use Rattle.tx.specs.Fields.{Transaction}
 use Rattle.sighash.specs.Programs.{Given, given_of, given_by_hash, run_of, run_of_given, script_ops, spend_of, key_hash_script, script_hash_program, key_hash_program}
 use Rattle.terms.specs.Scripts.{key_hash}
-use Rattle.safety.specs.Spending.{HasTwin}
+use Rattle.safety.specs.Spending.{ItemCollides}
 use Rattle.safety.proofs.Slots.{contains_first, contains_later, contains_reverse, same_bytes}
 use Rattle.safety.proofs.Spelt.{key_hash_ops}
 
@@ -38,14 +38,14 @@ given_script script witness = let l = length-sha256 script in rw l refl
 
 pub ran_script : (t : Transaction) (input : TxIn) (script : List ℕ) (value : ℕ) (ops : List Op) (counted height : ℕ) → script_ops script ≡ Some ops
     → run_of t input (record { value = value; script = script_hash_program script }) ≡ Some (Clean counted height)
-    → HasTwin sha256 script input.witness ⊎ Ran t input script value ops counted height
+    → ItemCollides sha256 script input.witness ⊎ Ran t input script value ops counted height
 unfolding run_of
 ran_script t input script value ops counted height parsed e =
     by_witness (reverse input.witness) (λ x c. contains_reverse input.witness x c)
     (ap (λ (g : Option Given). option_and_then (run_of_given t input value) g) (sym (given_script script input.witness)) ∙ e)
   where
     on_script : (s : List ℕ) (below : List (List ℕ)) (b : Bool) → ((x : List ℕ) → Contains (s ∷ below) x → Contains input.witness x) → sha256 s ≡ sha256 script → bytes_eq s script ≡ b
-        → run_of_given t input value (record { script = s; items = reverse below }) ≡ Some (Clean counted height) → HasTwin sha256 script input.witness ⊎ Ran t input script value ops counted height
+        → run_of_given t input value (record { script = s; items = reverse below }) ≡ Some (Clean counted height) → ItemCollides sha256 script input.witness ⊎ Ran t input script value ops counted height
     on_script s below true among same h f =
         let i : s ≡ script = same_bytes s script h in
         let g : run_of_given t input value (record { script = script; items = reverse below }) ≡ Some (Clean counted height) = subst (λ z. run_of_given t input value (record { script = z; items = reverse below }) ≡ Some (Clean counted height)) i f in
@@ -56,17 +56,19 @@ ran_script t input script value ops counted height parsed e =
         })
     on_script s below false among same h f =
         inl (record {
-          item = s;
-          given = among s (contains_first s below);
-          collides = (λ d. false≢true (sym h ∙ (bytes_eq-Decides s script).1 d), same);
+          first = s;
+          second = script;
+          of_first = among s (contains_first s below);
+          of_second = refl;
+          collide = (λ d. false≢true (sym h ∙ (bytes_eq-Decides s script).1 d), same);
         })
 
     by_hash : (s : List ℕ) (below : List (List ℕ)) (b : Bool) → ((x : List ℕ) → Contains (s ∷ below) x → Contains input.witness x) → bytes_eq (sha256 s) (sha256 script) ≡ b
-        → option_and_then (run_of_given t input value) (if b then Some (record { script = s; items = reverse below }) else None) ≡ Some (Clean counted height) → HasTwin sha256 script input.witness ⊎ Ran t input script value ops counted height
+        → option_and_then (run_of_given t input value) (if b then Some (record { script = s; items = reverse below }) else None) ≡ Some (Clean counted height) → ItemCollides sha256 script input.witness ⊎ Ran t input script value ops counted height
     by_hash s below true among h f = on_script s below (bytes_eq s script) among (same_bytes (sha256 s) (sha256 script) h) refl f
     by_hash s below false among h f = absurd (none_some _ f)
 
-    by_witness : (r : List (List ℕ)) → ((x : List ℕ) → Contains r x → Contains input.witness x) → option_and_then (run_of_given t input value) (given_by_hash (sha256 script) r) ≡ Some (Clean counted height) → HasTwin sha256 script input.witness ⊎ Ran t input script value ops counted height
+    by_witness : (r : List (List ℕ)) → ((x : List ℕ) → Contains r x → Contains input.witness x) → option_and_then (run_of_given t input value) (given_by_hash (sha256 script) r) ≡ Some (Clean counted height) → ItemCollides sha256 script input.witness ⊎ Ran t input script value ops counted height
     by_witness [] among f = absurd (none_some _ f)
     by_witness (s ∷ below) among f = by_hash s below (bytes_eq (sha256 s) (sha256 script)) among refl f
 

@@ -9,7 +9,7 @@ use Rattle.chain.specs.Blocks.{Contents as Block}
 use Rattle.claim.specs.declared.parts.Place.{Place}
 use Rattle.commit.specs.declared.outputs.CommitmentOutput.{CommitmentOutput}
 use Rattle.commit.specs.declared.outputs.HtlcOutput.{HtlcOutput}
-use Rattle.commit.specs.Commitments.{Contents, tx_output, transaction_of, htlcs_of, second_stage_of}
+use Rattle.commit.specs.Commitments.{Contents, tx_output, transaction_of, htlcs_of, htlc_tx_of}
 use Rattle.penalty.specs.declared.states.RevokedState.{RevokedState}
 use Rattle.penalty.specs.Claimable.{place_in, commitment_in}
 use Rattle.safety.specs.Signing.{IsSignable}
@@ -27,14 +27,14 @@ bare_commitment c = refl
 
 -- that of the HTLC at an index, by its bytes
 abbrev pub standing : List Block → Contents → ℕ → Bool
-standing blocks c index = list_any (λ h. h.index == index && has_stripped blocks (second_stage_of c h)) (htlcs_of c)
+standing blocks c index = list_any (λ h. h.index == index && has_stripped blocks (htlc_tx_of c h)) (htlcs_of c)
 
-pub found : (blocks : List Block) (c : Contents) (h : HtlcOutput) → Contains (htlcs_of c) h → IsOnChain blocks (second_stage_of c h) → standing blocks c h.index ≡ true
+pub found : (blocks : List Block) (c : Contents) (h : HtlcOutput) → Contains (htlcs_of c) h → IsOnChain blocks (htlc_tx_of c h) → standing blocks c h.index ≡ true
 found blocks c h i o =
-    any_holds (λ (g : HtlcOutput). g.index == h.index && has_stripped blocks (second_stage_of c g)) (htlcs_of c) h i
-    (both (h.index == h.index) (has_stripped blocks (second_stage_of c h)) (eq-eqb h.index h.index refl) (by_bytes blocks (second_stage_of c h) o))
+    any_holds (λ (g : HtlcOutput). g.index == h.index && has_stripped blocks (htlc_tx_of c g)) (htlcs_of c) h i
+    (both (h.index == h.index) (has_stripped blocks (htlc_tx_of c h)) (eq-eqb h.index h.index refl) (by_bytes blocks (htlc_tx_of c h) o))
 
-pub second_limits : (state : RevokedState) (h : HtlcOutput) → Contains (htlcs_of (commitment_in state)) h → KeepsLimits (second_stage_of (commitment_in state) h)
+pub second_limits : (state : RevokedState) (h : HtlcOutput) → Contains (htlcs_of (commitment_in state)) h → KeepsLimits (htlc_tx_of (commitment_in state) h)
 second_limits state h i =
     let signable : IsSignable (htlc_signed (commitment_in state) h) =
     All-contains IsSignable (map (htlc_signed (commitment_in state)) (htlcs_of (commitment_in state))) (htlc_signed (commitment_in state) h) (htlcs_signable state)
@@ -42,13 +42,13 @@ second_limits state h i =
     signable.transaction
 
 pub stands_at : (blocks : List Block) (state : RevokedState) → HasCommitment blocks state → (h : HtlcOutput) → IsHtlcIn 0 (commitment_in state).outputs h → standing blocks (commitment_in state) h.index ≡ true
-    → IsOnChain blocks (second_stage_of (commitment_in state) h)
+    → IsOnChain blocks (htlc_tx_of (commitment_in state) h)
 stands_at blocks state chain h p e =
     let c = commitment_in state in
-    let f = any_found (λ (g : HtlcOutput). g.index == h.index && has_stripped blocks (second_stage_of c g)) (htlcs_of c) e in
-    let q = and_parts (f.0.index == h.index) (has_stripped blocks (second_stage_of c f.0)) f.2 in
+    let f = any_found (λ (g : HtlcOutput). g.index == h.index && has_stripped blocks (htlc_tx_of c g)) (htlcs_of c) e in
+    let q = and_parts (f.0.index == h.index) (has_stripped blocks (htlc_tx_of c f.0)) f.2 in
     let same = one_htlc 0 c.outputs f.0 h (htlc_in 0 c.outputs f.0 f.1) p (eqb-true f.0.index h.index q.0) in
-    subst (λ g. IsOnChain blocks (second_stage_of c g)) same (on_chain blocks chain.limits (second_stage_of c f.0) (second_limits state f.0 f.1) (bare_second c f.0) q.1)
+    subst (λ g. IsOnChain blocks (htlc_tx_of c g)) same (on_chain blocks chain.limits (htlc_tx_of c f.0) (second_limits state f.0 f.1) (bare_second c f.0) q.1)
 
 -- ---- outputs from an index on
 

@@ -27,7 +27,7 @@ use Rattle.terms.specs.Scripts.{to_local, key_hash}
 use Rattle.penalty.specs.Claimable.{Claimable, htlc_form, penalty_on, payment_on, htlc_penalty_on}
 use Rattle.penalty.proofs.Programs.{same_htlc}
 use Rattle.safety.specs.Satisfying.{HasToken, HasKeyOf, SatisfiesToLocal}
-use Rattle.safety.specs.Spending.{Waits, peer_keys, IsPeerKeyOn, of_script, of_key, CanSpend, by_peer, by_owner, by_twin}
+use Rattle.safety.specs.Spending.{Waits, peer_keys, IsPeerKeyOn, of_script, of_key, CanSpend, by_peer, by_owner, by_collision}
 use Rattle.safety.proofs.Slots.{same_bytes}
 use Rattle.safety.proofs.Satisfied.{to_local_satisfied, key_hash_satisfied, offered_satisfied, received_satisfied}
 use Rattle.safety.proofs.Spelt.{to_local_ops, offered_ops, received_ops}
@@ -78,7 +78,7 @@ by_hashed Late c o t input key is items among h = by (bytes_eq h.key key) refl
   where
     by : (b : Bool) → bytes_eq h.key key ≡ b → CanSpend Late c o t input
     by true e = let s = same_bytes h.key key e in by_peer key is (among _ (subst (λ k. HasToken (spend_of t input (spelling o.form.ops) o.place.value) items k) s h.token))
-    by false e = by_twin (of_key key is (record { item = h.key; given = among h.key h.given; collides = (λ d. false≢true (sym e ∙ (bytes_eq-Decides h.key key).1 d), h.hashed) }))
+    by false e = by_collision (of_key key is (record { first = h.key; second = key; of_first = among h.key h.given; of_second = refl; collide = (λ d. false≢true (sym e ∙ (bytes_eq-Decides h.key key).1 d), h.hashed) }))
 
 same_to_local : (c : Contents) → script_hash_program (to_local_script c.delay c.keys) ≡ script_hash_program (spelling (to_local c.keys.revocation c.delay c.keys.delayed))
 unfolding to_local_script
@@ -95,7 +95,7 @@ local_ops c = to_local c.keys.revocation c.delay c.keys.delayed
 pub spends_to_local : (c : Contents) (place : Place) → c.delay < 2 ^ 16 → is_key c.keys.revocation ≡ true → is_key c.keys.delayed ≡ true → place.program ≡ script_hash_program (to_local_script c.delay c.keys)
     → (t : Transaction) (input : TxIn) (counted height : ℕ) → run_of t input (output_at place) ≡ Some (Clean counted height) → CanSpend (Waits t input c.delay) c (penalty_on c place) t input
 spends_to_local c place l k d e t input counted height run =
-    ⊎_elim (λ w. by_twin (of_script w))
+    ⊎_elim (λ w. by_collision (of_script w))
     (λ (r : Ran t input (spelling (local_ops c)) place.value (local_ops c) counted height). opened r (to_local_satisfied c.keys.revocation c.delay c.keys.delayed l k d (spend_of t input (spelling (local_ops c)) place.value) r.items counted height r.clean))
     (ran_script t input (spelling (local_ops c)) place.value (local_ops c) counted height (to_local_ops c.keys.revocation c.delay c.keys.delayed l k d) (on_program t input place _ counted height (e ∙ same_to_local c) run))
   where
@@ -127,7 +127,7 @@ pub spends_htlc : (Late : Type 0) (c : Contents) (direction : Direction) (h : Ht
 spends_htlc Late c Offered h place x k l e t input counted height run =
     let r : length (hash160 c.keys.revocation) ≡ 20 = length-ripemd160 _ in
     let p : length (ripemd160 h.hash) ≡ 20 = length-ripemd160 _ in
-    ⊎_elim (λ w. by_twin (of_script w))
+    ⊎_elim (λ w. by_collision (of_script w))
     (λ (s : Ran t input (spelling (htlc_form c.keys Offered h).ops) place.value (htlc_form c.keys Offered h).ops counted height). spends_by Late c Offered h place t input counted height s
     (offered_satisfied (hash160 c.keys.revocation) c.keys.remote_htlc c.keys.local_htlc (ripemd160 h.hash) r p k l _ s.items counted height s.clean))
     (ran_script t input (spelling (htlc_form c.keys Offered h).ops) place.value (htlc_form c.keys Offered h).ops counted height
@@ -135,7 +135,7 @@ spends_htlc Late c Offered h place x k l e t input counted height run =
 spends_htlc Late c Received h place x k l e t input counted height run =
     let r : length (hash160 c.keys.revocation) ≡ 20 = length-ripemd160 _ in
     let p : length (ripemd160 h.hash) ≡ 20 = length-ripemd160 _ in
-    ⊎_elim (λ w. by_twin (of_script w))
+    ⊎_elim (λ w. by_collision (of_script w))
     (λ (s : Ran t input (spelling (htlc_form c.keys Received h).ops) place.value (htlc_form c.keys Received h).ops counted height). spends_by Late c Received h place t input counted height s
     (received_satisfied (hash160 c.keys.revocation) c.keys.remote_htlc c.keys.local_htlc (ripemd160 h.hash) h.expiry x r p k l _ s.items counted height s.clean))
     (ran_script t input (spelling (htlc_form c.keys Received h).ops) place.value (htlc_form c.keys Received h).ops counted height

@@ -28,7 +28,7 @@ use Rattle.commit.specs.declared.outputs.OutputKind.{OutputKind}
 use Rattle.commit.specs.declared.outputs.OutputKind.TheVariants.{ToLocal, ToRemote, ToHtlc}
 use Rattle.commit.specs.declared.outputs.CommitmentOutput.{CommitmentOutput}
 use Rattle.commit.specs.declared.outputs.HtlcOutput.{HtlcOutput}
-use Rattle.commit.specs.Commitments.{Contents, tx_output, transaction_of, id_of, htlcs_of, second_stage_of, second_stage_output}
+use Rattle.commit.specs.Commitments.{Contents, tx_output, transaction_of, id_of, htlcs_of, htlc_tx_of, htlc_tx_output}
 use Rattle.penalty.specs.declared.states.RevokedState.{RevokedState}
 use Rattle.penalty.specs.Claimable.{Claimable, place_in, htlc_form, penalty_on, payment_on, htlc_penalty_on, second_stage_penalty, claims_by, commitment_in, claimable_of}
 use Rattle.penalty.specs.Worth.{stage_on}
@@ -43,7 +43,7 @@ use Rattle.safety.specs.Whereabouts.{IsOnChain, HasCommitment, IsNamedBy, ShowsO
 use Rattle.safety.proofs.Lists.{some_is}
 use Rattle.safety.proofs.Limits.{htlcs_signable}
 use Rattle.safety.proofs.Passed.{inputs_have_passed}
-use Rattle.safety.proofs.Taken.{only_as_signed}
+use Rattle.safety.proofs.Taking.{only_as_signed}
 use Rattle.safety.proofs.Fates.{bare_second, IsForHtlc, taken_so}
 use Rattle.safety.proofs.Standing.{naming, coin_there, spent_is}
 use Rattle.safety.proofs.Indices.{htlc_in}
@@ -92,7 +92,7 @@ commitment_pays c t index o s e =
     let outputs : t.outputs ≡ map tx_output c.outputs = ap (λ (u : Transaction). u.outputs) s ∙ outputs_are c in
     ap (λ os. slice_get os index) outputs ∙ slice_get-map tx_output c.outputs index ∙ ap (option_map tx_output) e
 
-second_pays : (c : Contents) (t : Transaction) (h : HtlcOutput) → unsigned_transaction t ≡ second_stage_of c h → slice_get t.outputs 0 ≡ Some (second_stage_output c h)
+second_pays : (c : Contents) (t : Transaction) (h : HtlcOutput) → unsigned_transaction t ≡ htlc_tx_of c h → slice_get t.outputs 0 ≡ Some (htlc_tx_output c h)
 second_pays c t h s = first_output c h (unsigned_transaction t) s
 
 -- what stands at a place
@@ -109,7 +109,7 @@ none_stands : (blocks : List Block) (c : Contents) (index : ℕ) (o : Claimable)
 none_stands blocks c index o at e height t input n f =
     let s = f.same in
     let i : f.htlc.index ≡ index = sym (ap (λ (x : TxIn). x.outpoint.index) s.input) ∙ ap (λ (p : OutPoint). p.index) (n.names ∙ at) in
-    let there : IsOnChain blocks (second_stage_of c f.htlc) = record { height = height; signed = t; stands = n.stands; same = s.transaction ∙ bare_second c f.htlc } in
+    let there : IsOnChain blocks (htlc_tx_of c f.htlc) = record { height = height; signed = t; stands = n.stands; same = s.transaction ∙ bare_second c f.htlc } in
     false≢true (sym e ∙ ap (λ k. standing blocks c k) (sym i) ∙ found blocks c f.htlc f.among there)
 
 -- ---- the coins
@@ -128,12 +128,12 @@ first_coin blocks state chain index o e claim at =
     let output : tx_output o ≡ output_at claim.place = ap output_at (sym at) in
     record { coin = t.coin; is = at_place blocks claim (id_of c) index (transaction_id k.signed) id (ap (λ (p : Place). p.outpoint) at) t.coin t.at (t.is ∙ output) }
 
-second_coin : (blocks : List Block) (state : RevokedState) → HasCommitment blocks state → (h : HtlcOutput) → IsOnChain blocks (second_stage_of (commitment_in state) h) → HasCoin blocks (second_stage_penalty (commitment_in state) h)
+second_coin : (blocks : List Block) (state : RevokedState) → HasCommitment blocks state → (h : HtlcOutput) → IsOnChain blocks (htlc_tx_of (commitment_in state) h) → HasCoin blocks (second_stage_penalty (commitment_in state) h)
 second_coin blocks state chain h k =
     let c = commitment_in state in
-    let t = coin_there blocks chain.checked chain.grants k.height k.signed k.stands 0 (second_stage_output c h) (second_pays c k.signed h k.same) in
-    let id : transaction_id k.signed ≡ transaction_id (second_stage_of c h) = same_id k.signed (second_stage_of c h) (k.same ∙ sym (bare_second c h)) in
-    record { coin = t.coin; is = at_place blocks (second_stage_penalty c h) (transaction_id (second_stage_of c h)) 0 (transaction_id k.signed) id refl t.coin t.at t.is }
+    let t = coin_there blocks chain.checked chain.grants k.height k.signed k.stands 0 (htlc_tx_output c h) (second_pays c k.signed h k.same) in
+    let id : transaction_id k.signed ≡ transaction_id (htlc_tx_of c h) = same_id k.signed (htlc_tx_of c h) (k.same ∙ sym (bare_second c h)) in
+    record { coin = t.coin; is = at_place blocks (second_stage_penalty c h) (transaction_id (htlc_tx_of c h)) 0 (transaction_id k.signed) id refl t.coin t.at t.is }
 
 -- ---- an output whose coin is at hand
 
@@ -195,7 +195,7 @@ on_htlc blocks state own g index o e h at k true s i =
     let c = commitment_in state in
     let from : h.index ≡ 0 + index = omega (arith, at) in
     let there = stands_at blocks state g.chain h (record { place = index; output = o; there = e; at = from; kind = k }) (ap (λ n. standing blocks c n) at ∙ s) in
-    let place = place_in (second_stage_of c h) 0 (second_stage_output c h) in
+    let place = place_in (htlc_tx_of c h) 0 (htlc_tx_output c h) in
     where_is blocks state own g (second_stage_penalty c h) i (second_coin blocks state g.chain h there) (λ height t input n f. not_on_to_local c place t input f)
 
 on_kind : (blocks : List Block) (state : RevokedState) (own : List Signed) → IsGiven blocks state own → (index : ℕ) (o : CommitmentOutput) → slice_get (commitment_in state).outputs index ≡ Some o

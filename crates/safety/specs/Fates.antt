@@ -1,29 +1,31 @@
 -- Where the outputs that a revoked commitment lets the owner's peer claim can go, by what the peer signed.
-use Rattle.std.specs.Prelude.{◌≡◌, ℕ, ◌<◌, true, List, [], ◌∷◌, ◌++◌, map, Some}
+use Rattle.std.specs.Prelude.{◌≡◌, ℕ, true, List, [], ◌∷◌, ◌++◌, map, Some}
 use Rattle.std.specs.List.{Contains, Any, All}
 use Rattle.tx.specs.declared.input.TxIn.{TxIn}
 use Rattle.tx.specs.Parts.{Output}
-use Rattle.tx.specs.Fields.{Transaction, unsigned_transaction}
+use Rattle.tx.specs.Fields.{Transaction}
 use Rattle.chain.specs.Blocks.{Contents as Block, Coin, coin_at}
 use Rattle.chain.specs.Checked.{is_checked}
 use Rattle.claim.specs.Fitting.{output_at}
 use Rattle.commit.specs.declared.outputs.HtlcOutput.{HtlcOutput}
 use Rattle.commit.specs.Fees.{satoshis_of}
 use Rattle.commit.specs.Outputs.{htlc_script}
-use Rattle.commit.specs.Commitments.{Contents, id_of, htlcs_of, second_stage_of, lock_time_of}
+use Rattle.commit.specs.Commitments.{Contents, id_of, htlcs_of, htlc_tx_of}
 use Rattle.commit.specs.Signing.{input_of, htlc_digest}
 use Rattle.penalty.specs.declared.states.RevokedState.{RevokedState}
 use Rattle.penalty.specs.Claimable.{Claimable, place_in, commitment_in, claimable_of}
 use Rattle.penalty.specs.Covering.{IsClaimedAt}
-use Rattle.safety.specs.Signing.{Signed, IsSignable, digest_of, AreSame, ListsCollide}
-use Rattle.safety.specs.Spending.{spend_on, ShowsTwin, IsOwners, IsLate, Takes}
-use Rattle.safety.specs.Taking.{IsAsSigned}
+use Rattle.safety.specs.Signing.{Signed, IsSignable, digest_of, AreSame}
+use Rattle.safety.specs.Spending.{spend_on, IsOwners, IsLate, Takes}
+use Rattle.safety.specs.Ways.{TakenBy}
+use Rattle.safety.specs.Taking.{IsAsSigned, Collides}
+use Rattle.safety.specs.Takers.{IsHtlcTransaction}
 use Rattle.safety.specs.Standing.{StandsAt}
 
 -- an HTLC transaction, as the peer signs it with the commitment (BOLT 2, `commitment_signed`)
 abbrev pub htlc_signed : Contents → HtlcOutput → Signed
 htlc_signed c h = record {
-  transaction = second_stage_of c h;
+  transaction = htlc_tx_of c h;
   input = input_of (record { txid = id_of c; index = h.index }) 0;
   code = htlc_script c.keys h.direction h.htlc;
   value = satoshis_of h.htlc.amount;
@@ -37,35 +39,27 @@ SignedWithCommitment = (c : Contents) (h : HtlcOutput) → htlc_digest c h ≡ d
 abbrev pub signed_by_peer : Contents → List Signed → List Signed
 signed_by_peer c own = map (htlc_signed c) (htlcs_of c) ++ own
 
--- the input is of the HTLC transaction of the HTLC at the outpoint that it names, whatever its witness. HTLC-timeout is in a block above the expiry of the
--- HTLC, which the owner offered (BIP 65). The only output is one that the peer can claim again
-pub record IsHtlcTransaction (state : RevokedState) (height : ℕ) (t : Transaction)
+-- the input is of the HTLC transaction of the HTLC at the outpoint that it names, whatever its witness. The only output of that is one that the peer can claim again
+pub record IsClaimableAgain (state : RevokedState) (height : ℕ) (t : Transaction)
     (input : TxIn) : Type 0 where
-  pub htlc : HtlcOutput
-  pub among : Contains (htlcs_of (commitment_in state)) htlc
-  pub at : input.outpoint ≡ record { txid = id_of (commitment_in state); index = htlc.index }
-  pub same : unsigned_transaction t ≡ second_stage_of (commitment_in state) htlc
-  pub reached : lock_time_of htlc.direction htlc.htlc < height
+  pub is : IsHtlcTransaction (commitment_in state) input.outpoint height t
   pub output : Output
   pub alone : t.outputs ≡ output ∷ []
   pub again : IsClaimedAt (claimable_of state) (place_in t 0 output)
 
--- what an input is that takes such an output for good: one of the peer's own, whatever its witness; the owner's after the delay; or a collision
-pub data Ending (state : RevokedState) (o : Claimable) (since height : ℕ) (t : Transaction)
-    (input : TxIn) (own : List Signed) : Type 0 where
-  by_peer : Any (AreSame (spend_on o t input)) own → Ending state o since height t input own
-  by_owner : IsOwners (IsLate state since height) (commitment_in state) o t input
-      → Ending state o since height t input own
-  by_twin : ShowsTwin (commitment_in state) o input → Ending state o since height t input own
-  by_collision : Any (ListsCollide (spend_on o t input)) (signed_by_peer (commitment_in state) own)
-      → Ending state o since height t input own
+-- what an input is that takes such an output: one of the peer's own, whatever its witness; of an HTLC transaction; the owner's after the delay; or a collision
+abbrev pub FateBy : (HtlcTransaction : Type 0) → RevokedState → Claimable → (since height : ℕ) → Transaction → TxIn → List Signed → Type 0
+FateBy HtlcTransaction state o since height t input own =
+    TakenBy (Any (AreSame (spend_on o t input)) own) HtlcTransaction (IsOwners (IsLate (commitment_in state) since height) (commitment_in state) o t input)
+    (Collides state o t input (signed_by_peer (commitment_in state) own))
 
--- what such an input is: it is of an HTLC transaction, whose output the peer can claim again; or it takes the output for good
-pub data Fate (state : RevokedState) (o : Claimable) (since height : ℕ) (t : Transaction)
-    (input : TxIn) (own : List Signed) : Type 0 where
-  by_htlc_transaction : IsHtlcTransaction state height t input
-      → Fate state o since height t input own
-  for_good : Ending state o since height t input own → Fate state o since height t input own
+-- of an HTLC transaction whose output the peer can claim again, or what takes the output for good
+abbrev pub Fate : RevokedState → Claimable → (since height : ℕ) → Transaction → TxIn → List Signed → Type 0
+Fate state o since height t input own = FateBy (IsClaimableAgain state height t input) state o since height t input own
+
+-- what takes the output for good
+abbrev pub Ending : RevokedState → Claimable → (since height : ℕ) → Transaction → TxIn → List Signed → Type 0
+Ending state o since height t input own = FateBy ⊥ state o since height t input own
 
 -- it has a fate, whatever inputs of its own the peer signed, if each signature of the peer's in it is over an input that the peer signed
 abbrev pub HasFate : RevokedState → Claimable → (since height : ℕ) → Transaction → TxIn → Type 0

@@ -11,23 +11,15 @@ use Rattle.terms.specs.Agreement.{party}
 use Rattle.terms.specs.Sides.{other}
 use Rattle.penalty.specs.declared.states.RevokedState.{RevokedState}
 use Rattle.penalty.specs.Claimable.{commitment_in}
-use Rattle.safety.specs.Signing.{Collide}
+use Rattle.safety.specs.Signing.{Collide, Collision}
+use Rattle.safety.specs.Strings.{IsHashedForSeed}
 use Rattle.safety.specs.Spending.{peer_keys}
 
--- the byte strings that are hashed for what a signer may sign with: its base secrets, its base keys, and their keys at what it learnt
-pub data IsHashed (r : Rights) (bytes : List ℕ) : Type 0 where
-  of_secret : (b : Base) → bytes ≡ codes "base" ++ r.seed ++ number_of b ∷ [] → IsHashed r bytes
-  of_base : (b : Base) → bytes ≡ codes "point" ++ seed_secret r.seed (number_of b) → IsHashed r bytes
-  of_derived : (b : Base) (point : List ℕ) → Contains r.points point → bytes ≡ codes "derive" ++ base_key r.seed b ++ point → IsHashed r bytes
-  of_revoked : (b : Base) (secret : List ℕ) → Contains r.secrets secret → bytes ≡ codes "revoke" ++ base_key r.seed b ++ point_of secret → IsHashed r bytes
-
--- a byte string that one signer hashes for its keys collides with one that another signer hashes
-pub record KeysCollide (r q : Rights) : Type 0 where
-  pub first : List ℕ
-  pub second : List ℕ
-  pub of_first : IsHashed r first
-  pub of_second : IsHashed q second
-  pub collide : Collide sha256 first second
+-- the byte strings that are hashed for what a signer may sign with: those for its seed, and its keys at what it learnt
+pub data IsHashedForRights (r : Rights) (bytes : List ℕ) : Type 0 where
+  of_seed : IsHashedForSeed r.seed bytes → IsHashedForRights r bytes
+  of_derived : (b : Base) (point : List ℕ) → Contains r.points point → bytes ≡ codes "derive" ++ base_key r.seed b ++ point → IsHashedForRights r bytes
+  of_revoked : (b : Base) (secret : List ℕ) → Contains r.secrets secret → bytes ≡ codes "revoke" ++ base_key r.seed b ++ point_of secret → IsHashedForRights r bytes
 
 -- the rights of a seed, once it has learnt the state's secret and its point
 abbrev pub peer_rights : List ℕ → RevokedState → Rights
@@ -39,8 +31,8 @@ pub record AreOfSeed (seed : List ℕ) (bases : BaseKeys) : Type 0 where
   pub htlc : bases.htlc.bytes ≡ base_key seed Htlc
   pub revocation : bases.revocation.bytes ≡ base_key seed Revocation
 
--- where the peer's base keys are of one seed, a signer of another seed that may sign with a key of the peer's shows a collision
+-- where the peer's base keys are of one seed, and a signer of another seed may sign with a key of the peer's, a byte string that one hashes for its keys collides with one that the other hashes
 abbrev pub OnlyPeerSigns : Type 0
 OnlyPeerSigns =
     (state : RevokedState) (seed : List ℕ) (r : Rights) → r.seed ≢ seed → AreOfSeed seed (party (other state.owner) state.terms).bases
-    → (key : List ℕ) → Contains (peer_keys (commitment_in state).keys) key → MaySign r key → KeysCollide r (peer_rights seed state)
+    → (key : List ℕ) → Contains (peer_keys (commitment_in state).keys) key → MaySign r key → Collision (Collide sha256) (IsHashedForRights r) (IsHashedForRights (peer_rights seed state))

@@ -11,6 +11,14 @@ use Rattle.sighash.specs.Signing.{all_outpoints, all_sequences, all_outputs, sig
 abbrev pub Collide : (List ℕ → List ℕ) → List ℕ → List ℕ → Type 0
 Collide hash a b = (a ≢ b) × (hash a ≡ hash b)
 
+-- a byte string of one kind collides with one of another kind
+pub record Collision (Collides : List ℕ → List ℕ → Type 0) (IsFirst IsSecond : List ℕ → Type 0) : Type 0 where
+  pub first : List ℕ
+  pub second : List ℕ
+  pub of_first : IsFirst first
+  pub of_second : IsSecond second
+  pub collide : Collides first second
+
 -- what a token is over: an input of a transaction, the script code, and the satoshis that the input spends
 pub record Signed : Type 0 where
   pub transaction : Transaction

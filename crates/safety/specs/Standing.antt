@@ -14,9 +14,13 @@ pub record StandsAt (blocks : List Contents) (height : ℕ) (t : Transaction) : 
   pub there : slice_get (reverse blocks) height ≡ Some block
   pub within : Contains block.transactions t
 
+-- an input passes the chain's test of a coin, in a block of this height
+abbrev pub PassesTest : (height : ℕ) → Transaction → TxIn → Coin → Type 0
+PassesTest height t input coin = coin_refusal height t input (Some coin) ≡ None
+
 -- each input on the chain names a coin of it, and passed the test of that coin, as it was before it was spent
 abbrev pub HavePassed : Type 0
 HavePassed =
     (blocks : List Contents) → is_checked blocks ≡ true
     → (height : ℕ) (t : Transaction) → StandsAt blocks height t → (input : TxIn) → Contains t.inputs input
-    → (coin : Coin) × (coin_at blocks input.outpoint ≡ Some coin) × (coin_refusal height t input (Some (marked false coin)) ≡ None)
+    → (coin : Coin) × (coin_at blocks input.outpoint ≡ Some coin) × PassesTest height t input (marked false coin)

@@ -8,7 +8,7 @@ use Rattle.chain.specs.Checked.{is_checked}
 use Rattle.chain.specs.Conserving.{GrantsAreApart}
 use Rattle.claim.specs.Fitting.{output_at}
 use Rattle.commit.specs.declared.outputs.HtlcOutput.{HtlcOutput}
-use Rattle.commit.specs.Commitments.{transaction_of, htlcs_of, second_stage_of}
+use Rattle.commit.specs.Commitments.{transaction_of, htlcs_of, htlc_tx_of}
 use Rattle.penalty.specs.declared.states.RevokedState.{RevokedState}
 use Rattle.penalty.specs.Claimable.{Claimable, commitment_in, claimable_of}
 use Rattle.penalty.specs.Worth.{staged, value_of, fees_with, IsCapacityWith}
@@ -66,7 +66,7 @@ pub data Whereabouts (blocks : List Block) (state : RevokedState) (own : List Si
 pub record AreAllThere (blocks : List Block) (state : RevokedState) (own : List Signed) : Type 0 where
   pub stands : ℕ → Bool
   pub those : (h : HtlcOutput) → Contains (htlcs_of (commitment_in state)) h
-      → (stands h.index ≡ true) ↔ IsOnChain blocks (second_stage_of (commitment_in state) h)
+      → (stands h.index ≡ true) ↔ IsOnChain blocks (htlc_tx_of (commitment_in state) h)
   pub claimable : AllByRecursion (Contains (claimable_of state)) (staged stands (commitment_in state))
   pub apart : AllPairs (λ o p. o.place.outpoint ≢ p.place.outpoint) (staged stands (commitment_in state))
   pub worth : IsCapacityWith state (value_of (staged stands (commitment_in state)) + fees_with stands (commitment_in state))

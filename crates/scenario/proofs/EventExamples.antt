@@ -7,7 +7,7 @@ use Rattle.serde_json.specs.Read.{read}
 use Rattle.serde_json.proofs.OnLiterals.{serde_json_on_literals}
 use Rattle.terms.specs.declared.sides.Side.TheVariants.{A, B}
 use Rattle.updates.specs.declared.changes.OwnUpdate.TheVariants.{Offer, Fulfil, Fail, SetFee}
-use Rattle.texts.specs.Values.{◌>>=◌}
+use Rattle.claim.specs.Opcodes.{◌>>=◌}
 use Rattle.texts.specs.Steps.{own_named, own_offer_of, own_fulfil_of, own_fail_of, own_fee_of}
 use Rattle.scenario.specs.declared.events.Event.TheVariants.{Own, Sign, Deliver, Keep, Broadcast, BroadcastHtlc, Blocks, Look, Take, Release, Reorg, Close}
 use Rattle.scenario.specs.Events.{own_of, sign_of, deliver_of, keep_of, commitment_of, htlc_transaction_of, broadcast_of, blocks_of, look_of, take_of, release_of, reorg_of, close_of, event_named, event_of}

@@ -4,7 +4,8 @@ use Rattle.std.specs.Str.{bytes_eq}
 use Rattle.serde_json.specs.Data.{Data}
 use Rattle.scenario.specs.declared.events.Event.{Event}
 use Rattle.scenario.specs.declared.events.Event.TheVariants.{Own, Sign, Deliver, Keep, Broadcast, BroadcastHtlc, Blocks, Look, Take, Release, Reorg, Close}
-use Rattle.texts.specs.Values.{◌>>=◌, first_some, array_of, item_of, tag_of, u64_of, side_of}
+use Rattle.claim.specs.Opcodes.{◌>>=◌}
+use Rattle.texts.specs.Values.{first_some, array_of, item_of, tag_of, u64_of, side_of}
 use Rattle.texts.specs.Steps.{own_named}
 
 -- an update of a side: its name, the side, the channel, and then the fields that a book's step has there, too

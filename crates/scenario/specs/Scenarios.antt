@@ -2,7 +2,8 @@
 use Rattle.std.specs.Prelude.{ℕ, Option, Some, codes}
 use Rattle.serde_json.specs.Data.{Data}
 use Rattle.scenario.specs.declared.plain.PlainScenario.{PlainScenario}
-use Rattle.texts.specs.Values.{◌>>=◌, object_of, member_of, pair_of, list_of, bytes_of_len}
+use Rattle.claim.specs.Opcodes.{◌>>=◌}
+use Rattle.texts.specs.Values.{object_of, member_of, pair_of, list_of, bytes_of_len}
 use Rattle.texts.specs.Terms.{terms_of}
 use Rattle.scenario.specs.Events.{event_of}
 

@@ -10,7 +10,7 @@ use Rattle.script.specs.declared.spending.Spend.{Spend}
 use Rattle.script.specs.declared.stops.Cause.{Cause}
 use Rattle.script.specs.declared.stops.Cause.TheVariants.{TooManyOps, StackTooTall, ItemTooLong, FalseEnd}
 use Rattle.script.specs.Step.{Elements, Effect, effect, truth, result_if, ◌>>=◌}
-use Rattle.script.specs.Run.{weight, counted_in, jump_length, open_ifs_after, RunState, state_after_effect, state_after_skip_or_run, state_after, Outcome, Clean, Stopped, at_end, onward, outcome_from, start, is_long, outcome}
+use Rattle.script.specs.Run.{op_count, counted_in, jump_length, open_ifs_after, RunState, state_after_effect, state_after_skip_or_run, state_after, Outcome, Clean, Stopped, at_end, onward, outcome_from, start, is_long, outcome}
 use Rattle.script.specs.Clean.{no_more, HasOpen, MayFollow, IsMisplaced, Point, Steps, ends, RunsTo, start_on, AreShort, IsClean, PassesLimit, FailsAt, Fails, FaultAt, too_many, misplaced, failing, AreFaultless, StopsAt, long_item, least_fault, open_end, not_one, false_end}
 use Rattle.script.proofs.Blocks.{jumps_made, jump_within}
 use Rattle.script.proofs.OpenIfs.{flags, Nest, nest_on, nest_open, flags_on, follows, refused, open_flags}
@@ -43,7 +43,7 @@ Passed spend ops witness k (Ok p) = Tied spend ops witness (k + 1) p
 Passed spend ops witness k (Err c) = FaultAt spend ops witness k c
 
 -- the opcodes that count, with one more
-counted_more : (k : ℕ) (ops : List Op) (op : Op) (rest : List Op) → drop k ops ≡ op ∷ rest → counted_in (take (k + 1) ops) ≡ counted_in (take k ops) + weight op
+counted_more : (k : ℕ) (ops : List Op) (op : Op) (rest : List Op) → drop k ops ≡ op ∷ rest → counted_in (take (k + 1) ops) ≡ counted_in (take k ops) + op_count op
 counted_more k ops op rest e =
     let f = ap counted_in (take_one_more k ops op rest e) in
     let g = counted_in-append (take k ops) (op ∷ []) in
@@ -90,7 +90,7 @@ same_effect spend ops witness k x op rest c r e f =
     (sym (ap (λ y. y.at) p) ∙ f.comes, subst (λ o. Fails (effect spend (counted_in (take (k + 1) ops) + x.keys) o x.stack) c) q (subst (λ y. Fails (effect spend (counted_in (take (k + 1) ops) + y.keys) f.op y.stack) c) p f.fails))
 
 -- an opcode that is jumped over
-jumps_on : (spend : Spend) (ops : List Op) (witness : List (List ℕ)) (k : ℕ) (p : RunState) (op : Op) (rest : List Op) (ifs : List Bool) (n : ℕ) → Tied spend ops witness k p → drop k ops ≡ op ∷ rest → p.counted + weight op ≤ 201 → open_ifs_after op p.open_ifs ≡ Ok ifs → p.ahead ≡ suc n → Tied spend ops witness (k + 1) (record { ahead = n; stack = p.stack; counted = p.counted + weight op; open_ifs = ifs; height = p.height })
+jumps_on : (spend : Spend) (ops : List Op) (witness : List (List ℕ)) (k : ℕ) (p : RunState) (op : Op) (rest : List Op) (ifs : List Bool) (n : ℕ) → Tied spend ops witness k p → drop k ops ≡ op ∷ rest → p.counted + op_count op ≤ 201 → open_ifs_after op p.open_ifs ≡ Ok ifs → p.ahead ≡ suc n → Tied spend ops witness (k + 1) (record { ahead = n; stack = p.stack; counted = p.counted + op_count op; open_ifs = ifs; height = p.height })
 jumps_on spend ops witness k p op rest ifs n t e l o a =
     let more = counted_more k ops op rest e in
     let count = t.count in
@@ -114,8 +114,8 @@ jumps_on spend ops witness k p op rest ifs n t e l o a =
     }
 
 -- an opcode that the run comes to, and that has an effect
-runs_on : (spend : Spend) (ops : List Op) (witness : List (List ℕ)) (k : ℕ) (p : RunState) (op : Op) (rest : List Op) (ifs : List Bool) (done : Effect) → Tied spend ops witness k p → drop k ops ≡ op ∷ rest → p.counted + weight op ≤ 201 → open_ifs_after op p.open_ifs ≡ Ok ifs → p.ahead ≡ 0 → effect spend (p.counted + weight op) op p.stack ≡ Ok done → length done.stack ≤ 1000
-    → Tied spend ops witness (k + 1) (record { ahead = jump_length done.jump rest; stack = done.stack; counted = p.counted + weight op + done.keys; open_ifs = ifs; height = max p.height (length done.stack) })
+runs_on : (spend : Spend) (ops : List Op) (witness : List (List ℕ)) (k : ℕ) (p : RunState) (op : Op) (rest : List Op) (ifs : List Bool) (done : Effect) → Tied spend ops witness k p → drop k ops ≡ op ∷ rest → p.counted + op_count op ≤ 201 → open_ifs_after op p.open_ifs ≡ Ok ifs → p.ahead ≡ 0 → effect spend (p.counted + op_count op) op p.stack ≡ Ok done → length done.stack ≤ 1000
+    → Tied spend ops witness (k + 1) (record { ahead = jump_length done.jump rest; stack = done.stack; counted = p.counted + op_count op + done.keys; open_ifs = ifs; height = max p.height (length done.stack) })
 runs_on spend ops witness k p op rest ifs done t e l o a f low =
     let more = counted_more k ops op rest e in
     let count = t.count in
@@ -123,14 +123,14 @@ runs_on spend ops witness k p op rest ifs done t e l o a f low =
     let y : Point = point_after x done (jump_length done.jump rest) in
     let here : point_of k p t.keys ≡ x = ap (λ i. record { at = i; stack = p.stack; keys = t.keys; height = p.height }) (omega arith) in
     let runs : RunsTo spend ops witness k x = subst (RunsTo spend ops witness k) here t.runs in
-    let same : p.counted + weight op ≡ counted_in (take (k + 1) ops) + t.keys = omega arith in
+    let same : p.counted + op_count op ≡ counted_in (take (k + 1) ops) + t.keys = omega arith in
     let does : effect spend (counted_in (take (k + 1) ops) + t.keys) op p.stack ≡ Ok done = ap (λ n. effect spend n op p.stack) (sym same) ∙ f in
     let over : PassesLimit spend ops witness k → ⊥ = not_over spend ops witness k x runs (omega arith) in
     let may : MayFollow (take k ops) op = follows (take k ops) op p.open_ifs ifs t.nest o in
     let sits : IsMisplaced ops k → ⊥ = not_misplaced ops k op rest e may in
     let front = take_one_more k ops op rest e in
     let step : Steps spend ops x y = record { op = op; rest = rest; here = e; done = done; does = does; over = jump_length done.jump rest; jumps = jumps_made done.jump rest; leads = refl } in
-    let few : p.counted + weight op + done.keys ≤ 201 = subst (Within (p.counted + weight op)) f (effect_within spend (p.counted + weight op) op p.stack l) in
+    let few : p.counted + op_count op + done.keys ≤ 201 = subst (Within (p.counted + op_count op)) f (effect_within spend (p.counted + op_count op) op p.stack l) in
     let short = jump_within done.jump rest in
     let whole = stands_within k ops op rest e in
     record {
@@ -149,14 +149,14 @@ runs_on spend ops witness k p op rest ifs done t e l o a f low =
     }
 
 -- an opcode that the run comes to, and that fails
-fails_at : (spend : Spend) (ops : List Op) (witness : List (List ℕ)) (k : ℕ) (p : RunState) (op : Op) (rest : List Op) (ifs : List Bool) (c : Cause) → Tied spend ops witness k p → drop k ops ≡ op ∷ rest → p.counted + weight op ≤ 201 → open_ifs_after op p.open_ifs ≡ Ok ifs → p.ahead ≡ 0 → Fails (effect spend (p.counted + weight op) op p.stack) c → FaultAt spend ops witness k c
+fails_at : (spend : Spend) (ops : List Op) (witness : List (List ℕ)) (k : ℕ) (p : RunState) (op : Op) (rest : List Op) (ifs : List Bool) (c : Cause) → Tied spend ops witness k p → drop k ops ≡ op ∷ rest → p.counted + op_count op ≤ 201 → open_ifs_after op p.open_ifs ≡ Ok ifs → p.ahead ≡ 0 → Fails (effect spend (p.counted + op_count op) op p.stack) c → FaultAt spend ops witness k c
 fails_at spend ops witness k p op rest ifs c t e l o a f =
     let more = counted_more k ops op rest e in
     let count = t.count in
     let x : Point = record { at = k; stack = p.stack; keys = t.keys; height = p.height } in
     let here : point_of k p t.keys ≡ x = ap (λ i. record { at = i; stack = p.stack; keys = t.keys; height = p.height }) (omega arith) in
     let runs : RunsTo spend ops witness k x = subst (RunsTo spend ops witness k) here t.runs in
-    let same : p.counted + weight op ≡ counted_in (take (k + 1) ops) + t.keys = omega arith in
+    let same : p.counted + op_count op ≡ counted_in (take (k + 1) ops) + t.keys = omega arith in
     failing
     (not_over spend ops witness k x runs (omega arith))
     (not_misplaced ops k op rest e (follows (take k ops) op p.open_ifs ifs t.nest o))
@@ -164,20 +164,20 @@ fails_at spend ops witness k p op rest ifs c t e l o a f =
 
 -- one opcode of the list
 module _ (spend : Spend) (ops : List Op) (witness : List (List ℕ)) (k : ℕ) (p : RunState) (op : Op) (rest : List Op) (t : Tied spend ops witness k p) (e : drop k ops ≡ op ∷ rest) where
-  settles : (ifs : List Bool) (done : Effect) → p.counted + weight op ≤ 201 → open_ifs_after op p.open_ifs ≡ Ok ifs → p.ahead ≡ 0 → effect spend (p.counted + weight op) op p.stack ≡ Ok done → (b : Bool) → nat_le (length done.stack) 1000 ≡ b
-      → Passed spend ops witness k (result_if b StackTooTall (Ok (record { ahead = jump_length done.jump rest; stack = done.stack; counted = p.counted + weight op + done.keys; open_ifs = ifs; height = max p.height (length done.stack) })))
+  settles : (ifs : List Bool) (done : Effect) → p.counted + op_count op ≤ 201 → open_ifs_after op p.open_ifs ≡ Ok ifs → p.ahead ≡ 0 → effect spend (p.counted + op_count op) op p.stack ≡ Ok done → (b : Bool) → nat_le (length done.stack) 1000 ≡ b
+      → Passed spend ops witness k (result_if b StackTooTall (Ok (record { ahead = jump_length done.jump rest; stack = done.stack; counted = p.counted + op_count op + done.keys; open_ifs = ifs; height = max p.height (length done.stack) })))
   settles ifs done l o a f true low = runs_on spend ops witness k p op rest ifs done t e l o a f (leb-true (length done.stack) 1000 low)
   settles ifs done l o a f false high = fails_at spend ops witness k p op rest ifs StackTooTall t e l o a (subst (λ r. Fails r StackTooTall) (sym f) (leb-false (length done.stack) 1000 high, refl))
 
-  does_it : (ifs : List Bool) → p.counted + weight op ≤ 201 → open_ifs_after op p.open_ifs ≡ Ok ifs → p.ahead ≡ 0 → (r : Result Effect Cause) → effect spend (p.counted + weight op) op p.stack ≡ r → Passed spend ops witness k (r >>= state_after_effect rest (p.counted + weight op) ifs p.height)
+  does_it : (ifs : List Bool) → p.counted + op_count op ≤ 201 → open_ifs_after op p.open_ifs ≡ Ok ifs → p.ahead ≡ 0 → (r : Result Effect Cause) → effect spend (p.counted + op_count op) op p.stack ≡ r → Passed spend ops witness k (r >>= state_after_effect rest (p.counted + op_count op) ifs p.height)
   does_it ifs l o a (Ok done) f = settles ifs done l o a f (nat_le (length done.stack) 1000) refl
   does_it ifs l o a (Err c) f = fails_at spend ops witness k p op rest ifs c t e l o a (subst (λ r. Fails r c) (sym f) refl)
 
-  jumps_or_runs : (ifs : List Bool) → p.counted + weight op ≤ 201 → open_ifs_after op p.open_ifs ≡ Ok ifs → (n : ℕ) → p.ahead ≡ n → Passed spend ops witness k (state_after_skip_or_run spend op rest n p (p.counted + weight op) ifs)
-  jumps_or_runs ifs l o zero a = does_it ifs l o a (effect spend (p.counted + weight op) op p.stack) refl
+  jumps_or_runs : (ifs : List Bool) → p.counted + op_count op ≤ 201 → open_ifs_after op p.open_ifs ≡ Ok ifs → (n : ℕ) → p.ahead ≡ n → Passed spend ops witness k (state_after_skip_or_run spend op rest n p (p.counted + op_count op) ifs)
+  jumps_or_runs ifs l o zero a = does_it ifs l o a (effect spend (p.counted + op_count op) op p.stack) refl
   jumps_or_runs ifs l o (suc n) a = jumps_on spend ops witness k p op rest ifs n t e l o a
 
-  placed_or_not : p.counted + weight op ≤ 201 → (r : Result (List Bool) Cause) → open_ifs_after op p.open_ifs ≡ r → Passed spend ops witness k (r >>= state_after_skip_or_run spend op rest p.ahead p (p.counted + weight op))
+  placed_or_not : p.counted + op_count op ≤ 201 → (r : Result (List Bool) Cause) → open_ifs_after op p.open_ifs ≡ r → Passed spend ops witness k (r >>= state_after_skip_or_run spend op rest p.ahead p (p.counted + op_count op))
   placed_or_not l (Ok ifs) o = jumps_or_runs ifs l o p.ahead refl
   placed_or_not l (Err c) o =
       let more = counted_more k ops op rest e in
@@ -185,18 +185,18 @@ module _ (spend : Spend) (ops : List Op) (witness : List (List ℕ)) (k : ℕ) (
       let r = refused (take k ops) op p.open_ifs c t.flagged o in
       subst (FaultAt spend ops witness k) (sym r.cause) (misplaced (not_over spend ops witness k (point_of k p t.keys) t.runs (omega arith)) (record { op = op; rest = rest; here = e; refused = r.never }))
 
-  counted_or_not : (b : Bool) → nat_le (p.counted + weight op) 201 ≡ b → Passed spend ops witness k (result_if b TooManyOps (open_ifs_after op p.open_ifs >>= state_after_skip_or_run spend op rest p.ahead p (p.counted + weight op)))
-  counted_or_not true f = placed_or_not (leb-true (p.counted + weight op) 201 f) (open_ifs_after op p.open_ifs) refl
+  counted_or_not : (b : Bool) → nat_le (p.counted + op_count op) 201 ≡ b → Passed spend ops witness k (result_if b TooManyOps (open_ifs_after op p.open_ifs >>= state_after_skip_or_run spend op rest p.ahead p (p.counted + op_count op)))
+  counted_or_not true f = placed_or_not (leb-true (p.counted + op_count op) 201 f) (open_ifs_after op p.open_ifs) refl
   counted_or_not false f =
       let more = counted_more k ops op rest e in
       let count = t.count in
       let whole = stands_within k ops op rest e in
-      let high : 201 < p.counted + weight op = leb-false (p.counted + weight op) 201 f in
+      let high : 201 < p.counted + op_count op = leb-false (p.counted + op_count op) 201 f in
       too_many (record { within = omega arith; point = point_of k p t.keys; runs = t.runs; above = omega arith })
 
   pub passes : Passed spend ops witness k (state_after spend op rest p)
   unfolding state_after
-  passes = counted_or_not (nat_le (p.counted + weight op) 201) refl
+  passes = counted_or_not (nat_le (p.counted + op_count op) 201) refl
 
 -- what an outcome says
 abbrev pub Verdict : Spend → List Op → List (List ℕ) → Outcome → Type 0

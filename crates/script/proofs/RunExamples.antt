@@ -10,12 +10,12 @@ use Rattle.script.specs.Token.{is_key}
 use Rattle.script.specs.Number.{number_of, minimal_bytes_of, digits}
 use Rattle.script.specs.declared.jumps.Jump.TheVariants.{Next, AfterElse, AfterEndIf}
 use Rattle.script.specs.Step.{effect, multi_sig}
-use Rattle.script.specs.Run.{weight, counted_in, jump_length, open_ifs_after, state_after, Outcome, Clean, Stopped, outcome}
+use Rattle.script.specs.Run.{op_count, counted_in, jump_length, open_ifs_after, state_after, Outcome, Clean, Stopped, outcome}
 
 -- pushes do not count, and every other opcode does
-weights : map weight (Push [] ∷ Push (replicate 75 9) ∷ Number 1 ∷ Number 16 ∷ If ∷ NotIf ∷ Else ∷ EndIf ∷ Drop ∷ Dup ∷ Swap ∷ Size ∷ Equal ∷ EqualVerify ∷ Hash160 ∷ CheckSig ∷ CheckMultiSig ∷ CheckLockTimeVerify ∷ CheckSequenceVerify ∷ []) ≡
+op_counts : map op_count (Push [] ∷ Push (replicate 75 9) ∷ Number 1 ∷ Number 16 ∷ If ∷ NotIf ∷ Else ∷ EndIf ∷ Drop ∷ Dup ∷ Swap ∷ Size ∷ Equal ∷ EqualVerify ∷ Hash160 ∷ CheckSig ∷ CheckMultiSig ∷ CheckLockTimeVerify ∷ CheckSequenceVerify ∷ []) ≡
     0 ∷ 0 ∷ 0 ∷ 0 ∷ replicate 15 1
-weights = refl
+op_counts = refl
 
 counted : counted_in (Dup ∷ Hash160 ∷ Push (replicate 20 3) ∷ EqualVerify ∷ CheckSig ∷ []) ≡ 4
 counted = refl

@@ -13,13 +13,13 @@ use Rattle.script.specs.declared.jumps.Jump.TheVariants.{Next, AfterElse, AfterE
 use Rattle.script.specs.Step.{Elements, Effect, effect, truth, result_if, ◌>>=◌}
 
 -- 1 for an opcode that counts, whose byte is above 60 (hexadecimal), else 0
-abbrev pub weight : Op → ℕ
-weight op = if nat_lt 0x60 (code_of op) then 1 else 0
+abbrev pub op_count : Op → ℕ
+op_count op = if nat_lt 0x60 (code_of op) then 1 else 0
 
 -- the opcodes of a list that count
 abbrev pub counted_in : List Op → ℕ
 counted_in [] = 0
-counted_in (op ∷ ops) = weight op + counted_in ops
+counted_in (op ∷ ops) = op_count op + counted_in ops
 
 -- how many of these opcodes come up to and including the branch's ENDIF, or its ELSE if `stop` is true and that comes first; all
 -- of them where neither comes. `depth` IFs inside the branch are open
@@ -86,9 +86,9 @@ state_after_skip_or_run spend op rest zero p counted ifs =
 
 -- past one opcode, which is followed by these
 unfoldable pub state_after : Spend → Op → List Op → RunState → Result RunState Cause
-state_after s op rest p = result_if (nat_le (p.counted + weight op) MAX_OPS_PER_SCRIPT) TooManyOps
+state_after s op rest p = result_if (nat_le (p.counted + op_count op) MAX_OPS_PER_SCRIPT) TooManyOps
     (open_ifs_after op p.open_ifs
-    >>= state_after_skip_or_run s op rest p.ahead p (p.counted + weight op))
+    >>= state_after_skip_or_run s op rest p.ahead p (p.counted + op_count op))
 
 -- how a run ends: clean, with the counted opcodes and the greatest number of elements, or stopped, with the position and the cause
 pub data Outcome : Type 0 where

@@ -45,7 +45,7 @@ pub enum Op {
 impl Op {
     ghost use Rattle.std.specs.Prelude.{◌≡◌, ◌≤◌, length, IfOk};
     ghost use Rattle.script.specs.Spelling.{code_of, payload_of};
-    ghost use Rattle.script.specs.Run.{weight as weight_of};
+    ghost use Rattle.script.specs.Run.{op_count as op_count_of};
 
     /// The opcode's byte; that of a push is the length of its item.
     pub fn code(&self) -> usize
@@ -83,8 +83,8 @@ impl Op {
     }
 
     /// What the opcode adds to the counted opcodes of a run: 1 if its byte is above 60 (hexadecimal), else 0.
-    pub fn weight(&self) -> usize
-        ensures value { result ≡ weight_of self.now }
+    pub fn op_count(&self) -> usize
+        ensures value { result ≡ op_count_of self.now }
         ensures bound { result ≤ 1 }
     {
         if self.code() > 0x60 { 1 } else { 0 }

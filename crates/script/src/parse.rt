@@ -117,7 +117,7 @@ impl Script {
     {
         let mut counted = 0;
         for op in &self.ops {
-            counted += op.weight();
+            counted += op.op_count();
         }
         counted
     }

@@ -15,7 +15,7 @@ use Rattle.updates.specs.declared.changes.OwnUpdate.TheVariants.{Offer, Fulfil, 
 use Rattle.texts.specs.declared.steps.PlainReceived.TheVariants.{Updated, Signed}
 use Rattle.texts.specs.declared.steps.PlainStep.TheVariants.{Own, Receive}
 use Rattle.texts.specs.declared.calls.PlainCall.TheVariants.{Open, Step, Sign, Revoke, Keep, Release, Close}
-use Rattle.texts.specs.Values.{◌>>=◌}
+use Rattle.claim.specs.Opcodes.{◌>>=◌}
 use Rattle.texts.specs.Writing.{bytes_data, output_data}
 use Rattle.texts.specs.CallWriting.{release_data, close_data, entry_data, dump_data}
 use Rattle.texts.specs.Outpoints.{digits_from, outpoint_in}

@@ -22,7 +22,8 @@ use Rattle.texts.specs.declared.steps.PlainStep.TheVariants.{Own, Receive}
 use Rattle.texts.specs.declared.calls.PlainOpening.{PlainOpening}
 use Rattle.texts.specs.declared.calls.PlainCall.{PlainCall}
 use Rattle.texts.specs.declared.calls.PlainCall.TheVariants.{Open, Step, Sign, Revoke, Keep, Release, Close}
-use Rattle.texts.specs.Values.{◌>>=◌, each_of, u32_of, side_of, bytes_of_len, tag_of}
+use Rattle.claim.specs.Opcodes.{◌>>=◌}
+use Rattle.texts.specs.Values.{each_of, u32_of, side_of, bytes_of_len, tag_of}
 use Rattle.texts.specs.Keys.{key_of, base_keys_of, token_bytes_of}
 use Rattle.texts.specs.Outpoints.{outpoint_of}
 use Rattle.texts.specs.Terms.{terms_of}

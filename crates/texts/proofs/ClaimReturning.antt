@@ -25,7 +25,8 @@ use Rattle.claim.specs.declared.parts.Slot.{Slot}
 use Rattle.claim.specs.declared.parts.Slot.TheVariants.{Sig, Preimage, Exact}
 use Rattle.claim.specs.declared.parts.Shell.{Shell}
 use Rattle.claim.specs.declared.parts.Shell.TheVariants.{Open, Fixed}
-use Rattle.texts.specs.Values.{◌>>=◌, below, bytes_of, bytes_of_len, each_of}
+use Rattle.claim.specs.Opcodes.{◌>>=◌}
+use Rattle.texts.specs.Values.{below, bytes_of, bytes_of_len, each_of}
 use Rattle.texts.specs.Keys.{key_of}
 use Rattle.texts.specs.Outpoints.{digits_from, index_in, outpoint_in, outpoint_of}
 use Rattle.texts.specs.Claims.{sig_of, preimage_of, exact_of, slot_named, slot_of, witness_item_of, shell_of, claim_of}

@@ -12,7 +12,8 @@ use Rattle.updates.specs.declared.changes.Update.{Update}
 use Rattle.updates.specs.declared.changes.Update.TheVariants.{Add, Fulfil, Fail, Fee}
 use Rattle.terms.specs.declared.proposals.ProposedTerms.{ProposedTerms}
 use Rattle.terms.specs.declared.htlcs.Htlc.{Htlc}
-use Rattle.texts.specs.Values.{◌>>=◌, below, u16_of, u32_of, bytes_of, bytes_of_len, side_of}
+use Rattle.claim.specs.Opcodes.{◌>>=◌}
+use Rattle.texts.specs.Values.{below, u16_of, u32_of, bytes_of, bytes_of_len, side_of}
 use Rattle.texts.specs.Terms.{terms_of}
 use Rattle.texts.specs.Outputs.{output_of}
 use Rattle.texts.specs.Messages.{add_of, fulfil_of, fail_of, fee_of, update_named, update_of}

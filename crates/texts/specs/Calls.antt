@@ -18,7 +18,8 @@ use Rattle.texts.specs.declared.calls.PlainCall.{PlainCall}
 use Rattle.texts.specs.declared.calls.PlainCall.TheVariants.{Open, Step, Sign, Revoke, Keep, Release, Close}
 use Rattle.texts.specs.declared.calls.PlainEntry.{PlainEntry}
 use Rattle.texts.specs.declared.calls.PlainDump.{PlainDump}
-use Rattle.texts.specs.Values.{◌>>=◌, array_of, object_of, item_of, member_of, pair_of, tag_of, list_of, u64_of, u32_of, side_of, bytes_of_len}
+use Rattle.claim.specs.Opcodes.{◌>>=◌}
+use Rattle.texts.specs.Values.{array_of, object_of, item_of, member_of, pair_of, tag_of, list_of, u64_of, u32_of, side_of, bytes_of_len}
 use Rattle.texts.specs.Keys.{key_of, base_keys_of, token_bytes_of}
 use Rattle.texts.specs.Outpoints.{outpoint_of}
 use Rattle.texts.specs.Outputs.{output_of}

@@ -5,7 +5,8 @@ use Rattle.claim.specs.declared.parts.Place.{Place}
 use Rattle.texts.specs.declared.claims.PlainClaim.{PlainClaim}
 use Rattle.texts.specs.declared.claims.ClaimEnd.{ClaimEnd}
 use Rattle.texts.specs.declared.errors.ShapeError.{ShapeError}
-use Rattle.texts.specs.Values.{◌>>=◌, Gives, member_of, list_of, bytes_of}
+use Rattle.claim.specs.Opcodes.{◌>>=◌}
+use Rattle.texts.specs.Values.{Gives, member_of, list_of, bytes_of}
 use Rattle.texts.specs.Claims.{slot_of, shell_of}
 
 -- a claim whose path and place were read before

@@ -13,7 +13,8 @@ use Rattle.claim.specs.declared.parts.Slot.TheVariants.{Sig, Preimage, Exact}
 use Rattle.claim.specs.declared.parts.Shell.{Shell}
 use Rattle.claim.specs.declared.parts.Shell.TheVariants.{Open, Fixed}
 use Rattle.texts.specs.declared.claims.PlainClaim.{PlainClaim}
-use Rattle.texts.specs.Values.{◌>>=◌, first_some, array_of, object_of, item_of, member_of, tag_of, list_of, u64_of, bytes_of, bytes_of_len}
+use Rattle.claim.specs.Opcodes.{◌>>=◌}
+use Rattle.texts.specs.Values.{first_some, array_of, object_of, item_of, member_of, tag_of, list_of, u64_of, bytes_of, bytes_of_len}
 use Rattle.texts.specs.Keys.{key_of}
 use Rattle.texts.specs.Outpoints.{outpoint_of}
 

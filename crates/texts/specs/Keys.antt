@@ -4,7 +4,8 @@ use Rattle.serde_json.specs.Data.{Data}
 use Rattle.script.specs.Token.{is_key, is_token}
 use Rattle.keys.specs.declared.compressed.Key.{Key}
 use Rattle.terms.specs.declared.agreement.BaseKeys.{BaseKeys}
-use Rattle.texts.specs.Values.{◌>>=◌, array_of, item_of, bytes_of_len}
+use Rattle.claim.specs.Opcodes.{◌>>=◌}
+use Rattle.texts.specs.Values.{array_of, item_of, bytes_of_len}
 
 abbrev pub key_if : (bytes : List ℕ) (form : Bool) → is_key bytes ≡ form → Option Key
 key_if bytes true h = Some (record { bytes = bytes; form = h })

@@ -4,7 +4,8 @@ use Rattle.std.specs.Str.{bytes_eq}
 use Rattle.serde_json.specs.Data.{Data}
 use Rattle.updates.specs.declared.changes.Update.{Update}
 use Rattle.updates.specs.declared.changes.Update.TheVariants.{Add, Fulfil, Fail, Fee}
-use Rattle.texts.specs.Values.{◌>>=◌, array_of, item_of, tag_of, u64_of, u32_of, bytes_of_len}
+use Rattle.claim.specs.Opcodes.{◌>>=◌}
+use Rattle.texts.specs.Values.{array_of, item_of, tag_of, u64_of, u32_of, bytes_of_len}
 
 unfoldable pub add_of : Data → Option Update
 add_of d = do

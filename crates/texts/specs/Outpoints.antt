@@ -6,7 +6,8 @@ use Rattle.hex.specs.Hex.{decode_sized}
 use Rattle.serde_json.specs.Data.{Data}
 use Rattle.serde_json.specs.Find.{as_str}
 use Rattle.tx.specs.declared.input.OutPoint.{OutPoint}
-use Rattle.texts.specs.Values.{◌>>=◌, below}
+use Rattle.claim.specs.Opcodes.{◌>>=◌}
+use Rattle.texts.specs.Values.{below}
 
 -- reads decimal digits that continue a number n; the result is below 2^32
 unfoldable pub digits_from : ℕ → List ℕ → Option ℕ

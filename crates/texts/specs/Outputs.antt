@@ -3,7 +3,8 @@ use Rattle.std.specs.Prelude.{ℕ, length, ◌||◌, nat_lt, if◌then◌else◌
 use Rattle.serde_json.specs.Data.{Data}
 use Rattle.tx.specs.declared.limits.TheConstants.{MAX_VALUE, MAX_BYTES}
 use Rattle.tx.specs.Parts.{Output}
-use Rattle.texts.specs.Values.{◌>>=◌, array_of, item_of, u64_of, bytes_of}
+use Rattle.claim.specs.Opcodes.{◌>>=◌}
+use Rattle.texts.specs.Values.{array_of, item_of, u64_of, bytes_of}
 
 -- an array of the value and the script, both within their limits
 unfoldable pub output_of : Data → Option Output

@@ -11,7 +11,8 @@ use Rattle.texts.specs.declared.steps.PlainReceived.{PlainReceived}
 use Rattle.texts.specs.declared.steps.PlainReceived.TheVariants.{Updated, Signed}
 use Rattle.texts.specs.declared.steps.PlainStep.{PlainStep}
 use Rattle.texts.specs.declared.steps.PlainStep.TheVariants.{Own, Receive}
-use Rattle.texts.specs.Values.{◌>>=◌, array_of, item_of, tag_of, list_of, u64_of, u32_of, bytes_of_len}
+use Rattle.claim.specs.Opcodes.{◌>>=◌}
+use Rattle.texts.specs.Values.{array_of, item_of, tag_of, list_of, u64_of, u32_of, bytes_of_len}
 use Rattle.texts.specs.Keys.{key_of, token_bytes_of}
 use Rattle.texts.specs.Messages.{update_of}
 

@@ -3,7 +3,8 @@ use Rattle.std.specs.Prelude.{ℕ, Option, Some, codes}
 use Rattle.serde_json.specs.Data.{Data}
 use Rattle.terms.specs.declared.proposals.ProposedParty.{ProposedParty}
 use Rattle.terms.specs.declared.proposals.ProposedTerms.{ProposedTerms}
-use Rattle.texts.specs.Values.{◌>>=◌, object_of, member_of, pair_of, u64_of, u32_of, u16_of, side_of}
+use Rattle.claim.specs.Opcodes.{◌>>=◌}
+use Rattle.texts.specs.Values.{object_of, member_of, pair_of, u64_of, u32_of, u16_of, side_of}
 
 abbrev pub party_of : ℕ → ℕ → ℕ → ℕ → ProposedParty
 party_of dust delay minimum start = record { dust = dust; delay = delay; minimum = minimum; start = start }

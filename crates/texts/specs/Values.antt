@@ -5,16 +5,11 @@ use Rattle.std.specs.Str.{bytes_eq}
 use Rattle.hex.specs.Hex.{decode_of, decode_sized}
 use Rattle.serde_json.specs.Data.{Data, Items, no_items, item, Members, no_members, member}
 use Rattle.serde_json.specs.Find.{as_number, as_u64, as_str, as_array, as_object, at, get}
+use Rattle.claim.specs.Opcodes.{◌>>=◌}
 use Rattle.terms.specs.declared.sides.Side.{Side}
 use Rattle.terms.specs.declared.sides.Side.TheVariants.{A, B}
 use Rattle.texts.specs.declared.errors.ShapeError.{ShapeError}
 use Rattle.texts.specs.declared.errors.ShapeError.TheVariants.{NoMemory, BadShape}
-
--- the ? of the logic: the second step, if the first one gave a value
-infixl 10 ◌>>=◌
-abbrev pub ◌>>=◌ : {A B : Type 0} → Option A → (A → Option B) → Option B
-(Some x) >>= f = f x
-None >>= f = None
 
 -- A reader's result, seen by view, is what the value is read as, unless memory ran out.
 abbrev pub Fails : {Y : Type 0} → ShapeError → Option Y → Type 0

@@ -4,9 +4,9 @@ use Rattle.std.specs.Str.{IsUtf8, is_utf8}
 use Rattle.std.proofs.lemmas.Str.{IsUtf8-from_is_utf8, is_utf8-from_IsUtf8}
 use Rattle.channel.specs.Tokens.{peer_tokens}
 use Rattle.book.specs.declared.calls.Entry.{Entry}
-use Rattle.book.specs.declared.errors.LoadError.{LoadError}
-use Rattle.book.specs.declared.errors.LoadError.TheVariants.{NotJson}
-use Rattle.book.specs.Loaded.{Loads, loaded}
+use Rattle.book_dump.specs.declared.errors.LoadError.{LoadError}
+use Rattle.book_dump.specs.declared.errors.LoadError.TheVariants.{NotJson}
+use Rattle.book_dump.specs.Loaded.{Loads, loaded}
 use Rattle.trace.specs.Loading.{book_in}
 
 pub is_text : (r : Result (List Entry) LoadError) (bytes text : List ℕ) → text ≡ bytes → IsUtf8 bytes → Loads r (loaded peer_tokens text) → Loads r (book_in bytes)

@@ -23,10 +23,10 @@ mod telling;
 use crate::dumps::telling::tell_book;
 use crate::input::{InputError, read_all};
 use crate::replies::{refuse_memory, write_refusal, write_told};
-use crate::writer::Line;
 use book::Book;
-use book::errors::LoadError;
+use book_dump::errors::LoadError;
 use loading::load_dump;
+use page::Page;
 use std::alloc::Global;
 use std::io::{Read, Write};
 use std::mem;
@@ -71,7 +71,7 @@ fn tell_dump(alloc: Global, bytes: &[u8], out: &mut dyn Write) -> u8
 fn tell_loaded(alloc: Global, book: &Book, out: &mut dyn Write) -> u8
     ensures { result ≤ 1 }
 {
-    let mut line = Line::new(alloc);
+    let mut line = Page::new(alloc);
     tell_book(alloc, &mut line, book);
     write_told(out, &mut line, 0)
 }

@@ -2,20 +2,18 @@
 //! what each event of a scenario changes, and what a book has, for programs and for people.
 //!
 //! The modules `scripts`, `witnesses`, `scenarios` and `dumps` do what the words say. Each returns a status of at most 2.
-//! They read their input by `read_all`, and write by a `Line`. This file has only the streams and the arguments.
+//! They read their input by `read_all`, and write by a `Page`. This file has only the streams and the arguments.
 #![tactic(auto)]
 
 mod dumps;
 mod formats;
 mod input;
 mod names;
-mod pieces;
 mod replies;
 mod scenarios;
 mod scripts;
 mod verdict;
 mod witnesses;
-mod writer;
 
 use crate::replies::{refuse_memory, refuse_words};
 use std::alloc::Global;

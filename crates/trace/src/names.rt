@@ -1,7 +1,7 @@
 //! The names of the sides.
 
-use crate::pieces::Piece;
-use crate::pieces::Piece::Text;
+use page::Piece;
+use page::Piece::Text;
 use terms::Side;
 
 /// The name of a side.

@@ -2,8 +2,8 @@
 
 ghost use Rattle.std.specs.Prelude.{◌≡◌, ◌≤◌, ◌⊎◌};
 
-use crate::pieces::Piece::Count;
-use crate::writer::Line;
+use page::Page;
+use page::Piece::Count;
 use std::alloc::Global;
 use std::fmt::Display;
 use std::io::Write;
@@ -39,10 +39,10 @@ pub fn written(out: &mut dyn Write, text: &str, status: u8) -> u8
 }
 
 /// Writes a line, clears it, and returns the status. Returns 1 if the write fails, or if memory ran out before, which it then reports instead.
-pub fn write_told(out: &mut dyn Write, line: &mut Line, status: u8) -> u8
+pub fn write_told(out: &mut dyn Write, line: &mut Page, status: u8) -> u8
     ensures { (result ≡ status) ⊎ (result ≡ 1) }
 {
-    let status = match line.text() {
+    let status = match line.whole() {
         Some(text) => written(out, text, status),
         None => refuse_memory(out),
     };
@@ -59,9 +59,9 @@ pub fn write_refusal<D: Display + Drop>(
 ) -> u8
     ensures { result ≤ 1 }
 {
-    let mut line = Line::new(alloc);
+    let mut line = Page::new(alloc);
     line.push(r#"{"refused":""#);
-    line.push_shown(refusal);
+    line.show(&refusal);
     match number {
         Some(number) => line.write("\",\"number\":%}\n", &[Count(number)]),
         None => line.push("\"}\n"),

@@ -27,14 +27,14 @@ mod playing;
 mod pool;
 
 use crate::input::{InputError, read_all};
-use crate::pieces::Piece::Count;
 use crate::replies::{refuse_memory, write_refusal, write_told};
 use crate::scenarios::coins::Told;
 use crate::scenarios::endings::tell_end;
 use crate::scenarios::openings::tell_opening;
 use crate::scenarios::playing::played;
-use crate::writer::Line;
 use chain::Coins as _;
+use page::Page;
+use page::Piece::Count;
 use scenario::{Event, Scenario, ScenarioError};
 use serde_json::Value;
 use std::alloc::Global;
@@ -47,7 +47,7 @@ use world::errors::WorldError;
 fn tell_event(
     alloc: Global,
     out: &mut dyn Write,
-    line: &mut Line,
+    line: &mut Page,
     world: &mut World,
     told: &mut Told,
     index: usize,
@@ -58,7 +58,7 @@ fn tell_event(
 {
     let before = world.chain().height();
     line.write(r#"{"event":%,"words":"#, &[Count(index as u64)]);
-    line.push_shown(words);
+    line.show(&words);
     match played(world, event) {
         Ok(outcomes) => told.tell_played(alloc, line, world, before, event, outcomes.as_slice()),
         Err(_) => line.fail(),
@@ -70,7 +70,7 @@ fn tell_event(
 fn tell_events(
     alloc: Global,
     out: &mut dyn Write,
-    line: &mut Line,
+    line: &mut Page,
     world: &mut World,
     told: &mut Told,
     events: &[Event],
@@ -117,7 +117,7 @@ fn tell_world(
     ensures { result ≤ 1 }
 {
     let (events, words) = (scenario.events.values(), words_in(value));
-    let mut line = Line::new(alloc);
+    let mut line = Page::new(alloc);
     let mut told = Told::new(alloc);
     tell_events(alloc, out, &mut line, world, &mut told, events, words)
 }

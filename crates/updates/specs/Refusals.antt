@@ -1,5 +1,5 @@
 -- Which updates a channel refuses, in which order, and by which number (BOLT 2).
-use Rattle.std.specs.Prelude.{◌≡◌, ℕ, ◌+◌, Bool, true, false, not, ◌&&◌, nat_lt, nat_le, ◌==◌, List, [], ◌∷◌, length, Option, Some, None, is_none}
+use Rattle.std.specs.Prelude.{◌≡◌, ℕ, ◌+◌, Bool, true, false, not, ◌&&◌, nat_lt, nat_le, ◌==◌, List, [], ◌∷◌, length, Option, Some, None, is_none, Result, MatchResult}
 use Rattle.std.specs.Str.{bytes_eq}
 use Rattle.std.specs.Option.{option_map_or}
 use Rattle.sha2.specs.Sha256.{sha256}
@@ -98,6 +98,14 @@ update_tests terms by sender others (Fee rate) = fee_tests terms by
 abbrev pub covers_nothing : Stages → Stages → Bool
 covers_nothing s o =
     length s.known == length s.with_receiver && length o.past_receiver == length o.with_sender
+
+-- a result is Ok where nothing is refused first, and else an error that is this refusal
+abbrev pub OkUnless : {A E R : Type 0} → Result A E → Option R → (Option R → E → Type 0) → Type 0
+OkUnless result first IsRefusal = MatchResult result (λ _. first ≡ None) (IsRefusal first)
+
+-- just the first refusal
+abbrev pub IsFirst : {R : Type 0} → Option R → R → Type 0
+IsFirst first r = first ≡ Some r
 
 -- out of memory, or the first refusal
 abbrev pub IsRefusal : Option ChannelError → ChannelError → Type 0

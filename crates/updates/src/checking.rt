@@ -1,9 +1,9 @@
 //! Tests of updates, the same for their sender and their receiver.
 
-ghost use Rattle.std.specs.Prelude.{◌≡◌, ◌+◌, ◌*◌, ◌^◌, ◌≤◌, length, Some, None, MatchResult};
+ghost use Rattle.std.specs.Prelude.{◌≡◌, ◌+◌, ◌*◌, ◌^◌, ◌≤◌, length, Some, None};
 ghost use Rattle.updates.specs.Views.{start_of};
 ghost use Rattle.updates.specs.Pending.{total_amount, kept_tests, IsBounded};
-ghost use Rattle.updates.specs.Refusals.{first_refusal, add_tests, fulfil_tests, fail_tests};
+ghost use Rattle.updates.specs.Refusals.{first_refusal, add_tests, fulfil_tests, fail_tests, OkUnless, IsFirst};
 
 use crate::changes::Update;
 use crate::errors::ChannelError;
@@ -22,11 +22,10 @@ fn check_add(
 ) -> Result<(), ChannelError>
     requires sender { IsBounded sender.now }
     requires others { IsBounded others.now }
-    ensures { let first = first_refusal
-        (add_tests terms.now by sender.now.offered (length sender.now.htlcs.items)
-        (start_of by terms.now + others.now.fulfilled)
-        (sender.now.fulfilled + total_amount sender.now.htlcs.items) htlc.now)
-        in MatchResult result (λ _. first ≡ None) (λ r. first ≡ Some r) }
+    ensures { OkUnless result
+        (first_refusal (add_tests terms.now by sender.now.offered (length sender.now.htlcs.items)
+        (start_of by terms.now + others.now.fulfilled) (sender.now.fulfilled + total_amount
+        sender.now.htlcs.items) htlc.now)) IsFirst }
 {
     if htlc.id != sender.offered {
         return Err(ChannelError::WrongId);
@@ -53,8 +52,7 @@ fn check_add(
 
 // Whether there is an HTLC to remove, and its hash is that of the preimage.
 fn check_fulfil(found: Option<Htlc>, preimage: &[u8; 32]) -> Result<(), ChannelError>
-    ensures { let first = first_refusal (fulfil_tests found preimage.now)
-        in MatchResult result (λ _. first ≡ None) (λ r. first ≡ Some r) }
+    ensures { OkUnless result (first_refusal (fulfil_tests found preimage.now)) IsFirst }
 {
     let Some(htlc) = found else {
         return Err(ChannelError::UnknownHtlc);
@@ -78,9 +76,9 @@ pub(crate) fn check_update(
 ) -> Result<(), ChannelError>
     requires sender { IsBounded sender.now }
     requires others { IsBounded others.now }
-    ensures { let first = first_refusal
-        (kept_tests terms.now by sender.now others.now settled known update.now)
-        in MatchResult result (λ _. first ≡ None) (λ r. first ≡ Some r) }
+    ensures { OkUnless result
+        (first_refusal (kept_tests terms.now by sender.now others.now settled known update.now))
+        IsFirst }
 {
     match update {
         Update::Add(htlc) => check_add(terms, by, sender, others, htlc),

@@ -43,7 +43,7 @@ impl Ledger {
     ghost use Rattle.updates.specs.Shares.{IsPartAt, view_in, newest_view, IsSoundIn, IsNewestSound};
     ghost use Rattle.updates.specs.Updates.{offers};
     ghost use Rattle.updates.specs.declared.changes.Update.TheVariants.{Add, Fulfil, Fail, Fee};
-    ghost use Rattle.updates.specs.Refusals.{first_refusal, covers_nothing, IsRefusal};
+    ghost use Rattle.updates.specs.Refusals.{first_refusal, covers_nothing, IsRefusal, OkUnless};
     ghost use Rattle.updates.specs.Stages.{part_of};
     ghost use Rattle.updates.specs.Steady.{Held, own_tests, their_tests, next_htlc, holding_none, holding_made, holding_signed, holding_update, holding_signature, holding_revocation};
 
@@ -77,8 +77,7 @@ impl Ledger {
 
     // Whether this side may make an update.
     fn check_own(&self, update: &Update) -> Result<(), ChannelError>
-        ensures { let first = first_refusal (own_tests self.now update.now)
-            in MatchResult result (λ _. first ≡ None) (IsRefusal first) }
+        ensures { OkUnless result (first_refusal (own_tests self.now update.now)) IsRefusal }
     {
         let settled = self.theirs.settled().count;
         let known = self.own.known().count;
@@ -88,8 +87,7 @@ impl Ledger {
 
     // Whether the peer may make an update.
     fn check_theirs(&self, update: &Update) -> Result<(), ChannelError>
-        ensures { let first = first_refusal (their_tests self.now update.now)
-            in MatchResult result (λ _. first ≡ None) (IsRefusal first) }
+        ensures { OkUnless result (first_refusal (their_tests self.now update.now)) IsRefusal }
     {
         let settled = self.own.settled().count;
         let known = self.theirs.known().count;
@@ -121,9 +119,9 @@ impl Ledger {
     pub fn offer(&mut self, amount: u64, hash: [u8; 32], expiry: u32) -> Result<Htlc, ChannelError>
         ensures htlc { IfOk result (λ h. h ≡ next_htlc self.old.own amount hash expiry) }
         ensures ok { IfOk result (λ h. self.new ≡ holding_made (Add h) self.old) }
-        ensures tested { let first = first_refusal
-            (own_tests self.old (Add (next_htlc self.old.own amount hash expiry)))
-            in MatchResult result (λ _. first ≡ None) (IsRefusal first) }
+        ensures tested { OkUnless result
+            (first_refusal (own_tests self.old (Add (next_htlc self.old.own amount hash expiry))))
+            IsRefusal }
         ensures err { OnErr result (self.new ≡ self.old) }
     {
         let htlc = Htlc {
@@ -147,8 +145,8 @@ impl Ledger {
     /// removed, else WrongPreimage. A refusal leaves the ledger as it was.
     pub fn fulfil(&mut self, id: u64, preimage: [u8; 32]) -> Result<(), ChannelError>
         ensures ok { IfOk result (λ _. self.new ≡ holding_made (Fulfil id preimage) self.old) }
-        ensures tested { let first = first_refusal (own_tests self.old (Fulfil id preimage))
-            in MatchResult result (λ _. first ≡ None) (IsRefusal first) }
+        ensures tested { OkUnless result
+            (first_refusal (own_tests self.old (Fulfil id preimage))) IsRefusal }
         ensures err { OnErr result (self.new ≡ self.old) }
     {
         self.make(Update::Fulfil { id, preimage })
@@ -158,8 +156,7 @@ impl Ledger {
     /// removed. A refusal leaves the ledger as it was.
     pub fn fail(&mut self, id: u64) -> Result<(), ChannelError>
         ensures ok { IfOk result (λ _. self.new ≡ holding_made (Fail id) self.old) }
-        ensures tested { let first = first_refusal (own_tests self.old (Fail id))
-            in MatchResult result (λ _. first ≡ None) (IsRefusal first) }
+        ensures tested { OkUnless result (first_refusal (own_tests self.old (Fail id))) IsRefusal }
         ensures err { OnErr result (self.new ≡ self.old) }
     {
         self.make(Update::Fail { id })
@@ -169,8 +166,7 @@ impl Ledger {
     /// refusal leaves the ledger as it was.
     pub fn set_fee(&mut self, rate: u32) -> Result<(), ChannelError>
         ensures ok { IfOk result (λ _. self.new ≡ holding_made (Fee rate) self.old) }
-        ensures tested { let first = first_refusal (own_tests self.old (Fee rate))
-            in MatchResult result (λ _. first ≡ None) (IsRefusal first) }
+        ensures tested { OkUnless result (first_refusal (own_tests self.old (Fee rate))) IsRefusal }
         ensures err { OnErr result (self.new ≡ self.old) }
     {
         self.make(Update::Fee { rate })
@@ -179,8 +175,8 @@ impl Ledger {
     /// Receives an update of the peer, with the same tests as for an update of one's own. A refusal leaves the ledger as it was.
     pub fn receive_update(&mut self, update: &Update) -> Result<(), ChannelError>
         ensures ok { IfOk result (λ _. self.new ≡ holding_update update.now self.old) }
-        ensures tested { let first = first_refusal (their_tests self.old update.now)
-            in MatchResult result (λ _. first ≡ None) (IsRefusal first) }
+        ensures tested { OkUnless result
+            (first_refusal (their_tests self.old update.now)) IsRefusal }
         ensures err { OnErr result (self.new ≡ self.old) }
     {
         self.check_theirs(update)?;

@@ -11,12 +11,12 @@ use Rattle.terms.specs.Sides.{other}
 use Rattle.keys.specs.Derivation.{point_of}
 use Rattle.claim.specs.Claims.{ClaimParts}
 use Rattle.commit.specs.declared.outputs.HtlcOutput.{HtlcOutput}
-use Rattle.commit.specs.Commitments.{Contents, commitment_of, transaction_of, htlcs_of, second_stage_of}
+use Rattle.commit.specs.Commitments.{Contents, commitment_of, transaction_of, htlcs_of, htlc_tx_of}
 use Rattle.penalty.specs.Claimable.{Claimable, claims_from}
 use Rattle.penalty.specs.Sets.{claimed_by}
 use Rattle.filling.specs.Filled.{AllFit}
 use Rattle.resolve.specs.Due.{owners_due, peers_due}
-use Rattle.publish.specs.Published.{signed_transaction, signed_commitment_of, branch_item, signed_second_stage, signed_htlc_of, signed_htlc_tx_of}
+use Rattle.publish.specs.Published.{signed_transaction, signed_commitment_of, branch_item, signed_htlc_tx_with, signed_htlc_of, signed_htlc_tx_of}
 use Rattle.channel.specs.declared.commitments.CommitmentState.{CommitmentState}
 use Rattle.channel.specs.Agreeing.{FirstOf}
 use Rattle.channel.specs.States.{State}
@@ -26,7 +26,7 @@ use Rattle.book.specs.declared.calls.Call.TheVariants as calls
 use Rattle.book.specs.Books.{ChannelBook}
 use Rattle.book.specs.Calling.{filling_by}
 use Rattle.book.specs.Penalties.{revoked_contents, claimable_in, claimable_at}
-use Rattle.sources.specs.Taken.{IsIn, ChannelRecords, IsDueTo, of_own as due_on_own, of_peers as due_on_peers, of_revoked as due_on_revoked}
+use Rattle.safety.specs.Taken.{IsIn, ChannelRecords, IsDueTo, of_own as due_on_own, of_peers as due_on_peers, of_revoked as due_on_revoked}
 use Rattle.world.specs.Publishing.{found, commitment_in, htlc_tx_in}
 use Rattle.world.specs.Releasing.{IsFillingIn}
 use Rattle.world.specs.Sources.{IsFrom, a_commitment, an_htlc_tx, a_filling, IsDueOf, of_own, of_peers, of_revoked, IsSide}
@@ -140,8 +140,8 @@ unsigned_commitment : (c : Contents) (items : List (List ℕ)) → unsigned_tran
 unfolding transaction_of
 unsigned_commitment c items = refl
 
-unsigned_second : (c : Contents) (h : HtlcOutput) (items : List (List ℕ)) → unsigned_transaction (transaction_with_witness (second_stage_of c h) 0 items) ≡ second_stage_of c h
-unfolding second_stage_of
+unsigned_second : (c : Contents) (h : HtlcOutput) (items : List (List ℕ)) → unsigned_transaction (transaction_with_witness (htlc_tx_of c h) 0 items) ≡ htlc_tx_of c h
+unfolding htlc_tx_of
 unsigned_second c h items = refl
 
 -- whose transaction it is, whatever its witnesses: a recorded commitment, an HTLC transaction of one, or a filling
@@ -149,7 +149,7 @@ pub data IsMade (w : World) (t : Transaction) : Type 0 where
   commits : (c : ℕ) (x y : ChannelBook) → AreBoth w c x y → (s : Side) (k : CommitmentState) → IsIn (recorded x y) s k
       → unsigned_transaction t ≡ transaction_of (contents_of x.state.held.terms k) → IsMade w t
   stages : (c : ℕ) (x y : ChannelBook) → AreBoth w c x y → (s : Side) (k : CommitmentState) → IsIn (recorded x y) s k
-      → (h : HtlcOutput) → Contains (htlcs_of (contents_of x.state.held.terms k)) h → unsigned_transaction t ≡ second_stage_of (contents_of x.state.held.terms k) h → IsMade w t
+      → (h : HtlcOutput) → Contains (htlcs_of (contents_of x.state.held.terms k)) h → unsigned_transaction t ≡ htlc_tx_of (contents_of x.state.held.terms k) h → IsMade w t
   fills : (s : Side) → IsFillingIn (node_of s w).history t → IsMade w t
 
 found_is : (t u : Transaction) → found (Some t) ≡ Ok u → t ≡ u
@@ -176,16 +176,16 @@ htlc_from w c x y b s n j preimages t is = go (slice_get me.mine n) refl is
     me = (end_of s x y).state
 
     made : (k : CommitmentState) → slice_get me.mine n ≡ Some k → (h : HtlcOutput) → slice_get (htlcs_of (contents_of me.held.terms k)) j ≡ Some h → (o : Option (List ℕ))
-        → found (option_map (signed_second_stage (contents_of me.held.terms k) h) o) ≡ Ok t → IsMade w t
+        → found (option_map (signed_htlc_tx_with (contents_of me.held.terms k) h) o) ≡ Ok t → IsMade w t
     made k at h within None is = absurd (not_found t is)
     made k at h within (Some item) is =
         stages c x y b s k (own_in w c x y b s n k at) h
         (subst (λ (v : Terms). Contains (htlcs_of (contents_of v k)) h) (b.terms s) (standing_in (htlcs_of (contents_of me.held.terms k)) j h within))
-        (ap unsigned_transaction (sym (found_is (signed_second_stage (contents_of me.held.terms k) h item) t is)) ∙ unsigned_second (contents_of me.held.terms k) h _
-        ∙ ap (λ (v : Terms). second_stage_of (contents_of v k) h) (b.terms s))
+        (ap unsigned_transaction (sym (found_is (signed_htlc_tx_with (contents_of me.held.terms k) h item) t is)) ∙ unsigned_second (contents_of me.held.terms k) h _
+        ∙ ap (λ (v : Terms). htlc_tx_of (contents_of v k) h) (b.terms s))
 
     of_one : (k : CommitmentState) → slice_get me.mine n ≡ Some k → (o : Option HtlcOutput) → slice_get (htlcs_of (contents_of me.held.terms k)) j ≡ o
-        → found (option_and_then (λ h. option_map (signed_second_stage (contents_of me.held.terms k) h) (branch_item preimages h.direction h.htlc)) o) ≡ Ok t → IsMade w t
+        → found (option_and_then (λ h. option_map (signed_htlc_tx_with (contents_of me.held.terms k) h) (branch_item preimages h.direction h.htlc)) o) ≡ Ok t → IsMade w t
     of_one k at None within is = absurd (not_found t is)
     of_one k at (Some h) within is = made k at h within (branch_item preimages h.direction h.htlc) is
 

@@ -10,7 +10,7 @@ use Rattle.terms.specs.declared.proposals.ProposedTerms.{ProposedTerms}
 use Rattle.terms.specs.Agreement.{HasFields}
 use Rattle.terms.specs.Bases.{IsSeedOf}
 use Rattle.terms.specs.Proposals.{party_of}
-use Rattle.book.specs.Openings.{bases_of, are_seeds}
+use Rattle.book.specs.Seeds.{bases_of, are_seeds}
 use Rattle.scenario.specs.declared.seeds.Seeds.{Seeds}
 use Rattle.world.specs.Opening.{seed_in, AreTermsOf, HaveKeys}
 

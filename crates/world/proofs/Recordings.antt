@@ -22,8 +22,8 @@ use Rattle.channel.specs.declared.limits.TheConstants.{LAST_NUMBER}
 use Rattle.channel.specs.Keeping.{one_if}
 use Rattle.channel.specs.Numbered.{IsNumbered}
 use Rattle.book.specs.Books.{ChannelBook}
-use Rattle.sources.specs.Recorded.{IsOutPoint}
-use Rattle.sources.specs.Taken.{ChannelRecord, IsOwn, IsSound, ChannelRecords, AreSound}
+use Rattle.safety.specs.Recorded.{IsOutPoint}
+use Rattle.safety.specs.Taken.{ChannelRecord, IsOwn, IsSound, ChannelRecords, AreSound}
 use Rattle.world.specs.Agreeing.{first_grants}
 use Rattle.world.specs.Worlds.{World, channel_of}
 use Rattle.world.proofs.Grants.{apart}

@@ -16,7 +16,7 @@ use Rattle.terms.specs.declared.sides.Side.TheVariants.{A, B}
 use Rattle.terms.specs.declared.agreement.Terms.{Terms}
 use Rattle.terms.specs.Sides.{other}
 use Rattle.commit.specs.declared.outputs.HtlcOutput.{HtlcOutput}
-use Rattle.commit.specs.Commitments.{Contents, htlcs_of, second_stage_of}
+use Rattle.commit.specs.Commitments.{Contents, htlcs_of, htlc_tx_of}
 use Rattle.penalty.specs.Claimable.{Claimable, claims_from}
 use Rattle.penalty.specs.Sets.{claimed_by}
 use Rattle.filling.specs.Filled.{AllFit}
@@ -25,16 +25,19 @@ use Rattle.channel.specs.declared.commitments.CommitmentState.{CommitmentState}
 use Rattle.channel.specs.Tokens.{contents_of}
 use Rattle.book.specs.Books.{ChannelBook}
 use Rattle.book.specs.Penalties.{revoked_contents, claimable_in}
-use Rattle.sources.specs.Places.{IsOutPointOf}
-use Rattle.sources.specs.Strings.{IsHashedFor, IsHashedOf, StringsCollide}
-use Rattle.sources.specs.Takers.{IsHtlcTransactionAt, IsLateOn, Passes, IsHashedForGrant}
-use Rattle.sources.specs.Taken.{ChannelRecord, IsIn, IsOwn, ChannelRecords, IsFilledBy, Fillings, AreFilled, IsFrom as IsFromRecords, from_htlc, from_filling}
-use Rattle.sources.specs.Taken.{IsHashedIn as IsRecordedString, of_commitment as string_of_commitment, of_seed as string_of_seed, of_grant as string_of_grant}
-use Rattle.sources.specs.Taken.{IsTaker as TakesRecorded, by_peers_filling, by_htlc, by_own_filling, by_strings}
+use Rattle.safety.specs.Places.{IsOutPointOf}
+use Rattle.safety.specs.Strings.{IsHashedForCommitment, IsHashedForSeed, StringsCollide}
+use Rattle.safety.specs.Ways.{by_peer, by_htlc_transaction, by_owner, by_collision}
+use Rattle.safety.specs.Standing.{PassesTest}
+use Rattle.safety.specs.Spending.{HasWaited}
+use Rattle.safety.specs.Takers.{IsHtlcTransaction, IsHashedForGrant}
+use Rattle.safety.specs.Taken.{ChannelRecord, IsIn, IsOwn, ChannelRecords, IsFilledBy, Fillings, AreFilled, IsFrom as IsFromRecords, from_htlc, from_filling}
+use Rattle.safety.specs.Taken.{IsHashedForChannels as IsRecordedString, of_commitment as string_of_commitment, of_seed as string_of_seed, of_grant as string_of_grant}
+use Rattle.safety.specs.Taken.{IsTaker as TakesRecorded}
 use Rattle.world.specs.Worlds.{World, node_of}
 use Rattle.world.specs.Releasing.{IsFillingIn}
 use Rattle.world.specs.Sources.{IsFrom, transactions_in, IsDueOf, IsDueIn}
-use Rattle.world.specs.Taken.{IsRevokedTo, IsHashedIn, of_commitment, of_seed, of_grant, IsTaker, by_the_side, by_the_htlc_transaction, by_the_owner, by_collision, OutputsAreTaken}
+use Rattle.world.specs.Taken.{IsRevokedTo, IsHashedIn, of_commitment, of_seed, of_grant, IsTaker, OutputsAreTaken}
 use Rattle.world.specs.Theorem.{IsWorld}
 use Rattle.world.proofs.Recorded.{none_in, later_in, first_in, cases_in}
 use Rattle.world.proofs.TwoEnds.{end_of, AreBoth, Laws, found_at}
@@ -65,16 +68,16 @@ Collision w = StringsCollide (IsHashedIn w) (IsHashedIn w)
 
 -- what is hashed for a recorded commitment
 for_commitment : (w : World) (c : ℕ) (x y : ChannelBook) → AreBoth w c x y → (side : Side) (k : CommitmentState) → IsIn (recorded x y) side k → (bytes : List ℕ)
-    → IsHashedFor x.state.held.terms k bytes → IsHashedIn w bytes
+    → IsHashedForCommitment x.state.held.terms k bytes → IsHashedIn w bytes
 for_commitment w c x y b side k i bytes h =
-    of_commitment (other side) c i.at (end_of (other side) x y) k (b.there (other side)) i.there (subst (λ (v : Terms). IsHashedFor v k bytes) (sym (b.terms (other side))) h)
+    of_commitment (other side) c i.at (end_of (other side) x y) k (b.there (other side)) i.there (subst (λ (v : Terms). IsHashedForCommitment v k bytes) (sym (b.terms (other side))) h)
 
 hashed : (w : World) (c : ℕ) (x y : ChannelBook) → AreBoth w c x y → (bytes : List ℕ) → IsRecordedString (only c (recorded x y)) bytes → IsHashedIn w bytes
 hashed w c x y b bytes (string_of_commitment d r e side k i h) =
     let same = (only_is c d (recorded x y) r e).1 in
-    for_commitment w c x y b side k (subst (λ (q : ChannelRecord). IsIn q side k) (sym same) i) bytes (subst (λ (q : ChannelRecord). IsHashedFor q.terms k bytes) (sym same) h)
+    for_commitment w c x y b side k (subst (λ (q : ChannelRecord). IsIn q side k) (sym same) i) bytes (subst (λ (q : ChannelRecord). IsHashedForCommitment q.terms k bytes) (sym same) h)
 hashed w c x y b bytes (string_of_seed d r e side h) =
-    of_seed side c (end_of side x y) (b.there side) (subst (λ (q : ChannelRecord). IsHashedOf (q.seed side) bytes) (sym (only_is c d (recorded x y) r e).1) h)
+    of_seed side c (end_of side x y) (b.there side) (subst (λ (q : ChannelRecord). IsHashedForSeed (q.seed side) bytes) (sym (only_is c d (recorded x y) r e).1) h)
 hashed w c x y b bytes (string_of_grant d r e h) = of_grant c b.granted.0 (subst (λ n. IsHashedForGrant n bytes) (only_is c d (recorded x y) r e).0 h)
 
 -- ---- outpoints of two channels
@@ -163,12 +166,12 @@ AreTheirs w fillings = (v : Side) (t : Transaction) → Contains (fillings v) t 
 
 in_words : (w : World) (s : Side) (c : Contents) (o : Claimable) → (a : IsAsked w s c o) → (fillings : Fillings) → AreTheirs w fillings → (height : ℕ) (t : Transaction) (coin : Coin)
     → coin_at w.chain.blocks o.place.outpoint ≡ Some coin → TakesRecorded (only a.channel (recorded a.x a.y)) fillings (recorded a.x a.y) (other s) a.k o coin.height height t → IsTaker w s c o height t
-in_words w s c o a fillings theirs height t coin there (by_peers_filling h) =
-    by_the_side (subst (λ (v : Side). IsFillingIn (node_of v w).history t) (twice s) (theirs (other (other s)) t h))
-in_words w s c o a fillings theirs height t coin there (by_htlc h) = by_the_htlc_transaction (subst (λ (d : Contents). IsHtlcTransactionAt d o.place.outpoint height t) (sym a.same) h)
-in_words w s c o a fillings theirs height t coin there (by_own_filling h l) =
-    by_the_owner (theirs (other s) t h) (record { coin = coin; there = there; late = subst (λ (d : Contents). IsLateOn d o coin.height height) (sym a.same) l })
-in_words w s c o a fillings theirs height t coin there (by_strings z) =
+in_words w s c o a fillings theirs height t coin there (by_peer h) =
+    by_peer (subst (λ (v : Side). IsFillingIn (node_of v w).history t) (twice s) (theirs (other (other s)) t h))
+in_words w s c o a fillings theirs height t coin there (by_htlc_transaction h) = by_htlc_transaction (subst (λ (d : Contents). IsHtlcTransaction d o.place.outpoint height t) (sym a.same) h)
+in_words w s c o a fillings theirs height t coin there (by_owner (h, l)) =
+    by_owner (theirs (other s) t h, record { coin = coin; there = there; waited = subst (λ (d : Contents). HasWaited d o coin.height height) (sym a.same) l })
+in_words w s c o a fillings theirs height t coin there (by_collision z) =
     let words : (bytes : List ℕ) → IsRecordedString (only a.channel (recorded a.x a.y)) bytes → IsHashedIn w bytes = hashed w a.channel a.x a.y a.both in
     by_collision (record { first = z.first; second = z.second; of_first = words z.first z.of_first; of_second = words z.second z.of_second; collide = z.collide })
 
@@ -176,7 +179,7 @@ in_words w s c o a fillings theirs height t coin there (by_strings z) =
 record IsSpent (w : World) (o : Claimable) (height : ℕ) (t : Transaction) (input : TxIn) : Type 0 where
   coin : Coin
   there : coin_at w.chain.blocks o.place.outpoint ≡ Some coin
-  passes : Passes height t input (marked false coin)
+  passes : PassesTest height t input (marked false coin)
   within : Contains t.inputs input
   names : input.outpoint ≡ o.place.outpoint
 
@@ -195,7 +198,7 @@ none_filled v = []
 
 stage_takes : Laws → (w : World) (s : Side) (c : Contents) (o : Claimable) → (a : IsAsked w s c o) → (height : ℕ) (t : Transaction) (input : TxIn) → IsSpent w o height t input
     → (d : ℕ) (x y : ChannelBook) → AreBoth w d x y → (way : Side) (m : CommitmentState) → IsIn (recorded x y) way m → (h : HtlcOutput) → Contains (htlcs_of (contents_of x.state.held.terms m)) h
-    → unsigned_transaction t ≡ second_stage_of (contents_of x.state.held.terms m) h → IsTaker w s c o height t
+    → unsigned_transaction t ≡ htlc_tx_of (contents_of x.state.held.terms m) h → IsTaker w s c o height t
 stage_takes laws w s c o a height t input p d x y b way m j h l e = go (eqb d a.channel) refl
   where
     go : (z : Bool) → eqb d a.channel ≡ z → IsTaker w s c o height t
@@ -294,7 +297,7 @@ takes laws w is fits s c o a height t input p (commits d x y b way m j e) =
     by_collision (a_grant laws w a.channel d x y b o.place.outpoint (spot_at laws w s c o a) (sym p.names ∙ laws.fundings x.state.held.terms m t input e p.within ∙ b.granted.1))
 takes laws w is fits s c o a height t input p (stages d x y b way m j h l e) = stage_takes laws w s c o a height t input p d x y b way m j h l e
 takes laws w is fits s c o a height t input p (fills way f) =
-    ⊎_elim {C = IsTaker w s c o height t} (λ (e : way ≡ s). by_the_side (subst (λ (v : Side). IsFillingIn (node_of v w).history t) e f))
+    ⊎_elim {C = IsTaker w s c o height t} (λ (e : way ≡ s). by_peer (subst (λ (v : Side). IsFillingIn (node_of v w).history t) e f))
     (λ (e : way ≡ other s). owner_takes laws w is s c o a height t input p (release_of w is fits (other s) t (subst (λ (v : Side). IsFillingIn (node_of v w).history t) e f)))
     (same_or_other s way)
 

@@ -11,10 +11,10 @@ use Rattle.terms.specs.Sides.{other}
 use Rattle.chain.specs.Blocks.{grant_outpoint}
 use Rattle.scenario.specs.declared.limits.TheConstants.{MAX_CHANNELS}
 use Rattle.safety.specs.Standing.{HavePassed}
-use Rattle.sources.specs.Waiting.{EachInputFits}
-use Rattle.sources.specs.Places.{OwnersPlaces, PeersPlaces, RevokedPlaces}
-use Rattle.sources.specs.Takers.{CommitmentsSpendFundings, HtlcTransactionsSpendOutputs, ChannelsAreApart, GrantsAreApart}
-use Rattle.sources.specs.Taken.{NumberedAreOwn, GrantsAreOutPoints, Taken}
+use Rattle.safety.specs.Waiting.{EachInputFits}
+use Rattle.safety.specs.Places.{OwnersPlaces, PeersPlaces, RevokedPlaces}
+use Rattle.safety.specs.Takers.{CommitmentsSpendFundings, HtlcTransactionsSpendOutputs, ChannelsAreApart, GrantsAreApart}
+use Rattle.safety.specs.Taken.{NumberedAreOwn, GrantsAreOutPoints, Taken}
 use Rattle.channel.specs.declared.messages.Message.{Message}
 use Rattle.channel.specs.declared.messages.Message.TheVariants.{RevokeAndAck}
 use Rattle.channel.specs.Tokens.{peer_tokens}

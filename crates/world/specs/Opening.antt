@@ -25,7 +25,7 @@ use Rattle.book.specs.declared.calls.Opening.{Opening}
 use Rattle.terms.specs.Bases.{IsSeedOf}
 use Rattle.book.specs.Calls.{IsOpenedBy}
 use Rattle.terms.specs.Proposals.{party_of}
-use Rattle.book.specs.Openings.{bases_of}
+use Rattle.book.specs.Seeds.{bases_of}
 use Rattle.scenario.specs.declared.seeds.Seeds.{Seeds}
 use Rattle.scenario.specs.Seeds.{seed_of}
 use Rattle.world.specs.declared.openings.sides.Both.{Both}

@@ -10,8 +10,10 @@ use Rattle.penalty.specs.Claimable.{Claimable}
 use Rattle.channel.specs.declared.commitments.CommitmentState.{CommitmentState}
 use Rattle.scenario.specs.declared.limits.TheConstants.{MAX_CHANNELS}
 use Rattle.safety.specs.Standing.{StandsAt}
-use Rattle.sources.specs.Strings.{IsHashedFor, IsHashedOf, StringsCollide}
-use Rattle.sources.specs.Takers.{IsHtlcTransactionAt, IsLateOn, IsHashedForGrant}
+use Rattle.safety.specs.Strings.{IsHashedForCommitment, IsHashedForSeed, StringsCollide}
+use Rattle.safety.specs.Ways.{TakenBy}
+use Rattle.safety.specs.Spending.{HasWaited}
+use Rattle.safety.specs.Takers.{IsHtlcTransaction, IsHashedForGrant}
 use Rattle.book.specs.Books.{ChannelBook}
 use Rattle.book.specs.Penalties.{revoked_contents, claimable_in}
 use Rattle.world.specs.Worlds.{World, node_of, channel_of}
@@ -33,30 +35,26 @@ pub record IsRevokedTo (w : World) (s : Side) (c : Contents) : Type 0 where
   pub is : c ≡ revoked_contents ch.state commitment secret
 
 -- the output has the form of to_local, and the block is at least the commitment's delay above the output's. With a delay of 0 nobody waits
-pub record IsLate (blocks : List Block) (c : Contents) (o : Claimable) (height : ℕ) : Type 0 where
+pub record HasWaitedOn (blocks : List Block) (c : Contents) (o : Claimable) (height : ℕ) : Type 0 where
   pub coin : Coin
   pub there : coin_at blocks o.place.outpoint ≡ Some coin
-  pub late : IsLateOn c o coin.height height
+  pub waited : HasWaited c o coin.height height
 
 -- what is hashed for commitments that a side signed, for the seeds, and for the grants that fund channels
 pub data IsHashedIn (w : World) (bytes : List ℕ) : Type 0 where
   of_commitment : (s : Side) (c n : ℕ) (ch : ChannelBook) (k : CommitmentState)
       → channel_of (node_of s w) c ≡ Some ch → slice_get ch.state.signed n ≡ Some k
-      → IsHashedFor ch.state.held.terms k bytes → IsHashedIn w bytes
+      → IsHashedForCommitment ch.state.held.terms k bytes → IsHashedIn w bytes
   of_seed : (s : Side) (c : ℕ) (ch : ChannelBook) → channel_of (node_of s w) c ≡ Some ch
-      → IsHashedOf ch.state.seed bytes → IsHashedIn w bytes
+      → IsHashedForSeed ch.state.seed bytes → IsHashedIn w bytes
   of_grant : (c : ℕ) → c < MAX_CHANNELS → IsHashedForGrant c bytes → IsHashedIn w bytes
 
 -- A transaction in a block of a height takes an output that the side can claim. It is a filling that the side released. Or it is the HTLC transaction of the HTLC whose output this
 -- is. Or it is a filling that the owner of the commitment released, after the delay, and the output has the form of to_local. Or two of these strings collide
-pub data IsTaker (w : World) (s : Side) (c : Contents) (o : Claimable) (height : ℕ)
-    (t : Transaction) : Type 0 where
-  by_the_side : IsFillingIn (node_of s w).history t → IsTaker w s c o height t
-  by_the_htlc_transaction : IsHtlcTransactionAt c o.place.outpoint height t
-      → IsTaker w s c o height t
-  by_the_owner : IsFillingIn (node_of (other s) w).history t → IsLate w.chain.blocks c o height
-      → IsTaker w s c o height t
-  by_collision : StringsCollide (IsHashedIn w) (IsHashedIn w) → IsTaker w s c o height t
+abbrev pub IsTaker : World → Side → Contents → Claimable → (height : ℕ) → Transaction → Type 0
+IsTaker w s c o height t =
+    TakenBy (IsFillingIn (node_of s w).history t) (IsHtlcTransaction c o.place.outpoint height t)
+    (IsFillingIn (node_of (other s) w).history t × HasWaitedOn w.chain.blocks c o height) (StringsCollide (IsHashedIn w) (IsHashedIn w))
 
 -- Each input on the chain that names an output which a revoked commitment, or an HTLC transaction of it, lets a side claim stands in such a transaction
 abbrev pub OutputsAreTaken : World → Type 0

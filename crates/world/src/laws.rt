@@ -11,9 +11,9 @@ use book::laws::{
 };
 use channel::laws::{peers_agree, sides_are_sound};
 use claim::laws::accepted_claims_spend;
-use safety::laws::{inputs_have_passed, nothing_escapes};
-use sources::laws::{
-    delayed_claims_wait, due_places, taken, what_commitments_spend, what_is_recorded, who_takes,
+use safety::laws::{
+    delayed_claims_wait, due_places, inputs_have_passed, nothing_escapes, taken,
+    what_commitments_spend, what_is_recorded, who_takes,
 };
 
 /// The first half of the Enforcement theorem, at any moment of any chain. An input that fits an accepted claim passes the chain's test and runs clean. The premises: the output that

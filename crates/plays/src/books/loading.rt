@@ -5,7 +5,8 @@ use crate::books::damages::{
     without_keep,
 };
 use book::Book;
-use book::errors::LoadError;
+use book_dump::Dump;
+use book_dump::errors::LoadError;
 use page::Page;
 use std::alloc::Global;
 

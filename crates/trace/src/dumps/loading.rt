@@ -1,10 +1,11 @@
 // Loads a dump.
 
-ghost use Rattle.book.specs.Loaded.{Loads};
+ghost use Rattle.book_dump.specs.Loaded.{Loads};
 ghost use Rattle.trace.specs.Loading.{book_in};
 
 use book::Book;
-use book::errors::LoadError;
+use book_dump::Dump;
+use book_dump::errors::LoadError;
 use std::alloc::Global;
 
 /// The book of a dump. Refused as `NotJson` where the bytes are not UTF-8 text, and else as [`Book::load`] refuses the text.

@@ -3,17 +3,16 @@
 use crate::dumps::claims::{Alone, Claimable, Close, OutputName, Way, claims_of, hashes_of};
 use crate::dumps::standing::{Source, closed_with, commitment, htlcs, is_new, stands};
 use crate::names::side_name;
-use crate::pieces::Piece;
-use crate::pieces::Piece::{Count, Hash, Text};
-use crate::writer::Line;
 use book::Book;
 use channel::{Channel, CommitmentState};
 use commit::{Amounts, commitment_amounts};
+use page::Piece::{Count, Hash, Text};
+use page::{Page, Piece};
 use std::alloc::Global;
 use terms::{Htlc, Side};
 
 // Writes a commitment of a channel as its side sees it, if there is one. The text begins the member.
-fn tell_source(line: &mut Line, channel: &Channel, before: &'static str, source: Source) {
+fn tell_source(line: &mut Page, channel: &Channel, before: &'static str, source: Source) {
     let side = channel.side();
     line.push(before);
     match commitment(channel, source) {
@@ -32,7 +31,7 @@ fn tell_source(line: &mut Line, channel: &Channel, before: &'static str, source:
 
 // Writes an HTLC, and in which commitments it stands.
 fn tell_htlc(
-    line: &mut Line,
+    line: &mut Page,
     channel: &Channel,
     direction: &'static str,
     offerer: Side,
@@ -60,7 +59,7 @@ fn tell_htlc(
 
 // Writes the HTLCs of a commitment that a side offered, and that no commitment before it has.
 fn tell_htlcs(
-    line: &mut Line,
+    line: &mut Page,
     channel: &Channel,
     direction: &'static str,
     offerer: Side,
@@ -74,14 +73,14 @@ fn tell_htlcs(
 }
 
 // Writes the HTLCs that a side offered, each once.
-fn tell_offered(line: &mut Line, channel: &Channel, direction: &'static str, offerer: Side) {
+fn tell_offered(line: &mut Page, channel: &Channel, direction: &'static str, offerer: Side) {
     tell_htlcs(line, channel, direction, offerer, Source::Ours);
     tell_htlcs(line, channel, direction, offerer, Source::Theirs);
     tell_htlcs(line, channel, direction, offerer, Source::Next);
 }
 
 // Writes what can be claimed.
-fn tell_claim(line: &mut Line, claim: &Claimable) {
+fn tell_claim(line: &mut Page, claim: &Claimable) {
     // its name, and the id of its HTLC
     let (output, id) = match claim.output {
         OutputName::ToLocal => ("to_local", None),
@@ -120,7 +119,7 @@ fn tell_claim(line: &mut Line, claim: &Claimable) {
 // Writes what this side can claim of these amounts.
 fn tell_amounts(
     alloc: Global,
-    line: &mut Line,
+    line: &mut Page,
     close: Close,
     hashes: &[[u8; 32]],
     amounts: &Amounts,
@@ -138,7 +137,7 @@ fn tell_amounts(
 // Writes a commitment of the peer that may close the channel, and what this side can claim of it.
 fn tell_closing(
     alloc: Global,
-    line: &mut Line,
+    line: &mut Page,
     channel: &Channel,
     close: Close,
     hashes: &[[u8; 32]],
@@ -158,7 +157,7 @@ fn tell_closing(
 }
 
 // Writes the commitments of the peer that are not revoked. Preimages of these hashes are known.
-fn tell_unrevoked(alloc: Global, line: &mut Line, channel: &Channel, hashes: &[[u8; 32]]) {
+fn tell_unrevoked(alloc: Global, line: &mut Page, channel: &Channel, hashes: &[[u8; 32]]) {
     let (close, none) = (Close::Newest, Text("null"));
     if let Some(state) = commitment(channel, Source::Theirs) {
         tell_closing(alloc, line, channel, close, hashes, state, "theirs", none);
@@ -169,7 +168,7 @@ fn tell_unrevoked(alloc: Global, line: &mut Line, channel: &Channel, hashes: &[[
 }
 
 // Writes the revoked commitments of the peer, and whether their penalties are kept.
-fn tell_revoked(alloc: Global, line: &mut Line, book: &Book, index: u64, channel: &Channel) {
+fn tell_revoked(alloc: Global, line: &mut Page, book: &Book, index: u64, channel: &Channel) {
     let owner = channel.side().other();
     let close = Close::Revoked(channel.terms().party(owner).delay);
     for number in 0..channel.peer_number() {
@@ -184,7 +183,7 @@ fn tell_revoked(alloc: Global, line: &mut Line, book: &Book, index: u64, channel
 }
 
 // Writes what the sides of a channel agreed on, and with which commitment this side closed it, if it did.
-fn tell_terms(line: &mut Line, book: &Book, index: u64, channel: &Channel) {
+fn tell_terms(line: &mut Page, book: &Book, index: u64, channel: &Channel) {
     let (terms, side) = (channel.terms(), channel.side());
     let txid = terms.funding.txid;
     line.write(
@@ -205,7 +204,7 @@ fn tell_terms(line: &mut Line, book: &Book, index: u64, channel: &Channel) {
 }
 
 // Writes the line of a channel: its terms, the commitments that may be broadcast without a penalty, the HTLCs in them, and the closings.
-fn tell_channel(alloc: Global, line: &mut Line, book: &Book, index: u64, channel: &Channel) {
+fn tell_channel(alloc: Global, line: &mut Page, book: &Book, index: u64, channel: &Channel) {
     let side = channel.side();
     tell_terms(line, book, index, channel);
     tell_source(line, channel, r#","ours":"#, Source::Ours);
@@ -224,7 +223,7 @@ fn tell_channel(alloc: Global, line: &mut Line, book: &Book, index: u64, channel
 }
 
 /// Writes the lines of a book: one for each of its channels, and one for the book.
-pub fn tell_book(alloc: Global, line: &mut Line, book: &Book) {
+pub fn tell_book(alloc: Global, line: &mut Page, book: &Book) {
     let channels = book.channel_count();
     for index in 0..channels {
         if let Some(channel) = book.channel(index) {

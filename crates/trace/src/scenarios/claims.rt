@@ -1,10 +1,10 @@
 //! The claims of a side.
 
 use crate::names::side_name;
-use crate::pieces::Piece::{Count, Hash, Text};
 use crate::scenarios::coins::Told;
-use crate::writer::Line;
 use claim::Shell;
+use page::Page;
+use page::Piece::{Count, Hash, Text};
 use side::DueClaim;
 use sighash::programs::is_key_hash_program;
 use terms::Side;
@@ -30,7 +30,7 @@ fn way(due: &DueClaim) -> &'static str {
 }
 
 // Writes a claim of a side. It is due in the first block that can take it, if the claimed output is on the chain.
-fn tell_claim(line: &mut Line, told: &Told, side: Side, due: &DueClaim) {
+fn tell_claim(line: &mut Page, told: &Told, side: Side, due: &DueClaim) {
     let place = due.claim.place();
     let txid = place.outpoint.txid;
     let height = match told.coin(&place.outpoint) {
@@ -58,7 +58,7 @@ fn tell_claim(line: &mut Line, told: &Told, side: Side, due: &DueClaim) {
 }
 
 /// Writes the claims that a look gave.
-pub fn tell_claims(line: &mut Line, told: &Told, world: &World, side: Side, count: u64) {
+pub fn tell_claims(line: &mut Page, told: &Told, world: &World, side: Side, count: u64) {
     let jobs = world.jobs(side);
     let before = (jobs.len() as u64).saturating_sub(count);
     line.push(r#","claims":["#);
@@ -71,7 +71,7 @@ pub fn tell_claims(line: &mut Line, told: &Told, world: &World, side: Side, coun
 }
 
 /// Writes how many jobs a side has, and how many claims it took and did not release yet.
-pub fn tell_jobs(line: &mut Line, world: &World, side: Side) {
+pub fn tell_jobs(line: &mut Page, world: &World, side: Side) {
     line.write(
         r#","jobs":{"side":"%","jobs":%,"taken":%}"#,
         &[

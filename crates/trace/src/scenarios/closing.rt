@@ -1,14 +1,13 @@
 //! Commitments that close a channel, when a block takes them.
 
 use crate::names::side_name;
-use crate::pieces::Piece;
-use crate::pieces::Piece::Count;
 use crate::scenarios::coins::{Coin, Kind, Told};
 use crate::scenarios::outputs::tell_output;
-use crate::writer::Line;
 use chain::Confirmed;
 use channel::CommitmentState;
 use commit::{Commitment, CommitmentOutput, Direction, OutputKind, build};
+use page::Piece::Count;
+use page::{Page, Piece};
 use std::alloc::Global;
 use terms::{Side, Terms, number_of};
 use world::World;
@@ -41,7 +40,7 @@ fn output_coin(to_local: &Coin, output: &CommitmentOutput) -> Coin {
 // with an output has the index `k`.
 fn tell_closing(
     told: &mut Told,
-    line: &mut Line,
+    line: &mut Page,
     number: u64,
     to_local: &Coin,
     commitment: &Commitment,
@@ -81,7 +80,7 @@ fn tell_if_of(
     alloc: Global,
     world: &World,
     told: &mut Told,
-    line: &mut Line,
+    line: &mut Page,
     height: u64,
     channel: u64,
     holder: Side,
@@ -117,7 +116,7 @@ fn tell_if_of(
 fn tell_if_built(
     alloc: Global,
     told: &mut Told,
-    line: &mut Line,
+    line: &mut Page,
     to_local: &Coin,
     terms: &Terms,
     state: &CommitmentState,
@@ -147,7 +146,7 @@ pub fn tell_commitment(
     alloc: Global,
     world: &World,
     told: &mut Told,
-    line: &mut Line,
+    line: &mut Page,
     height: u64,
     channel: u64,
     confirmed: &Confirmed,

@@ -1,8 +1,8 @@
 //! What was written so far, as far as later lines depend on it: the outputs on the chain and the pool, and how to undo the changes of a block that is
 //! disconnected.
 
-use crate::pieces::Piece::{Count, Hash};
-use crate::writer::Line;
+use page::Page;
+use page::Piece::{Count, Hash};
 use std::alloc::Global;
 use std::collections::BTreeMap;
 use terms::Side;
@@ -106,28 +106,28 @@ impl Told {
     }
 
     /// Records a change. A transaction in a block comes after the changes that it made.
-    pub fn note(&mut self, line: &mut Line, change: Change) {
+    pub fn note(&mut self, line: &mut Page, change: Change) {
         if self.changes.push(change).is_err() {
             line.fail();
         }
     }
 
     /// Adds an output that no reorganisation takes off.
-    pub fn begin(&mut self, line: &mut Line, outpoint: &OutPoint, coin: Coin) {
+    pub fn begin(&mut self, line: &mut Page, outpoint: &OutPoint, coin: Coin) {
         if self.coins.insert(*outpoint, coin).is_err() {
             line.fail();
         }
     }
 
     /// Adds an output.
-    pub fn come(&mut self, line: &mut Line, outpoint: &OutPoint, coin: Coin) {
+    pub fn come(&mut self, line: &mut Page, outpoint: &OutPoint, coin: Coin) {
         self.count(&coin, true);
         self.begin(line, outpoint, coin);
         self.note(line, Change::Came(*outpoint));
     }
 
     /// Spends an output, and returns its value in satoshis.
-    pub fn go(&mut self, line: &mut Line, outpoint: &OutPoint) -> u64 {
+    pub fn go(&mut self, line: &mut Page, outpoint: &OutPoint) -> u64 {
         self.note(line, Change::Went(*outpoint));
         match self.coin(outpoint) {
             Some(coin) => {
@@ -140,7 +140,7 @@ impl Told {
 
     /// Disconnects the blocks above a height, and writes
     /// the ids of their transactions, the last first.
-    pub fn back_to(&mut self, line: &mut Line, height: u64) {
+    pub fn back_to(&mut self, line: &mut Page, height: u64) {
         for _ in 0..self.changes.len() {
             if let Some(Change::Mined { height: at, .. }) = self.changes.last() {
                 if *at <= height {
@@ -165,7 +165,7 @@ impl Told {
     }
 
     /// Writes the value that is each side's alone, if it changed since it was written last.
-    pub fn tell_alone(&mut self, line: &mut Line) {
+    pub fn tell_alone(&mut self, line: &mut Page) {
         let (a, b) = (self.of_a, self.of_b);
         if a != self.told_a || b != self.told_b {
             line.write(r#","onchain":{"A":%,"B":%}"#, &[Count(a), Count(b)]);

@@ -1,13 +1,13 @@
 //! What changes with a side's newest commitment.
 
 use crate::names::side_name;
-use crate::pieces::Piece::Count;
-use crate::writer::Line;
+use page::Page;
+use page::Piece::Count;
 use terms::{Htlc, Side};
 use world::World;
 
 // Writes those of a side's HTLCs that are not among others of it.
-fn tell_without(line: &mut Line, offerer: Side, htlcs: &[Htlc], others: &[Htlc]) {
+fn tell_without(line: &mut Page, offerer: Side, htlcs: &[Htlc], others: &[Htlc]) {
     for htlc in htlcs {
         let mut is_among = false;
         for other in others {
@@ -25,7 +25,7 @@ fn tell_without(line: &mut Line, offerer: Side, htlcs: &[Htlc], others: &[Htlc])
 }
 
 /// Writes a side's new newest commitment in a channel, and what changed from the one before.
-pub fn tell_held(line: &mut Line, world: &World, side: Side, channel: u64) {
+pub fn tell_held(line: &mut Page, world: &World, side: Side, channel: u64) {
     let Some(own) = world.book(side).channel(channel) else {
         return;
     };
@@ -58,7 +58,7 @@ pub fn tell_held(line: &mut Line, world: &World, side: Side, channel: u64) {
 }
 
 /// Writes the commitment with which a side closed a channel: its newest one.
-pub fn tell_closed(line: &mut Line, world: &World, side: Side, channel: u64) {
+pub fn tell_closed(line: &mut Page, world: &World, side: Side, channel: u64) {
     if let Some(own) = world.book(side).channel(channel) {
         line.write(
             r#","closed":{"channel":%,"owner":"%","number":%}"#,

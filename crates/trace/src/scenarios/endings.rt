@@ -1,15 +1,15 @@
 //! The line that ends a trace.
 
-use crate::pieces::Piece::{Count, Sum};
 use crate::scenarios::coins::Told;
-use crate::writer::Line;
 use book::Book;
 use chain::{Coins as _, Index};
+use page::Page;
+use page::Piece::{Count, Sum};
 use terms::Side;
 use world::World;
 
 // Writes the chain's height, its unspent outputs and its fees, and begins the penalties that are kept.
-fn tell_chain(line: &mut Line, chain: &Index) {
+fn tell_chain(line: &mut Page, chain: &Index) {
     let Ok(unspent) = chain.unspent() else {
         line.fail();
         return;
@@ -30,7 +30,7 @@ fn tell_chain(line: &mut Line, chain: &Index) {
 }
 
 // Writes the revoked commitments whose penalties a book keeps: of each its channel and its number.
-fn tell_kept(line: &mut Line, book: &Book) {
+fn tell_kept(line: &mut Page, book: &Book) {
     for channel in 0..book.channel_count() {
         for number in 0..u64::MAX {
             match book.keeps(channel, number) {
@@ -44,7 +44,7 @@ fn tell_kept(line: &mut Line, book: &Book) {
 
 /// Writes the end: the chain, the penalties that each side keeps, the lengths of their histories, and the value that is
 /// each side's alone.
-pub fn tell_end(line: &mut Line, told: &Told, world: &World) {
+pub fn tell_end(line: &mut Page, told: &Told, world: &World) {
     let (a, b) = (world.book(Side::A), world.book(Side::B));
     tell_chain(line, world.chain());
     tell_kept(line, a);

@@ -1,11 +1,11 @@
 //! Messages between the sides, and their effects.
 
 use crate::names::side_name;
-use crate::pieces::Piece::{Count, Hash, Text};
 use crate::scenarios::commitments::tell_held;
-use crate::writer::Line;
 use book::{Call, Step};
 use channel::Message;
+use page::Page;
+use page::Piece::{Count, Hash, Text};
 use terms::Side;
 use updates::Update;
 use world::World;
@@ -17,7 +17,7 @@ const DELIVERED: &str = r#","delivered":{"to":"%","channel":%,"message":"%","wai
 
 // Writes a message to a side, by its template.
 fn tell_message(
-    line: &mut Line,
+    line: &mut Page,
     world: &World,
     template: &'static str,
     to: Side,
@@ -35,7 +35,7 @@ fn tell_message(
 }
 
 // Writes the next stage of the HTLC in an update on its way to a side, if it has one.
-fn tell_htlc(line: &mut Line, to: Side, channel: u64, stage: &'static str, update: &Update) {
+fn tell_htlc(line: &mut Page, to: Side, channel: u64, stage: &'static str, update: &Update) {
     let (channel, stage) = (Count(channel), Text(stage));
     match update {
         Update::Add(htlc) => {
@@ -67,7 +67,7 @@ fn tell_htlc(line: &mut Line, to: Side, channel: u64, stage: &'static str, updat
 
 // Writes an update that is on its way to a side, or that it received, and the next stage of the HTLC in it.
 fn tell_update(
-    line: &mut Line,
+    line: &mut Page,
     world: &World,
     is_received: bool,
     to: Side,
@@ -90,7 +90,7 @@ fn tell_update(
 }
 
 /// Writes an update that a side made.
-pub fn tell_own(line: &mut Line, world: &World, side: Side, channel: u64) {
+pub fn tell_own(line: &mut Page, world: &World, side: Side, channel: u64) {
     let to = side.other();
     if let Some(inbox) = world.inbox(to, channel) {
         if let Some(Message::Updated(update)) = inbox.back() {
@@ -100,7 +100,7 @@ pub fn tell_own(line: &mut Line, world: &World, side: Side, channel: u64) {
 }
 
 /// Writes that a side signed.
-pub fn tell_signed(line: &mut Line, world: &World, side: Side, channel: u64) {
+pub fn tell_signed(line: &mut Page, world: &World, side: Side, channel: u64) {
     let to = side.other();
     tell_message(line, world, SENT, to, channel, "commitment_signed");
     if let Some(own) = world.book(side).channel(channel) {
@@ -114,7 +114,7 @@ pub fn tell_signed(line: &mut Line, world: &World, side: Side, channel: u64) {
 }
 
 // Writes that a side received a revocation.
-fn tell_revoked(line: &mut Line, world: &World, side: Side, channel: u64) {
+fn tell_revoked(line: &mut Page, world: &World, side: Side, channel: u64) {
     tell_message(line, world, DELIVERED, side, channel, "revoke_and_ack");
     if let Some(own) = world.book(side).channel(channel) {
         let number = own.peer_number().saturating_sub(1);
@@ -126,7 +126,7 @@ fn tell_revoked(line: &mut Line, world: &World, side: Side, channel: u64) {
 }
 
 /// Writes that a side received a message, which its book took. It answers a signature with a revocation.
-pub fn tell_delivered(line: &mut Line, world: &World, side: Side, channel: u64) {
+pub fn tell_delivered(line: &mut Page, world: &World, side: Side, channel: u64) {
     let Some(entry) = world.book(side).entries().last() else {
         return;
     };

@@ -1,12 +1,12 @@
 //! The transactions of new blocks, and the kinds of their outputs.
 
 use crate::names::side_name;
-use crate::pieces::Piece::{Count, Hash, Text};
 use crate::scenarios::closing::tell_commitment;
 use crate::scenarios::coins::{Change, Coin, Kind, Told};
 use crate::scenarios::outputs::{tell_output, tell_spends};
-use crate::writer::Line;
 use chain::{Block, Coins as _, Confirmed};
+use page::Page;
+use page::Piece::{Count, Hash, Text};
 use sighash::programs::{is_script_hash_program, key_hash_program};
 use std::alloc::Global;
 use terms::Side;
@@ -14,7 +14,7 @@ use tx::{TxOut, total_value};
 use world::World;
 
 // The side whose payment key a claim in a channel pays.
-fn payee(alloc: Global, world: &World, line: &mut Line, channel: u64, output: &TxOut) -> Side {
+fn payee(alloc: Global, world: &World, line: &mut Page, channel: u64, output: &TxOut) -> Side {
     let Some(own) = world.book(Side::A).channel(channel) else {
         return Side::B;
     };
@@ -38,7 +38,7 @@ fn payee(alloc: Global, world: &World, line: &mut Line, channel: u64, output: &T
 fn output_coin(
     alloc: Global,
     world: &World,
-    line: &mut Line,
+    line: &mut Page,
     height: u64,
     spent: &Coin,
     output: &TxOut,
@@ -66,7 +66,7 @@ fn tell_follower(
     alloc: Global,
     world: &World,
     told: &mut Told,
-    line: &mut Line,
+    line: &mut Page,
     height: u64,
     spent: &Coin,
     confirmed: &Confirmed,
@@ -99,7 +99,7 @@ fn tell_tx(
     alloc: Global,
     world: &World,
     told: &mut Told,
-    line: &mut Line,
+    line: &mut Page,
     height: u64,
     spent: &Coin,
     confirmed: &Confirmed,
@@ -132,7 +132,7 @@ fn tell_block(
     alloc: Global,
     world: &World,
     told: &mut Told,
-    line: &mut Line,
+    line: &mut Page,
     height: u64,
     block: &Block,
 ) {
@@ -146,7 +146,7 @@ fn tell_block(
 }
 
 /// Writes the transactions of the blocks above a height.
-pub fn tell_mined(alloc: Global, world: &World, told: &mut Told, line: &mut Line, above: u64) {
+pub fn tell_mined(alloc: Global, world: &World, told: &mut Told, line: &mut Page, above: u64) {
     let blocks = world.chain().blocks();
     line.push(r#","mined":["#);
     for height in above.saturating_add(1)..blocks.len() as u64 {

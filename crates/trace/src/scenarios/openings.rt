@@ -1,14 +1,14 @@
 //! The line that opens a trace.
 
 use crate::names::side_name;
-use crate::pieces::Piece::{Count, Hash};
 use crate::scenarios::coins::{Coin, Kind, Told};
-use crate::writer::Line;
+use page::Page;
+use page::Piece::{Count, Hash};
 use terms::{Side, Terms};
 use world::World;
 
 // Writes the terms of a new channel, whose funding output is on the chain.
-fn tell_channel(line: &mut Line, told: &mut Told, channel: u64, terms: &Terms) {
+fn tell_channel(line: &mut Page, told: &mut Told, channel: u64, terms: &Terms) {
     let (a, b) = (&terms.a, &terms.b);
     let txid = terms.funding.txid;
     line.element(
@@ -44,7 +44,7 @@ fn tell_channel(line: &mut Line, told: &mut Told, channel: u64, terms: &Terms) {
 
 /// Writes the opening: the terms of each channel,
 /// whose funding outputs are on the chain.
-pub fn tell_opening(line: &mut Line, told: &mut Told, world: &World, events: usize) {
+pub fn tell_opening(line: &mut Page, told: &mut Told, world: &World, events: usize) {
     let book = world.book(Side::A);
     line.write(
         r#"{"opening":{"events":%,"channels":["#,

@@ -1,14 +1,14 @@
 //! Spent outputs, and new ones with who can spend them when.
 
 use crate::names::side_name;
-use crate::pieces::Piece::{Count, Hash, Text};
 use crate::scenarios::coins::{Coin, Kind, Told};
-use crate::writer::Line;
 use chain::Confirmed;
+use page::Page;
+use page::Piece::{Count, Hash, Text};
 use tx::{OutPoint, Tx};
 
 /// Writes the outputs that a transaction spends, as elements of an array.
-pub fn tell_spends(line: &mut Line, tx: &Tx) {
+pub fn tell_spends(line: &mut Page, tx: &Tx) {
     for input in tx.inputs() {
         let txid = input.outpoint.txid;
         let index = u64::from(input.outpoint.index);
@@ -18,7 +18,7 @@ pub fn tell_spends(line: &mut Line, tx: &Tx) {
 
 /// Writes a new output of a transaction, and leaves its object open. Its owner is the first that can spend it.
 pub fn tell_output(
-    line: &mut Line,
+    line: &mut Page,
     told: &mut Told,
     confirmed: &Confirmed,
     index: u32,

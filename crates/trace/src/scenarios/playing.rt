@@ -4,14 +4,14 @@ ghost use Rattle.std.specs.Prelude.{IfOk, ◌∷◌, []};
 ghost use Rattle.world.specs.Theorem.{IsPlay};
 
 use crate::names::side_name;
-use crate::pieces::Piece::Count;
 use crate::scenarios::claims::{tell_claims, tell_jobs};
 use crate::scenarios::coins::Told;
 use crate::scenarios::commitments::tell_closed;
 use crate::scenarios::messages::{tell_delivered, tell_own, tell_signed};
 use crate::scenarios::mining::tell_mined;
-use crate::writer::Line;
 use chain::Coins as _;
+use page::Page;
+use page::Piece::Count;
 use scenario::Event;
 use std::alloc::{AllocError, Global};
 use std::slice;
@@ -22,7 +22,7 @@ impl Told {
     fn tell_blocks(
         &mut self,
         alloc: Global,
-        line: &mut Line,
+        line: &mut Page,
         world: &World,
         before: u64,
         event: &Event,
@@ -46,7 +46,7 @@ impl Told {
     }
 
     // Writes what an event changed that put a transaction into the pool.
-    fn tell_sent(&mut self, line: &mut Line, world: &World, event: &Event) {
+    fn tell_sent(&mut self, line: &mut Page, world: &World, event: &Event) {
         match *event {
             Event::Close { side, channel } => tell_closed(line, world, side, channel),
             Event::Release { side, .. } => tell_jobs(line, world, side),
@@ -59,7 +59,7 @@ impl Told {
     fn tell_changes(
         &mut self,
         alloc: Global,
-        line: &mut Line,
+        line: &mut Page,
         world: &World,
         before: u64,
         event: &Event,
@@ -98,7 +98,7 @@ impl Told {
     pub fn tell_played(
         &mut self,
         alloc: Global,
-        line: &mut Line,
+        line: &mut Page,
         world: &World,
         before: u64,
         event: &Event,
@@ -109,7 +109,7 @@ impl Told {
             return;
         };
         line.push(r#","answer":""#);
-        line.push_shown(outcome);
+        line.show(outcome);
         line.write(r#"","height":%"#, &[Count(world.chain().height())]);
         if !matches!(outcome, Outcome::Refused(_)) {
             self.tell_changes(alloc, line, world, before, event, outcome);

@@ -1,15 +1,15 @@
 //! The transactions that wait for a block.
 
-use crate::pieces::Piece::Hash;
 use crate::scenarios::coins::Told;
 use crate::scenarios::outputs::tell_spends;
-use crate::writer::Line;
+use page::Page;
+use page::Piece::Hash;
 use std::mem;
 use tx::{Tx, txid};
 
 impl Told {
     /// Adds the transactions of the pool after those that wait already, and writes them.
-    pub fn tell_joined(&mut self, line: &mut Line, pool: &[Tx]) {
+    pub fn tell_joined(&mut self, line: &mut Page, pool: &[Tx]) {
         if self.waiting.len() >= pool.len() {
             return;
         }
@@ -27,7 +27,7 @@ impl Told {
     }
 
     /// Removes the transactions that left the pool, and writes them; `pool` has the others, in order.
-    pub fn tell_left(&mut self, line: &mut Line, pool: &[Tx]) {
+    pub fn tell_left(&mut self, line: &mut Page, pool: &[Tx]) {
         if self.waiting.len() == pool.len() {
             return;
         }
@@ -43,7 +43,7 @@ impl Told {
 
 // Keeps a transaction that still waits, which is then the next of the pool after those kept; else
 // writes that it left.
-fn keep_or_tell(line: &mut Line, pool: &[Tx], kept: &mut Vec<[u8; 32]>, id: &[u8; 32]) {
+fn keep_or_tell(line: &mut Page, pool: &[Tx], kept: &mut Vec<[u8; 32]>, id: &[u8; 32]) {
     let is_next = match pool.get(kept.len()) {
         Some(tx) => txid(tx) == *id,
         None => false,

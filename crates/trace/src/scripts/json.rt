@@ -1,11 +1,10 @@
 // Paths as JSON.
 
-use crate::pieces::Piece;
-use crate::pieces::Piece::{Count, Sum, Text};
 use crate::scripts::sentences::{Role, Sentence};
 use crate::scripts::weights::{SIGNATURE_SIZE, TOKEN_SIZE, witness_weight};
-use crate::writer::Line;
 use facts::{Fact, KeySource, Stated};
+use page::Piece::{Count, Sum, Text};
+use page::{Page, Piece};
 use paths::Path;
 use std::slice;
 
@@ -22,14 +21,14 @@ fn slots(fact: &Fact) -> &[usize] {
 }
 
 // Writes bytes in hexadecimal, a text.
-fn tell_bytes(line: &mut Line, bytes: &[u8]) {
+fn tell_bytes(line: &mut Page, bytes: &[u8]) {
     line.push(r#"""#);
-    line.push_hex(bytes);
+    line.hex("", bytes);
     line.push(r#"""#);
 }
 
 // Writes the keys of a fact, elements of an array: texts in hexadecimal, or the numbers of the slots that have them.
-fn tell_keys(line: &mut Line, fact: &Fact) {
+fn tell_keys(line: &mut Page, fact: &Fact) {
     let keys: &[KeySource] = match fact {
         Fact::Token(_, key) => slice::from_ref(key),
         Fact::Assigned(_, keys) => keys.values(),
@@ -39,17 +38,17 @@ fn tell_keys(line: &mut Line, fact: &Fact) {
         line.element("", &[]);
         match key {
             KeySource::Const(key) => tell_bytes(line, key.bytes()),
-            KeySource::Slot(slot) => line.push_shown(*slot),
+            KeySource::Slot(slot) => line.show(slot),
         }
     }
 }
 
 // Writes the value that a fact compares with: bytes, a number, or nothing.
-fn tell_value(line: &mut Line, fact: &Fact) {
+fn tell_value(line: &mut Page, fact: &Fact) {
     match fact {
         Fact::Hash(_, bytes) | Fact::Is(_, bytes) => tell_bytes(line, bytes.bytes()),
-        Fact::Size(_, n) | Fact::Age(n) => line.push_shown(*n),
-        Fact::Lock(n) => line.push_shown(*n),
+        Fact::Size(_, n) | Fact::Age(n) => line.show(n),
+        Fact::Lock(n) => line.show(n),
         _ => line.push("null"),
     }
 }
@@ -71,7 +70,7 @@ fn kind(fact: &Fact) -> &'static str {
 }
 
 // Writes a fact, an element of an array.
-fn tell_fact(line: &mut Line, stated: &Stated) {
+fn tell_fact(line: &mut Page, stated: &Stated) {
     line.element(
         r#"{"kind":"%","holds":%,"role":"%","slots":["#,
         &[
@@ -88,12 +87,12 @@ fn tell_fact(line: &mut Line, stated: &Stated) {
     line.push(r#"],"value":"#);
     tell_value(line, &stated.fact);
     line.push(r#","says":""#);
-    line.push_shown(Sentence(stated));
+    line.show(&Sentence(stated));
     line.push(r#""}"#);
 }
 
 // Writes a path through a script of this number of bytes, an element of an array.
-fn tell_path(line: &mut Line, path: &Path, size: usize) {
+fn tell_path(line: &mut Page, path: &Path, size: usize) {
     let facts = path.facts.values();
     let age = match path.age {
         Some(age) => Count(u64::from(age)),
@@ -118,7 +117,7 @@ fn tell_path(line: &mut Line, path: &Path, size: usize) {
 }
 
 /// Writes the paths through a script of this number of bytes, with which its object ends.
-pub fn tell_paths(line: &mut Line, paths: &[Path], size: usize) {
+pub fn tell_paths(line: &mut Page, paths: &[Path], size: usize) {
     line.push(r#","paths":["#);
     for path in paths {
         tell_path(line, path, size);

@@ -6,7 +6,7 @@ use crate::formats::Form;
 use crate::input::InputError;
 use crate::replies::write_told;
 use crate::scripts::reading::{refuse, tell};
-use crate::writer::Line;
+use page::Page;
 use std::alloc::Global;
 use std::io::Write;
 
@@ -14,7 +14,7 @@ use std::io::Write;
 pub fn told(alloc: Global, text: &str, form: Form, out: &mut dyn Write) -> u8
     ensures { result ≤ 1 }
 {
-    let mut line = Line::new(alloc);
+    let mut line = Page::new(alloc);
     let status = if tell(alloc, &mut line, form, text) {
         0
     } else {
@@ -43,7 +43,7 @@ pub fn tell_text(alloc: Global, bytes: &[u8], form: Form, out: &mut dyn Write) -
 pub fn refuse_input(alloc: Global, form: Form, refusal: InputError, out: &mut dyn Write) -> u8
     ensures { result ≤ 1 }
 {
-    let mut line = Line::new(alloc);
+    let mut line = Page::new(alloc);
     match refusal {
         InputError::NoMemory => line.fail(),
         _ => refuse(&mut line, form, None, &[], refusal.text(), None),

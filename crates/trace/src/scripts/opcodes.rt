@@ -1,10 +1,10 @@
 // Opcodes as JSON, and as text for people.
 
 use crate::formats::Form;
-use crate::pieces::Piece::{Count, Text};
 use crate::scripts::looks::Look;
 use crate::scripts::names::opcode_name;
-use crate::writer::Line;
+use page::Page;
+use page::Piece::{Count, Text};
 use script::Op;
 use std::slice;
 
@@ -28,24 +28,26 @@ fn look_text(form: Form, item: &[u8], look: Look) -> &'static str {
 }
 
 // Writes the bytes of a push, and what they look like.
-fn tell_push(line: &mut Line, form: Form, item: &[u8]) {
+fn tell_push(line: &mut Page, form: Form, item: &[u8]) {
     line.push(match form {
         Form::Json => r#","hex":""#,
         Form::Text if item.is_empty() => " -",
         Form::Text => " ",
     });
-    line.push_hex(item);
+    line.hex("", item);
     let look = Look::of(item);
-    let (sign, magnitude) = match look {
-        Look::Number(read) => (if read.negative { "-" } else { "" }, read.magnitude),
-        _ => ("", 0),
-    };
     let text = look_text(form, item, look);
-    line.write(text, &[Text(sign), Count(magnitude)]);
+    match look {
+        Look::Number(read) => {
+            let sign = if read.negative { "-" } else { "" };
+            line.write(text, &[Text(sign), Count(read.magnitude)]);
+        }
+        _ => line.push(text),
+    }
 }
 
 /// Writes an opcode, which begins at this byte and is in this number of branches: an element of an array, or a line that is indented by branch.
-pub fn tell_op(line: &mut Line, form: Form, op: &Op, byte: usize, depth: usize) {
+pub fn tell_op(line: &mut Page, form: Form, op: &Op, byte: usize, depth: usize) {
     let name = opcode_name(op);
     let end = match form {
         Form::Json => {
@@ -56,7 +58,7 @@ pub fn tell_op(line: &mut Line, form: Form, op: &Op, byte: usize, depth: usize) 
             "}"
         }
         Form::Text => {
-            line.push_shown(format_args!("{byte:>5}  "));
+            line.show(&format_args!("{byte:>5}  "));
             for _ in 0..depth {
                 line.push("  ");
             }

@@ -1,19 +1,19 @@
 // Paths as text for people.
 
-use crate::pieces::Piece::{Count, Sum};
 use crate::scripts::sentences::{Role, Sentence};
 use crate::scripts::weights::{SIGNATURE_SIZE, TOKEN_SIZE, witness_weight};
-use crate::writer::Line;
 use facts::Stated;
+use page::Page;
+use page::Piece::{Count, Sum};
 use paths::Path;
 
 // Writes the sentences of one role after a label, a line each, or another line if there are none.
-fn tell_role(line: &mut Line, facts: &[Stated], role: &str, label: &str, otherwise: &str) {
+fn tell_role(line: &mut Page, facts: &[Stated], role: &str, label: &str, otherwise: &str) {
     let mut is_told = false;
     for stated in facts {
         if Role::of(stated).text() == role {
             line.push(label);
-            line.push_shown(Sentence(stated));
+            line.show(&Sentence(stated));
             line.push("\n");
             is_told = true;
         }
@@ -24,7 +24,7 @@ fn tell_role(line: &mut Line, facts: &[Stated], role: &str, label: &str, otherwi
 }
 
 // Writes the path of this number through a script of this number of bytes.
-fn tell_path(line: &mut Line, path: &Path, number: usize, size: usize) {
+fn tell_path(line: &mut Page, path: &Path, number: usize, size: usize) {
     let facts = path.facts.values();
     line.write(
         "path %: % items, % weight units (% with tokens)\n",
@@ -41,7 +41,7 @@ fn tell_path(line: &mut Line, path: &Path, number: usize, size: usize) {
 }
 
 /// Writes the paths through a script of this number of bytes, each with its number.
-pub fn tell_paths(line: &mut Line, paths: &[Path], size: usize) {
+pub fn tell_paths(line: &mut Page, paths: &[Path], size: usize) {
     if paths.is_empty() {
         line.push("no path: no witness satisfies this script\n");
     }

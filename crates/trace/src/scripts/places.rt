@@ -36,7 +36,7 @@ fn open_at(alloc: Global, ops: &[Op]) -> Result<usize, AllocError> {
 fn excess_at(ops: &[Op]) -> Option<usize> {
     let mut counted = 0;
     for (at, op) in ops.iter().enumerate() {
-        counted += op.weight();
+        counted += op.op_count();
         if counted > MAX_OPS_PER_SCRIPT {
             return Some(at);
         }

@@ -2,13 +2,12 @@
 
 use crate::formats::Form;
 use crate::input::InputError;
-use crate::pieces::Piece;
 use crate::scripts::names::branches;
 use crate::scripts::opcodes::tell_op;
 use crate::scripts::places::place;
 use crate::scripts::{json, pages};
-use crate::writer::Line;
 use hex::FromHexError;
+use page::{Page, Piece};
 use paths::{CheckError, Path, check};
 use script::limits::MAX_SCRIPT_SIZE;
 use script::{Op, ParseError, Script};
@@ -16,7 +15,7 @@ use std::alloc::Global;
 use std::fmt::Display;
 
 /// Explains a script in hexadecimal: its opcodes, then its paths, or why it is refused. Returns whether its paths are listed.
-pub fn tell(alloc: Global, line: &mut Line, form: Form, text: &str) -> bool {
+pub fn tell(alloc: Global, line: &mut Page, form: Form, text: &str) -> bool {
     match hex::decode(alloc, text) {
         Ok(bytes) => tell_bytes(alloc, line, form, bytes.as_slice()),
         Err(FromHexError::OutOfMemory) => {
@@ -31,7 +30,7 @@ pub fn tell(alloc: Global, line: &mut Line, form: Form, text: &str) -> bool {
 }
 
 // Explains the bytes of a script.
-fn tell_bytes(alloc: Global, line: &mut Line, form: Form, bytes: &[u8]) -> bool {
+fn tell_bytes(alloc: Global, line: &mut Page, form: Form, bytes: &[u8]) -> bool {
     match Script::parse(alloc, bytes) {
         Ok(script) => tell_script(alloc, line, form, &script),
         Err(error) => {
@@ -42,7 +41,7 @@ fn tell_bytes(alloc: Global, line: &mut Line, form: Form, bytes: &[u8]) -> bool 
 }
 
 // Explains bytes that are not a script: the opcodes before the fault.
-fn tell_part(alloc: Global, line: &mut Line, form: Form, bytes: &[u8], error: ParseError) {
+fn tell_part(alloc: Global, line: &mut Page, form: Form, bytes: &[u8], error: ParseError) {
     let (read, fault) = match error {
         ParseError::NoMemory => {
             line.fail();
@@ -61,7 +60,7 @@ fn tell_part(alloc: Global, line: &mut Line, form: Form, bytes: &[u8], error: Pa
 }
 
 // Explains a script, and returns whether its paths are listed.
-fn tell_script(alloc: Global, line: &mut Line, form: Form, script: &Script) -> bool {
+fn tell_script(alloc: Global, line: &mut Page, form: Form, script: &Script) -> bool {
     let Ok(copy) = script.copy() else {
         line.fail();
         return false;
@@ -79,7 +78,7 @@ fn tell_script(alloc: Global, line: &mut Line, form: Form, script: &Script) -> b
 }
 
 // Explains a script that is not listed, for this reason.
-fn tell_unlisted(alloc: Global, line: &mut Line, form: Form, script: &Script, error: CheckError) {
+fn tell_unlisted(alloc: Global, line: &mut Page, form: Form, script: &Script, error: CheckError) {
     match place(alloc, script.ops(), &error) {
         Ok(byte) => {
             let size = script.bytes().len() as u64;
@@ -90,7 +89,7 @@ fn tell_unlisted(alloc: Global, line: &mut Line, form: Form, script: &Script, er
 }
 
 // Explains a script that is listed.
-fn tell_listed(line: &mut Line, form: Form, script: &Script, paths: &[Path]) {
+fn tell_listed(line: &mut Page, form: Form, script: &Script, paths: &[Path]) {
     let size = script.bytes().len();
     begin(line, form, Some(size as u64), script.ops());
     match form {
@@ -100,7 +99,7 @@ fn tell_listed(line: &mut Line, form: Form, script: &Script, paths: &[Path]) {
 }
 
 // Writes what comes first of each script: its number of bytes, and its opcodes.
-fn begin(line: &mut Line, form: Form, bytes: Option<u64>, ops: &[Op]) {
+fn begin(line: &mut Page, form: Form, bytes: Option<u64>, ops: &[Op]) {
     if let Form::Json = form {
         line.write(r#"{"bytes":%,"opcodes":["#, &[Piece::or_null(bytes)]);
     }
@@ -118,7 +117,7 @@ fn begin(line: &mut Line, form: Form, bytes: Option<u64>, ops: &[Op]) {
 
 /// Explains a refusal: the script's number of bytes, the opcodes that were read, the reason, and the byte at which it is refused.
 pub fn refuse<D: Display + Drop>(
-    line: &mut Line,
+    line: &mut Page,
     form: Form,
     bytes: Option<u64>,
     ops: &[Op],
@@ -126,12 +125,14 @@ pub fn refuse<D: Display + Drop>(
     byte: Option<u64>,
 ) {
     begin(line, form, bytes, ops);
-    let (before, after) = match form {
-        Form::Json => (r#","refused":""#, "\",\"byte\":%}\n"),
-        Form::Text if byte.is_some() => ("refused ", " at byte %\n"),
-        Form::Text => ("refused ", "\n"),
-    };
-    line.push(before);
-    line.push_shown(refusal);
-    line.write(after, &[Piece::or_null(byte)]);
+    line.push(match form {
+        Form::Json => r#","refused":""#,
+        Form::Text => "refused ",
+    });
+    line.show(&refusal);
+    match (form, byte) {
+        (Form::Json, _) => line.write("\",\"byte\":%}\n", &[Piece::or_null(byte)]),
+        (Form::Text, Some(byte)) => line.write(" at byte %\n", &[Piece::Count(byte)]),
+        (Form::Text, None) => line.push("\n"),
+    }
 }

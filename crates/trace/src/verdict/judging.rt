@@ -1,38 +1,26 @@
 // Judges an input.
 
-ghost use Rattle.std.specs.Prelude.{◌≡◌, Some, None, reverse, IfOk, option_map, option_and_then, slice_get};
+ghost use Rattle.std.specs.Prelude.{◌≡◌, Some, IfOk, slice_get};
 ghost use Rattle.script.specs.Run.{outcome, Stopped as StopsAt};
-ghost use Rattle.sighash.specs.Programs.{key_hash_script, script_ops, spend_of, given_of, given_by_hash};
+ghost use Rattle.sighash.specs.Programs.{spend_of};
 ghost use Rattle.trace.specs.Meeting.{path_taken};
 ghost use Rattle.trace.specs.Verdicts.{case_of_given, case_of, IsParsed, IsJudged};
-ghost use Rattle.trace.specs.Faults.{IsBadScript, IsScriptHashFault, IsFaultOf, OnRefused};
+ghost use Rattle.trace.specs.Faults.{IsBadScript, IsFaultOf, OnRefused};
 
 use crate::verdict::meeting::met_path;
 use crate::verdict::verdicts::{Clean, Fault, Stopped, Verdict};
-use digest::sha256;
+use chain::given_of;
 use lists::ByteString;
 use machine::{Stop, elements_at, run};
 use paths::{CheckError, check};
 use script::{Cause, ParseError, Script, Spend};
 use sighash::SighashCache;
-use sighash::programs::{is_key_hash_program, is_script_hash_program};
 use std::alloc::{AllocError, Global};
 use tx::{Tx, TxIn, TxOut};
 
-// DUP HASH160 hash EQUALVERIFY CHECKSIG.
-fn key_hash_script(alloc: Global, hash: &[u8]) -> Result<Vec<u8>, AllocError>
-    ensures { IfOk result (λ s. s.items ≡ key_hash_script hash.now) }
-{
-    let mut script = Vec::new(alloc);
-    script.extend_from_slice(&[0x76, 0xa9, 0x14])?;
-    script.extend_from_slice(hash)?;
-    script.extend_from_slice(&[0x88, 0xac])?;
-    Ok(script)
-}
-
 /// Judges an input of a transaction that spends this output (BIP 141). `index` is that of the input, and `cache` that of the transaction. The only error
 /// is that memory ran out.
-#[tactic(auto, unfolding(crate::specs::Verdicts::case_of, sighash::specs::Programs::given_of))]
+#[tactic(auto, unfolding(crate::specs::Verdicts::case_of))]
 pub fn judge(
     alloc: Global,
     tx: &Tx,
@@ -47,49 +35,23 @@ pub fn judge(
     ensures fault { IfOk result (OnRefused (IsFaultOf output.now.script input.now.witness)) }
 {
     let program = output.script().bytes();
-    let value = output.value();
-    let witness = input.witness.as_slice();
-    if is_key_hash_program(program) {
-        if witness.len() != 2 {
-            return Ok(Verdict::Refused(Fault::NotTwoItems));
-        }
-        let script = key_hash_script(alloc, &program[2..])?;
-        let code = script.as_slice();
-        let judged = judge_code(alloc, tx, cache, index, input, code, witness, value);
-        drop(script);
-        return judged;
-    }
-    if !is_script_hash_program(program) {
-        return Ok(Verdict::Refused(Fault::OtherProgram));
-    }
-    judge_by_hash(alloc, tx, cache, index, input, value, &program[2..])
-}
-
-// Judges an input whose script is the last item of its witness, and has this hash.
-fn judge_by_hash(
-    alloc: Global,
-    tx: &Tx,
-    cache: &SighashCache<'_>,
-    index: usize,
-    input: &TxIn,
-    value: u64,
-    hash: &[u8],
-) -> Result<Verdict, AllocError>
-    requires cached { cache.now ≡ tx.now }
-    requires indexed { slice_get tx.now.inputs index ≡ Some input.now }
-    ensures judged { IsJudged (option_and_then (case_of_given tx.now input.now value)
-        (given_by_hash hash.now (reverse input.now.witness))) result }
-    ensures fault { IfOk result
-        (OnRefused (IsScriptHashFault hash.now (reverse input.now.witness))) }
-{
-    let Some((script, items)) = input.witness.as_slice().split_last() else {
-        return Ok(Verdict::Refused(Fault::NoScript));
+    let given = match given_of(alloc, program, input.witness.as_slice())? {
+        Ok(given) => given,
+        Err(fault) => return Ok(Verdict::Refused(Fault::Program(fault))),
     };
-    let code = script.bytes();
-    if sha256(code).as_slice() != hash {
-        return Ok(Verdict::Refused(Fault::OtherScript));
-    }
-    judge_code(alloc, tx, cache, index, input, code, items, value)
+    let (script, items) = (given.script(), given.items());
+    let judged = judge_code(
+        alloc,
+        tx,
+        cache,
+        index,
+        input,
+        script,
+        items,
+        output.value(),
+    );
+    drop(given);
+    judged
 }
 
 // Judges an input whose script has these bytes, and runs on these items.

@@ -3,6 +3,7 @@
 ghost use Rattle.std.specs.Prelude.{◌≡◌};
 ghost use Rattle.trace.specs.VerdictRefusals.{fault_number};
 
+use chain::ProgramFault;
 use lists::{ByteString, Stack};
 use machine::Run;
 use script::{Cause, ParseError, Script};
@@ -10,14 +11,8 @@ use script::{Cause, ParseError, Script};
 /// Why no script runs for an input (BIP 141).
 #[derive(Drop)]
 pub enum Fault {
-    /// The program is not of version 0 with the hash of a key or of a script.
-    OtherProgram,
-    /// The program has the hash of a key, and the witness has not two items.
-    NotTwoItems,
-    /// The program has the hash of a script, and the witness has no item.
-    NoScript,
-    /// The last item of the witness has another hash than the program.
-    OtherScript,
+    /// The program and the witness give no script.
+    Program(ProgramFault),
     /// The last item of the witness is not a script.
     BadScript(ParseError),
 }
@@ -28,10 +23,12 @@ impl Fault {
         ensures { result ≡ fault_number self.now }
     {
         match self {
-            Fault::OtherProgram => 1,
-            Fault::NotTwoItems => 2,
-            Fault::NoScript => 3,
-            Fault::OtherScript => 4,
+            Fault::Program(fault) => match fault {
+                ProgramFault::OtherProgram => 1,
+                ProgramFault::NotTwoItems => 2,
+                ProgramFault::NoScript => 3,
+                ProgramFault::OtherScript => 4,
+            },
             Fault::BadScript(_) => 5,
         }
     }

@@ -1,17 +1,17 @@
 // Writes the verdict on an input.
 
 use crate::formats::Form;
-use crate::pieces::Piece;
-use crate::pieces::Piece::{Count, Hash, Text};
 use crate::scripts::{byte_of, opcode_name};
 use crate::verdict::{Clean, Fault, Stopped, Verdict};
 use crate::witnesses::causes::cause_sentence;
-use crate::writer::Line;
+use chain::ProgramFault;
 use lists::ByteString;
+use page::Piece::{Count, Hash, Text};
+use page::{Page, Piece};
 use script::Op;
 
 // Writes a clean run.
-fn tell_clean(line: &mut Line, form: Form, clean: &Clean) {
+fn tell_clean(line: &mut Page, form: Form, clean: &Clean) {
     let digest = clean.digest;
     let counted = Count(clean.run.counted as u64);
     let height = Count(clean.run.height as u64);
@@ -40,14 +40,14 @@ fn tell_clean(line: &mut Line, form: Form, clean: &Clean) {
 }
 
 // Writes the elements of a stack, the top first: of an array, or a line each, where the empty element is `-`.
-fn tell_stack(line: &mut Line, form: Form, items: &[ByteString]) {
+fn tell_stack(line: &mut Page, form: Form, items: &[ByteString]) {
     for item in items.iter().rev() {
         match form {
             Form::Json => line.element("\"", &[]),
             Form::Text if item.is_empty() => line.push("  stack   -"),
             Form::Text => line.push("  stack   "),
         }
-        line.push_hex(item.bytes());
+        line.hex("", item.bytes());
         line.push(match form {
             Form::Json => "\"",
             Form::Text => "\n",
@@ -64,7 +64,7 @@ fn op_name(ops: &[Op], index: usize, quote: &'static str, end: &'static str) -> 
 }
 
 // Writes at which opcode a run stops, and why.
-fn tell_stop(line: &mut Line, form: Form, stopped: &Stopped) {
+fn tell_stop(line: &mut Page, form: Form, stopped: &Stopped) {
     let (cause, index) = (stopped.cause, stopped.index);
     let ops = stopped.script.ops();
     let (opcode, byte) = (Count(index as u64), Count(byte_of(ops, index)));
@@ -73,7 +73,7 @@ fn tell_stop(line: &mut Line, form: Form, stopped: &Stopped) {
         Form::Json => {
             let (quote, op) = op_name(ops, index, "\"", "null");
             line.push(r#","stopped":""#);
-            line.push_shown(cause);
+            line.show(&cause);
             line.write(
                 r#"","opcode":%,"op":%%%,"byte":%,"says":"%","stack":["#,
                 &[opcode, quote, op, quote, byte, says],
@@ -82,14 +82,14 @@ fn tell_stop(line: &mut Line, form: Form, stopped: &Stopped) {
         Form::Text => {
             let (_, op) = op_name(ops, index, "", "end");
             line.write(" stops at opcode % (%), byte %: ", &[opcode, op, byte]);
-            line.push_shown(cause);
+            line.show(&cause);
             line.write(": %\n", &[says]);
         }
     }
 }
 
 // Writes where a run stops, why, and the stack there.
-fn tell_stopped(line: &mut Line, form: Form, stopped: &Stopped) {
+fn tell_stopped(line: &mut Page, form: Form, stopped: &Stopped) {
     let digest = stopped.digest;
     tell_stop(line, form, stopped);
     if let Some(stack) = &stopped.stack {
@@ -103,25 +103,25 @@ fn tell_stopped(line: &mut Line, form: Form, stopped: &Stopped) {
 }
 
 // Writes why no script runs.
-fn tell_fault(line: &mut Line, form: Form, fault: &Fault) {
+fn tell_fault(line: &mut Page, form: Form, fault: &Fault) {
     let (before, after) = match form {
         Form::Json => (r#","refused":"%"#, "\",\"says\":\"%\"}\n"),
         Form::Text => (" is refused: %", ": %\n"),
     };
     let (name, says) = match fault {
-        Fault::OtherProgram => (
+        Fault::Program(ProgramFault::OtherProgram) => (
             "OtherProgram",
             "the program is not of version 0 with the hash of a key or of a script",
         ),
-        Fault::NotTwoItems => (
+        Fault::Program(ProgramFault::NotTwoItems) => (
             "NotTwoItems",
             "the program has the hash of a key, and the witness has not two items",
         ),
-        Fault::NoScript => (
+        Fault::Program(ProgramFault::NoScript) => (
             "NoScript",
             "the program has the hash of a script, and the witness has no item",
         ),
-        Fault::OtherScript => (
+        Fault::Program(ProgramFault::OtherScript) => (
             "OtherScript",
             "the last item of the witness has another hash than the program",
         ),
@@ -129,13 +129,13 @@ fn tell_fault(line: &mut Line, form: Form, fault: &Fault) {
     };
     line.write(before, &[Text(name)]);
     if let Fault::BadScript(error) = fault {
-        line.push_shown(error);
+        line.show(error);
     }
     line.write(after, &[Text(says)]);
 }
 
 /// Writes the verdict on an input: an object on a line, or lines for people.
-pub fn tell_verdict(line: &mut Line, form: Form, input: usize, verdict: &Verdict) {
+pub fn tell_verdict(line: &mut Page, form: Form, input: usize, verdict: &Verdict) {
     let before = match form {
         Form::Json => r#"{"input":%"#,
         Form::Text => "input %",

@@ -4,13 +4,13 @@ ghost use Rattle.std.specs.Prelude.{◌≡◌, ◌≤◌, Some, slice_get};
 
 use crate::formats::Form;
 use crate::input::{InputError, read_all};
-use crate::pieces::Piece::Count;
 use crate::replies::{refuse_memory, refuse_words, write_told};
 use crate::verdict::{Verdict, judge};
 use crate::witnesses::errors::SpentError;
 use crate::witnesses::reading::{read_outputs, read_tx};
 use crate::witnesses::telling::tell_verdict;
-use crate::writer::Line;
+use page::Page;
+use page::Piece::Count;
 use sighash::SighashCache;
 use std::alloc::Global;
 use std::io::{Read, Write};
@@ -69,12 +69,12 @@ fn refuse(alloc: Global, form: Form, error: &SpentError, out: &mut dyn Write) ->
         Form::Json => (r#"{"refused":""#, "\"}\n"),
         Form::Text => ("refused ", "\n"),
     };
-    let mut line = Line::new(alloc);
+    let mut line = Page::new(alloc);
     line.push(before);
     match error {
         SpentError::Input(InputError::NoMemory) => line.fail(),
         SpentError::Input(error) => line.push(error.text()),
-        SpentError::Decode(error) => line.push_shown(error),
+        SpentError::Decode(error) => line.show(error),
         SpentError::BadCount => line.push("BadCount"),
         SpentError::BadLine(number) => line.write("BadLine %", &[Count(*number as u64)]),
     }
@@ -130,7 +130,7 @@ fn write_verdict(
 ) -> u8
     ensures { result ≤ 1 }
 {
-    let mut line = Line::new(alloc);
+    let mut line = Page::new(alloc);
     tell_verdict(&mut line, form, input, verdict);
     let status = match verdict {
         Verdict::Clean(_) => 0,

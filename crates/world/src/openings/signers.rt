@@ -1,7 +1,7 @@
 //! The signers of the channels: a side has one for each channel, with a seed of its own.
 
 ghost use Rattle.std.specs.Prelude.{◌≡◌};
-ghost use Rattle.book.specs.Openings.{bases_of};
+ghost use Rattle.book.specs.Seeds.{bases_of};
 ghost use Rattle.world.specs.Opening.{channel_seed as seed_for};
 
 use keys::Signer;

@@ -1,6 +1,6 @@
 use Rattle.std.proofs.Common.{◌≤◌, ◌+◌, ◌∷◌, ap, ◌∙◌, refl}
 use Rattle.std.proofs.lemmas.Result.{err_from_is_err_and}
-use Rattle.script.specs.Run.{weight}
+use Rattle.script.specs.Run.{op_count}
 use Rattle.machine.specs.Skips.{ahead_of}
 use Rattle.machine.specs.Passing.{run_state_of}
 use Rattle.machine.proofs.Past.{past_many, past_halt, past_jump, past_run, leads_as}
@@ -14,7 +14,7 @@ returns-in_err-count-clause-passed c =
 pub returns-in_err-open-clause-passed : goal.returns-in_err-open-clause-passed
 returns-in_err-open-clause-passed c =
     let p = err_from_is_err_and c.from_residual-in_err-open.result c.from_residual-in_err-open.ensures.1 in
-    let few : c.args.self.now.counted + weight c.args.op.now ≤ 201 = rw c.in_ok-count.ensures.0 at c.in_ok-count.ensures.1 in
+    let few : c.args.self.now.counted + op_count c.args.op.now ≤ 201 = rw c.in_ok-count.ensures.0 at c.in_ok-count.ensures.1 in
     rw (p.1, p.2) (past_halt c.args.spend.now c.args.op.now (λ rest. run_state_of c.args.self.now (c.args.op.now ∷ rest)) _ _ _ (λ rest. refl) (λ rest. refl) few c.in_err-open.ensures)
 
 pub returns-in-Some-clause-passed : goal.returns-in-Some-clause-passed

@@ -1,7 +1,7 @@
 use Rattle.std.proofs.Common.{ap, ◌∙◌, subst}
 use Rattle.keys.specs.Rights.{Rights}
 use Rattle.terms.specs.Bases.{IsSeedOf}
-use Rattle.book.proofs.SameOpenings.{same_bases}
+use Rattle.book.proofs.SameKeys.{same_bases}
 use Rattle.world.specs.Opening.{channel_seed}
 use Rattle.world.proofs.openings.signers.bases_in.Goals as goal
 

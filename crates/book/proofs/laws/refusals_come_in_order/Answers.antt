@@ -1,5 +1,0 @@
-use Rattle.book.proofs.Shapes.{refusals_come_in_order}
-use Rattle.book.proofs.laws.refusals_come_in_order.Goals as goal
-
-pub returns : goal.returns
-returns c = refusals_come_in_order

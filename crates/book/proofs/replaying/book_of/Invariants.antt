@@ -1,6 +1,0 @@
-use Rattle.std.specs.Vec.Iter.{into_iter_items}
-use Rattle.book.proofs.GoingOn.{GoesOn}
-use Rattle.book.proofs.replaying.book_of.Given as goal
-
-abbrev pub invariant-loop-plain : goal.invariant-loop-plain
-invariant-loop-plain l = GoesOn l.fn.history l.book (into_iter_items l.plain-iterator)

@@ -1,0 +1,24 @@
+use Rattle.std.proofs.Common.{rules, ◌≡◌, ◌∷◌, [], List, Some, subst, sym, ap, ◌∙◌, arith}
+use Rattle.std.specs.Vec.Iter.{into_iter_items}
+use Rattle.std.proofs.lemmas.List.{nil_from_length}
+use Rattle.claim.specs.Claims.{ClaimParts}
+use Rattle.book_dump.proofs.Taking.{SoFar, one_taken, one_refused, all_taken}
+use Rattle.book_dump.proofs.loading.claims_of.Goals as goal
+
+pub loop-plain-preserved : goal.loop-plain-preserved
+loop-plain-preserved c =
+    let e : into_iter_items c.loop-plain.plain-iterator ≡ c.in-Some.plain ∷ into_iter_items c.next.new.self = search rules in
+    let before = subst (SoFar c.args.plains c.loop-plain.claims.items) e c.loop-plain.invariant in
+    let after = one_taken c.args.plains (into_iter_items c.next.new.self) c.loop-plain.claims.items c.in-Some.plain c.in-Ok.claim before c.in-Ok.ensures in
+    subst (λ (cs : List ClaimParts). SoFar c.args.plains cs (into_iter_items c.next.new.self)) (sym c.in_ok-push-in-Ok.ensures.items) after
+
+pub returns-in-Err : goal.returns-in-Err
+returns-in-Err c =
+    let e : into_iter_items c.loop-plain.plain-iterator ≡ c.in-Some.plain ∷ into_iter_items c.next.new.self = search rules in
+    one_refused c.args.plains (into_iter_items c.next.new.self) c.loop-plain.claims.items c.in-Some.plain c.in-Err.error (subst (SoFar c.args.plains c.loop-plain.claims.items) e c.loop-plain.invariant) c.in-Err.ensures
+
+pub returns : goal.returns
+returns c =
+    let e : into_iter_items c.loop-plain.plain-iterator ≡ [] = nil_from_length (into_iter_items c.loop-plain.plain-iterator) (omega (arith, c.in-None.ensures.steps.0)) in
+    let whole = all_taken c.args.plains c.loop-plain.claims.items (subst (SoFar c.args.plains c.loop-plain.claims.items) e c.loop-plain.invariant) in
+    whole ∙ ap Some (sym (c.from_vec.ensures ∙ c.shrink_to_fit.ensures.items))

@@ -1,7 +1,0 @@
-use Rattle.std.proofs.Common.{drop}
-use Rattle.std.specs.List.{AllByRecursion}
-use Rattle.claim.specs.Claims.{IsWhole}
-use Rattle.running.proofs.runs.hold_whole.Given as goal
-
-abbrev pub invariant-loop-claim : goal.invariant-loop-claim
-invariant-loop-claim l = AllByRecursion IsWhole (drop l.claim-index l.claims) → AllByRecursion IsWhole l.claims

@@ -1,9 +1,0 @@
-pub mod Ids
-pub mod Recorded
-pub mod Waiting
-pub mod Places
-pub mod Strings
-pub mod Outputs
-pub mod Seeds
-pub mod Takers
-pub mod Taken
